@@ -1,0 +1,72 @@
+//! Strings of bytes.
+
+ghost use Rattle.std.specs.Prelude.{◌≡◌, ◌++◌, length, OnOk, OnErr, IsTrue, ◌↔◌, []};
+ghost use Rattle.std.specs.Fmt.{decimal};
+
+use crate::no_memory::NoMemory;
+use std::alloc::Global;
+use std::marker::Model;
+
+/// A string of bytes that grows at its end. Contracts see it as the list of its bytes.
+#[derive(Drop)]
+pub struct Octets {
+    bytes: Vec<u8>,
+}
+
+impl Model for Octets {
+    ghost use Rattle.std.specs.Prelude.{ℕ, List};
+
+    ghost Value = { List ℕ };
+
+    ghost view = { λ o. o.bytes.items };
+}
+
+impl Octets {
+    /// The empty string. It takes no memory yet.
+    pub fn new(alloc: Global) -> Octets
+        ensures { result ≡ [] }
+    {
+        Octets {
+            bytes: Vec::new(alloc),
+        }
+    }
+
+    /// How many bytes there are.
+    pub fn len(&self) -> usize
+        ensures { result ≡ length self.now }
+    {
+        self.bytes.len()
+    }
+
+    /// Whether there is no byte.
+    pub fn is_empty(&self) -> bool
+        ensures { IsTrue result ↔ (self.now ≡ []) }
+    {
+        self.bytes.is_empty()
+    }
+
+    /// The bytes.
+    pub fn as_slice(&self) -> &[u8]
+        ensures { result.now ≡ self.now }
+    {
+        self.bytes.as_slice()
+    }
+
+    /// Puts bytes behind the last. Where there is no memory for them, none is put.
+    pub fn append(&mut self, bytes: &[u8]) -> Result<(), NoMemory>
+        ensures appended { OnOk result (self.new ≡ self.old ++ bytes.now) }
+        ensures kept { OnErr result (self.new ≡ self.old) }
+    {
+        self.bytes.extend_from_slice(bytes)?;
+        Ok(())
+    }
+
+    /// Puts the decimal digits of a number behind the last byte, without leading zeros.
+    pub fn append_number(&mut self, number: u64) -> Result<(), NoMemory>
+        ensures appended { OnOk result (self.new ≡ self.old ++ decimal number) }
+        ensures kept { OnErr result (self.new ≡ self.old) }
+    {
+        let text = number.to_string(*self.bytes.allocator())?;
+        self.append(text.as_bytes())
+    }
+}

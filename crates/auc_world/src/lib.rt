@@ -1,0 +1,6 @@
+//! The records of a round: what its jobs' lines were answered, and how each subscriber's numbers closed.
+#![tactic(auto)]
+
+mod record;
+
+pub use record::{Closing, JobRecord, LineRecord, RoundRecord};
