@@ -1,0 +1,46 @@
+//! How a run ends.
+
+ghost use Rattle.std.specs.Prelude.{◌≡◌};
+ghost use Rattle.auc_run.specs.Words.{number_of_status};
+
+/// How a run ends.
+#[derive(Clone, Copy, Debug, PartialEq, Eq)]
+pub enum Status {
+    /// The scenario was read to its end and all its lines were written.
+    Done,
+    /// The words have none of the program's forms.
+    Usage,
+    /// A line of the scenario is wrong.
+    ScenarioRefused,
+    /// An input file could not be read.
+    ReadFault,
+    /// The output could not be written.
+    WriteFault,
+    /// An input file has more than 67108864 bytes.
+    TooLong,
+    /// Memory was wanted and was not to be had.
+    NoMemory,
+}
+
+impl Status {
+    /// The exit status of the program.
+    pub fn number(self) -> u8
+        ensures { result ≡ number_of_status self }
+    {
+        match self {
+            Status::Done => 0,
+            Status::Usage => 1,
+            Status::ScenarioRefused => 3,
+            Status::ReadFault => 4,
+            Status::WriteFault => 5,
+            Status::TooLong => 9,
+            Status::NoMemory => 10,
+        }
+    }
+}
+
+/// What a run leaves.
+#[derive(Clone, Copy, Debug, PartialEq, Eq)]
+pub struct Ended {
+    pub status: Status,
+}
