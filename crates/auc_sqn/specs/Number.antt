@@ -1,0 +1,29 @@
+-- Sequence numbers: the number of an authentication vector and its SQN of 6 bytes, most significant
+-- first (TS 33.102 §6.3.1 and Annex C.1.1.1).
+use Rattle.std.specs.Prelude.{◌≡◌, ℕ, ◌+◌, ◌*◌, ◌/◌, ◌%◌, ◌≤◌, List, drop, fold}
+use Rattle.std.specs.Int.{to_be_bytes, w64}
+use Rattle.auc_sqn.specs.declared.number.TheConstants.{MAX_SEQ}
+
+-- the number that some bytes are, the most significant first
+abbrev pub value_of : List ℕ → ℕ
+value_of bytes = fold (λ value byte. 256 * value + byte) 0 bytes
+
+-- SEQ, the upper 43 bits of an SQN
+abbrev pub seq_of : List ℕ → ℕ
+seq_of sqn = value_of sqn / 32
+
+-- IND, the lower 5 bits of an SQN
+abbrev pub ind_of : List ℕ → ℕ
+ind_of sqn = value_of sqn % 32
+
+-- the SQN of a number: SEQ is the number, IND its remainder by 32
+abbrev pub sqn_bytes : ℕ → List ℕ
+sqn_bytes number = drop 2 (to_be_bytes w64 (32 * number + number % 32))
+
+-- an SQN taken apart gives its number, and as IND the number's remainder by 32
+abbrev pub SplitUndoesSqn : Type 0
+SplitUndoesSqn = (n : ℕ) → n ≤ MAX_SEQ → (seq_of (sqn_bytes n) ≡ n) × (ind_of (sqn_bytes n) ≡ n % 32)
+
+-- two numbers with one SQN are one number
+abbrev pub EachNumberHasItsOwnSqn : Type 0
+EachNumberHasItsOwnSqn = (m n : ℕ) → m ≤ MAX_SEQ → n ≤ MAX_SEQ → sqn_bytes m ≡ sqn_bytes n → m ≡ n

@@ -1,0 +1,16 @@
+//! Sequence numbers of authentication vectors (TS 33.102 §6.3 and Annex C).
+//!
+//! The home network numbers a subscriber's vectors 1, 2, 3 and so on up to [`MAX_SEQ`]. [`sqn_of`]
+//! spells a number as the SQN of 6 bytes that AUTN carries, and [`split`] takes an SQN apart into SEQ
+//! and IND. That an SQN gives its number back is [`split_undoes_sqn_of`].
+//!
+//! Nothing here takes memory, waits or fails.
+#![tactic(auto)]
+
+mod law;
+mod number;
+#[cfg(test)]
+mod tests;
+
+pub use law::{each_number_has_its_own_sqn, split_undoes_sqn_of};
+pub use number::{MAX_SEQ, split, sqn_of};

@@ -1,0 +1,28 @@
+//! The SQN of a number, and SEQ and IND of an SQN.
+
+ghost use Rattle.std.specs.Prelude.{◌≡◌, ◌≤◌};
+ghost use Rattle.auc_sqn.specs.Number.{sqn_bytes, seq_of, ind_of};
+
+/// The greatest number that a subscriber's vectors have: SEQ has 43 bits.
+pub const MAX_SEQ: u64 = 8796093022207;
+
+/// The SQN of a number, as 6 bytes, most significant first: SEQ is the number, and IND its remainder
+/// by 32 (TS 33.102 Annex C.1.1.1).
+pub fn sqn_of(n: u64) -> [u8; 6]
+    requires { n ≤ MAX_SEQ }
+    ensures { result ≡ sqn_bytes n }
+{
+    let sqn = 32 * n + n % 32;
+    let [_, _, a, b, c, d, e, f] = sqn.to_be_bytes();
+    [a, b, c, d, e, f]
+}
+
+/// SEQ, the upper 43 bits, and IND, the lower 5 bits, of an SQN of 6 bytes, most significant first.
+pub fn split(sqn: [u8; 6]) -> (u64, u8)
+    ensures seq { result.0 ≡ seq_of sqn }
+    ensures ind { result.1 ≡ ind_of sqn }
+{
+    let [a, b, c, d, e, f] = sqn;
+    let value = u64::from_be_bytes([0, 0, a, b, c, d, e, f]);
+    (value / 32, (value % 32) as u8)
+}
