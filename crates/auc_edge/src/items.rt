@@ -31,6 +31,13 @@ impl<T> Items<T> {
         }
     }
 
+    /// The list of the items of a vector.
+    pub(crate) fn from_vec(all: Vec<T>) -> Items<T>
+        ensures { result ≡ all.items }
+    {
+        Items { all }
+    }
+
     /// How many items there are.
     pub fn len(&self) -> usize
         ensures { result ≡ length self.now }

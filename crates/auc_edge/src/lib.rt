@@ -10,8 +10,12 @@ mod imsi;
 mod items;
 mod no_memory;
 mod octets;
+mod places;
+mod room;
 
 pub use imsi::Imsi;
 pub use items::Items;
 pub use no_memory::NoMemory;
 pub use octets::Octets;
+pub use places::Places;
+pub use room::Room;

@@ -1,9 +1,11 @@
 //! Strings of bytes.
 
-ghost use Rattle.std.specs.Prelude.{◌≡◌, ◌++◌, length, OnOk, OnErr, IsTrue, ◌↔◌, []};
+ghost use Rattle.std.specs.Prelude.{◌≡◌, ◌++◌, length, IfOk, OnOk, OnErr, IsTrue, ◌↔◌, []};
+ghost use Rattle.auc_edge.specs.Reserved.{Reserved};
 ghost use Rattle.std.specs.Fmt.{decimal};
 
 use crate::no_memory::NoMemory;
+use crate::room::Room;
 use std::alloc::Global;
 use std::marker::Model;
 
@@ -29,6 +31,20 @@ impl Octets {
         Octets {
             bytes: Vec::new(alloc),
         }
+    }
+
+    /// The string of the bytes of a vector.
+    pub(crate) fn from_bytes(bytes: Vec<u8>) -> Octets
+        ensures { result ≡ bytes.items }
+    {
+        Octets { bytes }
+    }
+
+    /// Memory of its own for so many bytes.
+    pub fn room(&self, size: usize) -> Result<Room, NoMemory>
+        ensures { IfOk result (λ room. room ≡ record { written = []; left = size }) }
+    {
+        Room::new(*self.bytes.allocator(), size)
     }
 
     /// How many bytes there are.
