@@ -6,16 +6,28 @@
 //! had; nothing else is merged with it.
 #![tactic(auto)]
 
+mod failed;
 mod imsi;
 mod items;
 mod no_memory;
 mod octets;
 mod places;
+mod read_refusal;
+mod reading;
 mod room;
+mod shelf;
+mod sink;
+mod writing;
 
+pub use failed::Failed;
 pub use imsi::Imsi;
 pub use items::Items;
 pub use no_memory::NoMemory;
 pub use octets::Octets;
 pub use places::Places;
+pub use read_refusal::ReadRefusal;
+pub use reading::read_all;
 pub use room::Room;
+pub use shelf::Shelf;
+pub use sink::Sink;
+pub use writing::write_whole;

@@ -1,0 +1,31 @@
+//! Outputs that are written.
+
+ghost use Rattle.std.specs.Prelude.{◌≡◌, ◌≤◌, ◌<◌, ◌⊎◌, ℕ, List, [], Option, length, take, IfOk, OnErr};
+ghost use Rattle.auc_edge.specs.Faults.{Rose};
+ghost use Rattle.auc_edge.specs.Sink.{Appends};
+
+use crate::failed::Failed;
+
+/// An output, which takes bytes in order.
+pub trait Sink {
+    /// What was written, where the sink tells that.
+    ghost written: { Self → Option (List ℕ) };
+
+    /// How often a write has failed. The count never falls.
+    ghost faults: { Self → ℕ };
+
+    /// Writes a front of the bytes, and answers how many. To take none of a piece that isn't empty is a
+    /// fault. Where it fails, nothing was written.
+    fn write(&mut self, bytes: &[u8]) -> Result<usize, Failed>
+        ensures bound { IfOk result (λ count. count ≤ length bytes.now) }
+        ensures taken { IfOk result (λ count. Appends (written self.old) (written self.new) (take count bytes.now)) }
+        ensures untouched { OnErr result (Appends (written self.old) (written self.new) []) }
+
+        // It fails only with a risen count, and raises it nowhere else but where it takes nothing.
+        ensures later { faults self.old ≤ faults self.new }
+        ensures failed { OnErr result (Rose (faults self.old) (faults self.new)) }
+        ensures stuck { IfOk result (λ count. count ≡ 0 → 0 < length bytes.now
+            → Rose (faults self.old) (faults self.new)) }
+        ensures quiet { IfOk result (λ count. (0 < count) ⊎ (length bytes.now ≡ 0)
+            → faults self.new ≡ faults self.old) };
+}
