@@ -1,0 +1,19 @@
+//! Laws of histories and of the lists that split them.
+
+ghost use Rattle.auc_history.specs.Split.{CutHistoryIsASplit, SplitDrawsNoNumberTwice, SplitCountsItsNumbers};
+
+/// A legal history that is cut into lists, one behind the other, is split by them.
+pub fn cut_history_is_a_split()
+    ensures { CutHistoryIsASplit }
+{}
+
+/// In a split no number is drawn twice, and each drawn number is above the opening and at most the
+/// closing.
+pub fn split_draws_no_number_twice()
+    ensures { SplitDrawsNoNumberTwice }
+{}
+
+/// In a split the closing is the opening, the drawn numbers and the skipped ones together.
+pub fn split_counts_its_numbers()
+    ensures { SplitCountsItsNumbers }
+{}

@@ -1,0 +1,22 @@
+//! Histories of a subscriber's numbers at the authentication centre.
+//!
+//! An [`Entry`] is what one atomic step did to the subscriber's number: a draw, a resynchronisation
+//! that moved it, or one that found it high enough (TS 33.102 §6.3.5). The definitions in `specs/` say
+//! when entries one after the other are a legal history, when the lists of several callers split one,
+//! and which verdict a resynchronisation has. [`is_legal`] tests a history slowly, for tests.
+//!
+//! A subscriber's greatest number is a parameter of all definitions. Nothing here takes memory, waits
+//! or fails.
+#![tactic(auto)]
+
+mod entry;
+mod law;
+mod legal;
+mod resynchronisation;
+#[cfg(test)]
+mod tests;
+
+pub use entry::Entry;
+pub use law::{cut_history_is_a_split, split_counts_its_numbers, split_draws_no_number_twice};
+pub use legal::is_legal;
+pub use resynchronisation::{Resynchronisation, resynchronise};

@@ -1,0 +1,102 @@
+//! Histories and verdicts by hand.
+
+use crate::{Entry, Resynchronisation, is_legal, resynchronise};
+
+const TOP: u64 = 8796093022207;
+
+// By hand: what the entries cover stands beside each.
+#[test]
+fn legal_histories_are_told_from_others(rt: HostRuntime) {
+    use Entry::{Drawn, Look, Moved};
+    let cases: [(&str, u64, u64, &[Entry], bool); 15] = [
+        ("nothing is covered", 7, 7, &[], true),
+        ("1, then 2", 0, 2, &[Drawn(1), Drawn(2)], true),
+        (
+            "1 to 500, then 501",
+            0,
+            501,
+            &[Moved(0, 500), Drawn(501)],
+            true,
+        ),
+        (
+            "looks at 3 and 4",
+            3,
+            4,
+            &[Look(3), Drawn(4), Look(4), Look(4)],
+            true,
+        ),
+        (
+            "a mark",
+            TOP - 1,
+            TOP + 1,
+            &[Drawn(TOP), Drawn(TOP + 1)],
+            true,
+        ),
+        (
+            "3 is left out",
+            0,
+            4,
+            &[Drawn(1), Drawn(2), Drawn(4)],
+            false,
+        ),
+        (
+            "1 comes twice",
+            0,
+            2,
+            &[Drawn(1), Drawn(1), Drawn(2)],
+            false,
+        ),
+        ("2 comes before 1", 0, 2, &[Drawn(2), Drawn(1)], false),
+        ("2 is left", 0, 2, &[Drawn(1)], false),
+        ("2 is too much", 0, 1, &[Drawn(1), Drawn(2)], false),
+        (
+            "a look at a number that no entry ends at",
+            0,
+            5,
+            &[Moved(0, 5), Look(4)],
+            false,
+        ),
+        (
+            "a look that comes late",
+            0,
+            2,
+            &[Drawn(1), Drawn(2), Look(1)],
+            false,
+        ),
+        (
+            "a move above the greatest number",
+            TOP - 1,
+            TOP + 1,
+            &[Moved(TOP - 1, TOP + 1)],
+            false,
+        ),
+        ("a move over nothing", 4, 4, &[Moved(4, 4)], false),
+        ("back to an earlier number", 4, 3, &[], false),
+    ];
+    for (what, opening, closing, entries, legal) in cases {
+        assert_eq!(rt; is_legal(TOP, opening, closing, entries), legal, "{what}");
+    }
+}
+
+// TS 33.102 Annex C.2.1 leaves the limit to the profile: 2^28 = 268435456.
+#[test]
+fn each_verdict_comes_where_it_should(rt: HostRuntime) {
+    use Resynchronisation::{Beyond, InRange, Moved};
+    let cases = [
+        (0, 500, Moved(0, 500)),
+        (499, 500, Moved(499, 500)),
+        (500, 500, InRange(500, 500)),
+        (541, 500, InRange(541, 500)),
+        (268435455, 0, InRange(268435455, 0)),
+        (268435456, 0, Beyond(268435456, 0)),
+        (268435457, 0, Beyond(268435457, 0)),
+        (TOP, TOP, InRange(TOP, TOP)),
+    ];
+    for (seen, seq_ms, verdict) in cases {
+        assert_eq!(rt;
+            resynchronise(seen, seq_ms),
+            verdict,
+            "at {seen} and {seq_ms}"
+        );
+    }
+}
