@@ -1,2 +1,3 @@
+pub mod IdentityLemmas
 pub mod ShelfLemmas
 pub mod SinkLemmas

@@ -1,5 +1,5 @@
 -- Identities of subscribers: the IMSI (TS 23.003 §2.2), as how many digits it has and their value.
-use Rattle.std.specs.Prelude.{ℕ, ◌+◌, ◌-◌, ◌*◌, ◌^◌, ◌<◌, ◌≤◌, ◌&&◌, nat_le, List, length, Option, Some, None, if◌then◌else◌, fold}
+use Rattle.std.specs.Prelude.{◌≡◌, ℕ, zero, suc, ◌+◌, ◌-◌, ◌*◌, ◌/◌, ◌%◌, ◌^◌, ◌<◌, ◌≤◌, ◌&&◌, nat_le, Bool, List, [], ◌∷◌, ◌++◌, length, Option, Some, None, if◌then◌else◌, fold}
 use Rattle.std.specs.List.{list_all}
 use Rattle.std.specs.Char.{is_ascii_digit}
 
@@ -14,12 +14,31 @@ pub record IsIdentity (digits number : ℕ) : Type 0 where
   pub most : digits ≤ 15
   pub fits : number < 10 ^ digits
 
+-- whether a text is 6 to 15 decimal digits
+abbrev pub is_identity : List ℕ → Bool
+is_identity text = nat_le 6 (length text) && nat_le (length text) 15 && list_all is_ascii_digit text
+
 -- the number that a text of decimal digits is, the first digit first
 abbrev pub number_of : List ℕ → ℕ
 number_of text = fold (λ number digit. 10 * number + (digit - 48)) 0 text
 
 -- the identity that a text of 6 to 15 decimal digits is, and none of any other text
 abbrev pub identity_of : List ℕ → Option Identity
-identity_of text =
-    if nat_le 6 (length text) && nat_le (length text) 15 && list_all is_ascii_digit text
-    then Some (record { digits = length text; number = number_of text }) else None
+identity_of text = if is_identity text then Some (record { digits = length text; number = number_of text }) else None
+
+-- the last so many decimal digits of a number, leading zeros among them
+abbrev pub last_digits : ℕ → ℕ → List ℕ
+last_digits zero number = []
+last_digits (suc count) number = last_digits count (number / 10) ++ (48 + number % 10) ∷ []
+
+-- the text of an identity: all its digits
+abbrev pub digits_of : Identity → List ℕ
+digits_of identity = last_digits identity.digits identity.number
+
+-- each identity is read back from its text, so different identities have different texts
+abbrev pub EachIdentityIsReadBack : Type 0
+EachIdentityIsReadBack = (identity : Identity) → IsIdentity identity.digits identity.number → identity_of (digits_of identity) ≡ Some identity
+
+-- each text of an identity is written back, so different texts are different identities
+abbrev pub EachTextIsWrittenBack : Type 0
+EachTextIsWrittenBack = (text : List ℕ) (identity : Identity) → identity_of text ≡ Some identity → digits_of identity ≡ text

@@ -1,9 +1,16 @@
 //! Identities of subscribers.
 
-ghost use Rattle.std.specs.Prelude.{◌≡◌};
-ghost use Rattle.auc_edge.specs.Identity.{identity_of};
+ghost use Rattle.std.specs.Prelude.{◌≡◌, ◌≤◌, ◌<◌, ◌^◌, ◌++◌, length, IsTrue, OnOk, OnErr};
+ghost use Rattle.std.specs.List.{list_all};
+ghost use Rattle.std.specs.Char.{is_ascii_digit};
+ghost use Rattle.auc_edge.specs.Identity.{identity_of, is_identity, number_of, digits_of, last_digits};
 
+use crate::no_memory::NoMemory;
+use crate::octets::Octets;
 use std::marker::Model;
+
+// How many digits an identity has at most.
+const MAX_DIGITS: usize = 15;
 
 /// An IMSI: 6 to 15 decimal digits, leading zeros among them (TS 23.003 §2.2). Contracts see how many
 /// digits it has and the number that they are.
@@ -38,5 +45,70 @@ impl Imsi {
         ensures { result ≡ self.now.number }
     {
         self.number
+    }
+    /// The identity that a text of 6 to 15 decimal digits is. `None` for any other text.
+    pub fn read(text: &[u8]) -> Option<Imsi>
+        ensures { result ≡ identity_of text.now }
+    {
+        if !is_identity(text) {
+            return None;
+        }
+        Some(Imsi {
+            digits: text.len() as u8,
+            number: number_of(text),
+        })
+    }
+
+    /// Puts its digits behind the last byte, leading zeros among them. Where there is no memory for them,
+    /// none is put.
+    pub fn write_to(&self, out: &mut Octets) -> Result<(), NoMemory>
+        ensures written { OnOk result (out.new ≡ out.old ++ digits_of self.now) }
+        ensures kept { OnErr result (out.new ≡ out.old) }
+    {
+        let mut room = [0; MAX_DIGITS];
+        let text = &mut room[..usize::from(self.digits)];
+        write_digits(text, self.number);
+        out.append(text)
+    }
+}
+
+// Whether a text is 6 to 15 decimal digits.
+fn is_identity(text: &[u8]) -> bool
+    ensures { result ≡ is_identity text.now }
+{
+    6 <= text.len() && text.len() <= MAX_DIGITS && are_digits(text)
+}
+
+// Whether each byte is a decimal digit.
+fn are_digits(text: &[u8]) -> bool
+    ensures { result ≡ list_all is_ascii_digit text.now }
+{
+    text.iter().all(|digit| digit.is_ascii_digit())
+}
+
+// The number that a text of decimal digits is.
+fn number_of(text: &[u8]) -> u64
+    requires length { length text.now ≤ 15 }
+    requires digits { IsTrue (list_all is_ascii_digit text.now) }
+    ensures value { result ≡ number_of text.now }
+    ensures fits { result < 10 ^ length text.now }
+{
+    let mut number = 0;
+    for digit in text {
+        number = 10 * number + u64::from(*digit - b'0');
+    }
+    number
+}
+
+// Fills a text with the last digits of a number.
+fn write_digits(text: &mut [u8], number: u64)
+    ensures { text.new ≡ last_digits (length text.old) number }
+{
+    let mut left = text.len();
+    let mut rest = number;
+    while left > 0 {
+        left -= 1;
+        text[left] = b'0' + (rest % 10) as u8;
+        rest /= 10;
     }
 }

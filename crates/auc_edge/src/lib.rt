@@ -9,6 +9,7 @@
 mod failed;
 mod imsi;
 mod items;
+mod law;
 mod no_memory;
 mod octets;
 mod places;
@@ -22,6 +23,7 @@ mod writing;
 pub use failed::Failed;
 pub use imsi::Imsi;
 pub use items::Items;
+pub use law::{each_identity_is_read_back, each_text_is_written_back};
 pub use no_memory::NoMemory;
 pub use octets::Octets;
 pub use places::Places;
