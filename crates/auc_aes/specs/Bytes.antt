@@ -1,0 +1,20 @@
+-- Strings of bytes, as lists of numbers below 256. A block has 16 bytes.
+use Rattle.std.specs.Prelude.{◌≡◌, ℕ, ◌<◌, List, [], ◌∷◌, length, bit_xor}
+use Rattle.std.specs.Int.{w128, from_be_bytes, to_be_bytes, rotate_left}
+use Rattle.std.specs.List.{All}
+
+-- the exclusive or of two strings of one length
+abbrev pub xor : List ℕ → List ℕ → List ℕ
+xor [] bs = []
+xor (a ∷ as') [] = []
+xor (a ∷ as') (b ∷ bs) = bit_xor a b ∷ xor as' bs
+
+-- a block turned cyclically by r bits towards its most significant bit, which is the first bit of
+-- its first byte
+abbrev pub rot : List ℕ → ℕ → List ℕ
+rot block r = to_be_bytes w128 (rotate_left w128 (from_be_bytes w128 block) r)
+
+-- 16 bytes
+pub record IsBlock (block : List ℕ) : Type 0 where
+  pub size : length block ≡ 16
+  pub bytes : All (λ b. b < 256) block

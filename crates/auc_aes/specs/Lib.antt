@@ -1,0 +1,5 @@
+pub mod Bytes
+pub mod Field
+pub mod Cipher
+pub mod Cbc
+pub mod Law

@@ -1,0 +1,98 @@
+//! A key of AES-128.
+
+ghost use Rattle.std.specs.Prelude.{◌≡◌, ◌%◌, length};
+ghost use Rattle.auc_aes.specs.Cipher.{aes, aes_inverse};
+ghost use Rattle.auc_aes.specs.Cbc.{cbc_encrypted, cbc_decrypted};
+
+use crate::block::{block_at, put_block, xor};
+use crate::inverse_round::{undo_final_round, undo_full_round};
+use crate::round::{double, final_round, full_round, next_key};
+use std::marker::Model;
+
+/// A key of 128 bits, with its key schedule. Contracts see its 16 bytes.
+#[derive(Drop)]
+pub struct Key {
+    round_keys: [[u8; 16]; 11],
+}
+
+impl Model for Key {
+    ghost use Rattle.std.specs.Prelude.{◌≡◌, ℕ, ◌<◌, List, [], slice_index_or};
+    ghost use Rattle.auc_aes.specs.Cipher.{round_key};
+
+    ghost Value = { List ℕ };
+
+    ghost view = { λ k. slice_index_or k.round_keys 0 [] };
+
+    ghost invariant = { λ k. (i : ℕ) → i < 11
+        → slice_index_or k.round_keys i [] ≡ round_key (slice_index_or k.round_keys 0 []) i };
+}
+
+impl Key {
+    /// The key of 16 bytes, expanded into its round keys (FIPS 197 §5.2).
+    pub fn new(k: [u8; 16]) -> Key
+        ensures { result ≡ k }
+    {
+        let mut round_keys = [k; 11];
+        let mut constant = 1;
+        for i in 1..11 {
+            round_keys[i] = next_key(round_keys[i - 1], constant);
+            constant = double(constant);
+        }
+        Key { round_keys }
+    }
+
+    /// The cipher of a block (FIPS 197 §5.1).
+    pub fn encrypt(&self, b: [u8; 16]) -> [u8; 16]
+        ensures { result ≡ aes self.now b }
+    {
+        let mut state = xor(b, self.round_keys[0]);
+        for round in 1..10 {
+            let next = full_round(state, self.round_keys[round]);
+            state = next;
+        }
+        final_round(state, self.round_keys[10])
+    }
+
+    /// The inverse cipher of a block (FIPS 197 §5.3).
+    pub fn decrypt(&self, b: [u8; 16]) -> [u8; 16]
+        ensures { result ≡ aes_inverse self.now b }
+    {
+        let mut state = undo_final_round(b, self.round_keys[10]);
+        for round in 0..9 {
+            let previous = undo_full_round(state, self.round_keys[9 - round]);
+            state = previous;
+        }
+        xor(state, self.round_keys[0])
+    }
+
+    /// Encrypts `bytes`, whole blocks, in place by CBC with the initialization vector `iv`
+    /// (NIST SP 800-38A §6.2).
+    pub fn cbc_encrypt(&self, iv: [u8; 16], bytes: &mut [u8])
+        requires { length bytes.old % 16 ≡ 0 }
+        ensures { bytes.new ≡ cbc_encrypted self.now iv bytes.old }
+    {
+        let mut last = iv;
+        let mut at = 0;
+        while at < bytes.len() {
+            last = self.encrypt(xor(block_at(bytes, at), last));
+            put_block(bytes, at, last);
+            at += 16;
+        }
+    }
+
+    /// Decrypts `bytes`, whole blocks, in place by CBC with the initialization vector `iv`
+    /// (NIST SP 800-38A §6.2).
+    pub fn cbc_decrypt(&self, iv: [u8; 16], bytes: &mut [u8])
+        requires { length bytes.old % 16 ≡ 0 }
+        ensures { bytes.new ≡ cbc_decrypted self.now iv bytes.old }
+    {
+        let mut last = iv;
+        let mut at = 0;
+        while at < bytes.len() {
+            let block = block_at(bytes, at);
+            put_block(bytes, at, xor(self.decrypt(block), last));
+            last = block;
+            at += 16;
+        }
+    }
+}
