@@ -1,0 +1,35 @@
+//! The keys of an authentication.
+
+/// The keys that a full authentication yields (RFC 4187 §7, RFC 9048 §3.3).
+#[derive(Clone, Copy, Debug, PartialEq, Eq)]
+pub struct KeySet {
+    /// K_encr, which encrypts attributes: 16 bytes.
+    pub k_encr: [u8; 16],
+    /// K_aut, which authenticates packets: 32 bytes. EAP-AKA's has 16, and 16 zero bytes follow it.
+    pub k_aut: [u8; 32],
+    /// K_re, from which EAP-AKA' makes the keys of a fast re-authentication: 32 bytes. EAP-AKA has
+    /// none, and all are zero.
+    pub k_re: [u8; 32],
+    /// The Master Session Key, 64 bytes.
+    pub msk: [u8; 64],
+    /// The Extended Master Session Key, 64 bytes.
+    pub emsk: [u8; 64],
+}
+
+/// The key that a fast re-authentication starts from.
+#[derive(Clone, Copy, Debug, PartialEq, Eq)]
+pub enum Master {
+    /// EAP-AKA's MK, 20 bytes (RFC 4187 §7).
+    Aka([u8; 20]),
+    /// The K_re of EAP-AKA', 32 bytes (RFC 9048 §3.3).
+    Prime([u8; 32]),
+}
+
+/// The keys that a fast re-authentication yields (RFC 4187 §7, RFC 9048 §3.3).
+#[derive(Clone, Copy, Debug, PartialEq, Eq)]
+pub struct Pair {
+    /// The Master Session Key, 64 bytes.
+    pub msk: [u8; 64],
+    /// The Extended Master Session Key, 64 bytes.
+    pub emsk: [u8; 64],
+}
