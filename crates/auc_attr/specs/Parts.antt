@@ -1,0 +1,24 @@
+-- An attribute as the code keeps it between its list and its bytes.
+use Rattle.std.specs.Prelude.{ℕ, ◌+◌, ◌-◌, List, [], ◌++◌, length, Option, Some, None}
+use Rattle.auc_edge.specs.Reserved.{Reserved}
+use Rattle.auc_attr.specs.declared.conversion.Value.{Value}
+use Rattle.auc_attr.specs.declared.conversion.Value.TheVariants as values
+use Rattle.auc_attr.specs.declared.layout.Layout.{Layout}
+use Rattle.auc_attr.specs.Spelling.{parts_text}
+
+abbrev pub value_bytes : Value → List ℕ
+value_bytes (values.Slice v) = v.now
+value_bytes (values.Number v) = v
+value_bytes (values.Bit v) = v
+
+abbrev pub front_bytes : Option (List ℕ) → List ℕ
+front_bytes None = []
+front_bytes (Some two) = two
+
+-- the bytes of a layout
+abbrev pub layout_text : ℕ → Layout → List ℕ
+layout_text kind l = parts_text kind (front_bytes l.front) l.value.now l.zeros
+
+-- what reserved memory is when more bytes are written into it
+abbrev pub wrote : Reserved ℕ → List ℕ → Reserved ℕ
+wrote room bytes = record { written = room.written ++ bytes; left = room.left - length bytes }

@@ -1,0 +1,89 @@
+-- The one spelling that is written of each list of attributes, and which lists may be written.
+use Rattle.std.specs.Prelude.{ℕ, ◌+◌, ◌-◌, ◌*◌, ◌/◌, ◌%◌, ◌==◌, nat_le, Bool, true, false, not, ◌&&◌, ◌||◌, List, [], ◌∷◌, ◌++◌, length, replicate, slice_index, Option, Some, None}
+use Rattle.std.specs.List.{list_all, list_any, flat_map}
+use Rattle.std.specs.Int.{w16, to_be_bytes}
+use Rattle.auc_attr.specs.declared.attr.Attr.{Attr}
+use Rattle.auc_attr.specs.declared.table.Row.{Row}
+use Rattle.auc_attr.specs.declared.table.Shape.{Shape}
+use Rattle.auc_attr.specs.declared.table.Shape.TheVariants as shape
+use Rattle.auc_attr.specs.Table.{row_of}
+use Rattle.auc_attr.specs.Item.{Item, item_of, items, is_named}
+
+-- whether a type stands in a list of types
+abbrev pub stands_in : List ℕ → ℕ → Bool
+stands_in seen kind = list_any (λ other. other == kind) seen
+
+abbrev pub is_zero : ℕ → Bool
+is_zero byte = byte == 0
+
+-- the values that a shape has a spelling for
+unfoldable pub fits : Shape → List ℕ → Bool
+fits (shape.Fixed n) value = length value == n
+fits (shape.AfterReserved n) value = length value == n
+fits shape.BitCounted value = nat_le 4 (length value) && nat_le (length value) 16
+fits shape.ByteCounted value = nat_le (length value) 1016
+fits shape.Ciphertext value = nat_le (length value) 1016 && (length value % 4 == 0)
+fits shape.Hash value = length value == 0 || length value == 20 || length value == 32
+fits shape.Zeros value = (length value == 2 || length value == 6 || length value == 10) && list_all is_zero value
+fits shape.Flag value = (length value == 1) && nat_le (slice_index value 0) 1
+fits shape.Skipped value = nat_le 2 (length value) && nat_le (length value) 1018 && (length value % 4 == 2)
+
+abbrev pub fits_row : Option Row → List ℕ → Bool
+fits_row None value = false
+fits_row (Some row) value = fits row.shape value
+
+unfoldable pub fits_item : Item → Bool
+fits_item i = fits_row (row_of i.kind) i.value
+
+abbrev pub may_stand_row : Option Row → Bool → Bool
+may_stand_row None stood = false
+may_stand_row (Some row) stood = not (row.once && stood)
+
+-- a type of the table other than KDF stands once
+unfoldable pub may_stand : List ℕ → ℕ → Bool
+may_stand seen kind = may_stand_row (row_of kind) (stands_in seen kind)
+
+abbrev pub writable_from : List ℕ → List Attr → Bool
+writable_from seen [] = true
+writable_from seen (a ∷ list) =
+    (fits_item (item_of a) && is_named a && may_stand seen (item_of a).kind) && writable_from (seen ++ (item_of a).kind ∷ []) list
+
+-- whether a list has a spelling that reads
+abbrev pub writable : List Attr → Bool
+writable list = writable_from [] list
+
+-- how many bytes are missing to a multiple of 4
+abbrev pub fill : ℕ → ℕ
+fill n = (4 - n % 4) % 4
+
+-- type, length in units of 4 bytes, what stands before the value, the value, and zero bytes
+abbrev pub parts_text : ℕ → List ℕ → List ℕ → ℕ → List ℕ
+parts_text kind front value zeros = kind ∷ ((length front + length value + zeros + 2) / 4) ∷ (front ++ (value ++ replicate zeros 0))
+
+abbrev pub reserved : List ℕ
+reserved = 0 ∷ 0 ∷ []
+
+unfoldable pub shape_text : Shape → ℕ → List ℕ → List ℕ
+shape_text (shape.Fixed n) kind value = parts_text kind [] value 0
+shape_text (shape.AfterReserved n) kind value = parts_text kind reserved value 0
+shape_text shape.BitCounted kind value = parts_text kind (to_be_bytes w16 (8 * length value)) value (fill (length value))
+shape_text shape.ByteCounted kind value = parts_text kind (to_be_bytes w16 (length value)) value (fill (length value))
+shape_text shape.Ciphertext kind value = parts_text kind reserved value 0
+shape_text shape.Hash kind value = parts_text kind reserved value 0
+shape_text shape.Zeros kind value = parts_text kind [] value 0
+shape_text shape.Flag kind value = parts_text kind (128 * slice_index value 0 ∷ 0 ∷ []) [] 0
+shape_text shape.Skipped kind value = parts_text kind [] value 0
+
+abbrev pub row_text : Option Row → ℕ → List ℕ → List ℕ
+row_text None kind value = []
+row_text (Some row) kind value = shape_text row.shape kind value
+
+unfoldable pub item_text : Item → List ℕ
+item_text i = row_text (row_of i.kind) i.kind i.value
+
+abbrev pub texts : List Item → List ℕ
+texts is = flat_map item_text is
+
+-- the bytes that are written of a list of attributes
+abbrev pub spelling : List Attr → List ℕ
+spelling list = texts (items list)

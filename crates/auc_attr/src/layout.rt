@@ -1,0 +1,157 @@
+//! How an attribute is laid out behind its type and its length.
+
+ghost use Rattle.std.specs.Prelude.{◌≡◌, ◌+◌, ◌*◌, ◌≤◌, ◌<◌, ℕ, length, true, replicate};
+ghost use Rattle.std.specs.Int.{w16, to_be_bytes};
+ghost use Rattle.auc_attr.specs.Item.{item};
+ghost use Rattle.auc_attr.specs.Spelling.{fill, fits, fits_item, item_text, shape_text};
+ghost use Rattle.auc_attr.specs.Parts.{front_bytes, layout_text, wrote};
+
+use crate::body::{are_zeros, fill};
+use crate::table::{Shape, row_of};
+use auc_edge::Room;
+
+/// Two bytes or none, the value, and zero bytes.
+#[derive(Clone, Copy)]
+pub struct Layout<'a> {
+    pub front: Option<[u8; 2]>,
+    pub value: &'a [u8],
+    pub zeros: usize,
+}
+
+/// Whether a value may stand in a shape.
+#[tactic(auto, unfolding(crate::specs::Spelling::fits))]
+pub fn fits(shape: Shape, value: &[u8]) -> bool
+    ensures { result ≡ fits shape value.now }
+{
+    let size = value.len();
+    match shape {
+        Shape::Fixed(n) => size == n as usize,
+        Shape::AfterReserved(n) => size == n as usize,
+        Shape::BitCounted => 4 <= size && size <= 16,
+        Shape::ByteCounted => size <= 1016,
+        Shape::Ciphertext => size <= 1016 && size % 4 == 0,
+        Shape::Hash => size == 0 || size == 20 || size == 32,
+        Shape::Zeros => (size == 2 || size == 6 || size == 10) && are_zeros(value),
+        Shape::Flag => size == 1 && value[0] <= 1,
+        Shape::Skipped => 2 <= size && size <= 1018 && size % 4 == 2,
+    }
+}
+
+/// How a value stands in a shape.
+#[tactic(auto, unfolding(crate::specs::Spelling::fits, crate::specs::Spelling::shape_text))]
+pub fn layout_of(shape: Shape, value: &[u8]) -> Layout<'_>
+    requires { fits shape value.now ≡ true }
+    ensures text { (kind : ℕ) → layout_text kind result ≡ shape_text shape kind value.now }
+    ensures size { length (front_bytes result.front) + length result.value.now + result.zeros + 2 ≤ 1020 }
+    ensures zeros { result.zeros < 4 }
+{
+    match shape {
+        Shape::Fixed(_) | Shape::Zeros | Shape::Skipped => bare(value),
+        Shape::AfterReserved(_) | Shape::Ciphertext | Shape::Hash => behind([0, 0], value),
+        Shape::BitCounted => counted(8, value),
+        Shape::ByteCounted => counted(1, value),
+        Shape::Flag => behind([128 * value[0], 0], &[]),
+    }
+}
+
+/// A value alone.
+fn bare(value: &[u8]) -> Layout<'_>
+    ensures front { result.front ≡ None }
+    ensures value { result.value.now ≡ value.now }
+    ensures zeros { result.zeros ≡ 0 }
+{
+    Layout {
+        front: None,
+        value,
+        zeros: 0,
+    }
+}
+
+/// Two bytes and a value.
+fn behind(front: [u8; 2], value: &[u8]) -> Layout<'_>
+    ensures front { result.front ≡ Some front }
+    ensures value { result.value.now ≡ value.now }
+    ensures zeros { result.zeros ≡ 0 }
+{
+    Layout {
+        front: Some(front),
+        value,
+        zeros: 0,
+    }
+}
+
+/// A value behind its length, which is counted in this part of a byte, and fill.
+fn counted(unit: u16, value: &[u8]) -> Layout<'_>
+    requires fits { unit * length value.now < 65536 }
+    ensures front { result.front ≡ Some (to_be_bytes w16 (unit * length value.now)) }
+    ensures value { result.value.now ≡ value.now }
+    ensures zeros { result.zeros ≡ fill (length value.now) }
+{
+    let length = unit as usize * value.len();
+    Layout {
+        front: Some((length as u16).to_be_bytes()),
+        value,
+        zeros: fill(value.len()),
+    }
+}
+
+/// How an attribute of a type is laid out with a value.
+#[tactic(auto, unfolding(crate::specs::Spelling::fits_item, crate::specs::Spelling::item_text))]
+pub fn layout_of_item(kind: u8, value: &[u8]) -> Layout<'_>
+    requires { fits_item (item kind value.now) ≡ true }
+    ensures text { layout_text kind result ≡ item_text (item kind value.now) }
+    ensures size { length (front_bytes result.front) + length result.value.now + result.zeros + 2 ≤ 1020 }
+    ensures zeros { result.zeros < 4 }
+{
+    match row_of(kind) {
+        Some(row) => layout_of(row.shape, value),
+        None => unreachable!(),
+    }
+}
+
+/// How many bytes a layout takes, with type and length.
+pub fn size_of(layout: Layout<'_>) -> usize
+    requires { length (front_bytes layout.front) + length layout.value.now + layout.zeros + 2 ≤ 1020 }
+    ensures { (kind : ℕ) → result ≡ length (layout_text kind layout.entry) }
+{
+    2 + front_size(layout.front) + layout.value.len() + layout.zeros
+}
+
+fn front_size(front: Option<[u8; 2]>) -> usize
+    ensures { result ≡ length (front_bytes front) }
+{
+    match front {
+        None => 0,
+        Some(_) => 2,
+    }
+}
+
+/// Writes an attribute behind what is written.
+pub fn put_layout(room: &mut Room, kind: u8, layout: Layout<'_>)
+    requires size { length (front_bytes layout.front) + length layout.value.now + layout.zeros + 2 ≤ 1020 }
+    requires zeros { layout.zeros < 4 }
+    requires room { length (layout_text kind layout) ≤ room.old.left }
+    ensures { room.new ≡ wrote room.old (layout_text kind layout.entry) }
+{
+    let units = (2 + front_size(layout.front) + layout.value.len() + layout.zeros) / 4;
+    room.put(&[kind, units as u8]);
+    if let Some(front) = layout.front {
+        room.put(&front);
+    }
+    room.put(layout.value);
+    room.put(zeros(layout.zeros));
+}
+
+/// Up to three zero bytes.
+fn zeros(count: usize) -> &'static [u8]
+    requires { count < 4 }
+    ensures { result.now ≡ replicate count 0 }
+{
+    match count {
+        0 => &[],
+        1 => &[0],
+        2 => &[0, 0],
+        3 => &[0, 0, 0],
+        _ => unreachable!(),
+    }
+}
