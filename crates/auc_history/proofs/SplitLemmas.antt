@@ -8,8 +8,8 @@ use Rattle.std.proofs.lemmas.List.Sorted.{IsPermutation-filter_both, length_perm
 use Rattle.std.proofs.lemmas.List.Sums.{sum_by-cons, length-filter}
 use Rattle.auc_history.specs.declared.entry.Entry.{Entry}
 use Rattle.auc_history.specs.declared.entry.Entry.TheVariants.{Drawn, Moved, Look}
-use Rattle.auc_history.specs.History.{numbers_after, covered, IsBefore, IsInOrder, drawn, skipped, skipped_by}
-use Rattle.auc_history.specs.Split.{all_entries, times, Splits, CutHistoryIsASplit, SplitDrawsNoNumberTwice, SplitCountsItsNumbers}
+use Rattle.auc_history.specs.History.{IsLegal, numbers_after, covered, IsBefore, IsInOrder, drawn, skipped, skipped_by}
+use Rattle.auc_history.specs.Split.{DrawsEachOnce, all_entries, times, CutHistoryIsASplit, SplitDrawsNoNumberTwice, SplitCountsItsNumbers}
 use Rattle.auc_history.proofs.ListLemmas.{AllPairs-left, AllPairs-right, times-cons, times-append, times_at, differ_from_times}
 use Rattle.auc_history.proofs.Walk.{length-numbers_after}
 
@@ -35,19 +35,6 @@ cut_in_order (entries ∷ lists) ordered =
     All-cons IsInOrder entries lists (AllPairs-left IsBefore entries (all_entries lists) ordered)
     (cut_in_order lists (AllPairs-right IsBefore entries (all_entries lists) ordered))
 
--- a legal history that is cut into lists is split by them
-pub cut_history_is_a_split : CutHistoryIsASplit
-cut_history_is_a_split top opening closing lists legal =
-    let forward = legal.forward in
-    let end : opening + (closing - opening) ≡ closing = omega arith in
-    record {
-      forward = forward;
-      once = λ n. rw legal.rising (rw end at (times-numbers_after n (closing - opening) opening));
-      ordered = cut_in_order lists legal.ordered;
-      moves = legal.moves;
-      looks = legal.looks;
-    }
-
 -- a drawn number is covered
 pub times-drawn : (n : ℕ) (entries : List Entry) → times n (drawn entries) ≤ times n (covered entries)
 times-drawn n [] = omega arith
@@ -70,26 +57,65 @@ between n opening closing = grind (arith, nat_tests)
 at_most_once : (n opening closing : ℕ) → (if nat_lt opening n && nat_le n closing then 1 else 0) ≤ 1
 at_most_once n opening closing = grind (arith, nat_tests)
 
--- a drawn number of a split is between the opening and the closing
-drawn_between : (top opening closing : ℕ) (lists : List (List Entry)) → Splits top opening closing lists
-    → (k d : ℕ) → k < length (drawn (all_entries lists))
-    → (opening < get_or (drawn (all_entries lists)) k d) × (get_or (drawn (all_entries lists)) k d ≤ closing)
-drawn_between top opening closing lists splits k d k<n =
-    let n = get_or (drawn (all_entries lists)) k d in
-    let there = times_at (drawn (all_entries lists)) k d k<n in
-    let covered_too = times-drawn n (all_entries lists) in
-    let once = splits.once n in
-    between n opening closing (omega (arith, there, covered_too, once))
+-- entries cover each number of a range once, and no other
+abbrev pub CoversOnce : ℕ → ℕ → List Entry → Type 0
+CoversOnce opening closing entries = (n : ℕ) → times n (covered entries) ≡ (if nat_lt opening n && nat_le n closing then 1 else 0)
+
+-- what a legal history covers
+pub legal_covers_once : (top opening closing : ℕ) (entries : List Entry) → IsLegal top opening closing entries → CoversOnce opening closing entries
+legal_covers_once top opening closing entries legal n =
+    let forward = legal.forward in
+    let end : opening + (closing - opening) ≡ closing = omega arith in
+    rw legal.rising (rw end at (times-numbers_after n (closing - opening) opening))
+
+-- a legal history that is cut into lists is split by them
+pub cut_history_is_a_split : CutHistoryIsASplit
+cut_history_is_a_split top opening closing lists legal = record {
+  forward = legal.forward;
+  once = legal_covers_once top opening closing (all_entries lists) legal;
+  ordered = cut_in_order lists legal.ordered;
+  moves = legal.moves;
+  looks = legal.looks;
+}
+
+-- a drawn number is between the opening and the closing
+drawn_between : (opening closing : ℕ) (entries : List Entry) → CoversOnce opening closing entries
+    → (k d : ℕ) → k < length (drawn entries) → (opening < get_or (drawn entries) k d) × (get_or (drawn entries) k d ≤ closing)
+drawn_between opening closing entries once k d k<n =
+    let n = get_or (drawn entries) k d in
+    let there = times_at (drawn entries) k d k<n in
+    let covered_too = times-drawn n entries in
+    let one = once n in
+    between n opening closing (omega (arith, there, covered_too, one))
+
+-- no number is drawn twice in a legal history, in counts
+pub legal_draws_once : (top opening closing : ℕ) (entries : List Entry) → IsLegal top opening closing entries
+    → (n : ℕ) → times n (drawn entries) ≤ 1
+legal_draws_once top opening closing entries legal n =
+    let covered_too = times-drawn n entries in
+    let one = legal_covers_once top opening closing entries legal n in
+    let most = at_most_once n opening closing in
+    omega (arith, covered_too, one, most)
+
+-- no number is drawn twice by entries that cover none twice
+pub draws_each_once : (opening closing : ℕ) (entries : List Entry) → CoversOnce opening closing entries → DrawsEachOnce opening closing (drawn entries)
+draws_each_once opening closing entries once = record {
+  differ = differ_from_times (drawn entries)
+      (λ n. let covered_too = times-drawn n entries in let one = once n in
+      let most = at_most_once n opening closing in omega (arith, covered_too, one, most));
+  above = λ k d k<n. (drawn_between opening closing entries once k d k<n).0;
+  within = λ k d k<n. (drawn_between opening closing entries once k d k<n).1;
+}
 
 -- no number is drawn twice in a split, and each drawn one is above the opening and at most the closing
 pub split_draws_no_number_twice : SplitDrawsNoNumberTwice
-split_draws_no_number_twice top opening closing lists splits = record {
-  differ = differ_from_times (drawn (all_entries lists))
-      (λ n. let covered_too = times-drawn n (all_entries lists) in let once = splits.once n in
-      let most = at_most_once n opening closing in omega (arith, covered_too, once, most));
-  above = λ k d k<n. (drawn_between top opening closing lists splits k d k<n).0;
-  within = λ k d k<n. (drawn_between top opening closing lists splits k d k<n).1;
-}
+split_draws_no_number_twice top opening closing lists splits = draws_each_once opening closing (all_entries lists) splits.once
+
+-- nor in a legal history
+pub legal_draws_no_number_twice : (top opening closing : ℕ) (entries : List Entry) → IsLegal top opening closing entries
+    → DrawsEachOnce opening closing (drawn entries)
+legal_draws_no_number_twice top opening closing entries legal =
+    draws_each_once opening closing entries (legal_covers_once top opening closing entries legal)
 
 -- a head that is the one goes
 head_gone : (n last m t u : ℕ) → m ≡ last → u ≡ (if n == last then 0 else t) → u ≡ (if n == last then 0 else (cond (m == n) 1 0 + t))
@@ -173,10 +199,20 @@ length-covered (Look seen ∷ entries) =
     let none = sum_by-cons skipped_by (Look seen) entries in omega (arith, rest, none)
 
 -- the closing is the opening, the drawn numbers and the skipped ones together
-pub split_counts_its_numbers : SplitCountsItsNumbers
-split_counts_its_numbers top opening closing lists splits =
-    let forward = splits.forward in
+closing_is : (opening closing : ℕ) (entries : List Entry) → opening ≤ closing → CoversOnce opening closing entries
+    → closing ≡ opening + length (drawn entries) + skipped entries
+closing_is opening closing entries forward once =
     let end : opening + (closing - opening) ≡ closing = omega arith in
-    let whole = length_of_range (closing - opening) opening (covered (all_entries lists)) (λ n. rw end (splits.once n)) in
-    let parts = length-covered (all_entries lists) in
+    let whole = length_of_range (closing - opening) opening (covered entries) (λ n. rw end (once n)) in
+    let parts = length-covered entries in
     omega (arith, whole, parts)
+
+-- in a split
+pub split_counts_its_numbers : SplitCountsItsNumbers
+split_counts_its_numbers top opening closing lists splits = closing_is opening closing (all_entries lists) splits.forward splits.once
+
+-- and in a legal history
+pub legal_counts_its_numbers : (top opening closing : ℕ) (entries : List Entry) → IsLegal top opening closing entries
+    → closing ≡ opening + length (drawn entries) + skipped entries
+legal_counts_its_numbers top opening closing entries legal =
+    closing_is opening closing entries legal.forward (legal_covers_once top opening closing entries legal)

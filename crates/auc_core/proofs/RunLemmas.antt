@@ -1,0 +1,119 @@
+-- What a run of the core leaves of each subscriber, by induction on the run.
+use Rattle.std.proofs.Common.{◌≡◌, ◌≢◌, ℕ, ◌+◌, ◌<◌, ◌≤◌, ◌==◌, nat_le, Bool, true, false, if◌then◌else◌, List, [], ◌∷◌, ◌++◌, length, slice_index, slice_set, arith, ap, sym, ◌∙◌, subst, refl, All, eq-eqb}
+use Rattle.std.proofs.lemmas.Bool.{eqb-true, leb-true, leb-false}
+use Rattle.std.proofs.lemmas.List.{length-set, get_or-set_same, get_or-set_other}
+use Rattle.std.proofs.lemmas.List.Concat.{flat_map-append}
+use Rattle.std.proofs.lemmas.List.Elements.{All-set, All-get_or}
+use Rattle.auc_sqn.specs.declared.number.TheConstants.{MAX_SEQ}
+use Rattle.auc_history.specs.declared.entry.Entry.{Entry}
+use Rattle.auc_history.specs.declared.entry.Entry.TheVariants.{Drawn}
+use Rattle.auc_history.specs.History.{IsLegal, drawn, drawn_by}
+use Rattle.auc_history.specs.Split.{times}
+use Rattle.auc_history.proofs.ListLemmas.{times-append, differ_from_times}
+use Rattle.auc_history.proofs.SplitLemmas.{legal_draws_once}
+use Rattle.auc_history.proofs.Walk.{Goes, IsLegal-from_goes, IsLegal-append, IsLegal-nil}
+use Rattle.auc_core.specs.declared.event.Event.{Event}
+use Rattle.auc_core.specs.declared.event.Event.TheVariants.{Draw}
+use Rattle.auc_core.specs.declared.event.Reply.{Reply}
+use Rattle.auc_core.specs.declared.event.Reply.TheVariants.{Number, Exhausted}
+use Rattle.auc_core.specs.Step.{AnswersDraw, word_after, Steps, entries_of, Run, subscriber_of, history, number_in, numbers_of, EachHistoryIsLegal, NoNumberComesTwice}
+
+-- no word is above the mark
+abbrev AreWords : List ℕ → Type 0
+AreWords words = All (λ word. word ≤ MAX_SEQ + 1) words
+
+-- the first refused draw makes the mark, and a later one nothing
+refused_goes : (b : Bool) (word w : ℕ) → MAX_SEQ ≤ word → w ≡ MAX_SEQ → word ≤ MAX_SEQ + 1 → nat_le word w ≡ b
+    → Goes MAX_SEQ word (if b then Drawn (w + 1) ∷ [] else []) (w + 1)
+refused_goes true word w last same most is = (let low = leb-true word w is in omega arith, refl)
+refused_goes false word w last same most is = let high = leb-false word w is in omega arith
+
+-- the entries of a draw are a legal history from the word before it to the word after it
+pub draw_is_legal : (word : ℕ) (reply : Reply) → AnswersDraw word reply → word ≤ MAX_SEQ + 1
+    → IsLegal MAX_SEQ word (word_after word reply) (entries_of word reply)
+draw_is_legal word (Number n) (below, next) most = IsLegal-from_goes MAX_SEQ word n (Drawn n ∷ []) (next, refl)
+draw_is_legal word (Exhausted w) (last, same) most =
+    IsLegal-from_goes MAX_SEQ word (w + 1) (entries_of word (Exhausted w)) (refused_goes (nat_le word w) word w last same most refl)
+
+-- no draw leaves a word above the mark
+draw_keeps_bound : (word : ℕ) (reply : Reply) → AnswersDraw word reply → word_after word reply ≤ MAX_SEQ + 1
+draw_keeps_bound word (Number n) (below, next) = omega arith
+draw_keeps_bound word (Exhausted w) (last, same) = omega arith
+
+-- the words after a draw are no higher than the mark
+steps_keep_bound : (old new : List ℕ) (event : Event) (reply : Reply) → AreWords old → Steps old event reply new → AreWords new
+steps_keep_bound old new (Draw sub) reply words (answers, is) =
+    let after = word_after (slice_index old sub) reply in
+    subst AreWords (sym is) (All-set (λ word. word ≤ MAX_SEQ + 1) old sub after (draw_keeps_bound (slice_index old sub) reply answers) words)
+
+-- each list of words is as long as the one before
+steps_keep_length : (old new : List ℕ) (event : Event) (reply : Reply) → Steps old event reply new → length new ≡ length old
+steps_keep_length old new (Draw sub) reply (answers, is) = ap length is ∙ length-set old sub (word_after (slice_index old sub) reply)
+
+-- a step of the subscriber and the steps behind it, or of another and the steps behind it
+run_is_legal : (b : Bool) (old next : List ℕ) (event : Event) (reply : Reply) (sub closing : ℕ) (entries : ℕ → List Entry)
+    → AreWords old → sub < length old → Steps old event reply next → (subscriber_of event == sub) ≡ b
+    → IsLegal MAX_SEQ (slice_index next sub) closing (entries (slice_index next sub))
+    → IsLegal MAX_SEQ (slice_index old sub) closing
+    (if b then entries_of (slice_index old sub) reply ++ entries (word_after (slice_index old sub) reply) else entries (slice_index old sub))
+run_is_legal true old next (Draw s) reply sub closing entries words known (answers, is) same rest =
+    let one = eqb-true s sub same in
+    let word = slice_index old sub in
+    let answers_sub : AnswersDraw word reply = rw one at answers in
+    let set_sub : next ≡ slice_set old sub (word_after word reply) = rw one at is in
+    let here : slice_index next sub ≡ word_after word reply =
+    ap (λ (ws : List ℕ). slice_index ws sub) set_sub ∙ get_or-set_same old sub (word_after word reply) 0 known in
+    let rest_here : IsLegal MAX_SEQ (word_after word reply) closing (entries (word_after word reply)) =
+    let P : ℕ → Type 0 = λ w. IsLegal MAX_SEQ w closing (entries w) in subst P here rest in
+    IsLegal-append MAX_SEQ word (word_after word reply) closing (entries_of word reply) (entries (word_after word reply))
+    (draw_is_legal word reply answers_sub (All-get_or (λ w. w ≤ MAX_SEQ + 1) old sub 0 known words)) rest_here
+run_is_legal false old next (Draw s) reply sub closing entries words known (answers, is) other rest =
+    let apart : sub ≢ s = λ same. (let yes = eq-eqb s sub (sym same) in let no : ⊥ = cc in no) in
+    let here : slice_index next sub ≡ slice_index old sub =
+    ap (λ (ws : List ℕ). slice_index ws sub) is ∙ get_or-set_other old s sub (word_after (slice_index old s) reply) 0 apart in
+    let P : ℕ → Type 0 = λ w. IsLegal MAX_SEQ w closing (entries w) in subst P here rest
+
+-- every run leaves a legal history of each subscriber
+pub each_history_is_legal : EachHistoryIsLegal
+each_history_is_legal old new [] sub words leads known =
+    let P : List ℕ → Type 0 = λ ws. IsLegal MAX_SEQ (slice_index old sub) (slice_index ws sub) [] in
+    subst P leads (IsLegal-nil MAX_SEQ (slice_index old sub))
+each_history_is_legal old new ((event, reply) ∷ run) sub words (next, steps, more) known =
+    run_is_legal (subscriber_of event == sub) old next event reply sub (slice_index new sub) (λ word. history sub word run) words known steps refl
+    (each_history_is_legal next new run sub (steps_keep_bound old next event reply words steps) more
+    (let same = steps_keep_length old next event reply steps in omega arith))
+
+-- the number of an answer is drawn in its entries
+number_is_drawn : (n word : ℕ) (reply : Reply) → times n (number_in reply) ≤ times n (drawn (entries_of word reply))
+number_is_drawn n word (Number m) = omega arith
+number_is_drawn n word (Exhausted w) = omega arith
+
+-- and in its entries with those behind them, if it is an answer to the subscriber
+numbers_and_more : (b : Bool) (n word : ℕ) (reply : Reply) (numbers : List ℕ) (entries : ℕ → List Entry)
+    → ((w : ℕ) → times n numbers ≤ times n (drawn (entries w)))
+    → times n (if b then number_in reply ++ numbers else numbers)
+    ≤ times n (drawn (if b then entries_of word reply ++ entries (word_after word reply) else entries word))
+numbers_and_more true n word reply numbers entries rest =
+    let more = rest (word_after word reply) in
+    let first = number_is_drawn n word reply in
+    let left = times-append n (number_in reply) numbers in
+    let right = ap (times n) (flat_map-append drawn_by (entries_of word reply) (entries (word_after word reply)))
+    ∙ times-append n (drawn (entries_of word reply)) (drawn (entries (word_after word reply))) in
+    omega (arith, more, first, left, right)
+numbers_and_more false n word reply numbers entries rest = rest word
+
+-- the numbers of the answers are drawn in the history
+numbers_are_drawn : (n sub word : ℕ) (run : Run) → times n (numbers_of sub run) ≤ times n (drawn (history sub word run))
+numbers_are_drawn n sub word [] = omega arith
+numbers_are_drawn n sub word ((event, reply) ∷ run) =
+    numbers_and_more (subscriber_of event == sub) n word reply (numbers_of sub run) (λ w. history sub w run) (λ w. numbers_are_drawn n sub w run)
+
+-- no run draws a number twice for a subscriber
+pub no_number_comes_twice : NoNumberComesTwice
+no_number_comes_twice old new run sub words leads known =
+    let word = slice_index old sub in
+    let legal = each_history_is_legal old new run sub words leads known in
+    differ_from_times (numbers_of sub run)
+    (λ n. let drawn_too = numbers_are_drawn n sub word run in
+    let once = legal_draws_once MAX_SEQ word (slice_index new sub) (history sub word run) legal n in
+    omega (arith, drawn_too, once))

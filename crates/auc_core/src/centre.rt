@@ -1,0 +1,73 @@
+//! The core.
+
+ghost use Rattle.std.specs.Prelude.{◌≡◌, ◌<◌, ◌≤◌, ◌+◌, All, length, IfOk, slice_index};
+ghost use Rattle.auc_core.specs.Step.{Knows, Steps};
+
+use crate::event::{Event, Reply};
+use auc_edge::NoMemory;
+use auc_sqn::MAX_SEQ;
+use std::alloc::Global;
+use std::marker::Model;
+
+/// The subscribers' numbers. Contracts see the list of words: the last number that was drawn, or
+/// `MAX_SEQ + 1` after a draw was refused.
+#[derive(Drop)]
+pub struct Core {
+    words: Vec<u64>,
+}
+
+impl Model for Core {
+    ghost use Rattle.std.specs.Prelude.{ℕ, List, ◌≤◌, ◌+◌, All};
+    ghost use Rattle.auc_sqn.specs.declared.number.TheConstants.{MAX_SEQ};
+
+    ghost Value = { List ℕ };
+
+    ghost view = { λ core. core.words.items };
+
+    ghost invariant = { λ core. All (λ word. word ≤ MAX_SEQ + 1) core.words.items };
+}
+
+impl Core {
+    /// A core whose subscribers have drawn their numbers up to `openings`, one for each subscriber.
+    pub fn new(alloc: Global, openings: &[u64]) -> Result<Core, NoMemory>
+        requires count { length openings.now ≤ 65536 }
+        requires numbers { All (λ number. number ≤ MAX_SEQ) openings.now }
+        ensures { IfOk result (λ core. core ≡ openings.now) }
+    {
+        let words = openings.to_vec(alloc)?;
+        Ok(Core { words })
+    }
+
+    /// Answers an event of one of the subscribers. A refused draw answers `Exhausted(MAX_SEQ)`.
+    pub fn apply(&mut self, e: Event) -> Reply
+        requires { Knows self.old e }
+        ensures { Steps self.old e result self.new }
+    {
+        match e {
+            Event::Draw(sub) => self.draw(sub),
+        }
+    }
+
+    /// The subscriber's word: the last number that was drawn, or `MAX_SEQ + 1` after a refused draw.
+    pub fn word(&self, sub: u32) -> u64
+        requires { sub < length self.now }
+        ensures value { result ≡ slice_index self.now sub }
+        ensures bound { result ≤ MAX_SEQ + 1 }
+    {
+        self.words[sub as usize]
+    }
+
+    fn draw(&mut self, sub: u32) -> Reply
+        requires { Knows self.old (Event.Draw sub) }
+        ensures { Steps self.old (Event.Draw sub) result self.new }
+    {
+        let word = &mut self.words[sub as usize];
+        if *word < MAX_SEQ {
+            *word += 1;
+            Reply::Number(*word)
+        } else {
+            *word = MAX_SEQ + 1;
+            Reply::Exhausted(MAX_SEQ)
+        }
+    }
+}
