@@ -1,0 +1,99 @@
+-- Subscribers: what a line of seven fields says of one, with its first fault, and the rows that a list
+-- of subscribers has. The fields in the order of their tests, behind the test that there are seven:
+--
+--   IMSI   6 to 15 decimal digits                       Imsi
+--   K      32 hexadecimal digits                        Key
+--   KIND   op or opc                                    Kind
+--   OP     32 hexadecimal digits                        Op
+--   AMF    4 hexadecimal digits                         Amf
+--   SEQ    1 to 13 decimal digits, at most MAX_SEQ      Seq
+--   USIM   1 to 13 decimal digits, at most MAX_SEQ      Usim
+--
+-- Then the identity is new (Twice) and there is room for one more row (TooMany).
+use Rattle.std.specs.Prelude.{ℕ, ◌≡◌, ◌≢◌, ◌==◌, ◌&&◌, ◌≤◌, ◌++◌, nat_eq, nat_le, Bool, List, [], ◌∷◌, length, codes, Option, Some, is_some, Result, Ok, Err, if◌then◌else◌, All, AllPairs, position, slice_get, slice_index_or}
+use Rattle.std.specs.Cmp.Lexicographic.{pointwise}
+use Rattle.std.specs.Option.{ok_or}
+use Rattle.auc_edge.specs.Identity.{Identity, identity_of}
+use Rattle.auc_sqn.specs.declared.number.TheConstants.{MAX_SEQ}
+use Rattle.auc_subs.specs.declared.row.Row.{Row}
+use Rattle.auc_subs.specs.declared.row.OperatorField.{OperatorField}
+use Rattle.auc_subs.specs.declared.row.OperatorField.TheVariants as operator
+use Rattle.auc_subs.specs.declared.refusal.SubsWhy.{SubsWhy}
+use Rattle.auc_subs.specs.declared.refusal.SubsWhy.TheVariants as why
+use Rattle.auc_subs.specs.declared.subscribers.TheConstants.{MAX_SUBSCRIBERS}
+use Rattle.auc_subs.specs.Field.{fields_of, number_in, octets_in}
+
+-- one test after another: the first that fails gives its fault
+infixl 10 ◌>>=◌
+abbrev pub ◌>>=◌ : {A B : Type 0} → Result A SubsWhy → (A → Result B SubsWhy) → Result B SubsWhy
+(Ok x) >>= next = next x
+(Err fault) >>= next = Err fault
+
+-- whether two texts are one
+abbrev pub is_text : List ℕ → List ℕ → Bool
+is_text a b = pointwise nat_eq a b
+
+-- the operator's field: the word `op` or `opc`, then 16 bytes
+abbrev pub operator_of : List ℕ → List ℕ → Result OperatorField SubsWhy
+operator_of kind text =
+    if is_text kind (codes "op") then (ok_or (octets_in 16 text) why.Op >>= λ bytes. Ok (operator.Op bytes))
+    else if is_text kind (codes "opc") then (ok_or (octets_in 16 text) why.Op >>= λ bytes. Ok (operator.Opc bytes))
+    else Err why.Kind
+
+-- the subscriber that seven fields are, each tested in its turn
+abbrev pub row_in : List ℕ → List ℕ → List ℕ → List ℕ → List ℕ → List ℕ → List ℕ → Result Row SubsWhy
+row_in imsi k kind op amf seq usim = do
+  identity ← ok_or (identity_of imsi) why.Imsi
+  key ← ok_or (octets_in 16 k) why.Key
+  operator ← operator_of kind op
+  management ← ok_or (octets_in 2 amf) why.Amf
+  drawn ← ok_or (number_in 13 MAX_SEQ seq) why.Seq
+  accepted ← ok_or (number_in 13 MAX_SEQ usim) why.Usim
+  Ok (record { imsi = identity; k = key; operator = operator; amf = management; seq = drawn; usim = accepted })
+
+-- a field of a line, from 0
+abbrev pub field : List ℕ → ℕ → List ℕ
+field line place = slice_index_or (fields_of line) place []
+
+-- the subscriber that a line is, or the line's first fault by itself
+abbrev pub row_of : List ℕ → Result Row SubsWhy
+row_of line =
+    if length (fields_of line) == 7
+    then row_in (field line 0) (field line 1) (field line 2) (field line 3) (field line 4) (field line 5) (field line 6)
+    else Err why.FieldCount
+
+-- whether two identities are one
+abbrev pub is_identity : Identity → Identity → Bool
+is_identity a b = (a.digits == b.digits) && (a.number == b.number)
+
+-- the place of the first row with an identity, from 0
+abbrev pub place_of : List Row → Identity → Option ℕ
+place_of rows imsi = position (λ row. is_identity row.imsi imsi) rows
+
+-- the row at a place has an identity
+abbrev pub HasIdentity : List Row → ℕ → Identity → Type 0
+HasIdentity rows sub imsi = (row : Row) × (slice_get rows sub ≡ Some row) × (row.imsi ≡ imsi)
+
+-- the rows with a subscriber behind the last, where its identity is new and there is room
+abbrev pub rows_with : List Row → Row → Result (List Row) SubsWhy
+rows_with rows row =
+    if is_some (place_of rows row.imsi) then Err why.Twice
+    else if nat_le MAX_SUBSCRIBERS (length rows) then Err why.TooMany
+    else Ok (rows ++ row ∷ [])
+
+-- the rows with the subscriber that a line is, or the line's first fault
+abbrev pub rows_after : List Row → List ℕ → Result (List Row) SubsWhy
+rows_after rows line = do
+  row ← row_of line
+  rows_with rows row
+
+-- a row whose numbers are such
+pub record IsRow (row : Row) : Type 0 where
+  pub drawn : row.seq ≤ MAX_SEQ
+  pub accepted : row.usim ≤ MAX_SEQ
+
+-- what rows of subscribers are: not too many, and of different identities
+pub record AreSubscribers (rows : List Row) : Type 0 where
+  pub limit : length rows ≤ MAX_SUBSCRIBERS
+  pub differ : AllPairs (λ a b. a.imsi ≢ b.imsi) rows
+  pub each : All IsRow rows

@@ -1,0 +1,64 @@
+//! Why a subscriber's line is refused.
+
+ghost use Rattle.std.specs.Prelude.{◌≡◌};
+ghost use Rattle.auc_subs.specs.declared.refusal.AddRefusal.TheVariants as refusal;
+
+use std::alloc::{AllocError, AllocFailed};
+
+/// The first fault of a subscriber's line, in the order of the tests.
+#[derive(Clone, Copy, Debug, PartialEq, Eq)]
+pub enum SubsWhy {
+    /// The line hasn't seven fields.
+    FieldCount,
+    /// The IMSI isn't 6 to 15 decimal digits.
+    Imsi,
+    /// K isn't 32 hexadecimal digits.
+    Key,
+    /// The kind of the operator's field is neither `op` nor `opc`.
+    Kind,
+    /// The operator's field isn't 32 hexadecimal digits.
+    Op,
+    /// The AMF isn't 4 hexadecimal digits.
+    Amf,
+    /// The number of the centre isn't 1 to 13 decimal digits, or above `MAX_SEQ`.
+    Seq,
+    /// The number of the USIM isn't 1 to 13 decimal digits, or above `MAX_SEQ`.
+    Usim,
+    /// A row has this IMSI already.
+    Twice,
+    /// There are as many rows as there may be.
+    TooMany,
+}
+
+/// Why a line isn't added.
+#[derive(Clone, Copy, Debug, PartialEq, Eq)]
+pub enum AddRefusal {
+    /// The line is wrong, by this fault first.
+    Why(SubsWhy),
+    /// There was no memory for the row.
+    NoMemory,
+}
+
+impl From<SubsWhy> for AddRefusal {
+    ghost from_gives = { λ why e. e ≡ refusal.Why why };
+
+    fn from(why: SubsWhy) -> AddRefusal {
+        AddRefusal::Why(why)
+    }
+}
+
+impl From<AllocError> for AddRefusal {
+    ghost from_gives = { λ _ e. e ≡ refusal.NoMemory };
+
+    fn from(_: AllocError) -> AddRefusal {
+        AddRefusal::NoMemory
+    }
+}
+
+impl<T: Drop> From<AllocFailed<T>> for AddRefusal {
+    ghost from_gives = { λ _ e. e ≡ refusal.NoMemory };
+
+    fn from(_: AllocFailed<T>) -> AddRefusal {
+        AddRefusal::NoMemory
+    }
+}

@@ -1,0 +1,46 @@
+//! What seven fields say of a subscriber.
+
+ghost use Rattle.std.specs.Prelude.{◌≡◌, IfOk};
+ghost use Rattle.auc_subs.specs.Subscriber.{IsRow, operator_of, row_in};
+
+use crate::field::{read_decimal, read_octets2, read_octets16};
+use crate::refusal::SubsWhy;
+use crate::row::{OperatorField, Row};
+use auc_edge::Imsi;
+use auc_sqn::MAX_SEQ;
+
+/// The operator's field that the word of its kind and its digits are.
+fn read_operator(kind: &[u8], text: &[u8]) -> Result<OperatorField, SubsWhy>
+    ensures { result ≡ operator_of kind.now text.now }
+{
+    if kind == b"op".as_slice() {
+        Ok(OperatorField::Op(read_octets16(text).ok_or(SubsWhy::Op)?))
+    } else if kind == b"opc".as_slice() {
+        Ok(OperatorField::Opc(read_octets16(text).ok_or(SubsWhy::Op)?))
+    } else {
+        Err(SubsWhy::Kind)
+    }
+}
+
+/// The subscriber that seven fields are, or the first fault.
+pub fn read_row(
+    imsi: &[u8],
+    k: &[u8],
+    kind: &[u8],
+    op: &[u8],
+    amf: &[u8],
+    seq: &[u8],
+    usim: &[u8],
+) -> Result<Row, SubsWhy>
+    ensures value { result ≡ row_in imsi.now k.now kind.now op.now amf.now seq.now usim.now }
+    ensures numbers { IfOk result IsRow }
+{
+    Ok(Row {
+        imsi: Imsi::read(imsi).ok_or(SubsWhy::Imsi)?,
+        k: read_octets16(k).ok_or(SubsWhy::Key)?,
+        operator: read_operator(kind, op)?,
+        amf: read_octets2(amf).ok_or(SubsWhy::Amf)?,
+        seq: read_decimal(seq, 13, MAX_SEQ).ok_or(SubsWhy::Seq)?,
+        usim: read_decimal(usim, 13, MAX_SEQ).ok_or(SubsWhy::Usim)?,
+    })
+}

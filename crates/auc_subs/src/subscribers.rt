@@ -1,0 +1,129 @@
+//! The list of subscribers.
+
+ghost use Rattle.std.specs.Prelude.{◌≡◌, ◌≢◌, ◌<◌, ◌↔◌, [], length, All, IsTrue, OnOk, OnErr, IfOk, IfSome, IfNone, slice_get, position};
+ghost use Rattle.auc_subs.specs.Subscriber.{is_identity};
+
+use crate::field::{fields, has_seven_fields};
+use crate::refusal::{AddRefusal, SubsWhy};
+use crate::row::Row;
+use crate::row_reading::read_row;
+use auc_edge::Imsi;
+use std::alloc::Global;
+use std::marker::Model;
+
+/// How many subscribers there may be.
+pub const MAX_SUBSCRIBERS: usize = 65536;
+
+/// Subscribers with different identities, each at a place from 0. Contracts see the list of rows.
+#[derive(Drop)]
+pub struct Subscribers {
+    rows: Vec<Row>,
+}
+
+impl Model for Subscribers {
+    ghost use Rattle.std.specs.Prelude.{List};
+    ghost use Rattle.auc_subs.specs.declared.row.Row.{Row};
+
+    ghost Value = { List Row };
+
+    ghost use Rattle.auc_subs.specs.Subscriber.{AreSubscribers};
+
+    ghost view = { λ s. s.rows.items };
+
+    ghost invariant = { λ s. AreSubscribers s.rows.items };
+}
+
+impl Subscribers {
+    ghost use Rattle.auc_subs.specs.declared.refusal.AddRefusal.TheVariants as refusal;
+    ghost use Rattle.auc_subs.specs.Subscriber.{AreSubscribers, HasIdentity, IsRow, place_of, rows_with, rows_after};
+
+    /// No subscribers. It takes no memory yet.
+    pub fn new(alloc: Global) -> Subscribers
+        ensures { result ≡ [] }
+    {
+        Subscribers {
+            rows: Vec::new(alloc),
+        }
+    }
+
+    /// How many subscribers there are. What holds of all lists of subscribers is told here.
+    pub fn len(&self) -> u32
+        ensures count { result ≡ length self.now }
+        ensures subscribers { AreSubscribers self.now }
+    {
+        self.rows.len() as u32
+    }
+
+    /// Whether there are no subscribers.
+    pub fn is_empty(&self) -> bool
+        ensures { IsTrue result ↔ (self.now ≡ []) }
+    {
+        self.rows.is_empty()
+    }
+
+    /// The row at a place.
+    pub fn row(&self, sub: u32) -> &Row
+        requires { sub < length self.now }
+        ensures { slice_get self.now sub ≡ Some result.now }
+    {
+        &self.rows[sub as usize]
+    }
+
+    /// The place of the row with an identity, or `None` where no row has it.
+    pub fn find(&self, imsi: Imsi) -> Option<u32>
+        ensures place { result ≡ place_of self.now imsi }
+        ensures found { IfSome result (λ sub. HasIdentity self.now sub imsi) }
+        ensures none { IfNone result (All (λ row. row.imsi ≢ imsi) self.now) }
+    {
+        match place(&self.rows, imsi) {
+            Some(sub) => Some(sub as u32),
+            None => None,
+        }
+    }
+
+    /// Adds the subscriber that a line is, and answers its place, which is the last. The line is
+    /// `IMSI K KIND OP AMF SEQ USIM`, seven fields with one space between each two: 6 to 15 decimal
+    /// digits, 32 hexadecimal digits, `op` or `opc`, 32 and 4 hexadecimal digits, and two numbers of 1
+    /// to 13 decimal digits, at most `MAX_SEQ`. A refusal leaves the subscribers as they were.
+    pub fn add(&mut self, line: &[u8]) -> Result<u32, AddRefusal>
+        ensures added { OnOk result (rows_after self.old line.now ≡ Ok self.new) }
+        ensures place { IfOk result (λ sub. sub ≡ length self.old) }
+        ensures refused { (why : SubsWhy) → result ≡ Err (refusal.Why why) → rows_after self.old line.now ≡ Err why }
+        ensures kept { OnErr result (self.new ≡ self.old) }
+    {
+        if !has_seven_fields(line) {
+            return Err(AddRefusal::Why(SubsWhy::FieldCount));
+        }
+        let f = fields(*self.rows.allocator(), line)?;
+        let row = read_row(f[0], f[1], f[2], f[3], f[4], f[5], f[6])?;
+        self.admit(row)
+    }
+
+    /// Puts a row behind the last.
+    fn admit(&mut self, row: Row) -> Result<u32, AddRefusal>
+        requires { IsRow row }
+
+        ensures added { OnOk result (rows_with self.old row ≡ Ok self.new) }
+        ensures place { IfOk result (λ sub. sub ≡ length self.old) }
+        ensures refused { (why : SubsWhy) → result ≡ Err (refusal.Why why) → rows_with self.old row ≡ Err why }
+        ensures kept { OnErr result (self.new ≡ self.old) }
+    {
+        if self.find(row.imsi).is_some() {
+            return Err(AddRefusal::Why(SubsWhy::Twice));
+        }
+        let sub = self.rows.len();
+        if sub >= MAX_SUBSCRIBERS {
+            return Err(AddRefusal::Why(SubsWhy::TooMany));
+        }
+        self.rows.push(row)?;
+        Ok(sub as u32)
+    }
+}
+
+/// The place of the first row with an identity.
+fn place(rows: &[Row], imsi: Imsi) -> Option<usize>
+    ensures value { result ≡ position (λ row. is_identity row.imsi imsi) rows.now }
+    ensures within { IfSome result (λ place. place < length rows.now) }
+{
+    rows.iter().position(|row| row.imsi == imsi)
+}
