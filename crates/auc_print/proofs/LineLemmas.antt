@@ -1,5 +1,5 @@
 -- A line's words determine it, and a list of lines is determined by its text.
-use Rattle.std.proofs.Common.{ℕ, ◌+◌, ◌^◌, ◌<◌, ◌≤◌, ◌≡◌, ◌≢◌, ◌⊎◌, ◌∙◌, refl, sym, ap, List, [], ◌∷◌, ◌++◌, length, get_or, slice_index_or, flat_map, Bool, true, false, if◌then◌else◌, codes, decimal, bytes_eq, All, AllPairs, arith, inl, inr}
+use Rattle.std.proofs.Common.{ℕ, ◌^◌, ◌<◌, ◌≡◌, ◌∙◌, refl, sym, ap, List, [], ◌∷◌, length, get_or, slice_index_or, flat_map, if◌then◌else◌, codes, bytes_eq, arith, inl, inr}
 use Rattle.std.specs.List.{AllByRecursion}
 use Rattle.std.proofs.lemmas.Bool.{cases_order}
 use Rattle.std.proofs.lemmas.Fmt.{decimal_injective}
@@ -9,7 +9,7 @@ use Rattle.auc_world.specs.Record.{subscriber_of}
 use Rattle.auc_world.specs.declared.record.LineRecord.{LineRecord}
 use Rattle.auc_world.specs.declared.record.LineRecord.TheVariants.{Vector, Exhausted}
 use Rattle.auc_world.specs.declared.record.Closing.{Closing}
-use Rattle.auc_print.specs.Text.{Line, RoundLine, JobLine, RecordLine, ClosedLine, imsi_of, record_words, closing_words, words_of, spaced, line_text}
+use Rattle.auc_print.specs.Text.{Line, RoundLine, JobLine, RecordLine, ClosedLine, imsi_of, record_words, closing_words, words_of, line_text}
 use Rattle.auc_print.specs.OneText.{AreIdentities, AnswerFits, ClosingFits}
 use Rattle.auc_print.proofs.SpacedLemmas.{IsWord, AreWords, words_cut, line_nonempty, word_from_test, decimal_word, last_digits_word}
 

@@ -5,10 +5,9 @@ use Rattle.std.proofs.lemmas.List.Elements.{All-nil, All-cons, All-head, All-tai
 use Rattle.auc_edge.specs.Identity.{Identity}
 use Rattle.auc_world.specs.Record.{NamesBelow, subscriber_of}
 use Rattle.auc_world.specs.declared.record.LineRecord.{LineRecord}
-use Rattle.auc_world.specs.declared.record.Closing.{Closing}
 use Rattle.auc_world.specs.declared.record.RoundRecord.{RoundRecord}
-use Rattle.auc_print.specs.Text.{Line, RoundLine, JobLine, RecordLine, ClosedLine, job_lines, jobs_lines, lines_of, line_text, round_text, transcript_text}
-use Rattle.auc_print.specs.OneText.{AreIdentities, AnswerFits, ClosingFits, RoundFits, IsPrintable, OneTranscript}
+use Rattle.auc_print.specs.Text.{RoundLine, JobLine, RecordLine, ClosedLine, job_lines, jobs_lines, lines_of, line_text, round_text, transcript_text}
+use Rattle.auc_print.specs.OneText.{AnswerFits, RoundFits, OneTranscript}
 use Rattle.auc_print.proofs.LineLemmas.{LineFits, lines_injective}
 use Rattle.auc_print.proofs.RoundLemmas.{rounds_injective}
 

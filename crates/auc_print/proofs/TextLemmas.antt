@@ -1,12 +1,12 @@
 -- The text of a round, piece by piece, for the function that prints it.
-use Rattle.std.proofs.Common.{ℕ, ◌+◌, List, [], ◌∷◌, ◌++◌, map, flat_map, ◌≡◌, ap, sym, ◌∙◌, append_assoc}
+use Rattle.std.proofs.Common.{ℕ, List, ◌++◌, map, flat_map, ◌≡◌, ap, sym, ◌∙◌, append_assoc}
 use Rattle.std.proofs.lemmas.List.Concat.{flat_map-append}
 use Rattle.std.proofs.lemmas.List.Folds.{flat_map-map}
 use Rattle.auc_edge.specs.Identity.{Identity}
 use Rattle.auc_world.specs.declared.record.LineRecord.{LineRecord}
 use Rattle.auc_world.specs.declared.record.Closing.{Closing}
 use Rattle.auc_world.specs.declared.record.RoundRecord.{RoundRecord}
-use Rattle.auc_print.specs.Text.{Line, RoundLine, JobLine, RecordLine, ClosedLine, job_lines, jobs_lines, lines_of, line_text, round_text}
+use Rattle.auc_print.specs.Text.{RoundLine, ClosedLine, jobs_lines, line_text, round_text}
 
 -- a round's text is its own line, then the jobs' text, then the closings'
 pub round_text_is : (identities : List Identity) (round : RoundRecord)

@@ -1,5 +1,5 @@
 -- That a text is the text of one transcript alone.
-use Rattle.std.specs.Prelude.{ℕ, ◌^◌, ◌<◌, ◌≡◌, ◌≢◌, List, length, All, AllPairs}
+use Rattle.std.specs.Prelude.{◌^◌, ◌<◌, ◌≡◌, ◌≢◌, List, length, All, AllPairs}
 use Rattle.auc_edge.specs.Identity.{Identity, IsIdentity}
 use Rattle.auc_world.specs.Record.{NamesBelow}
 use Rattle.auc_world.specs.declared.record.LineRecord.{LineRecord}

@@ -1,8 +1,7 @@
 -- What the records of a round name and count.
-use Rattle.std.specs.Prelude.{ℕ, ◌^◌, ◌<◌, List, length, All}
+use Rattle.std.specs.Prelude.{ℕ, ◌<◌, All}
 use Rattle.auc_world.specs.declared.record.LineRecord.{LineRecord}
 use Rattle.auc_world.specs.declared.record.LineRecord.TheVariants.{Vector, Exhausted}
-use Rattle.auc_world.specs.declared.record.Closing.{Closing}
 use Rattle.auc_world.specs.declared.record.RoundRecord.{RoundRecord}
 
 -- the subscriber that a record of a job's line names
