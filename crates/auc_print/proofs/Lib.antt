@@ -1,0 +1,5 @@
+mod LineLemmas
+mod OneTextLemmas
+mod RoundLemmas
+mod SpacedLemmas
+mod TextLemmas
