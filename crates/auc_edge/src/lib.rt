@@ -41,3 +41,6 @@ pub use shelf::Shelf;
 pub use sink::Sink;
 pub use std_sink::StdSink;
 pub use writing::write_whole;
+
+#[cfg(test)]
+mod tests;
