@@ -1,5 +1,7 @@
 pub mod Faults
 pub mod Identity
+pub mod MemShelf
+pub mod MemSink
 pub mod Reserved
 pub mod Shelf
 pub mod Sink

@@ -46,6 +46,7 @@ impl Imsi {
     {
         self.number
     }
+
     /// The identity that a text of 6 to 15 decimal digits is. `None` for any other text.
     pub fn read(text: &[u8]) -> Option<Imsi>
         ensures { result ≡ identity_of text.now }

@@ -7,9 +7,12 @@
 #![tactic(auto)]
 
 mod failed;
+mod file_shelf;
 mod imsi;
 mod items;
 mod law;
+mod mem_shelf;
+mod mem_sink;
 mod no_memory;
 mod octets;
 mod places;
@@ -18,12 +21,16 @@ mod reading;
 mod room;
 mod shelf;
 mod sink;
+mod std_sink;
 mod writing;
 
 pub use failed::Failed;
+pub use file_shelf::FileShelf;
 pub use imsi::Imsi;
 pub use items::Items;
 pub use law::{each_identity_is_read_back, each_text_is_written_back};
+pub use mem_shelf::MemShelf;
+pub use mem_sink::MemSink;
 pub use no_memory::NoMemory;
 pub use octets::Octets;
 pub use places::Places;
@@ -32,4 +39,8 @@ pub use reading::read_all;
 pub use room::Room;
 pub use shelf::Shelf;
 pub use sink::Sink;
+pub use std_sink::StdSink;
 pub use writing::write_whole;
+
+#[cfg(test)]
+mod tests;
