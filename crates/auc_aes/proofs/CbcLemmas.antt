@@ -5,7 +5,6 @@ use Rattle.auc_aes.specs.Bytes.{xor}
 use Rattle.auc_aes.specs.Cipher.{aes, aes_inverse}
 use Rattle.auc_aes.specs.Cbc.{encrypted_blocks, decrypted_blocks, cbc_encrypted, cbc_decrypted}
 
-
 module _ (bytes block new : List ℕ) (at : ℕ) (fits : at + 16 ≤ length bytes) (size : length block ≡ 16)
     (is : new ≡ take at bytes ++ (block ++ drop (at + 16) bytes)) where
   front_size : length (take at bytes ++ block) ≡ at + 16

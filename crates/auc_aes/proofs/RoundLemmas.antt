@@ -13,7 +13,7 @@ pub round_is : (s a b c d : List ℕ) → length s ≡ 16
     → c ≡ mixed_column (sub_byte (get_or s 8 0)) (sub_byte (get_or s 13 0)) (sub_byte (get_or s 2 0)) (sub_byte (get_or s 7 0))
     → d ≡ mixed_column (sub_byte (get_or s 12 0)) (sub_byte (get_or s 1 0)) (sub_byte (get_or s 6 0)) (sub_byte (get_or s 11 0))
     → get_or a 0 0 ∷ get_or a 1 0 ∷ get_or a 2 0 ∷ get_or a 3 0 ∷ get_or b 0 0 ∷ get_or b 1 0 ∷ get_or b 2 0 ∷ get_or b 3 0
-        ∷ get_or c 0 0 ∷ get_or c 1 0 ∷ get_or c 2 0 ∷ get_or c 3 0 ∷ get_or d 0 0 ∷ get_or d 1 0 ∷ get_or d 2 0 ∷ get_or d 3 0 ∷ []
+    ∷ get_or c 0 0 ∷ get_or c 1 0 ∷ get_or c 2 0 ∷ get_or c 3 0 ∷ get_or d 0 0 ∷ get_or d 1 0 ∷ get_or d 2 0 ∷ get_or d 3 0 ∷ []
     ≡ mix_columns (shift_rows (sub_bytes s))
 unfolding mixed_column mix_columns shift_rows sub_bytes
 round_is s a b c d e ea eb ec ed =
@@ -38,7 +38,7 @@ pub unmixed_is : (s a b c d : List ℕ) → length s ≡ 16
     → c ≡ inv_mixed_column (get_or s 8 0) (get_or s 9 0) (get_or s 10 0) (get_or s 11 0)
     → d ≡ inv_mixed_column (get_or s 12 0) (get_or s 13 0) (get_or s 14 0) (get_or s 15 0)
     → get_or a 0 0 ∷ get_or a 1 0 ∷ get_or a 2 0 ∷ get_or a 3 0 ∷ get_or b 0 0 ∷ get_or b 1 0 ∷ get_or b 2 0 ∷ get_or b 3 0
-        ∷ get_or c 0 0 ∷ get_or c 1 0 ∷ get_or c 2 0 ∷ get_or c 3 0 ∷ get_or d 0 0 ∷ get_or d 1 0 ∷ get_or d 2 0 ∷ get_or d 3 0 ∷ []
+    ∷ get_or c 0 0 ∷ get_or c 1 0 ∷ get_or c 2 0 ∷ get_or c 3 0 ∷ get_or d 0 0 ∷ get_or d 1 0 ∷ get_or d 2 0 ∷ get_or d 3 0 ∷ []
     ≡ inv_mix_columns s
 unfolding inv_mixed_column inv_mix_columns
 unmixed_is s a b c d e ea eb ec ed = rw (ea, eb, ec, ed) refl
@@ -52,7 +52,7 @@ pub next_key_is : (k : List ℕ) (constant s t u v : ℕ) (a b c d : List ℕ)
     → c ≡ xor (get_or k 8 0 ∷ get_or k 9 0 ∷ get_or k 10 0 ∷ get_or k 11 0 ∷ []) (get_or b 0 0 ∷ get_or b 1 0 ∷ get_or b 2 0 ∷ get_or b 3 0 ∷ [])
     → d ≡ xor (get_or k 12 0 ∷ get_or k 13 0 ∷ get_or k 14 0 ∷ get_or k 15 0 ∷ []) (get_or c 0 0 ∷ get_or c 1 0 ∷ get_or c 2 0 ∷ get_or c 3 0 ∷ [])
     → get_or a 0 0 ∷ get_or a 1 0 ∷ get_or a 2 0 ∷ get_or a 3 0 ∷ get_or b 0 0 ∷ get_or b 1 0 ∷ get_or b 2 0 ∷ get_or b 3 0
-        ∷ get_or c 0 0 ∷ get_or c 1 0 ∷ get_or c 2 0 ∷ get_or c 3 0 ∷ get_or d 0 0 ∷ get_or d 1 0 ∷ get_or d 2 0 ∷ get_or d 3 0 ∷ []
+    ∷ get_or c 0 0 ∷ get_or c 1 0 ∷ get_or c 2 0 ∷ get_or c 3 0 ∷ get_or d 0 0 ∷ get_or d 1 0 ∷ get_or d 2 0 ∷ get_or d 3 0 ∷ []
     ≡ next_key k constant
 unfolding next_key schedule_word
 next_key_is k constant s t u v a b c d es et eu ev ea eb ec ed = rw (ed, ec, eb, ea, es, et, eu, ev) refl

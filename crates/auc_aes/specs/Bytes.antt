@@ -1,7 +1,6 @@
 -- Strings of bytes, as lists of numbers below 256. A block has 16 bytes.
-use Rattle.std.specs.Prelude.{◌≡◌, ℕ, ◌<◌, List, [], ◌∷◌, length, bit_xor}
+use Rattle.std.specs.Prelude.{◌≡◌, ℕ, ◌<◌, List, [], ◌∷◌, length, slice_index, bit_xor}
 use Rattle.std.specs.Int.{w128, from_be_bytes, to_be_bytes, rotate_left}
-use Rattle.std.specs.List.{All}
 
 -- the exclusive or of two strings of one length
 abbrev pub xor : List ℕ → List ℕ → List ℕ
@@ -14,7 +13,11 @@ xor (a ∷ as') (b ∷ bs) = bit_xor a b ∷ xor as' bs
 abbrev pub rot : List ℕ → ℕ → List ℕ
 rot block r = to_be_bytes w128 (rotate_left w128 (from_be_bytes w128 block) r)
 
+-- each element is a byte
+abbrev pub IsBytes : List ℕ → Type 0
+IsBytes bytes = (i : ℕ) → slice_index bytes i < 256
+
 -- 16 bytes
 pub record IsBlock (block : List ℕ) : Type 0 where
   pub size : length block ≡ 16
-  pub bytes : All (λ b. b < 256) block
+  pub bytes : IsBytes block

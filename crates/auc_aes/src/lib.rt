@@ -14,6 +14,8 @@ mod key;
 mod law;
 mod round;
 mod tables;
+#[cfg(test)]
+mod tests;
 
 pub use key::Key;
 pub use law::{decryption_undoes_encryption, encryption_undoes_decryption};

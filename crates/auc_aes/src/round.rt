@@ -29,7 +29,10 @@ pub(crate) fn double(byte: u8) -> u8
 fn column(a: u8, b: u8, c: u8, d: u8) -> [u8; 4]
     ensures { result ≡ mixed_column (sub_byte a) (sub_byte b) (sub_byte c) (sub_byte d) }
 {
-    let word = COLUMN_0[a as usize] ^ COLUMN_1[b as usize] ^ COLUMN_2[c as usize] ^ COLUMN_3[d as usize];
+    let word = COLUMN_0[a as usize]
+        ^ COLUMN_1[b as usize]
+        ^ COLUMN_2[c as usize]
+        ^ COLUMN_3[d as usize];
     word.to_be_bytes()
 }
 
@@ -37,12 +40,34 @@ fn column(a: u8, b: u8, c: u8, d: u8) -> [u8; 4]
 pub(crate) fn full_round(state: [u8; 16], round_key: [u8; 16]) -> [u8; 16]
     ensures { result ≡ full_round_of state round_key }
 {
-    let [s0, s1, s2, s3, s4, s5, s6, s7, s8, s9, s10, s11, s12, s13, s14, s15] = state;
+    let [
+        s0,
+        s1,
+        s2,
+        s3,
+        s4,
+        s5,
+        s6,
+        s7,
+        s8,
+        s9,
+        s10,
+        s11,
+        s12,
+        s13,
+        s14,
+        s15,
+    ] = state;
     let [a0, a1, a2, a3] = column(s0, s5, s10, s15);
     let [b0, b1, b2, b3] = column(s4, s9, s14, s3);
     let [c0, c1, c2, c3] = column(s8, s13, s2, s7);
     let [d0, d1, d2, d3] = column(s12, s1, s6, s11);
-    xor([a0, a1, a2, a3, b0, b1, b2, b3, c0, c1, c2, c3, d0, d1, d2, d3], round_key)
+    xor(
+        [
+            a0, a1, a2, a3, b0, b1, b2, b3, c0, c1, c2, c3, d0, d1, d2, d3,
+        ],
+        round_key,
+    )
 }
 
 /// SUBBYTES (§5.1.1).
@@ -60,8 +85,27 @@ fn substitute_all(mut state: [u8; 16]) -> [u8; 16]
 fn shift(state: [u8; 16]) -> [u8; 16]
     ensures { result ≡ shift_rows state }
 {
-    let [s0, s1, s2, s3, s4, s5, s6, s7, s8, s9, s10, s11, s12, s13, s14, s15] = state;
-    [s0, s5, s10, s15, s4, s9, s14, s3, s8, s13, s2, s7, s12, s1, s6, s11]
+    let [
+        s0,
+        s1,
+        s2,
+        s3,
+        s4,
+        s5,
+        s6,
+        s7,
+        s8,
+        s9,
+        s10,
+        s11,
+        s12,
+        s13,
+        s14,
+        s15,
+    ] = state;
+    [
+        s0, s5, s10, s15, s4, s9, s14, s3, s8, s13, s2, s7, s12, s1, s6, s11,
+    ]
 }
 
 /// The last round, which doesn't mix the columns (§5.1).
@@ -84,11 +128,35 @@ fn add_words(word: [u8; 4], other: [u8; 4]) -> [u8; 4]
 pub(crate) fn next_key(key: [u8; 16], constant: u8) -> [u8; 16]
     ensures { result ≡ key_after key constant }
 {
-    let [k0, k1, k2, k3, k4, k5, k6, k7, k8, k9, k10, k11, k12, k13, k14, k15] = key;
-    let turned = [substitute(k13) ^ constant, substitute(k14), substitute(k15), substitute(k12)];
+    let [
+        k0,
+        k1,
+        k2,
+        k3,
+        k4,
+        k5,
+        k6,
+        k7,
+        k8,
+        k9,
+        k10,
+        k11,
+        k12,
+        k13,
+        k14,
+        k15,
+    ] = key;
+    let turned = [
+        substitute(k13) ^ constant,
+        substitute(k14),
+        substitute(k15),
+        substitute(k12),
+    ];
     let [a0, a1, a2, a3] = add_words([k0, k1, k2, k3], turned);
     let [b0, b1, b2, b3] = add_words([k4, k5, k6, k7], [a0, a1, a2, a3]);
     let [c0, c1, c2, c3] = add_words([k8, k9, k10, k11], [b0, b1, b2, b3]);
     let [d0, d1, d2, d3] = add_words([k12, k13, k14, k15], [c0, c1, c2, c3]);
-    [a0, a1, a2, a3, b0, b1, b2, b3, c0, c1, c2, c3, d0, d1, d2, d3]
+    [
+        a0, a1, a2, a3, b0, b1, b2, b3, c0, c1, c2, c3, d0, d1, d2, d3,
+    ]
 }

@@ -9,5 +9,5 @@ unfolding full_round
 returns c =
     c.xor.ensures
     ∙ ap (λ t. xor t c.args.round_key)
-        (round_is c.args.state c.column.result c.column-2.result c.column-3.result c.column-4.result (omega arith)
-        c.column.ensures c.column-2.ensures c.column-3.ensures c.column-4.ensures)
+    (round_is c.args.state c.column.result c.column-2.result c.column-3.result c.column-4.result (omega arith)
+    c.column.ensures c.column-2.ensures c.column-3.ensures c.column-4.ensures)

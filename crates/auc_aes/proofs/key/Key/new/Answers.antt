@@ -6,17 +6,17 @@ use Rattle.auc_aes.proofs.key.Key.new.Goals as goal
 pub loop-i-init : goal.loop-i-init
 unfolding round_constant
 loop-i-init c = record {
-    size = refl;
-    constant = refl;
-    keys = λ j l. let first : j ≡ 0 = omega arith in rw first (first_key c.args.k c.args.k refl)
+  size = refl;
+  constant = refl;
+  keys = λ j l. let first : j ≡ 0 = omega arith in rw first (first_key c.args.k c.args.k refl);
 }
 
 pub loop-i-preserved : goal.loop-i-preserved
 loop-i-preserved c = record {
-    size = search rules;
-    constant = c.double-constant.ensures ∙ constant_after _ _ (omega arith) c.loop-i.invariant.constant;
-    keys = keys_more c.args.k c.next_key.result c.loop-i.round_keys c.loop-i.i (omega arith) c.loop-i.invariant.keys
-        (c.next_key.ensures ∙ key_after _ _ _ _ (omega arith) (c.loop-i.invariant.keys _ (omega arith)) c.loop-i.invariant.constant)
+  size = search rules;
+  constant = c.double-constant.ensures ∙ constant_after _ _ (omega arith) c.loop-i.invariant.constant;
+  keys = keys_more c.args.k c.next_key.result c.loop-i.round_keys c.loop-i.i (omega arith) c.loop-i.invariant.keys
+      (c.next_key.ensures ∙ key_after _ _ _ _ (omega arith) (c.loop-i.invariant.keys _ (omega arith)) c.loop-i.invariant.constant);
 }
 
 -- the key that is kept first
