@@ -1,5 +1,5 @@
 -- CBC decryption and CBC encryption undo each other, for the laws.
-use Rattle.std.proofs.Common.{◌≡◌, ℕ, zero, suc, ◌+◌, ◌-◌, ◌*◌, ◌/◌, ◌%◌, ◌<◌, ◌≤◌, List, [], ◌∷◌, ◌++◌, length, take, drop, refl, sym, ap, ◌∙◌, arith, length-append, length-drop}
+use Rattle.std.proofs.Common.{◌≡◌, ℕ, zero, suc, ◌*◌, ◌/◌, ◌%◌, List, [], ◌∷◌, ◌++◌, length, take, drop, refl, sym, ap, ◌∙◌, arith, length-append, length-drop}
 use Rattle.std.proofs.lemmas.List.{take_at, drop_at, length-take-le, take-append-drop}
 use Rattle.auc_aes.specs.Bytes.{xor, IsBytes, IsBlock}
 use Rattle.auc_aes.specs.Cipher.{aes, aes_inverse}

@@ -1,9 +1,9 @@
 -- The steps of the cipher and of its inverse on blocks: what they give is a block, and each undoes the other.
-use Rattle.std.proofs.Common.{◌≡◌, ℕ, zero, suc, ◌+◌, ◌-◌, ◌*◌, ◌/◌, ◌%◌, ◌<◌, ◌≤◌, List, [], ◌∷◌, ◌++◌, length, get_or, take, drop, map, bit_xor, refl, sym, ap, ◌∙◌, arith, length-append, length-take, length-drop}
+use Rattle.std.proofs.Common.{◌≡◌, ℕ, zero, suc, ◌+◌, ◌-◌, ◌<◌, List, [], ◌∷◌, ◌++◌, length, get_or, take, drop, map, bit_xor, refl, sym, ap, ◌∙◌, arith}
 use Rattle.std.proofs.lemmas.Nat.{xor_lt}
 use Rattle.std.specs.Int.Bits.{xor_assoc, xor_zero_r, xor_self}
 use Rattle.auc_aes.specs.Bytes.{xor, IsBytes, IsBlock}
-use Rattle.auc_aes.specs.Field.{xtimes, sub_byte, inv_sub_byte}
+use Rattle.auc_aes.specs.Field.{sub_byte, inv_sub_byte}
 use Rattle.auc_aes.specs.Cipher.{at, column_of, state_of, word_of, sub_bytes, shift_rows, mixed, mix_columns, round_constant, schedule_word, next_key, round_key, full_round, final_round, state_after, aes, inv_sub_bytes, inv_shift_rows, inv_mixed, inv_mix_columns, inv_full_round, inv_final_round, state_undone, aes_inverse}
 use Rattle.auc_aes.proofs.BytesLemmas.{listed}
 use Rattle.auc_aes.proofs.FieldLemmas.{sub_byte_lt, inv_sub_byte_lt, sub_byte_undone, inv_sub_byte_undone, xtimes_lt, mixed_lt, inv_mixed_lt, mixed_undone, inv_mixed_undone}

@@ -1,6 +1,7 @@
 pub mod BytesLemmas
 pub mod TableLemmas
 pub mod RoundLemmas
+pub mod WordLemmas
 pub mod KeyLemmas
 pub mod CbcLemmas
 pub mod FieldLemmas

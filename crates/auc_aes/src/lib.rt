@@ -16,6 +16,8 @@ mod round;
 mod tables;
 #[cfg(test)]
 mod tests;
+mod words;
 
+pub use block::{rot, xor};
 pub use key::Key;
 pub use law::{decryption_undoes_encryption, encryption_undoes_decryption};

@@ -1,6 +1,6 @@
 use Rattle.std.proofs.Common.{rules, ◌≡◌, ◌+◌, ◌-◌, ◌/◌, ◌++◌, length, take, drop, refl, sym, ap, ◌∙◌, arith}
 use Rattle.auc_aes.specs.Bytes.{xor}
-use Rattle.auc_aes.specs.Cipher.{aes, aes_inverse}
+use Rattle.auc_aes.specs.Cipher.{aes_inverse}
 use Rattle.auc_aes.specs.Cbc.{decrypted_blocks}
 use Rattle.auc_aes.proofs.CbcLemmas.{decrypted_first, decrypted_more, decrypted_last}
 use Rattle.auc_aes.proofs.key.Key.cbc_decrypt.Goals as goal

@@ -1,6 +1,6 @@
 use Rattle.std.proofs.Common.{rules, ◌≡◌, ◌+◌, ◌-◌, ◌/◌, ◌++◌, length, take, drop, refl, sym, ap, ◌∙◌, arith}
 use Rattle.auc_aes.specs.Bytes.{xor}
-use Rattle.auc_aes.specs.Cipher.{aes, aes_inverse}
+use Rattle.auc_aes.specs.Cipher.{aes}
 use Rattle.auc_aes.specs.Cbc.{encrypted_blocks}
 use Rattle.auc_aes.proofs.CbcLemmas.{encrypted_first, encrypted_more, encrypted_last}
 use Rattle.auc_aes.proofs.key.Key.cbc_encrypt.Goals as goal

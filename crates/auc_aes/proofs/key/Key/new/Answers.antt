@@ -1,4 +1,5 @@
-use Rattle.std.proofs.Common.{rules, ◌≡◌, ℕ, ◌<◌, refl, sym, ap, ◌∙◌, arith, get_or, [], List}
+use Rattle.std.proofs.Common.{rules, ◌≡◌, refl, sym, ap, ◌∙◌, arith, get_or, []}
+use Rattle.auc_aes.specs.Bytes.{block_of_words}
 use Rattle.auc_aes.specs.Cipher.{round_constant, round_key}
 use Rattle.auc_aes.proofs.KeyLemmas.{constant_after, key_after, keys_more, first_key}
 use Rattle.auc_aes.proofs.key.Key.new.Goals as goal
@@ -8,7 +9,7 @@ unfolding round_constant
 loop-i-init c = record {
   size = refl;
   constant = refl;
-  keys = λ j l. let first : j ≡ 0 = omega arith in rw first (first_key c.args.k c.args.k refl);
+  keys = λ j l. let first : j ≡ 0 = omega arith in rw first (first_key c.args.k _ c.words_of-round_keys.ensures);
 }
 
 pub loop-i-preserved : goal.loop-i-preserved
@@ -20,7 +21,7 @@ loop-i-preserved c = record {
 }
 
 -- the key that is kept first
-kept_first : (c : goal.After-loop-i) → get_or c.loop-i.round_keys 0 [] ≡ c.args.k
+kept_first : (c : goal.After-loop-i) → block_of_words (get_or c.loop-i.round_keys 0 []) ≡ c.args.k
 unfolding round_key
 kept_first c = c.loop-i.invariant.keys 0 (omega arith)
 
