@@ -1,10 +1,9 @@
 -- The steps of CBC over a string that is written block by block, for the loops of `Key`.
-use Rattle.std.proofs.Common.{◌≡◌, ℕ, zero, suc, ◌+◌, ◌-◌, ◌*◌, ◌/◌, ◌%◌, ◌<◌, ◌≤◌, List, [], ◌∷◌, ◌++◌, length, take, drop, refl, sym, ap, ◌∙◌, arith, append_assoc, length-take, length-append}
+use Rattle.std.proofs.Common.{◌≡◌, ℕ, suc, ◌+◌, ◌-◌, ◌/◌, ◌≤◌, List, ◌++◌, length, take, drop, sym, ap, ◌∙◌, arith, append_assoc, length-append}
 use Rattle.std.proofs.lemmas.List.{take_at, drop_at, drop-drop, take_all, append-nil, length-take-le}
 use Rattle.auc_aes.specs.Bytes.{xor}
 use Rattle.auc_aes.specs.Cipher.{aes, aes_inverse}
 use Rattle.auc_aes.specs.Cbc.{encrypted_blocks, decrypted_blocks, cbc_encrypted, cbc_decrypted}
-
 
 module _ (bytes block new : List ℕ) (at : ℕ) (fits : at + 16 ≤ length bytes) (size : length block ≡ 16)
     (is : new ≡ take at bytes ++ (block ++ drop (at + 16) bytes)) where

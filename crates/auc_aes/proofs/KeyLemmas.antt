@@ -1,8 +1,8 @@
 -- The steps of the key schedule, the cipher and its inverse, for the loops of `Key`.
-use Rattle.std.proofs.Common.{◌≡◌, ℕ, zero, suc, ◌+◌, ◌-◌, ◌<◌, ◌≤◌, List, [], ◌∷◌, length, get_or, set, refl, sym, ap, ◌∙◌, arith}
+use Rattle.std.proofs.Common.{◌≡◌, ℕ, zero, suc, ◌+◌, ◌-◌, ◌<◌, ◌≤◌, List, [], length, get_or, set, sym, ap, ◌∙◌, arith}
 use Rattle.std.proofs.lemmas.List.{get_or-set_same, get_or-set_other}
 use borrow.Author.Count.{below_more}
-use Rattle.auc_aes.specs.Bytes.{xor}
+use Rattle.auc_aes.specs.Bytes.{xor, block_of_words}
 use Rattle.auc_aes.specs.Field.{xtimes}
 use Rattle.auc_aes.specs.Cipher.{round_constant, next_key, round_key, full_round, final_round, state_after, aes, inv_full_round, inv_final_round, state_undone, aes_inverse}
 
@@ -26,11 +26,12 @@ key_after key previous constant (suc n) l e f =
 
 -- keys that are the round keys below i are so below i + 1 once round key i is written
 pub keys_more : (key next : List ℕ) (keys : List (List ℕ)) (i : ℕ) → i < length keys
-    → ((j : ℕ) → j < i → get_or keys j [] ≡ round_key key j) → next ≡ round_key key i
-    → (j : ℕ) → j < i + 1 → get_or (set keys i next) j [] ≡ round_key key j
+    → ((j : ℕ) → j < i → block_of_words (get_or keys j []) ≡ round_key key j) → block_of_words next ≡ round_key key i
+    → (j : ℕ) → j < i + 1 → block_of_words (get_or (set keys i next) j []) ≡ round_key key j
 keys_more key next keys i l h e =
-    below_more (λ j. get_or (set keys i next) j [] ≡ round_key key j) i
-    (λ j under. get_or-set_other keys i j next [] (λ same. omega arith) ∙ h j under) (get_or-set_same keys i next [] l ∙ e)
+    below_more (λ j. block_of_words (get_or (set keys i next) j []) ≡ round_key key j) i
+    (λ j under. ap block_of_words (get_or-set_other keys i j next [] (λ same. omega arith)) ∙ h j under)
+    (ap block_of_words (get_or-set_same keys i next [] l) ∙ e)
 
 -- the first round key is the key
 pub first_key : (key : List ℕ) (first : List ℕ) → first ≡ key → first ≡ round_key key 0

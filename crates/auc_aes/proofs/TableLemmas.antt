@@ -1,5 +1,5 @@
 -- What the tables' entries are, by computation over all of them.
-use Rattle.std.proofs.Common.{◌≡◌, ℕ, zero, suc, ◌+◌, ◌-◌, ◌*◌, ◌/◌, ◌%◌, ◌^◌, ◌<◌, ◌≤◌, ◌⊎◌, Bool, true, false, ◌&&◌, ◌==◌, List, [], ◌∷◌, length, get_or, bit_xor, bit_and, refl, sym, ap, ◌∙◌, arith}
+use Rattle.std.proofs.Common.{◌≡◌, ℕ, zero, suc, ◌*◌, ◌/◌, ◌%◌, ◌<◌, Bool, true, ◌&&◌, ◌==◌, List, [], ◌∷◌, get_or, bit_xor, bit_and, refl, sym, ap, ◌∙◌, arith}
 use Rattle.std.specs.Int.{w32, to_be_bytes}
 use Rattle.std.proofs.lemmas.Bool.{and_parts, eqb-true, cases_lt}
 use mathlib.Core.Logic.{⊎_elim}
@@ -66,13 +66,13 @@ column_0_is : (b : ℕ) → b < 256
     → to_be_bytes w32 (get_or COLUMN_0 b 0) ≡ product 2 (sub_byte b) ∷ sub_byte b ∷ sub_byte b ∷ product 3 (sub_byte b) ∷ []
 column_0_is b l =
     let e0 : get_or COLUMN_0 b 0 / 16777216 % 256 ≡ product 2 (sub_byte b) =
-        agree_at (λ x. get_or COLUMN_0 x 0 / 16777216 % 256) (λ x. product 2 (get_or S_BOX x 0)) 256 b column_0_0_agrees l ∙ ap (product 2) (S_BOX_is b l) in
+    agree_at (λ x. get_or COLUMN_0 x 0 / 16777216 % 256) (λ x. product 2 (get_or S_BOX x 0)) 256 b column_0_0_agrees l ∙ ap (product 2) (S_BOX_is b l) in
     let e1 : get_or COLUMN_0 b 0 / 65536 % 256 ≡ sub_byte b =
-        agree_at (λ x. get_or COLUMN_0 x 0 / 65536 % 256) (λ x. get_or S_BOX x 0) 256 b column_0_1_agrees l ∙ S_BOX_is b l in
+    agree_at (λ x. get_or COLUMN_0 x 0 / 65536 % 256) (λ x. get_or S_BOX x 0) 256 b column_0_1_agrees l ∙ S_BOX_is b l in
     let e2 : get_or COLUMN_0 b 0 / 256 % 256 ≡ sub_byte b =
-        agree_at (λ x. get_or COLUMN_0 x 0 / 256 % 256) (λ x. get_or S_BOX x 0) 256 b column_0_2_agrees l ∙ S_BOX_is b l in
+    agree_at (λ x. get_or COLUMN_0 x 0 / 256 % 256) (λ x. get_or S_BOX x 0) 256 b column_0_2_agrees l ∙ S_BOX_is b l in
     let e3 : get_or COLUMN_0 b 0 % 256 ≡ product 3 (sub_byte b) =
-        agree_at (λ x. get_or COLUMN_0 x 0 % 256) (λ x. product 3 (get_or S_BOX x 0)) 256 b column_0_3_agrees l ∙ ap (product 3) (S_BOX_is b l) in
+    agree_at (λ x. get_or COLUMN_0 x 0 % 256) (λ x. product 3 (get_or S_BOX x 0)) 256 b column_0_3_agrees l ∙ ap (product 3) (S_BOX_is b l) in
     rw (e0, e1, e2, e3) refl
 
 column_1_0_agrees : agree (λ x. get_or COLUMN_1 x 0 / 16777216 % 256) (λ x. product 3 (get_or S_BOX x 0)) 256 ≡ true
@@ -96,13 +96,13 @@ column_1_is : (b : ℕ) → b < 256
     → to_be_bytes w32 (get_or COLUMN_1 b 0) ≡ product 3 (sub_byte b) ∷ product 2 (sub_byte b) ∷ sub_byte b ∷ sub_byte b ∷ []
 column_1_is b l =
     let e0 : get_or COLUMN_1 b 0 / 16777216 % 256 ≡ product 3 (sub_byte b) =
-        agree_at (λ x. get_or COLUMN_1 x 0 / 16777216 % 256) (λ x. product 3 (get_or S_BOX x 0)) 256 b column_1_0_agrees l ∙ ap (product 3) (S_BOX_is b l) in
+    agree_at (λ x. get_or COLUMN_1 x 0 / 16777216 % 256) (λ x. product 3 (get_or S_BOX x 0)) 256 b column_1_0_agrees l ∙ ap (product 3) (S_BOX_is b l) in
     let e1 : get_or COLUMN_1 b 0 / 65536 % 256 ≡ product 2 (sub_byte b) =
-        agree_at (λ x. get_or COLUMN_1 x 0 / 65536 % 256) (λ x. product 2 (get_or S_BOX x 0)) 256 b column_1_1_agrees l ∙ ap (product 2) (S_BOX_is b l) in
+    agree_at (λ x. get_or COLUMN_1 x 0 / 65536 % 256) (λ x. product 2 (get_or S_BOX x 0)) 256 b column_1_1_agrees l ∙ ap (product 2) (S_BOX_is b l) in
     let e2 : get_or COLUMN_1 b 0 / 256 % 256 ≡ sub_byte b =
-        agree_at (λ x. get_or COLUMN_1 x 0 / 256 % 256) (λ x. get_or S_BOX x 0) 256 b column_1_2_agrees l ∙ S_BOX_is b l in
+    agree_at (λ x. get_or COLUMN_1 x 0 / 256 % 256) (λ x. get_or S_BOX x 0) 256 b column_1_2_agrees l ∙ S_BOX_is b l in
     let e3 : get_or COLUMN_1 b 0 % 256 ≡ sub_byte b =
-        agree_at (λ x. get_or COLUMN_1 x 0 % 256) (λ x. get_or S_BOX x 0) 256 b column_1_3_agrees l ∙ S_BOX_is b l in
+    agree_at (λ x. get_or COLUMN_1 x 0 % 256) (λ x. get_or S_BOX x 0) 256 b column_1_3_agrees l ∙ S_BOX_is b l in
     rw (e0, e1, e2, e3) refl
 
 column_2_0_agrees : agree (λ x. get_or COLUMN_2 x 0 / 16777216 % 256) (λ x. get_or S_BOX x 0) 256 ≡ true
@@ -126,13 +126,13 @@ column_2_is : (b : ℕ) → b < 256
     → to_be_bytes w32 (get_or COLUMN_2 b 0) ≡ sub_byte b ∷ product 3 (sub_byte b) ∷ product 2 (sub_byte b) ∷ sub_byte b ∷ []
 column_2_is b l =
     let e0 : get_or COLUMN_2 b 0 / 16777216 % 256 ≡ sub_byte b =
-        agree_at (λ x. get_or COLUMN_2 x 0 / 16777216 % 256) (λ x. get_or S_BOX x 0) 256 b column_2_0_agrees l ∙ S_BOX_is b l in
+    agree_at (λ x. get_or COLUMN_2 x 0 / 16777216 % 256) (λ x. get_or S_BOX x 0) 256 b column_2_0_agrees l ∙ S_BOX_is b l in
     let e1 : get_or COLUMN_2 b 0 / 65536 % 256 ≡ product 3 (sub_byte b) =
-        agree_at (λ x. get_or COLUMN_2 x 0 / 65536 % 256) (λ x. product 3 (get_or S_BOX x 0)) 256 b column_2_1_agrees l ∙ ap (product 3) (S_BOX_is b l) in
+    agree_at (λ x. get_or COLUMN_2 x 0 / 65536 % 256) (λ x. product 3 (get_or S_BOX x 0)) 256 b column_2_1_agrees l ∙ ap (product 3) (S_BOX_is b l) in
     let e2 : get_or COLUMN_2 b 0 / 256 % 256 ≡ product 2 (sub_byte b) =
-        agree_at (λ x. get_or COLUMN_2 x 0 / 256 % 256) (λ x. product 2 (get_or S_BOX x 0)) 256 b column_2_2_agrees l ∙ ap (product 2) (S_BOX_is b l) in
+    agree_at (λ x. get_or COLUMN_2 x 0 / 256 % 256) (λ x. product 2 (get_or S_BOX x 0)) 256 b column_2_2_agrees l ∙ ap (product 2) (S_BOX_is b l) in
     let e3 : get_or COLUMN_2 b 0 % 256 ≡ sub_byte b =
-        agree_at (λ x. get_or COLUMN_2 x 0 % 256) (λ x. get_or S_BOX x 0) 256 b column_2_3_agrees l ∙ S_BOX_is b l in
+    agree_at (λ x. get_or COLUMN_2 x 0 % 256) (λ x. get_or S_BOX x 0) 256 b column_2_3_agrees l ∙ S_BOX_is b l in
     rw (e0, e1, e2, e3) refl
 
 column_3_0_agrees : agree (λ x. get_or COLUMN_3 x 0 / 16777216 % 256) (λ x. get_or S_BOX x 0) 256 ≡ true
@@ -156,13 +156,13 @@ column_3_is : (b : ℕ) → b < 256
     → to_be_bytes w32 (get_or COLUMN_3 b 0) ≡ sub_byte b ∷ sub_byte b ∷ product 3 (sub_byte b) ∷ product 2 (sub_byte b) ∷ []
 column_3_is b l =
     let e0 : get_or COLUMN_3 b 0 / 16777216 % 256 ≡ sub_byte b =
-        agree_at (λ x. get_or COLUMN_3 x 0 / 16777216 % 256) (λ x. get_or S_BOX x 0) 256 b column_3_0_agrees l ∙ S_BOX_is b l in
+    agree_at (λ x. get_or COLUMN_3 x 0 / 16777216 % 256) (λ x. get_or S_BOX x 0) 256 b column_3_0_agrees l ∙ S_BOX_is b l in
     let e1 : get_or COLUMN_3 b 0 / 65536 % 256 ≡ sub_byte b =
-        agree_at (λ x. get_or COLUMN_3 x 0 / 65536 % 256) (λ x. get_or S_BOX x 0) 256 b column_3_1_agrees l ∙ S_BOX_is b l in
+    agree_at (λ x. get_or COLUMN_3 x 0 / 65536 % 256) (λ x. get_or S_BOX x 0) 256 b column_3_1_agrees l ∙ S_BOX_is b l in
     let e2 : get_or COLUMN_3 b 0 / 256 % 256 ≡ product 3 (sub_byte b) =
-        agree_at (λ x. get_or COLUMN_3 x 0 / 256 % 256) (λ x. product 3 (get_or S_BOX x 0)) 256 b column_3_2_agrees l ∙ ap (product 3) (S_BOX_is b l) in
+    agree_at (λ x. get_or COLUMN_3 x 0 / 256 % 256) (λ x. product 3 (get_or S_BOX x 0)) 256 b column_3_2_agrees l ∙ ap (product 3) (S_BOX_is b l) in
     let e3 : get_or COLUMN_3 b 0 % 256 ≡ product 2 (sub_byte b) =
-        agree_at (λ x. get_or COLUMN_3 x 0 % 256) (λ x. product 2 (get_or S_BOX x 0)) 256 b column_3_3_agrees l ∙ ap (product 2) (S_BOX_is b l) in
+    agree_at (λ x. get_or COLUMN_3 x 0 % 256) (λ x. product 2 (get_or S_BOX x 0)) 256 b column_3_3_agrees l ∙ ap (product 2) (S_BOX_is b l) in
     rw (e0, e1, e2, e3) refl
 
 -- four columns of a byte's multiples, added, are the mixed column
@@ -172,12 +172,12 @@ columns_added : (x y z w : ℕ) (s t u v : List ℕ) → s ≡ product 2 x ∷ x
 unfolding mixed_column mixed
 columns_added x y z w s t u v es et eu ev =
     let row1 : bit_xor (bit_xor (bit_xor x (product 2 y)) (product 3 z)) w ≡ mixed y z w x =
-        xor_turn x (product 2 y) (product 3 z) w in
+    xor_turn x (product 2 y) (product 3 z) w in
     let row2 : bit_xor (bit_xor (bit_xor x y) (product 2 z)) (product 3 w) ≡ mixed z w x y =
-        xor_turn x y (product 2 z) (product 3 w) ∙ xor_turn y (product 2 z) (product 3 w) x in
+    xor_turn x y (product 2 z) (product 3 w) ∙ xor_turn y (product 2 z) (product 3 w) x in
     let row3 : bit_xor (bit_xor (bit_xor (product 3 x) y) z) (product 2 w) ≡ mixed w x y z =
-        xor_turn (product 3 x) y z (product 2 w) ∙ xor_turn y z (product 2 w) (product 3 x)
-        ∙ xor_turn z (product 2 w) (product 3 x) y in
+    xor_turn (product 3 x) y z (product 2 w) ∙ xor_turn y z (product 2 w) (product 3 x)
+    ∙ xor_turn z (product 2 w) (product 3 x) y in
     rw (es, et, eu, ev, row1, row2, row3) refl
 
 -- the four words that a column's bytes give, added, are the mixed column of their substitutes
@@ -187,11 +187,11 @@ pub column_is : (a b c d : ℕ) → a < 256 → b < 256 → c < 256 → d < 256
 column_is a b c d la lb lc ld =
     to_be_bytes-xor (bit_xor (bit_xor (get_or COLUMN_0 a 0) (get_or COLUMN_1 b 0)) (get_or COLUMN_2 c 0)) (get_or COLUMN_3 d 0)
     ∙ ap (λ w. xor w (to_be_bytes w32 (get_or COLUMN_3 d 0)))
-        (to_be_bytes-xor (bit_xor (get_or COLUMN_0 a 0) (get_or COLUMN_1 b 0)) (get_or COLUMN_2 c 0)
-        ∙ ap (λ w. xor w (to_be_bytes w32 (get_or COLUMN_2 c 0))) (to_be_bytes-xor (get_or COLUMN_0 a 0) (get_or COLUMN_1 b 0)))
+    (to_be_bytes-xor (bit_xor (get_or COLUMN_0 a 0) (get_or COLUMN_1 b 0)) (get_or COLUMN_2 c 0)
+    ∙ ap (λ w. xor w (to_be_bytes w32 (get_or COLUMN_2 c 0))) (to_be_bytes-xor (get_or COLUMN_0 a 0) (get_or COLUMN_1 b 0)))
     ∙ columns_added (sub_byte a) (sub_byte b) (sub_byte c) (sub_byte d) (to_be_bytes w32 (get_or COLUMN_0 a 0))
-        (to_be_bytes w32 (get_or COLUMN_1 b 0)) (to_be_bytes w32 (get_or COLUMN_2 c 0)) (to_be_bytes w32 (get_or COLUMN_3 d 0))
-        (column_0_is a la) (column_1_is b lb) (column_2_is c lc) (column_3_is d ld)
+    (to_be_bytes w32 (get_or COLUMN_1 b 0)) (to_be_bytes w32 (get_or COLUMN_2 c 0)) (to_be_bytes w32 (get_or COLUMN_3 d 0))
+    (column_0_is a la) (column_1_is b lb) (column_2_is c lc) (column_3_is d ld)
 
 -- the multiples of a byte that undo the mixing
 TIMES_9_agrees : agree (λ b. get_or TIMES_9 b 0) (product 9) 256 ≡ true

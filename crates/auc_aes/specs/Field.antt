@@ -1,5 +1,5 @@
 -- The field GF(2^8) of FIPS 197 §4, whose elements are the bytes, and the S-box on it (§5.1.1).
-use Rattle.std.specs.Prelude.{ℕ, zero, suc, ◌+◌, ◌*◌, ◌/◌, ◌%◌, ◌==◌, bit_xor, bit_or, if◌then◌else◌}
+use Rattle.std.specs.Prelude.{ℕ, zero, suc, ◌+◌, ◌*◌, ◌/◌, ◌%◌, ◌==◌, bit_xor, if◌then◌else◌}
 
 -- b times x, reduced modulo x^8 + x^4 + x^3 + x + 1 (§4.2)
 unfoldable pub xtimes : ℕ → ℕ

@@ -1,16 +1,23 @@
 //! Blocks of 16 bytes.
 
 ghost use Rattle.std.specs.Prelude.{◌≡◌, ◌+◌, ◌≤◌, ◌++◌, length, take, drop};
-ghost use Rattle.auc_aes.specs.Bytes.{xor as xored};
+ghost use Rattle.auc_aes.specs.Bytes.{xor as xored, rot as turned};
 
-/// The exclusive or of two blocks.
-pub(crate) fn xor(mut block: [u8; 16], other: [u8; 16]) -> [u8; 16]
-    ensures { result ≡ xored block other }
+/// The exclusive or of two strings of `N` bytes.
+pub fn xor<const N: usize>(mut string: [u8; N], other: [u8; N]) -> [u8; N]
+    ensures { result ≡ xored string.entry other.entry }
 {
-    for i in 0..16 {
-        block[i] ^= other[i];
+    for i in 0..N {
+        string[i] ^= other[i];
     }
-    block
+    string
+}
+
+/// A block turned cyclically by `bits` bits towards its most significant bit.
+pub fn rot(block: [u8; 16], bits: u32) -> [u8; 16]
+    ensures { result ≡ turned block bits }
+{
+    u128::from_be_bytes(block).rotate_left(bits).to_be_bytes()
 }
 
 /// The block of `bytes` that begins at `at`.

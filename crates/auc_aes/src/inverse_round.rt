@@ -29,8 +29,10 @@ fn restore_all(mut state: [u8; 16]) -> [u8; 16]
 fn shift_back(state: [u8; 16]) -> [u8; 16]
     ensures { result ≡ inv_shift_rows state }
 {
-    let [s0, s1, s2, s3, s4, s5, s6, s7, s8, s9, s10, s11, s12, s13, s14, s15] = state;
-    [s0, s13, s10, s7, s4, s1, s14, s11, s8, s5, s2, s15, s12, s9, s6, s3]
+    [
+        state[0], state[13], state[10], state[7], state[4], state[1], state[14], state[11],
+        state[8], state[5], state[2], state[15], state[12], state[9], state[6], state[3],
+    ]
 }
 
 /// A byte of a column whose mixing is undone, from the column's bytes from that row on (§5.3.3).
@@ -46,19 +48,25 @@ fn unmixed(a: u8, b: u8, c: u8, d: u8) -> u8
 fn unmixed_column(a: u8, b: u8, c: u8, d: u8) -> [u8; 4]
     ensures { result ≡ inv_mixed_column a b c d }
 {
-    [unmixed(a, b, c, d), unmixed(b, c, d, a), unmixed(c, d, a, b), unmixed(d, a, b, c)]
+    [
+        unmixed(a, b, c, d),
+        unmixed(b, c, d, a),
+        unmixed(c, d, a, b),
+        unmixed(d, a, b, c),
+    ]
 }
 
 /// INVMIXCOLUMNS (§5.3.3).
 fn unmix(state: [u8; 16]) -> [u8; 16]
     ensures { result ≡ inv_mix_columns state }
 {
-    let [s0, s1, s2, s3, s4, s5, s6, s7, s8, s9, s10, s11, s12, s13, s14, s15] = state;
-    let [a0, a1, a2, a3] = unmixed_column(s0, s1, s2, s3);
-    let [b0, b1, b2, b3] = unmixed_column(s4, s5, s6, s7);
-    let [c0, c1, c2, c3] = unmixed_column(s8, s9, s10, s11);
-    let [d0, d1, d2, d3] = unmixed_column(s12, s13, s14, s15);
-    [a0, a1, a2, a3, b0, b1, b2, b3, c0, c1, c2, c3, d0, d1, d2, d3]
+    let [a0, a1, a2, a3] = unmixed_column(state[0], state[1], state[2], state[3]);
+    let [b0, b1, b2, b3] = unmixed_column(state[4], state[5], state[6], state[7]);
+    let [c0, c1, c2, c3] = unmixed_column(state[8], state[9], state[10], state[11]);
+    let [d0, d1, d2, d3] = unmixed_column(state[12], state[13], state[14], state[15]);
+    [
+        a0, a1, a2, a3, b0, b1, b2, b3, c0, c1, c2, c3, d0, d1, d2, d3,
+    ]
 }
 
 /// Undoes the last round.

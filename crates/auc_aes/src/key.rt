@@ -7,24 +7,26 @@ ghost use Rattle.auc_aes.specs.Cbc.{cbc_encrypted, cbc_decrypted};
 use crate::block::{block_at, put_block, xor};
 use crate::inverse_round::{undo_final_round, undo_full_round};
 use crate::round::{double, final_round, full_round, next_key};
+use crate::words::{add, block_of, words_of};
 use std::marker::Model;
 
 /// A key of 128 bits, with its key schedule. Contracts see its 16 bytes.
 #[derive(Drop)]
 pub struct Key {
-    round_keys: [[u8; 16]; 11],
+    round_keys: [[u32; 4]; 11],
 }
 
 impl Model for Key {
     ghost use Rattle.std.specs.Prelude.{◌≡◌, ℕ, ◌<◌, List, [], slice_index_or};
+    ghost use Rattle.auc_aes.specs.Bytes.{block_of_words};
     ghost use Rattle.auc_aes.specs.Cipher.{round_key};
 
     ghost Value = { List ℕ };
 
-    ghost view = { λ k. slice_index_or k.round_keys 0 [] };
+    ghost view = { λ k. block_of_words (slice_index_or k.round_keys 0 []) };
 
-    ghost invariant = { λ k. (i : ℕ) → i < 11
-        → slice_index_or k.round_keys i [] ≡ round_key (slice_index_or k.round_keys 0 []) i };
+    ghost invariant = { λ k. (i : ℕ) → i < 11 → block_of_words (slice_index_or k.round_keys i [])
+        ≡ round_key (block_of_words (slice_index_or k.round_keys 0 [])) i };
 }
 
 impl Key {
@@ -32,7 +34,7 @@ impl Key {
     pub fn new(k: [u8; 16]) -> Key
         ensures { result ≡ k }
     {
-        let mut round_keys = [k; 11];
+        let mut round_keys = [words_of(k); 11];
         let mut constant = 1;
         for i in 1..11 {
             round_keys[i] = next_key(round_keys[i - 1], constant);
@@ -45,24 +47,24 @@ impl Key {
     pub fn encrypt(&self, b: [u8; 16]) -> [u8; 16]
         ensures { result ≡ aes self.now b }
     {
-        let mut state = xor(b, self.round_keys[0]);
+        let mut state = add(words_of(b), self.round_keys[0]);
         for round in 1..10 {
             let next = full_round(state, self.round_keys[round]);
             state = next;
         }
-        final_round(state, self.round_keys[10])
+        block_of(final_round(state, self.round_keys[10]))
     }
 
     /// The inverse cipher of a block (FIPS 197 §5.3).
     pub fn decrypt(&self, b: [u8; 16]) -> [u8; 16]
         ensures { result ≡ aes_inverse self.now b }
     {
-        let mut state = undo_final_round(b, self.round_keys[10]);
+        let mut state = undo_final_round(b, block_of(self.round_keys[10]));
         for round in 0..9 {
-            let previous = undo_full_round(state, self.round_keys[9 - round]);
+            let previous = undo_full_round(state, block_of(self.round_keys[9 - round]));
             state = previous;
         }
-        xor(state, self.round_keys[0])
+        xor(state, block_of(self.round_keys[0]))
     }
 
     /// Encrypts `bytes`, whole blocks, in place by CBC with the initialization vector `iv`

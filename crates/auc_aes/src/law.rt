@@ -1,16 +1,16 @@
 //! What encryption and decryption are to each other.
 
-ghost use Rattle.auc_aes.specs.Law.{DecryptionUndoes, EncryptionUndoes};
+ghost use Rattle.auc_aes.specs.Law.{DecryptionUndoesEncryption, EncryptionUndoesDecryption, CbcDecryptionUndoesEncryption, CbcEncryptionUndoesDecryption};
 
-/// Under any key of 16 bytes, decryption gives back what was encrypted: a block by the inverse cipher, and
-/// whole blocks by CBC with the same initialization vector.
+/// Under any key, decryption gives back what was encrypted: a block by the inverse cipher, and whole
+/// blocks by CBC with the same initialization vector.
 pub fn decryption_undoes_encryption()
-    ensures block { DecryptionUndoes }
-{
-}
+    ensures block { DecryptionUndoesEncryption }
+    ensures cbc { CbcDecryptionUndoesEncryption }
+{}
 
-/// Under any key of 16 bytes, encryption gives back what was decrypted.
+/// Under any key, encryption gives back what was decrypted, as above.
 pub fn encryption_undoes_decryption()
-    ensures block { EncryptionUndoes }
-{
-}
+    ensures block { EncryptionUndoesDecryption }
+    ensures cbc { CbcEncryptionUndoesDecryption }
+{}

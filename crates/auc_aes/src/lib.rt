@@ -14,6 +14,10 @@ mod key;
 mod law;
 mod round;
 mod tables;
+#[cfg(test)]
+mod tests;
+mod words;
 
+pub use block::{rot, xor};
 pub use key::Key;
 pub use law::{decryption_undoes_encryption, encryption_undoes_decryption};

@@ -1,12 +1,13 @@
-//! The steps of the cipher and of the key schedule (FIPS 197 §5.1 and §5.2).
+//! The steps of the cipher and of the key schedule, on words (FIPS 197 §5.1 and §5.2).
 
-ghost use Rattle.std.specs.Prelude.{◌≡◌};
+ghost use Rattle.std.specs.Prelude.{◌≡◌, [], ◌∷◌, slice_index};
+ghost use Rattle.std.specs.Int.{w32, to_be_bytes};
+ghost use Rattle.auc_aes.specs.Bytes.{block_of_words};
 ghost use Rattle.auc_aes.specs.Field.{xtimes, sub_byte};
-ghost use Rattle.auc_aes.specs.Bytes.{xor as xored};
-ghost use Rattle.auc_aes.specs.Cipher.{mixed_column, sub_bytes, shift_rows, full_round as full_round_of, final_round as final_round_of, next_key as key_after};
+ghost use Rattle.auc_aes.specs.Cipher.{mixed_column, full_round as full_round_of, final_round as final_round_of, next_key as key_after};
 
-use crate::block::xor;
 use crate::tables::{COLUMN_0, COLUMN_1, COLUMN_2, COLUMN_3, S_BOX};
+use crate::words::word;
 
 /// SBOX of a byte (§5.1.1).
 #[tactic(auto, using(crate::proofs::TableLemmas::S_BOX_is))]
@@ -14,6 +15,20 @@ fn substitute(byte: u8) -> u8
     ensures { result ≡ sub_byte byte }
 {
     S_BOX[byte as usize]
+}
+
+/// SUBWORD of four bytes (§5.2).
+fn substitute_word(bytes: [u8; 4]) -> u32
+    ensures { to_be_bytes w32 result ≡ sub_byte (slice_index bytes 0)
+        ∷ sub_byte (slice_index bytes 1) ∷ sub_byte (slice_index bytes 2)
+        ∷ sub_byte (slice_index bytes 3) ∷ [] }
+{
+    word(
+        substitute(bytes[0]),
+        substitute(bytes[1]),
+        substitute(bytes[2]),
+        substitute(bytes[3]),
+    )
 }
 
 /// A byte times x in the field (§4.2).
@@ -24,71 +39,68 @@ pub(crate) fn double(byte: u8) -> u8
     ((byte & 0x7f) * 2) ^ (byte / 128 * 0x1b)
 }
 
-/// A column after SUBBYTES and MIXCOLUMNS, from the four bytes that SHIFTROWS brings together.
-#[tactic(auto, using(crate::proofs::TableLemmas::column_is))]
-fn column(a: u8, b: u8, c: u8, d: u8) -> [u8; 4]
-    ensures { result ≡ mixed_column (sub_byte a) (sub_byte b) (sub_byte c) (sub_byte d) }
+/// The column that SHIFTROWS makes of four columns, of which the first is the one in its place (§5.1.2).
+fn shifted(a: u32, b: u32, c: u32, d: u32) -> [u8; 4]
+    ensures { result ≡ slice_index (to_be_bytes w32 a) 0 ∷ slice_index (to_be_bytes w32 b) 1
+        ∷ slice_index (to_be_bytes w32 c) 2 ∷ slice_index (to_be_bytes w32 d) 3 ∷ [] }
 {
-    let word = COLUMN_0[a as usize] ^ COLUMN_1[b as usize] ^ COLUMN_2[c as usize] ^ COLUMN_3[d as usize];
-    word.to_be_bytes()
+    [
+        a.to_be_bytes()[0],
+        b.to_be_bytes()[1],
+        c.to_be_bytes()[2],
+        d.to_be_bytes()[3],
+    ]
+}
+
+/// A column after SUBBYTES and MIXCOLUMNS (§5.1.1, §5.1.3).
+#[tactic(auto, using(crate::proofs::TableLemmas::column_is))]
+fn mix(column: [u8; 4]) -> u32
+    ensures { to_be_bytes w32 result ≡ mixed_column (sub_byte (slice_index column 0))
+        (sub_byte (slice_index column 1)) (sub_byte (slice_index column 2))
+        (sub_byte (slice_index column 3)) }
+{
+    COLUMN_0[column[0] as usize]
+        ^ COLUMN_1[column[1] as usize]
+        ^ COLUMN_2[column[2] as usize]
+        ^ COLUMN_3[column[3] as usize]
 }
 
 /// One round with a round key (§5.1).
-pub(crate) fn full_round(state: [u8; 16], round_key: [u8; 16]) -> [u8; 16]
-    ensures { result ≡ full_round_of state round_key }
+pub(crate) fn full_round(state: [u32; 4], round_key: [u32; 4]) -> [u32; 4]
+    ensures { block_of_words result
+        ≡ full_round_of (block_of_words state) (block_of_words round_key) }
 {
-    let [s0, s1, s2, s3, s4, s5, s6, s7, s8, s9, s10, s11, s12, s13, s14, s15] = state;
-    let [a0, a1, a2, a3] = column(s0, s5, s10, s15);
-    let [b0, b1, b2, b3] = column(s4, s9, s14, s3);
-    let [c0, c1, c2, c3] = column(s8, s13, s2, s7);
-    let [d0, d1, d2, d3] = column(s12, s1, s6, s11);
-    xor([a0, a1, a2, a3, b0, b1, b2, b3, c0, c1, c2, c3, d0, d1, d2, d3], round_key)
-}
-
-/// SUBBYTES (§5.1.1).
-#[tactic(auto, using(crate::proofs::TableLemmas::S_BOX_is))]
-fn substitute_all(mut state: [u8; 16]) -> [u8; 16]
-    ensures { result ≡ sub_bytes state }
-{
-    for byte in state.iter_mut() {
-        *byte = substitute(*byte);
-    }
-    state
-}
-
-/// SHIFTROWS (§5.1.2).
-fn shift(state: [u8; 16]) -> [u8; 16]
-    ensures { result ≡ shift_rows state }
-{
-    let [s0, s1, s2, s3, s4, s5, s6, s7, s8, s9, s10, s11, s12, s13, s14, s15] = state;
-    [s0, s5, s10, s15, s4, s9, s14, s3, s8, s13, s2, s7, s12, s1, s6, s11]
+    let [a, b, c, d] = state;
+    [
+        mix(shifted(a, b, c, d)) ^ round_key[0],
+        mix(shifted(b, c, d, a)) ^ round_key[1],
+        mix(shifted(c, d, a, b)) ^ round_key[2],
+        mix(shifted(d, a, b, c)) ^ round_key[3],
+    ]
 }
 
 /// The last round, which doesn't mix the columns (§5.1).
-pub(crate) fn final_round(state: [u8; 16], round_key: [u8; 16]) -> [u8; 16]
-    ensures { result ≡ final_round_of state round_key }
+pub(crate) fn final_round(state: [u32; 4], round_key: [u32; 4]) -> [u32; 4]
+    ensures { block_of_words result
+        ≡ final_round_of (block_of_words state) (block_of_words round_key) }
 {
-    xor(shift(substitute_all(state)), round_key)
-}
-
-/// The exclusive or of two words of the key schedule.
-fn add_words(word: [u8; 4], other: [u8; 4]) -> [u8; 4]
-    ensures { result ≡ xored word other }
-{
-    let [a0, a1, a2, a3] = word;
-    let [b0, b1, b2, b3] = other;
-    [a0 ^ b0, a1 ^ b1, a2 ^ b2, a3 ^ b3]
+    let [a, b, c, d] = state;
+    [
+        substitute_word(shifted(a, b, c, d)) ^ round_key[0],
+        substitute_word(shifted(b, c, d, a)) ^ round_key[1],
+        substitute_word(shifted(c, d, a, b)) ^ round_key[2],
+        substitute_word(shifted(d, a, b, c)) ^ round_key[3],
+    ]
 }
 
 /// The round key after `key`, with that round's constant (§5.2).
-pub(crate) fn next_key(key: [u8; 16], constant: u8) -> [u8; 16]
-    ensures { result ≡ key_after key constant }
+pub(crate) fn next_key(key: [u32; 4], constant: u8) -> [u32; 4]
+    ensures { block_of_words result ≡ key_after (block_of_words key) constant }
 {
-    let [k0, k1, k2, k3, k4, k5, k6, k7, k8, k9, k10, k11, k12, k13, k14, k15] = key;
-    let turned = [substitute(k13) ^ constant, substitute(k14), substitute(k15), substitute(k12)];
-    let [a0, a1, a2, a3] = add_words([k0, k1, k2, k3], turned);
-    let [b0, b1, b2, b3] = add_words([k4, k5, k6, k7], [a0, a1, a2, a3]);
-    let [c0, c1, c2, c3] = add_words([k8, k9, k10, k11], [b0, b1, b2, b3]);
-    let [d0, d1, d2, d3] = add_words([k12, k13, k14, k15], [c0, c1, c2, c3]);
-    [a0, a1, a2, a3, b0, b1, b2, b3, c0, c1, c2, c3, d0, d1, d2, d3]
+    let [a, b, c, d] = key[3].to_be_bytes();
+    let w0 = key[0] ^ (substitute_word([b, c, d, a]) ^ word(constant, 0, 0, 0));
+    let w1 = key[1] ^ w0;
+    let w2 = key[2] ^ w1;
+    let w3 = key[3] ^ w2;
+    [w0, w1, w2, w3]
 }

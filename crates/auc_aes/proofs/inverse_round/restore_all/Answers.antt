@@ -1,4 +1,4 @@
-use Rattle.std.proofs.Common.{◌≡◌, refl, ap, ◌∙◌, arith}
+use Rattle.std.proofs.Common.{arith}
 use Rattle.auc_aes.proofs.RoundLemmas.{inv_sub_bytes_by_index}
 use Rattle.auc_aes.proofs.inverse_round.restore_all.Goals as goal
 

@@ -1,4 +1,4 @@
-use Rattle.std.proofs.Common.{◌≡◌, refl, ap, ◌∙◌, arith}
+use Rattle.std.proofs.Common.{ap, ◌∙◌}
 use Rattle.auc_aes.specs.Cipher.{inv_sub_bytes, inv_shift_rows, inv_final_round}
 use Rattle.auc_aes.proofs.inverse_round.undo_final_round.Goals as goal
 

@@ -1,4 +1,4 @@
-use Rattle.std.proofs.Common.{◌≡◌, refl, ap, ◌∙◌, arith}
+use Rattle.std.proofs.Common.{ap, ◌∙◌}
 use Rattle.auc_aes.specs.Cipher.{inv_sub_bytes, inv_shift_rows, inv_mix_columns, inv_full_round}
 use Rattle.auc_aes.proofs.inverse_round.undo_full_round.Goals as goal
 

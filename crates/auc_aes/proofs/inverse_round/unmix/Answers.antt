@@ -1,4 +1,4 @@
-use Rattle.std.proofs.Common.{◌≡◌, refl, ap, ◌∙◌, arith}
+use Rattle.std.proofs.Common.{arith}
 use Rattle.auc_aes.proofs.RoundLemmas.{unmixed_is}
 use Rattle.auc_aes.proofs.inverse_round.unmix.Goals as goal
 

@@ -1,13 +1,9 @@
-use Rattle.std.proofs.Common.{◌≡◌, ap, ◌∙◌, arith}
-use Rattle.auc_aes.specs.Bytes.{xor}
-use Rattle.auc_aes.specs.Cipher.{full_round}
-use Rattle.auc_aes.proofs.RoundLemmas.{round_is}
+use Rattle.std.proofs.Common.{ap, ◌∙◌}
+use Rattle.auc_aes.proofs.WordLemmas.{full_round_is, mixed_substitutes}
 use Rattle.auc_aes.proofs.round.full_round.Goals as goal
 
 pub returns : goal.returns
-unfolding full_round
 returns c =
-    c.xor.ensures
-    ∙ ap (λ t. xor t c.args.round_key)
-        (round_is c.args.state c.column.result c.column-2.result c.column-3.result c.column-4.result (omega arith)
-        c.column.ensures c.column-2.ensures c.column-3.ensures c.column-4.ensures)
+    full_round_is c.args.state c.args.round_key c.mix.result c.mix-2.result c.mix-3.result c.mix-4.result
+    (c.mix.ensures ∙ ap mixed_substitutes c.shifted.ensures) (c.mix-2.ensures ∙ ap mixed_substitutes c.shifted-2.ensures)
+    (c.mix-3.ensures ∙ ap mixed_substitutes c.shifted-3.ensures) (c.mix-4.ensures ∙ ap mixed_substitutes c.shifted-4.ensures)

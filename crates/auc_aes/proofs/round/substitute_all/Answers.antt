@@ -1,7 +1,0 @@
-use Rattle.std.proofs.Common.{◌≡◌, refl, ap, ◌∙◌, arith}
-use Rattle.auc_aes.proofs.RoundLemmas.{sub_bytes_by_index}
-use Rattle.auc_aes.proofs.round.substitute_all.Goals as goal
-
-pub returns : goal.returns
-returns c =
-    sub_bytes_by_index c.args.state c.loop-byte.byte-items (omega arith) (λ k l. c.loop-byte.invariant.done k (omega arith))
