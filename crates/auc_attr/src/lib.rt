@@ -8,9 +8,14 @@ mod conversion;
 mod front;
 mod layout;
 mod marks;
+mod reading;
 mod refusal;
 mod table;
 mod values;
+mod writing;
 
 pub use attr::Attr;
+pub use attr_list::AttrList;
+pub use reading::read_attrs;
 pub use refusal::AttrRefusal;
+pub use writing::{put_attrs, write_attrs};
