@@ -1,3 +1,5 @@
 pub mod Tools
 pub mod ValueLemmas
 pub mod WritingLemmas
+pub mod ItemLemmas
+pub mod WalkLemmas
