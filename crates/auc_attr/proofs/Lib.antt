@@ -3,3 +3,4 @@ pub mod ValueLemmas
 pub mod WritingLemmas
 pub mod ItemLemmas
 pub mod WalkLemmas
+pub mod SpellingLemmas

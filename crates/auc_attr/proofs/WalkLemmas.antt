@@ -141,3 +141,7 @@ list_goes_on bytes list longer marks after rest a i more p attr is named push m 
       read = subst (λ (x : List Item). IsReadTo bytes x after more) (sym grown) (goes_on bytes (items list) marks after rest i more p.read attr m);
       named = all_named list a p.named named;
     })
+
+pub list_begins : (bytes : List ℕ) (list : List Attr) (marks : List Bool) → list ≡ [] → IsBytes bytes → Marks marks [] → IsListedTo bytes list marks bytes
+list_begins bytes list marks e fits m =
+    subst (λ (l : List Attr). IsListedTo bytes l marks bytes) (sym e) (record { read = begins bytes marks fits m; named = refl })

@@ -5,6 +5,7 @@ mod attr;
 mod attr_list;
 mod body;
 mod conversion;
+mod frame;
 mod front;
 mod layout;
 mod marks;
