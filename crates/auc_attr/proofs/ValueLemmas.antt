@@ -138,7 +138,7 @@ test_is : (unit least most count n long : ℕ) → count ≡ unit * n → (unit 
 test_is unit least most count n long e d m lo hi size =
     rw (e, d, m) (and_from (leb least n && leb n most) (eqb long (2 + n + fill n)) (and_from (leb least n) (leb n most) (le-leb least n lo) (le-leb n most hi)) (eq-eqb long (2 + n + fill n) size))
 
-filled : (n filling long units : ℕ) → filling < 4 → long ≡ 2 + (n + filling) → long + 2 ≡ 4 * units → long ≡ 2 + n + fill n
+pub filled : (n filling long units : ℕ) → filling < 4 → long ≡ 2 + (n + filling) → long + 2 ≡ 4 * units → long ≡ 2 + n + fill n
 filled n filling long units short e f = omega arith
 
 counted_again : (unit least most : ℕ) (body value : List ℕ) (units : ℕ) → ((n : ℕ) → (unit * n) / unit ≡ n) → ((n : ℕ) → (unit * n) % unit ≡ 0)
