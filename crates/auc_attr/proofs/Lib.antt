@@ -4,3 +4,4 @@ pub mod WritingLemmas
 pub mod ItemLemmas
 pub mod WalkLemmas
 pub mod SpellingLemmas
+pub mod FrameLemmas

@@ -30,7 +30,7 @@ front_number (a ∷ []) = refl
 front_number (a ∷ b ∷ body) = refl
 
 -- the two bytes of a number are those that it was read from
-number_front : (body : List ℕ) → 2 ≤ length body → IsBytes body → to_be_bytes w16 (from_be_bytes w16 body) ≡ take 2 body
+pub number_front : (body : List ℕ) → 2 ≤ length body → IsBytes body → to_be_bytes w16 (from_be_bytes w16 body) ≡ take 2 body
 number_front body long fits =
     be_bytes_2 (take 2 body) (from_be_bytes w16 body) (omega (arith, length-take 2 body)) (IsBytes-take 2 body fits) (sym (front_number body))
 
