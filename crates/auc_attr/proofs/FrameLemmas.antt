@@ -1,5 +1,5 @@
 -- What the tests of a packet find is what stands there, and the other way round.
-use Rattle.std.proofs.Common.{◌≡◌, ◌≢◌, ℕ, zero, suc, ◌+◌, ◌-◌, ◌*◌, ◌^◌, ◌<◌, ◌≤◌, ◌⊎◌, Bool, true, false, cond, not, ◌&&◌, ◌||◌, ltb, leb, eqb, ◌==◌, nat_lt, nat_le, List, [], ◌∷◌, ◌++◌, length, get_or, take, drop, Option, Some, None, Result, Ok, Err, refl, sym, ap, ◌∙◌, subst, arith, inl, inr, append_assoc, length-append, length-drop, drop-cons}
+use Rattle.std.proofs.Common.{◌≡◌, ◌≢◌, ℕ, zero, suc, ◌+◌, ◌-◌, ◌*◌, ◌^◌, ◌<◌, ◌≤◌, ◌⊎◌, Bool, true, false, cond, not, ◌&&◌, ◌||◌, ltb, leb, eqb, ◌==◌, nat_lt, nat_le, List, [], ◌∷◌, ◌++◌, length, get_or, take, drop, Option, Some, None, Result, Ok, Err, IfOk, refl, sym, ap, ◌∙◌, subst, arith, inl, inr, append_assoc, length-append, length-drop, drop-cons}
 use Rattle.std.specs.Int.{w16, to_be_bytes, from_be_bytes}
 use Rattle.std.proofs.lemmas.Bool.{eqb-true, ltb-false, le-ltb}
 use Rattle.std.proofs.lemmas.Bool.Decides.{nat_tests}
@@ -8,12 +8,14 @@ use Rattle.std.proofs.lemmas.Nat.{from_be_bytes-to_be_bytes_2}
 use Rattle.auc_attr.specs.declared.frame.FrameFault.{FrameFault}
 use Rattle.auc_attr.specs.declared.frame.FrameFault.TheVariants as faults
 use Rattle.auc_attr.specs.Frame.{Frame, Ended, Named, Message, length_of, is_code, is_wrong_length, is_method, is_subtype, typed_at, sized_at, frame_at, end_code, message_code, IsEnded, IsIdentity, IsMessage, IsFramed}
+use Rattle.auc_attr.specs.declared.frame.Framed.{Framed}
+use Rattle.auc_attr.specs.FrameView.{frame_of, Frames}
 use Rattle.auc_attr.proofs.Tools.{IsBytes, IsBytes-drop, IsBytes-take, passed, ok_is, not-false}
 use Rattle.auc_attr.proofs.ValueLemmas.{number_front}
 
 -- ---- what stands there is found
 
-frame_steps : (bytes : List ℕ) → 4 ≤ length bytes → is_code (get_or bytes 0 0) ≡ true → frame_at bytes ≡ sized_at (get_or bytes 0 0) (get_or bytes 1 0) (length_of bytes) bytes
+pub frame_steps : (bytes : List ℕ) → 4 ≤ length bytes → is_code (get_or bytes 0 0) ≡ true → frame_at bytes ≡ sized_at (get_or bytes 0 0) (get_or bytes 1 0) (length_of bytes) bytes
 unfolding frame_at
 frame_steps bytes long code = rw (le-ltb (length bytes) 4 long, code) refl
 
@@ -222,3 +224,15 @@ frame_sound bytes f fits e =
       | inl h ↦ subst (λ (g : Frame). IsFramed g bytes) (ok_is (Ended (code == 3) id) f h.1) (ended_sound bytes fits long (end_is code known h.0) (right.whole h.0))
       | inr h ↦ typed_sound (code == 1) id bytes f fits (message_is code known h.0) refl (right.least h.0) right.within h.1
     ]
+
+-- what a reader by the tests gives is framed so
+pub framed_from : (bytes : List ℕ) (r : Result Framed FrameFault) → IsBytes bytes → Frames r (frame_at bytes) → IfOk r (λ f. IsFramed (frame_of f) bytes)
+framed_from bytes (Ok f) fits e = frame_sound bytes (frame_of f) fits e
+framed_from bytes (Err d) fits e = tt
+
+-- the attributes of a message stand within its Length
+pub attrs_within : (request : Bool) (id kind subtype : ℕ) (attrs bytes : List ℕ) → IsMessage request id kind subtype attrs bytes
+    → (length_of bytes ≡ 8 + length attrs) × (length_of bytes ≤ length bytes)
+attrs_within request id kind subtype attrs bytes p =
+    let number : length_of bytes ≡ 8 + length attrs = ap (λ (b : List ℕ). length_of b) p.parts ∙ from_be_bytes-to_be_bytes_2 (8 + length attrs) p.size in
+    (number, omega (arith, number, ap length p.parts, length-append p.reserved (attrs ++ p.past), length-append attrs p.past, p.two))

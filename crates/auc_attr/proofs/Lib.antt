@@ -5,3 +5,4 @@ pub mod ItemLemmas
 pub mod WalkLemmas
 pub mod SpellingLemmas
 pub mod FrameLemmas
+pub mod MacLemmas

@@ -87,9 +87,3 @@ abbrev pub IsFramed : Frame → List ℕ → Type 0
 IsFramed (Ended success id) bytes = IsEnded success id bytes
 IsFramed (Named request id text) bytes = IsIdentity request id text bytes
 IsFramed (Message request id kind subtype attrs) bytes = IsMessage request id kind subtype attrs bytes
-
--- code, Identifier and type where there are as many bytes as Length says, and none where there are not
-pub record HeadView : Type 0 where
-  pub code : ℕ
-  pub id : ℕ
-  pub kind : Option ℕ

@@ -14,3 +14,9 @@ frame_of (framed.Message request id kind subtype attrs) = Message request id kin
 abbrev pub Frames : Result Framed FrameFault → Result Frame FrameFault → Type 0
 Frames (Ok frame) read = read ≡ Ok (frame_of frame)
 Frames (Err fault) read = read ≡ Err fault
+
+-- a fault of type or Subtype shows that there are code, Identifier and type
+abbrev pub IsLongFor : FrameFault → List ℕ → Type 0
+IsLongFor (faults.OtherType kind) bytes = 5 ≤ length bytes
+IsLongFor (faults.UnknownSubtype subtype) bytes = 5 ≤ length bytes
+IsLongFor fault bytes = Unit {0}

@@ -13,6 +13,11 @@ abbrev pub mac_from : ℕ → List Item → Option ℕ
 mac_from place [] = None
 mac_from place (i ∷ is) = if i.kind == 11 then Some (place + 4) else mac_from (place + length (item_text i)) is
 
+-- the place that was found before, or that of an attribute which begins here
+abbrev pub place_or : Option ℕ → ℕ → ℕ → Option ℕ
+place_or (Some place) kind start = Some place
+place_or None kind start = if kind == 11 then Some (start + 4) else None
+
 -- attributes with a fault have none
 abbrev pub mac_of : Option AttrRefusal → List Item → Option ℕ
 mac_of None is = mac_from 8 is

@@ -1,8 +1,8 @@
 //! What stands before the attributes of a packet.
 
 ghost use Rattle.std.specs.Prelude.{◌≡◌, ◌≤◌, ◌<◌, ◌+◌, length, true, IfOk, IfErr, nat_lt, nat_le, not, ◌==◌, ◌||◌, if◌then◌else◌};
-ghost use Rattle.auc_attr.specs.Frame.{is_code, is_wrong_length, is_method, is_subtype, typed_at, sized_at, frame_at, length_of};
-ghost use Rattle.auc_attr.specs.FrameView.{Frames};
+ghost use Rattle.auc_attr.specs.Frame.{is_code, is_wrong_length, is_method, is_subtype, typed_at, sized_at, frame_at, length_of, IsFramed};
+ghost use Rattle.auc_attr.specs.FrameView.{Frames, frame_of, IsLongFor};
 
 /// The first fault of a packet's bytes before its attributes.
 #[derive(Clone, Copy, Debug, PartialEq, Eq)]
@@ -55,8 +55,10 @@ pub enum Framed<'a> {
 
 /// What the bytes of a packet are before the attributes, or their first fault there. Takes no memory.
 #[tactic(auto, unfolding(crate::specs::Frame::frame_at))]
-pub fn frame(bytes: &[u8]) -> Result<Framed<'_>, FrameFault>
-    ensures { Frames result (frame_at bytes.now) }
+pub fn read_frame(bytes: &[u8]) -> Result<Framed<'_>, FrameFault>
+    ensures read { Frames result (frame_at bytes.now) }
+    ensures framed { IfOk result (λ f. IsFramed (frame_of f) bytes.now) }
+    ensures long { IfErr result (λ fault. IsLongFor fault bytes.now) }
 {
     if bytes.len() < 4 {
         return Err(FrameFault::Short);

@@ -8,6 +8,7 @@ mod conversion;
 mod frame;
 mod front;
 mod layout;
+mod mac;
 mod marks;
 mod reading;
 mod refusal;
@@ -17,6 +18,8 @@ mod writing;
 
 pub use attr::Attr;
 pub use attr_list::AttrList;
+pub use frame::{FrameFault, Framed, read_frame};
+pub use mac::mac_place;
 pub use reading::read_attrs;
 pub use refusal::AttrRefusal;
 pub use writing::{put_attrs, write_attrs};
