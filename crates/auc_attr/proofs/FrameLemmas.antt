@@ -45,7 +45,7 @@ ended_again false id past =
 -- a Request or Response whose Length is the number of bytes up to what follows it
 typed_code : (code id size : ℕ) (front past : List ℕ) → is_code code ≡ true → nat_le 3 code ≡ false → size < 65536 → length front + 4 ≡ size → 1 ≤ length front
     → frame_at (code ∷ id ∷ (to_be_bytes w16 size ++ (front ++ past)))
-      ≡ typed_at (code == 1) id (get_or (front ++ past) 0 0) (code ∷ id ∷ (to_be_bytes w16 size ++ front))
+    ≡ typed_at (code == 1) id (get_or (front ++ past) 0 0) (code ∷ id ∷ (to_be_bytes w16 size ++ front))
 typed_code code id size front past known below small whole some =
     let bytes = code ∷ id ∷ (to_be_bytes w16 size ++ (front ++ past)) in
     let inner = code ∷ id ∷ (to_be_bytes w16 size ++ front) in
@@ -99,7 +99,7 @@ header [] long fits = absurd (omega arith)
 header (a ∷ []) long fits = absurd (omega arith)
 header (a ∷ b ∷ rest) long fits =
     ap (λ (r : List ℕ). a ∷ b ∷ r)
-        (sym (take-append-drop 2 rest) ∙ ap (λ (f : List ℕ). f ++ drop 2 rest) (sym (number_front rest (omega arith) (IsBytes-drop 2 (a ∷ b ∷ rest) fits))))
+    (sym (take-append-drop 2 rest) ∙ ap (λ (f : List ℕ). f ++ drop 2 rest) (sym (number_front rest (omega arith) (IsBytes-drop 2 (a ∷ b ∷ rest) fits))))
 
 length_below : (bytes : List ℕ) → IsBytes bytes → length_of bytes < 65536
 length_below bytes fits = omega (arith, IsBytes-drop 2 bytes fits 0, IsBytes-drop 2 bytes fits 1)
@@ -124,12 +124,12 @@ named_sound request id bytes fits code ident some within one =
       size = omega (arith, length_below bytes fits, whole);
       past = drop size bytes;
       parts =
-        header bytes (omega arith) fits
-        ∙ ap (λ (x : ℕ). x ∷ get_or bytes 1 0 ∷ (to_be_bytes w16 size ++ drop 4 bytes)) code
-        ∙ ap (λ (x : ℕ). message_code request ∷ x ∷ (to_be_bytes w16 size ++ drop 4 bytes)) ident
-        ∙ ap (λ (r : List ℕ). message_code request ∷ id ∷ (to_be_bytes w16 size ++ r)) (tail_is bytes size some within)
-        ∙ ap (λ (x : ℕ). message_code request ∷ id ∷ (to_be_bytes w16 size ++ (x ∷ (text ++ drop size bytes)))) one
-        ∙ ap (λ (n : ℕ). message_code request ∷ id ∷ (to_be_bytes w16 n ++ (1 ∷ (text ++ drop size bytes)))) whole;
+          header bytes (omega arith) fits
+          ∙ ap (λ (x : ℕ). x ∷ get_or bytes 1 0 ∷ (to_be_bytes w16 size ++ drop 4 bytes)) code
+          ∙ ap (λ (x : ℕ). message_code request ∷ x ∷ (to_be_bytes w16 size ++ drop 4 bytes)) ident
+          ∙ ap (λ (r : List ℕ). message_code request ∷ id ∷ (to_be_bytes w16 size ++ r)) (tail_is bytes size some within)
+          ∙ ap (λ (x : ℕ). message_code request ∷ id ∷ (to_be_bytes w16 size ++ (x ∷ (text ++ drop size bytes)))) one
+          ∙ ap (λ (n : ℕ). message_code request ∷ id ∷ (to_be_bytes w16 n ++ (1 ∷ (text ++ drop size bytes)))) whole;
     }
 
 -- bytes from the sixth on
@@ -159,13 +159,13 @@ message_sound request id bytes fits code ident within m long s =
       two = omega (arith, length-take 2 (drop 6 t), length-drop 6 t);
       past = past;
       parts =
-        header bytes (omega arith) fits
-        ∙ ap (λ (x : ℕ). x ∷ get_or bytes 1 0 ∷ (to_be_bytes w16 size ++ drop 4 bytes)) code
-        ∙ ap (λ (x : ℕ). message_code request ∷ x ∷ (to_be_bytes w16 size ++ drop 4 bytes)) ident
-        ∙ ap (λ (r : List ℕ). message_code request ∷ id ∷ (to_be_bytes w16 size ++ r)) (tail_is bytes size (omega arith) within)
-        ∙ ap (λ (r : List ℕ). message_code request ∷ id ∷ (to_be_bytes w16 size ++ (kind ∷ (r ++ past)))) (rest_is t long)
-        ∙ ap (λ (r : List ℕ). message_code request ∷ id ∷ (to_be_bytes w16 size ++ (kind ∷ subtype ∷ r))) (append_assoc free attrs past)
-        ∙ ap (λ (n : ℕ). message_code request ∷ id ∷ (to_be_bytes w16 n ++ (kind ∷ subtype ∷ (free ++ (attrs ++ past))))) whole;
+          header bytes (omega arith) fits
+          ∙ ap (λ (x : ℕ). x ∷ get_or bytes 1 0 ∷ (to_be_bytes w16 size ++ drop 4 bytes)) code
+          ∙ ap (λ (x : ℕ). message_code request ∷ x ∷ (to_be_bytes w16 size ++ drop 4 bytes)) ident
+          ∙ ap (λ (r : List ℕ). message_code request ∷ id ∷ (to_be_bytes w16 size ++ r)) (tail_is bytes size (omega arith) within)
+          ∙ ap (λ (r : List ℕ). message_code request ∷ id ∷ (to_be_bytes w16 size ++ (kind ∷ (r ++ past)))) (rest_is t long)
+          ∙ ap (λ (r : List ℕ). message_code request ∷ id ∷ (to_be_bytes w16 size ++ (kind ∷ subtype ∷ r))) (append_assoc free attrs past)
+          ∙ ap (λ (n : ℕ). message_code request ∷ id ∷ (to_be_bytes w16 n ++ (kind ∷ subtype ∷ (free ++ (attrs ++ past))))) whole;
     }
 
 typed_sound : (request : Bool) (id : ℕ) (bytes : List ℕ) (f : Frame) → IsBytes bytes → get_or bytes 0 0 ≡ message_code request → get_or bytes 1 0 ≡ id → 5 ≤ length_of bytes → length_of bytes ≤ length bytes
@@ -176,11 +176,11 @@ typed_sound request id bytes f fits code ident some within e =
     elim (chosen (kind == 1) _ _ (Ok f) e) [
       | inl h ↦ subst (λ (g : Frame). IsFramed g bytes) (ok_is (Named request id (drop 5 t)) f h.1) (named_sound request id bytes fits code ident some within (eqb-true kind 1 h.0))
       | inr h ↦
-        let p = passed (not (is_method kind)) (faults.OtherType kind) _ f h.1 in
-        let q = passed (nat_lt (length t) 8) faults.LengthDisagrees _ f p.1 in
-        let r = passed (not (is_subtype (get_or t 5 0))) (faults.UnknownSubtype (get_or t 5 0)) _ f q.1 in
-        subst (λ (g : Frame). IsFramed g bytes) (ok_is (Message request id kind (get_or t 5 0) (drop 8 t)) f r.1)
-            (message_sound request id bytes fits code ident within (not-false _ p.0) (ltb-false (length t) 8 q.0) (not-false _ r.0))
+          let p = passed (not (is_method kind)) (faults.OtherType kind) _ f h.1 in
+          let q = passed (nat_lt (length t) 8) faults.LengthDisagrees _ f p.1 in
+          let r = passed (not (is_subtype (get_or t 5 0))) (faults.UnknownSubtype (get_or t 5 0)) _ f q.1 in
+          subst (λ (g : Frame). IsFramed g bytes) (ok_is (Message request id kind (get_or t 5 0) (drop 8 t)) f r.1)
+          (message_sound request id bytes fits code ident within (not-false _ p.0) (ltb-false (length t) 8 q.0) (not-false _ r.0))
     ]
 
 record IsRight (code size given : ℕ) : Type 0 where
@@ -202,9 +202,9 @@ ended_sound : (bytes : List ℕ) → IsBytes bytes → 4 ≤ length bytes → ge
 ended_sound bytes fits long code size = record {
   past = drop 4 bytes;
   parts =
-    header bytes long fits
-    ∙ ap (λ (n : ℕ). get_or bytes 0 0 ∷ get_or bytes 1 0 ∷ (to_be_bytes w16 n ++ drop 4 bytes)) size
-    ∙ ap (λ (x : ℕ). x ∷ get_or bytes 1 0 ∷ (to_be_bytes w16 4 ++ drop 4 bytes)) code;
+      header bytes long fits
+      ∙ ap (λ (n : ℕ). get_or bytes 0 0 ∷ get_or bytes 1 0 ∷ (to_be_bytes w16 n ++ drop 4 bytes)) size
+      ∙ ap (λ (x : ℕ). x ∷ get_or bytes 1 0 ∷ (to_be_bytes w16 4 ++ drop 4 bytes)) code;
 }
 
 -- what is found stands there

@@ -6,3 +6,4 @@ pub mod WalkLemmas
 pub mod SpellingLemmas
 pub mod FrameLemmas
 pub mod MacLemmas
+pub mod LawLemmas

@@ -31,7 +31,7 @@ mac_push start [] i = ap (λ (n : ℕ). cond (i.kind == 11) (Some (n + 4)) None)
 mac_push start (j ∷ is) i =
     let later = start + length (item_text j) in
     push_by_kind (j.kind == 11) start later (start + length (texts (j ∷ is))) (mac_from later is) (mac_from later (is ++ i ∷ [])) i.kind
-        (mac_push later is i ∙ ap (λ (n : ℕ). place_or (mac_from later is) i.kind n) (omega (arith, length-append (item_text j) (texts is))))
+    (mac_push later is i ∙ ap (λ (n : ℕ). place_or (mac_from later is) i.kind n) (omega (arith, length-append (item_text j) (texts is))))
 
 -- bytes are read as far as the rest, and the place is the one in what was read
 pub record IsPlacedTo (attrs : List ℕ) (place : Option ℕ) (marks : List Bool) (rest : List ℕ) : Type 0 where
@@ -56,7 +56,7 @@ place_goes_on attrs place later marks after rest stood i more p some tells e f m
       is = p.is ++ i ∷ [];
       read = goes_on attrs p.is marks after rest i more p.read attr m;
       placed = f ∙ ap (λ (o : Option ℕ). place_or o i.kind (8 + (length attrs - length rest))) p.placed
-        ∙ ap (λ (n : ℕ). place_or (mac_from 8 p.is) i.kind n) start ∙ sym (mac_push 8 p.is i);
+          ∙ ap (λ (n : ℕ). place_or (mac_from 8 p.is) i.kind n) start ∙ sym (mac_push 8 p.is i);
       size = omega (arith, p.size, ap length (texts_push p.is i), length-append (texts p.is) (item_text i), attr_size (kinds p.is) i rest more attr);
     }
 
@@ -98,7 +98,7 @@ mac_within seen start bytes [] end w = tt
 mac_within seen start bytes (i ∷ is) end w =
     let later = start + length (item_text i) in
     within_by_kind seen start bytes w.0 i (mac_from later is) (i.kind == 11) w.1 refl
-        (wider (mac_from later is) later start (length w.0) (length bytes) (omega (arith, attr_size seen i bytes w.0 w.1)) (mac_within (seen ++ i.kind ∷ []) later w.0 is end w.2))
+    (wider (mac_from later is) later start (length w.0) (length bytes) (omega (arith, attr_size seen i bytes w.0 w.1)) (mac_within (seen ++ i.kind ∷ []) later w.0 is end w.2))
 
 pub place_within : (attrs : List ℕ) (place : Option ℕ) (marks : List Bool) (rest : List ℕ) → IsPlacedTo attrs place marks rest → length rest ≡ 0
     → IfSome place (λ found. found + 16 ≤ 8 + length attrs)

@@ -121,23 +121,29 @@ shape_body (shape.AfterReserved n) kind value w f =
     (reserved ++ (value ++ []), parts_have kind reserved value 0 (omega arith), (size, behind value))
 shape_body shape.BitCounted kind value w f =
     let p = and_parts (leb 4 (length value)) (leb (length value) 16) f in
-    let n = length value in
-    (to_be_bytes w16 (8 * n) ++ (value ++ replicate (fill n) 0), parts_have kind (to_be_bytes w16 (8 * n)) value (fill n) (omega arith), record {
-      at_least = leb-le 4 n p.0;
-      at_most = leb-le n 16 p.1;
-      filling = replicate (fill n) 0;
-      short = omega (arith, length-replicate {A = ℕ} (fill n) 0);
-      parts = refl;
-    })
+    let n = length value in (
+      to_be_bytes w16 (8 * n) ++ (value ++ replicate (fill n) 0),
+      parts_have kind (to_be_bytes w16 (8 * n)) value (fill n) (omega arith),
+      record {
+        at_least = leb-le 4 n p.0;
+        at_most = leb-le n 16 p.1;
+        filling = replicate (fill n) 0;
+        short = omega (arith, length-replicate {A = ℕ} (fill n) 0);
+        parts = refl;
+      },
+    )
 shape_body shape.ByteCounted kind value w f =
-    let n = length value in
-    (to_be_bytes w16 n ++ (value ++ replicate (fill n) 0), parts_have kind (to_be_bytes w16 n) value (fill n) (omega arith), record {
-      at_least = omega arith;
-      at_most = leb-le n 1016 f;
-      filling = replicate (fill n) 0;
-      short = omega (arith, length-replicate {A = ℕ} (fill n) 0);
-      parts = ap (λ (m : ℕ). to_be_bytes w16 m ++ (value ++ replicate (fill n) 0)) (omega arith);
-    })
+    let n = length value in (
+      to_be_bytes w16 n ++ (value ++ replicate (fill n) 0),
+      parts_have kind (to_be_bytes w16 n) value (fill n) (omega arith),
+      record {
+        at_least = omega arith;
+        at_most = leb-le n 1016 f;
+        filling = replicate (fill n) 0;
+        short = omega (arith, length-replicate {A = ℕ} (fill n) 0);
+        parts = ap (λ (m : ℕ). to_be_bytes w16 m ++ (value ++ replicate (fill n) 0)) (omega arith);
+      },
+    )
 shape_body shape.Ciphertext kind value w f =
     let p = and_parts (leb (length value) 1016) (eqb (length value % 4) 0) f in
     let whole : length value % 4 ≡ 0 = eqb-true (length value % 4) 0 p.1 in
@@ -150,13 +156,16 @@ shape_body shape.Zeros kind value w f =
     let sizes = three_sizes (length value) 2 6 10 p.0 in
     (value ++ [], parts_have kind [] value 0 (zeros_whole (length value) sizes), (sizes, p.1, append-nil value))
 shape_body shape.Flag kind value w f =
-    let p = and_parts (eqb (length value) 1) (leb (get_or value 0 0) 1) f in
-    (128 * get_or value 0 0 ∷ 0 ∷ [], parts_have kind (128 * get_or value 0 0 ∷ 0 ∷ []) [] 0 refl, record {
-      first = 128 * get_or value 0 0;
-      second = 0;
-      parts = refl;
-      top = flag_value value (eqb-true (length value) 1 p.0) (leb-le (get_or value 0 0) 1 p.1);
-    })
+    let p = and_parts (eqb (length value) 1) (leb (get_or value 0 0) 1) f in (
+      128 * get_or value 0 0 ∷ 0 ∷ [],
+      parts_have kind (128 * get_or value 0 0 ∷ 0 ∷ []) [] 0 refl,
+      record {
+        first = 128 * get_or value 0 0;
+        second = 0;
+        parts = refl;
+        top = flag_value value (eqb-true (length value) 1 p.0) (leb-le (get_or value 0 0) 1 p.1);
+      },
+    )
 shape_body shape.Skipped kind value w f =
     let p = and_parts (leb 2 (length value) && leb (length value) 1018) (eqb (length value % 4) 2) f in
     let whole : length value % 4 ≡ 2 = eqb-true (length value % 4) 2 p.1 in
@@ -232,5 +241,5 @@ pub attr_size : (seen : List ℕ) (i : Item) (bytes rest : List ℕ) → IsAttr 
 unfolding item_text
 attr_size seen i bytes rest p =
     let text : length (row_text (row_of i.kind) i.kind i.value) ≡ length p.body + 2 =
-        ap (λ (o : Option Row). length (row_text o i.kind i.value)) p.known ∙ body_size p.row.shape i.kind p.body i.value p.units p.size p.value in
+    ap (λ (o : Option Row). length (row_text o i.kind i.value)) p.known ∙ body_size p.row.shape i.kind p.body i.value p.units p.size p.value in
     omega (arith, ap length p.parts, length-append p.body rest, text)

@@ -77,10 +77,10 @@ counted_sound unit least most body value some long fits test e =
       filling = drop size rest;
       short = omega (arith, length-drop size rest, length-drop 2 body, t.exact);
       parts =
-        sym (take-append-drop 2 body)
-        ∙ ap (λ (f : List ℕ). f ++ rest) (sym (number_front body long fits))
-        ∙ ap (λ (n : ℕ). to_be_bytes w16 n ++ rest) (sym t.whole ∙ ap (λ (n : ℕ). unit * n) (sym len))
-        ∙ ap (λ (r : List ℕ). to_be_bytes w16 (unit * length value) ++ r) (sym (take-append-drop size rest) ∙ ap (λ (v : List ℕ). v ++ drop size rest) e);
+          sym (take-append-drop 2 body)
+          ∙ ap (λ (f : List ℕ). f ++ rest) (sym (number_front body long fits))
+          ∙ ap (λ (n : ℕ). to_be_bytes w16 n ++ rest) (sym t.whole ∙ ap (λ (n : ℕ). unit * n) (sym len))
+          ∙ ap (λ (r : List ℕ). to_be_bytes w16 (unit * length value) ++ r) (sym (take-append-drop size rest) ∙ ap (λ (v : List ℕ). v ++ drop size rest) e);
     }
 
 three_sizes : (n a b c : ℕ) → (eqb n a || eqb n b || eqb n c) ≡ true → (n ≡ a) ⊎ ((n ≡ b) ⊎ (n ≡ c))
@@ -148,9 +148,10 @@ counted_again unit least most body value units d m small size p =
     let n = length value in
     let number : from_be_bytes w16 body ≡ unit * n = ap (λ (b : List ℕ). from_be_bytes w16 b) p.parts ∙ from_be_bytes-to_be_bytes_2 (unit * n) (small n p.at_most) in
     let long : length body ≡ 2 + (n + length p.filling) = ap length p.parts ∙ omega (arith, length-append value p.filling) in
-    let rest : drop 2 body ≡ value ++ p.filling = ap (λ (b : List ℕ). drop 2 b) p.parts in
-    (test_is unit least most (from_be_bytes w16 body) n (length body) number (d n) (m n) p.at_least p.at_most (filled n (length p.filling) (length body) units p.short long size),
-     ap (λ (k : ℕ). take (k / unit) (drop 2 body)) number ∙ ap (λ (k : ℕ). take k (drop 2 body)) (d n) ∙ ap (λ (b : List ℕ). take n b) rest ∙ take_at value p.filling n refl)
+    let rest : drop 2 body ≡ value ++ p.filling = ap (λ (b : List ℕ). drop 2 b) p.parts in (
+      test_is unit least most (from_be_bytes w16 body) n (length body) number (d n) (m n) p.at_least p.at_most (filled n (length p.filling) (length body) units p.short long size),
+      ap (λ (k : ℕ). take (k / unit) (drop 2 body)) number ∙ ap (λ (k : ℕ). take k (drop 2 body)) (d n) ∙ ap (λ (b : List ℕ). take n b) rest ∙ take_at value p.filling n refl,
+    )
 
 value_if_true : (b : Bool) (kind : ℕ) (v w : List ℕ) → b ≡ true → v ≡ w → value_if b kind v ≡ Ok w
 value_if_true b kind v w e f = rw e (ap (λ x. Ok x) f)
@@ -186,11 +187,11 @@ body_again shape.Hash kind body value units size p =
     value_if_true _ kind (drop 2 body) value (three_tests (length body) 2 22 34 (hash_tests (length body) (length value) b.0 p.0)) b.1
 body_again shape.Zeros kind body value units size p =
     zeros_if_true _ kind body value
-        (three_tests (length body) 2 6 10 (subst (λ (v : List ℕ). (length v ≡ 2) ⊎ ((length v ≡ 6) ⊎ (length v ≡ 10))) (sym p.2) p.0))
-        (ap (λ v. list_all is_zero v) p.2 ∙ p.1) p.2
+    (three_tests (length body) 2 6 10 (subst (λ (v : List ℕ). (length v ≡ 2) ⊎ ((length v ≡ 6) ⊎ (length v ≡ 10))) (sym p.2) p.0))
+    (ap (λ v. list_all is_zero v) p.2 ∙ p.1) p.2
 body_again shape.Flag kind body value units size p =
     value_if_true _ kind _ value (eq-eqb (length body) 2 (ap length p.parts))
-        (ap (λ (b : List ℕ). cond (ltb (get_or b 0 0) 128) 0 1 ∷ []) p.parts ∙ sym p.top)
+    (ap (λ (b : List ℕ). cond (ltb (get_or b 0 0) 128) 0 1 ∷ []) p.parts ∙ sym p.top)
 body_again shape.Skipped kind body value units size p = ap (λ x. Ok x) p
 
 flag_fits : (b : Bool) (value : List ℕ) → value ≡ cond b 0 1 ∷ [] → fits shape.Flag value ≡ true

@@ -44,7 +44,7 @@ one_attr : (seen : List ℕ) (i j : Item) (bytes r s : List ℕ) → IsAttr seen
 one_attr seen i j bytes r s p q =
     let kinds : i.kind ≡ j.kind = ap (λ (b : List ℕ). get_or b 0 0) (sym p.parts ∙ q.parts) in
     let both : ◌≡◌ {A = Item × List ℕ} (i, r) (j, s) =
-        ok_is _ _ (sym (attr_again seen i bytes r p) ∙ ap (λ k. item_at (stands_in seen k) bytes) kinds ∙ attr_again seen j bytes s q) in
+    ok_is _ _ (sym (attr_again seen i bytes r p) ∙ ap (λ k. item_at (stands_in seen k) bytes) kinds ∙ attr_again seen j bytes s q) in
     (ap (λ (x : Item × List ℕ). x.0) both, ap (λ (x : Item × List ℕ). x.1) both)
 
 -- bytes have one reading, or one first fault
@@ -55,7 +55,7 @@ one_walk seen bytes (i ∷ is) [] e f p q = absurd (no_end seen i bytes p.0 f p.
 one_walk seen bytes (i ∷ is) (j ∷ js) e f p q =
     let front = one_attr seen i j bytes p.0 q.0 p.1 q.1 in
     let moved : Walks (seen ++ i.kind ∷ []) p.0 js f =
-        subst (λ (r : List ℕ). Walks (seen ++ i.kind ∷ []) r js f) (sym front.1) (subst (λ (k : Item). Walks (seen ++ k.kind ∷ []) q.0 js f) (sym front.0) q.2) in
+    subst (λ (r : List ℕ). Walks (seen ++ i.kind ∷ []) r js f) (sym front.1) (subst (λ (k : Item). Walks (seen ++ k.kind ∷ []) q.0 js f) (sym front.0) q.2) in
     let more = one_walk (seen ++ i.kind ∷ []) p.0 is js e f p.2 moved in
     (ap (λ (k : Item). k ∷ is) front.0 ∙ ap (λ (x : List Item). j ∷ x) more.0, more.1)
 
@@ -84,8 +84,8 @@ goes_on bytes is marks after rest i more p attr m =
       fits = attr_rest (kinds is) i rest more attr p.fits;
       marked = subst (λ (ks : List ℕ). Marks after ks) (sym types) (m (kinds is) p.marked);
       completes = λ others end w.
-        subst (λ (x : List Item). Walks [] bytes x end) (sym (append_assoc is (i ∷ []) others))
-            (p.completes (i ∷ others) end (more, attr, subst (λ (ks : List ℕ). Walks ks more others end) types w));
+          subst (λ (x : List Item). Walks [] bytes x end) (sym (append_assoc is (i ∷ []) others))
+          (p.completes (i ∷ others) end (more, attr, subst (λ (ks : List ℕ). Walks ks more others end) types w));
     }
 
 -- the attribute at the front of the rest, by what a mark says of its type
@@ -110,7 +110,7 @@ pub faulty : (bytes : List ℕ) (is : List Item) (marks : List Bool) (rest : Lis
 faulty bytes is marks [] stood f p some tells e = absurd (omega arith)
 faulty bytes is marks (kind ∷ rest) stood f p some tells e =
     subst (λ (x : List Item). Walks [] bytes x (Some f)) (append-nil is)
-        (p.completes [] (Some f) (ap (λ b. item_at b (kind ∷ rest)) (sym (tells (kinds is) p.marked)) ∙ e))
+    (p.completes [] (Some f) (ap (λ b. item_at b (kind ∷ rest)) (sym (tells (kinds is) p.marked)) ∙ e))
 
 pub first_fault : (bytes : List ℕ) (is : List Item) (marks : List Bool) (rest : List ℕ) (stood : Bool) (f : AttrRefusal) → IsReadTo bytes is marks rest → 0 < length rest
     → ((ks : List ℕ) → Marks marks ks → stood ≡ stands_in ks (get_or rest 0 0)) → item_at stood rest ≡ Err f → FirstFault bytes f

@@ -20,7 +20,7 @@ each_has_spelling seen (a ∷ list) e =
     let p = and_parts (may_follow a (stands_in seen (item_of a).kind)) (writable_from (seen ++ (item_of a).kind ∷ []) list) e in
     let q = and_parts (has_spelling a && is_named a) _ p.0 in
     and_from (has_spelling a) (list_all has_spelling list) (and_parts (has_spelling a) (is_named a) q.0).0
-        (each_has_spelling (seen ++ (item_of a).kind ∷ []) list p.1)
+    (each_has_spelling (seen ++ (item_of a).kind ∷ []) list p.1)
 
 -- memory into which two strings of bytes were written one after the other
 wrote_twice : (room : Reserved ℕ) (a b : List ℕ) → wrote (wrote room a) b ≡ wrote room (a ++ b)

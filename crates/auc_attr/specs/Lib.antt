@@ -8,3 +8,5 @@ pub mod Marks
 pub mod Frame
 pub mod FrameView
 pub mod Mac
+pub mod Laws
+pub mod PacketFault

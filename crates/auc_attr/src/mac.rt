@@ -16,13 +16,15 @@ pub fn mac_place(packet: &[u8]) -> Option<usize>
     ensures given { IfSome result (λ place. length_of packet.now ≤ length packet.now) }
 {
     match read_frame(packet) {
-        Ok(Framed::Message {
-            request: _,
-            id: _,
-            kind: _,
-            subtype: _,
-            attrs,
-        }) => mac_in(attrs),
+        Ok(
+            Framed::Message {
+                request: _,
+                id: _,
+                kind: _,
+                subtype: _,
+                attrs,
+            },
+        ) => mac_in(attrs),
         _ => None,
     }
 }
