@@ -5,3 +5,8 @@ pub mod Fault
 pub mod Grammar
 pub mod Spelling
 pub mod Marks
+pub mod Frame
+pub mod FrameView
+pub mod Mac
+pub mod Laws
+pub mod PacketFault

@@ -1,6 +1,5 @@
 -- An attribute as the code keeps it between its list and its bytes.
-use Rattle.std.specs.Prelude.{ℕ, ◌+◌, ◌-◌, List, [], ◌++◌, length, Option, Some, None}
-use Rattle.auc_edge.specs.Reserved.{Reserved}
+use Rattle.std.specs.Prelude.{ℕ, List, [], Option, Some, None}
 use Rattle.auc_attr.specs.declared.conversion.Value.{Value}
 use Rattle.auc_attr.specs.declared.conversion.Value.TheVariants as values
 use Rattle.auc_attr.specs.declared.layout.Layout.{Layout}
@@ -18,7 +17,3 @@ front_bytes (Some two) = two
 -- the bytes of a layout
 abbrev pub layout_text : ℕ → Layout → List ℕ
 layout_text kind l = parts_text kind (front_bytes l.front) l.value.now l.zeros
-
--- what reserved memory is when more bytes are written into it
-abbrev pub wrote : Reserved ℕ → List ℕ → Reserved ℕ
-wrote room bytes = record { written = room.written ++ bytes; left = room.left - length bytes }

@@ -39,14 +39,14 @@ abbrev pub may_stand_row : Option Row → Bool → Bool
 may_stand_row None stood = false
 may_stand_row (Some row) stood = not (row.once && stood)
 
--- a type of the table other than KDF stands once
-unfoldable pub may_stand : List ℕ → ℕ → Bool
-may_stand seen kind = may_stand_row (row_of kind) (stands_in seen kind)
+-- whether an attribute may be written where its type stood before or not: its value has a spelling, it goes
+-- by its own name, and a type of the table other than KDF stands once
+abbrev pub may_follow : Attr → Bool → Bool
+may_follow a stood = fits_item (item_of a) && is_named a && may_stand_row (row_of (item_of a).kind) stood
 
 abbrev pub writable_from : List ℕ → List Attr → Bool
 writable_from seen [] = true
-writable_from seen (a ∷ list) =
-    (fits_item (item_of a) && is_named a && may_stand seen (item_of a).kind) && writable_from (seen ++ (item_of a).kind ∷ []) list
+writable_from seen (a ∷ list) = may_follow a (stands_in seen (item_of a).kind) && writable_from (seen ++ (item_of a).kind ∷ []) list
 
 -- whether a list has a spelling that reads
 abbrev pub writable : List Attr → Bool

@@ -4,7 +4,8 @@ ghost use Rattle.std.specs.Prelude.{◌≡◌, ◌+◌, ◌*◌, ◌≤◌, ◌<
 ghost use Rattle.std.specs.Int.{w16, to_be_bytes};
 ghost use Rattle.auc_attr.specs.Item.{item};
 ghost use Rattle.auc_attr.specs.Spelling.{fill, fits, fits_item, item_text, shape_text};
-ghost use Rattle.auc_attr.specs.Parts.{front_bytes, layout_text, wrote};
+ghost use Rattle.auc_attr.specs.Parts.{front_bytes, layout_text};
+ghost use Rattle.auc_edge.specs.Reserved.{wrote};
 
 use crate::body::{are_zeros, fill};
 use crate::table::{Shape, row_of};

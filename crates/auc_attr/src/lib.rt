@@ -5,12 +5,27 @@ mod attr;
 mod attr_list;
 mod body;
 mod conversion;
+mod frame;
 mod front;
+mod law;
 mod layout;
+mod mac;
 mod marks;
+mod reading;
 mod refusal;
 mod table;
 mod values;
+mod writing;
 
 pub use attr::Attr;
+pub use attr_list::AttrList;
+pub use frame::{FrameFault, Framed, read_frame};
+pub use law::{
+    bytes_are_one_list, bytes_have_one_first_fault, bytes_have_one_reading_or_one_fault,
+    found_frames_stand_there, read_attributes_may_be_written, refused_bytes_are_not_read,
+    written_attributes_are_read,
+};
+pub use mac::mac_place;
+pub use reading::read_attrs;
 pub use refusal::AttrRefusal;
+pub use writing::{put_attrs, write_attrs};

@@ -1,7 +1,7 @@
 //! Places of a list that are taken before they are filled.
 
 ghost use Rattle.std.specs.Prelude.{◌≡◌, ◌<◌, ◌-◌, ◌++◌, [], ◌∷◌, length, IfOk};
-ghost use Rattle.auc_edge.specs.Reserved.{Reserved};
+ghost use Rattle.auc_edge.specs.Reserved.{Reserved, wrote};
 
 use crate::items::Items;
 use crate::no_memory::NoMemory;
@@ -59,7 +59,7 @@ impl<T: Drop> Places<T> {
     /// Puts an item behind the last.
     pub fn put(&mut self, item: T)
         requires { 0 < self.old.left }
-        ensures { self.new ≡ record { written = self.old.written ++ item ∷ []; left = self.old.left - 1 } }
+        ensures { self.new ≡ wrote self.old (item ∷ []) }
     {
         self.left -= 1;
         match self.all.push(item) {

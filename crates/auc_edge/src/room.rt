@@ -1,7 +1,7 @@
 //! Memory that is taken before it is written.
 
 ghost use Rattle.std.specs.Prelude.{◌≡◌, ◌≤◌, ◌-◌, ◌++◌, [], ◌∷◌, length, IfOk};
-ghost use Rattle.auc_edge.specs.Reserved.{Reserved};
+ghost use Rattle.auc_edge.specs.Reserved.{Reserved, wrote};
 
 use crate::no_memory::NoMemory;
 use crate::octets::Octets;
@@ -56,7 +56,7 @@ impl Room {
     /// Writes bytes behind the last.
     pub fn put(&mut self, bytes: &[u8])
         requires { length bytes.now ≤ self.old.left }
-        ensures { self.new ≡ record { written = self.old.written ++ bytes.now; left = self.old.left - length bytes.now } }
+        ensures { self.new ≡ wrote self.old bytes.now }
     {
         self.left -= bytes.len();
         match self.bytes.extend_from_slice(bytes) {

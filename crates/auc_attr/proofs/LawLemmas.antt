@@ -1,0 +1,158 @@
+-- The laws of the grammar.
+use Rattle.std.proofs.Common.{◌≡◌, ◌≢◌, ℕ, ◌+◌, ◌<◌, ◌↔◌, if◌then◌else◌, Bool, true, false, not, cond, ◌&&◌, ◌==◌, ltb, List, [], ◌∷◌, ◌++◌, length, get_or, Option, Some, None, Result, Ok, Err, refl, sym, ap, ◌∙◌, subst, arith, length-append}
+use Rattle.std.specs.List.{list_all}
+use Rattle.std.specs.Int.{w16, to_be_bytes, from_be_bytes}
+use Rattle.std.proofs.lemmas.Bool.Decides.{nat_tests}
+use Rattle.std.proofs.lemmas.Nat.{from_be_bytes-to_be_bytes_2}
+use Rattle.auc_attr.specs.declared.attr.Attr.{Attr}
+use Rattle.auc_attr.specs.declared.attr.Attr.TheVariants as attr
+use Rattle.auc_attr.specs.declared.refusal.AttrRefusal.{AttrRefusal}
+use Rattle.auc_attr.specs.declared.refusal.AttrRefusal.TheVariants as refusal
+use Rattle.auc_attr.specs.declared.table.Row.{Row}
+use Rattle.auc_attr.specs.Table.{row_of}
+use Rattle.auc_attr.specs.Frame.{Frame, frame_at, IsFramed}
+use Rattle.auc_attr.specs.Grammar.{IsAttr, Walks, ReadsAttrs, FirstFault}
+use Rattle.auc_attr.specs.Item.{Item, item_of, items, is_named, is_skipped_row}
+use Rattle.auc_attr.specs.Laws.{is_value, OneWalk, OneList, OneFault, RefusedIsNotRead, WrittenIsRead, ReadIsWritable, FoundIsFramed}
+use Rattle.auc_attr.specs.Spelling.{stands_in, fits_item, may_stand_row, may_follow, writable_from, writable, item_text, spelling}
+use Rattle.auc_attr.proofs.Tools.{IsBytes, and_parts, and_from, some_is}
+use Rattle.auc_attr.proofs.ItemLemmas.{attr_fits, attr_rest}
+use Rattle.auc_attr.proofs.WalkLemmas.{one_walk}
+use Rattle.auc_attr.proofs.SpellingLemmas.{attr_size, written_attributes_are_read}
+use Rattle.auc_attr.proofs.FrameLemmas.{frame_sound, frame_again}
+
+-- ---- an attribute is determined by its item
+
+abbrev known_from : ℕ → List ℕ → Attr
+known_from kind v =
+    if kind == 1 then attr.Rand v
+    else if kind == 2 then attr.Autn v
+    else if kind == 3 then attr.Res v
+    else if kind == 4 then attr.Auts v
+    else if kind == 6 then attr.Padding v
+    else if kind == 10 then attr.PermanentIdReq
+    else if kind == 11 then attr.Mac v
+    else if kind == 12 then attr.Notification (from_be_bytes w16 v)
+    else if kind == 13 then attr.AnyIdReq
+    else if kind == 14 then attr.Identity v
+    else if kind == 17 then attr.FullauthIdReq
+    else if kind == 19 then attr.Counter (from_be_bytes w16 v)
+    else if kind == 20 then attr.CounterTooSmall
+    else if kind == 21 then attr.NonceS v
+    else if kind == 22 then attr.ClientErrorCode (from_be_bytes w16 v)
+    else if kind == 23 then attr.KdfInput v
+    else if kind == 24 then attr.Kdf (from_be_bytes w16 v)
+    else if kind == 129 then attr.Iv v
+    else if kind == 130 then attr.EncrData v
+    else if kind == 132 then attr.NextPseudonym v
+    else if kind == 133 then attr.NextReauthId v
+    else if kind == 134 then attr.Checkcode v
+    else if kind == 135 then attr.ResultInd
+    else attr.Bidding (get_or v 0 0 == 1)
+
+abbrev attr_from : Item → Attr
+attr_from i = if is_skipped_row (row_of i.kind) then attr.Skipped i.kind i.value else known_from i.kind i.value
+
+below : (n : ℕ) → ltb n 65536 ≡ true → n < 65536
+below n e = grind (arith, nat_tests)
+
+from_item : (a : Attr) → is_named a ≡ true → is_value a ≡ true → attr_from (item_of a) ≡ a
+unfolding row_of
+from_item (attr.Rand v) e f = refl
+from_item (attr.Autn v) e f = refl
+from_item (attr.Res v) e f = refl
+from_item (attr.Auts v) e f = refl
+from_item (attr.Padding v) e f = refl
+from_item attr.PermanentIdReq e f = refl
+from_item (attr.Mac v) e f = refl
+from_item (attr.Notification n) e f = ap (λ m. attr.Notification m) (from_be_bytes-to_be_bytes_2 n (below n f))
+from_item attr.AnyIdReq e f = refl
+from_item (attr.Identity v) e f = refl
+from_item attr.FullauthIdReq e f = refl
+from_item (attr.Counter n) e f = ap (λ m. attr.Counter m) (from_be_bytes-to_be_bytes_2 n (below n f))
+from_item attr.CounterTooSmall e f = refl
+from_item (attr.NonceS v) e f = refl
+from_item (attr.ClientErrorCode n) e f = ap (λ m. attr.ClientErrorCode m) (from_be_bytes-to_be_bytes_2 n (below n f))
+from_item (attr.KdfInput v) e f = refl
+from_item (attr.Kdf n) e f = ap (λ m. attr.Kdf m) (from_be_bytes-to_be_bytes_2 n (below n f))
+from_item (attr.Iv v) e f = refl
+from_item (attr.EncrData v) e f = refl
+from_item (attr.NextPseudonym v) e f = refl
+from_item (attr.NextReauthId v) e f = refl
+from_item (attr.Checkcode v) e f = refl
+from_item attr.ResultInd e f = refl
+from_item (attr.Bidding true) e f = refl
+from_item (attr.Bidding false) e f = refl
+from_item (attr.Skipped kind v) e f = ap (λ (b : Bool). if b then attr.Skipped kind v else known_from kind v) e
+
+same_attr : (a b : Attr) → is_named a ≡ true → is_value a ≡ true → is_named b ≡ true → is_value b ≡ true → item_of a ≡ item_of b → a ≡ b
+same_attr a b na va nb vb e = sym (from_item a na va) ∙ ap (λ i. attr_from i) e ∙ from_item b nb vb
+
+same_list : (list other : List Attr) → list_all is_named list ≡ true → list_all is_value list ≡ true → list_all is_named other ≡ true → list_all is_value other ≡ true
+    → items list ≡ items other → list ≡ other
+same_list [] [] na va nb vb e = refl
+same_list [] (b ∷ other) na va nb vb e = absurd cc
+same_list (a ∷ list) [] na va nb vb e = absurd cc
+same_list (a ∷ list) (b ∷ other) na va nb vb e =
+    let pa = and_parts (is_named a) (list_all is_named list) na in
+    let qa = and_parts (is_value a) (list_all is_value list) va in
+    let pb = and_parts (is_named b) (list_all is_named other) nb in
+    let qb = and_parts (is_value b) (list_all is_value other) vb in
+    let front : item_of a ≡ item_of b = cc in
+    let back : items list ≡ items other = cc in
+    ap (λ (x : Attr). x ∷ list) (same_attr a b pa.0 qa.0 pb.0 qb.0 front) ∙ ap (λ (xs : List Attr). b ∷ xs) (same_list list other pa.1 qa.1 pb.1 qb.1 back)
+
+pub one_list : OneList
+one_list bytes list other va vb p q =
+    same_list list other p.1 va q.1 vb (one_walk [] bytes (items list) (items other) None None p.0 q.0).0
+
+-- ---- faults
+
+fault_walk : (bytes : List ℕ) (f : AttrRefusal) → f ≢ refusal.NoMemory → FirstFault bytes f → (is : List Item) × Walks [] bytes is (Some f)
+fault_walk bytes refusal.Truncated n p = p
+fault_walk bytes refusal.ZeroLength n p = p
+fault_walk bytes (refusal.BadLength k) n p = p
+fault_walk bytes (refusal.UnknownType k) n p = p
+fault_walk bytes (refusal.Twice k) n p = p
+fault_walk bytes refusal.BadPadding n p = p
+fault_walk bytes refusal.NoMemory n p = absurd (n refl)
+
+pub one_fault : OneFault
+one_fault bytes f g nf ng p q =
+    let a = fault_walk bytes f nf p in
+    let b = fault_walk bytes g ng q in
+    some_is f g (one_walk [] bytes a.0 b.0 (Some f) (Some g) a.1 b.1).1
+
+none_or_some : (f : AttrRefusal) → Some f ≡ None → ⊥
+none_or_some f e = cc
+
+pub refused_is_not_read : RefusedIsNotRead
+refused_is_not_read bytes list f nf p q =
+    let a = fault_walk bytes f nf p in
+    none_or_some f (one_walk [] bytes a.0 (items list) (Some f) None a.1 q.0).1
+
+-- ---- what is read may be written
+
+may_again : (seen : List ℕ) (a : Attr) (bytes rest : List ℕ) → IsBytes bytes → IsAttr seen (item_of a) bytes rest → is_named a ≡ true → may_follow a (stands_in seen (item_of a).kind) ≡ true
+may_again seen a bytes rest fits p named =
+    and_from (fits_item (item_of a) && is_named a) _
+    (and_from (fits_item (item_of a)) (is_named a) (attr_fits seen (item_of a) bytes rest p fits) named)
+    (ap (λ (o : Option Row). may_stand_row o (stands_in seen (item_of a).kind)) p.known ∙ ap (λ b. not b) p.first)
+
+read_may : (seen bytes : List ℕ) (list : List Attr) → IsBytes bytes → Walks seen bytes (items list) None → list_all is_named list ≡ true → writable_from seen list ≡ true
+read_may seen bytes [] fits w named = refl
+read_may seen bytes (a ∷ list) fits w named =
+    let p = and_parts (is_named a) (list_all is_named list) named in
+    and_from _ (writable_from (seen ++ (item_of a).kind ∷ []) list) (may_again seen a bytes w.0 fits w.1 p.0)
+    (read_may (seen ++ (item_of a).kind ∷ []) w.0 list (attr_rest seen (item_of a) bytes w.0 w.1 fits) w.2 p.1)
+
+read_size : (seen bytes : List ℕ) (list : List Attr) → Walks seen bytes (items list) None → length (spelling list) ≡ length bytes
+read_size seen bytes [] w = ap length (sym w)
+read_size seen bytes (a ∷ list) w =
+    omega (arith, length-append (item_text (item_of a)) (spelling list), attr_size seen (item_of a) bytes w.0 w.1, read_size (seen ++ (item_of a).kind ∷ []) w.0 list w.2)
+
+pub read_is_writable : ReadIsWritable
+read_is_writable bytes list fits p = (read_may [] bytes list fits p.0 p.1, read_size [] bytes list p.0)
+
+pub found_is_framed : FoundIsFramed
+found_is_framed bytes f fits = (frame_sound bytes f fits, frame_again f bytes)

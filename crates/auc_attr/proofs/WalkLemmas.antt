@@ -1,0 +1,147 @@
+-- Bytes have one reading, or one first fault; and reading them from the front.
+use Rattle.std.proofs.Common.{◌≡◌, ◌≢◌, ℕ, zero, suc, ◌+◌, ◌<◌, ◌≤◌, Bool, true, false, ◌&&◌, List, [], ◌∷◌, ◌++◌, length, get_or, map, drop, Option, Some, None, Result, Ok, Err, refl, sym, ap, ◌∙◌, subst, arith, append_assoc, length-append}
+use Rattle.std.specs.List.{list_all}
+use Rattle.std.proofs.lemmas.List.{append-nil, map_push, nil_from_length}
+use Rattle.auc_attr.specs.declared.attr.Attr.{Attr}
+use Rattle.auc_attr.specs.declared.refusal.AttrRefusal.{AttrRefusal}
+use Rattle.auc_attr.specs.declared.refusal.AttrRefusal.TheVariants as refusal
+use Rattle.auc_attr.specs.Item.{Item, item, item_of, items, is_named}
+use Rattle.auc_attr.specs.Fault.{item_at}
+use Rattle.auc_attr.specs.Grammar.{IsAttr, IsFault, Ends, Walks, Reads, ReadsAttrs, FirstFault}
+use Rattle.auc_attr.specs.Marks.{Marks}
+use Rattle.auc_attr.specs.Spelling.{stands_in, fits_item}
+use Rattle.auc_attr.proofs.Tools.{IsBytes, and_parts, and_from, ok_is}
+use Rattle.auc_attr.proofs.ItemLemmas.{attr_sound, attr_again, attr_fits, attr_rest, attr_shorter}
+
+err_is : {A : Type 0} (e f : AttrRefusal) → ◌≡◌ {A = Result A AttrRefusal} (Err e) (Err f) → e ≡ f
+err_is e f h = cc
+
+one_fault : (seen bytes : List ℕ) (e f : AttrRefusal) → IsFault seen bytes e → IsFault seen bytes f → e ≡ f
+one_fault seen [] e f p q = absurd p
+one_fault seen (kind ∷ bytes) e f p q = err_is {A = Item × List ℕ} e f (sym p ∙ q)
+
+one_end : (seen bytes : List ℕ) (e f : Option AttrRefusal) → Ends seen bytes e → Ends seen bytes f → e ≡ f
+one_end seen bytes None None p q = refl
+one_end seen bytes None (Some f) p q = absurd (subst (λ (b : List ℕ). IsFault seen b f) p q)
+one_end seen bytes (Some e) None p q = absurd (subst (λ (b : List ℕ). IsFault seen b e) q p)
+one_end seen bytes (Some e) (Some f) p q = ap (λ x. Some x) (one_fault seen bytes e f p q)
+
+-- where an attribute stands the bytes don't end, nor is there a fault
+no_end : (seen : List ℕ) (i : Item) (bytes rest : List ℕ) (e : Option AttrRefusal) → IsAttr seen i bytes rest → Ends seen bytes e → ⊥
+no_end seen i bytes rest None p q = not_empty _ _ (sym p.parts ∙ q)
+  where
+    not_empty : (k : ℕ) (b : List ℕ) → k ∷ b ≡ [] → ⊥
+    not_empty k b h = cc
+no_end seen i bytes rest (Some f) p q =
+    let fault : IsFault seen (i.kind ∷ p.units ∷ (p.body ++ rest)) f = subst (λ (b : List ℕ). IsFault seen b f) p.parts q in
+    ok_or_err (i, rest) f (sym (attr_again seen i bytes rest p) ∙ ap (λ (b : List ℕ). item_at (stands_in seen i.kind) b) p.parts ∙ fault)
+  where
+    ok_or_err : (x : Item × List ℕ) (g : AttrRefusal) → Ok x ≡ Err g → ⊥
+    ok_or_err x g h = cc
+
+-- one attribute stands at the front
+one_attr : (seen : List ℕ) (i j : Item) (bytes r s : List ℕ) → IsAttr seen i bytes r → IsAttr seen j bytes s → (i ≡ j) × (r ≡ s)
+one_attr seen i j bytes r s p q =
+    let kinds : i.kind ≡ j.kind = ap (λ (b : List ℕ). get_or b 0 0) (sym p.parts ∙ q.parts) in
+    let both : ◌≡◌ {A = Item × List ℕ} (i, r) (j, s) =
+    ok_is _ _ (sym (attr_again seen i bytes r p) ∙ ap (λ k. item_at (stands_in seen k) bytes) kinds ∙ attr_again seen j bytes s q) in
+    (ap (λ (x : Item × List ℕ). x.0) both, ap (λ (x : Item × List ℕ). x.1) both)
+
+-- bytes have one reading, or one first fault
+pub one_walk : (seen bytes : List ℕ) (is js : List Item) (e f : Option AttrRefusal) → Walks seen bytes is e → Walks seen bytes js f → (is ≡ js) × (e ≡ f)
+one_walk seen bytes [] [] e f p q = (refl, one_end seen bytes e f p q)
+one_walk seen bytes [] (j ∷ js) e f p q = absurd (no_end seen j bytes q.0 e q.1 p)
+one_walk seen bytes (i ∷ is) [] e f p q = absurd (no_end seen i bytes p.0 f p.1 q)
+one_walk seen bytes (i ∷ is) (j ∷ js) e f p q =
+    let front = one_attr seen i j bytes p.0 q.0 p.1 q.1 in
+    let moved : Walks (seen ++ i.kind ∷ []) p.0 js f =
+    subst (λ (r : List ℕ). Walks (seen ++ i.kind ∷ []) r js f) (sym front.1) (subst (λ (k : Item). Walks (seen ++ k.kind ∷ []) q.0 js f) (sym front.0) q.2) in
+    let more = one_walk (seen ++ i.kind ∷ []) p.0 is js e f p.2 moved in
+    (ap (λ (k : Item). k ∷ is) front.0 ∙ ap (λ (x : List Item). j ∷ x) more.0, more.1)
+
+-- the types of attributes
+abbrev pub kinds : List Item → List ℕ
+kinds is = map (λ (i : Item). i.kind) is
+
+-- whatever the rest of the bytes is, the bytes are these attributes and then that
+abbrev pub Completes : List ℕ → List Item → List ℕ → Type 0
+Completes bytes is rest = (more : List Item) (end : Option AttrRefusal) → Walks (kinds is) rest more end → Walks [] bytes (is ++ more) end
+
+-- bytes are read as far as the rest
+pub record IsReadTo (bytes : List ℕ) (is : List Item) (marks : List Bool) (rest : List ℕ) : Type 0 where
+  pub fits : IsBytes rest
+  pub marked : Marks marks (kinds is)
+  pub completes : Completes bytes is rest
+
+pub begins : (bytes : List ℕ) (marks : List Bool) → IsBytes bytes → Marks marks [] → IsReadTo bytes [] marks bytes
+begins bytes marks fits m = record { fits = fits; marked = m; completes = λ more end w. w }
+
+pub goes_on : (bytes : List ℕ) (is : List Item) (marks after : List Bool) (rest : List ℕ) (i : Item) (more : List ℕ) → IsReadTo bytes is marks rest
+    → IsAttr (kinds is) i rest more → ((ks : List ℕ) → Marks marks ks → Marks after (ks ++ i.kind ∷ [])) → IsReadTo bytes (is ++ i ∷ []) after more
+goes_on bytes is marks after rest i more p attr m =
+    let types : kinds (is ++ i ∷ []) ≡ kinds is ++ i.kind ∷ [] = map_push (λ (x : Item). x.kind) is i in
+    record {
+      fits = attr_rest (kinds is) i rest more attr p.fits;
+      marked = subst (λ (ks : List ℕ). Marks after ks) (sym types) (m (kinds is) p.marked);
+      completes = λ others end w.
+          subst (λ (x : List Item). Walks [] bytes x end) (sym (append_assoc is (i ∷ []) others))
+          (p.completes (i ∷ others) end (more, attr, subst (λ (ks : List ℕ). Walks ks more others end) types w));
+    }
+
+-- the attribute at the front of the rest, by what a mark says of its type
+pub taken : (bytes : List ℕ) (is : List Item) (marks : List Bool) (rest : List ℕ) (stood : Bool) (i : Item) (more : List ℕ) → IsReadTo bytes is marks rest → 0 < length rest
+    → ((ks : List ℕ) → Marks marks ks → stood ≡ stands_in ks (get_or rest 0 0)) → item_at stood rest ≡ Ok (i, more) → IsAttr (kinds is) i rest more
+taken bytes is marks [] stood i more p some tells e = absurd (omega arith)
+taken bytes is marks (kind ∷ rest) stood i more p some tells e =
+    attr_sound (kinds is) kind rest i more p.fits (ap (λ b. item_at b (kind ∷ rest)) (sym (tells (kinds is) p.marked)) ∙ e)
+
+fault_of : (bytes : List ℕ) (f : AttrRefusal) (is : List Item) → Walks [] bytes is (Some f) → FirstFault bytes f
+fault_of bytes refusal.Truncated is w = (is, w)
+fault_of bytes refusal.ZeroLength is w = (is, w)
+fault_of bytes (refusal.BadLength k) is w = (is, w)
+fault_of bytes (refusal.UnknownType k) is w = (is, w)
+fault_of bytes (refusal.Twice k) is w = (is, w)
+fault_of bytes refusal.BadPadding is w = (is, w)
+fault_of bytes refusal.NoMemory is w = tt
+
+-- a fault at the front of the rest is the first
+pub faulty : (bytes : List ℕ) (is : List Item) (marks : List Bool) (rest : List ℕ) (stood : Bool) (f : AttrRefusal) → IsReadTo bytes is marks rest → 0 < length rest
+    → ((ks : List ℕ) → Marks marks ks → stood ≡ stands_in ks (get_or rest 0 0)) → item_at stood rest ≡ Err f → Walks [] bytes is (Some f)
+faulty bytes is marks [] stood f p some tells e = absurd (omega arith)
+faulty bytes is marks (kind ∷ rest) stood f p some tells e =
+    subst (λ (x : List Item). Walks [] bytes x (Some f)) (append-nil is)
+    (p.completes [] (Some f) (ap (λ b. item_at b (kind ∷ rest)) (sym (tells (kinds is) p.marked)) ∙ e))
+
+pub first_fault : (bytes : List ℕ) (is : List Item) (marks : List Bool) (rest : List ℕ) (stood : Bool) (f : AttrRefusal) → IsReadTo bytes is marks rest → 0 < length rest
+    → ((ks : List ℕ) → Marks marks ks → stood ≡ stands_in ks (get_or rest 0 0)) → item_at stood rest ≡ Err f → FirstFault bytes f
+first_fault bytes is marks rest stood f p some tells e = fault_of bytes f is (faulty bytes is marks rest stood f p some tells e)
+
+-- where nothing is left all was read
+pub ended : (bytes : List ℕ) (is : List Item) (marks : List Bool) (rest : List ℕ) → IsReadTo bytes is marks rest → length rest ≡ 0 → Walks [] bytes is None
+ended bytes is marks rest p e =
+    subst (λ (x : List Item). Walks [] bytes x None) (append-nil is) (p.completes [] None (nil_from_length rest e))
+
+-- a list of attributes is read as far as the rest
+pub record IsListedTo (bytes : List ℕ) (list : List Attr) (marks : List Bool) (rest : List ℕ) : Type 0 where
+  pub read : IsReadTo bytes (items list) marks rest
+  pub named : list_all is_named list ≡ true
+
+all_named : (list : List Attr) (a : Attr) → list_all is_named list ≡ true → is_named a ≡ true → list_all is_named (list ++ a ∷ []) ≡ true
+all_named [] a e f = and_from (is_named a) true f refl
+all_named (b ∷ list) a e f =
+    let p = and_parts (is_named b) (list_all is_named list) e in
+    and_from (is_named b) (list_all is_named (list ++ a ∷ [])) p.0 (all_named list a p.1 f)
+
+pub list_goes_on : (bytes : List ℕ) (list longer : List Attr) (marks after : List Bool) (rest : List ℕ) (a : Attr) (i : Item) (more : List ℕ) → IsListedTo bytes list marks rest
+    → IsAttr (kinds (items list)) i rest more → item_of a ≡ i → is_named a ≡ true → longer ≡ list ++ a ∷ [] → ((ks : List ℕ) → Marks marks ks → Marks after (ks ++ i.kind ∷ []))
+    → IsListedTo bytes longer after more
+list_goes_on bytes list longer marks after rest a i more p attr is named push m =
+    let grown : items (list ++ a ∷ []) ≡ items list ++ i ∷ [] = map_push item_of list a ∙ ap (λ (x : Item). items list ++ x ∷ []) is in
+    subst (λ (l : List Attr). IsListedTo bytes l after more) (sym push) (record {
+      read = subst (λ (x : List Item). IsReadTo bytes x after more) (sym grown) (goes_on bytes (items list) marks after rest i more p.read attr m);
+      named = all_named list a p.named named;
+    })
+
+pub list_begins : (bytes : List ℕ) (list : List Attr) (marks : List Bool) → list ≡ [] → IsBytes bytes → Marks marks [] → IsListedTo bytes list marks bytes
+list_begins bytes list marks e fits m =
+    subst (λ (l : List Attr). IsListedTo bytes l marks bytes) (sym e) (record { read = begins bytes marks fits m; named = refl })

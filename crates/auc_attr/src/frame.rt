@@ -1,0 +1,146 @@
+//! What stands before the attributes of a packet.
+
+ghost use Rattle.std.specs.Prelude.{◌≡◌, ◌≤◌, ◌<◌, ◌+◌, length, true, IfOk, IfErr, nat_lt, nat_le, not, ◌==◌, ◌||◌, if◌then◌else◌};
+ghost use Rattle.auc_attr.specs.Frame.{is_code, is_wrong_length, is_method, is_subtype, typed_at, sized_at, frame_at, length_of, IsFramed};
+ghost use Rattle.auc_attr.specs.FrameView.{Frames, frame_of, IsLongFor};
+
+/// The first fault of a packet's bytes before its attributes.
+#[derive(Clone, Copy, Debug, PartialEq, Eq)]
+pub enum FrameFault {
+    /// There are fewer than 4 bytes.
+    Short,
+    /// The code isn't 1 to 4 (RFC 3748 §4).
+    BadCode,
+    /// Length counts more bytes than there are, or none that the code or the type has.
+    LengthDisagrees,
+    /// This type is none of 1, 23 and 50.
+    OtherType(u8),
+    /// The method has no such Subtype (RFC 4187 §11).
+    UnknownSubtype(u8),
+}
+
+/// What stands before a packet's attributes, and its text or attributes. Bytes past Length are left out.
+#[derive(Clone, Copy)]
+pub enum Framed<'a> {
+    /// Success or Failure (RFC 3748 §4.2).
+    Ended {
+        /// Whether it is Success.
+        success: bool,
+        /// The Identifier.
+        id: u8,
+    },
+    /// Identity (RFC 3748 §5.1).
+    Named {
+        /// Whether it is a Request.
+        request: bool,
+        /// The Identifier.
+        id: u8,
+        /// The text.
+        text: &'a [u8],
+    },
+    /// A message of EAP-AKA or EAP-AKA' (RFC 4187 §8.1).
+    Message {
+        /// Whether it is a Request.
+        request: bool,
+        /// The Identifier.
+        id: u8,
+        /// The type of the method, 23 or 50.
+        kind: u8,
+        /// The Subtype.
+        subtype: u8,
+        /// The bytes of the attributes.
+        attrs: &'a [u8],
+    },
+}
+
+/// What the bytes of a packet are before the attributes, or their first fault there. Takes no memory.
+#[tactic(auto, unfolding(crate::specs::Frame::frame_at))]
+pub fn read_frame(bytes: &[u8]) -> Result<Framed<'_>, FrameFault>
+    ensures read { Frames result (frame_at bytes.now) }
+    ensures framed { IfOk result (λ f. IsFramed (frame_of f) bytes.now) }
+    ensures long { IfErr result (λ fault. IsLongFor fault bytes.now) }
+{
+    if bytes.len() < 4 {
+        return Err(FrameFault::Short);
+    }
+    if !is_code(bytes[0]) {
+        return Err(FrameFault::BadCode);
+    }
+    sized(bytes[0], bytes[1], length_of(bytes), bytes)
+}
+
+/// The bytes that a packet says that it has.
+fn length_of(bytes: &[u8]) -> usize
+    requires { 4 ≤ length bytes.now }
+    ensures { result ≡ length_of bytes.now }
+{
+    u16::from_be_bytes([bytes[2], bytes[3]]) as usize
+}
+
+fn sized(code: u8, id: u8, size: usize, bytes: &[u8]) -> Result<Framed<'_>, FrameFault>
+    ensures { Frames result (sized_at code id size bytes.now) }
+{
+    if is_wrong_length(code, size, bytes.len()) {
+        return Err(FrameFault::LengthDisagrees);
+    }
+    if 3 <= code {
+        return Ok(Framed::Ended {
+            success: code == 3,
+            id,
+        });
+    }
+    typed(code == 1, id, bytes[4], &bytes[..size])
+}
+
+fn typed(request: bool, id: u8, kind: u8, bytes: &[u8]) -> Result<Framed<'_>, FrameFault>
+    requires { 5 ≤ length bytes.now }
+    ensures { Frames result (typed_at request id kind bytes.now) }
+{
+    if kind == 1 {
+        return Ok(Framed::Named {
+            request,
+            id,
+            text: &bytes[5..],
+        });
+    }
+    if !is_method(kind) {
+        return Err(FrameFault::OtherType(kind));
+    }
+    if bytes.len() < 8 {
+        return Err(FrameFault::LengthDisagrees);
+    }
+    if !is_subtype(bytes[5]) {
+        return Err(FrameFault::UnknownSubtype(bytes[5]));
+    }
+    Ok(Framed::Message {
+        request,
+        id,
+        kind,
+        subtype: bytes[5],
+        attrs: &bytes[8..],
+    })
+}
+
+fn is_code(code: u8) -> bool
+    ensures { result ≡ is_code code }
+{
+    1 <= code && code <= 4
+}
+
+fn is_wrong_length(code: u8, size: usize, given: usize) -> bool
+    ensures { result ≡ is_wrong_length code size given }
+{
+    given < size || if 3 <= code { size != 4 } else { size < 5 }
+}
+
+fn is_method(kind: u8) -> bool
+    ensures { result ≡ is_method kind }
+{
+    kind == 23 || kind == 50
+}
+
+fn is_subtype(subtype: u8) -> bool
+    ensures { result ≡ is_subtype subtype }
+{
+    matches!(subtype, 1 | 2 | 4 | 5 | 12 | 13 | 14)
+}

@@ -1,0 +1,30 @@
+//! Attributes from bytes.
+
+ghost use Rattle.std.specs.Prelude.{IfOk, IfErr};
+ghost use Rattle.auc_attr.specs.Grammar.{ReadsAttrs, FirstFault};
+
+use crate::attr_list::AttrList;
+use crate::conversion::attr_of;
+use crate::front::item_at;
+use crate::marks::{is_marked, mark, no_marks};
+use crate::refusal::AttrRefusal;
+use std::alloc::Global;
+
+/// The attributes that bytes are, or their first fault (RFC 4187 §8.1). Reserved bytes and fill are passed
+/// over, and an unknown type from 128 on is `Skipped`.
+pub fn read_attrs(alloc: Global, bytes: &[u8]) -> Result<AttrList, AttrRefusal>
+    ensures read { IfOk result (λ list. ReadsAttrs bytes.now list) }
+    ensures fault { IfErr result (λ fault. FirstFault bytes.now fault) }
+{
+    let mut list = AttrList::new(alloc);
+    let mut seen = no_marks();
+    let mut rest = bytes;
+    while !rest.is_empty() {
+        let found = item_at(is_marked(&seen, rest[0]), rest)?;
+        let attr = attr_of(alloc, found.kind, found.value)?;
+        list.push(attr)?;
+        mark(&mut seen, found.kind);
+        rest = found.rest;
+    }
+    Ok(list)
+}

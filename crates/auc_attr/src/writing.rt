@@ -1,0 +1,122 @@
+//! Attributes as bytes.
+
+ghost use Rattle.std.specs.Prelude.{◌≡◌, ◌+◌, ◌^◌, ◌≤◌, ◌<◌, ◌++◌, ◌&&◌, length, true, IfSome, IfNone, OnOk, OnErr};
+ghost use Rattle.auc_attr.specs.Item.{item_of, is_named};
+ghost use Rattle.auc_attr.specs.Spelling.{fits_item, fits_row, may_stand_row, may_follow, writable, spelling, item_text};
+ghost use Rattle.auc_attr.specs.Table.{row_of};
+ghost use Rattle.auc_edge.specs.Reserved.{wrote};
+
+use crate::attr::Attr;
+use crate::attr_list::AttrList;
+use crate::conversion::{is_named, parts_of};
+use crate::layout::{fits, layout_of_item, put_layout, size_of};
+use crate::marks::{is_marked, mark, no_marks};
+use crate::table::{Row, row_of};
+use auc_edge::{NoMemory, Octets, Room};
+
+/// Writes attributes behind the bytes of `out`, reserved bytes and fill as zero (RFC 4187 §8.1). Want of
+/// memory leaves `out` as it was.
+pub fn write_attrs(list: &AttrList, out: &mut Octets) -> Result<(), NoMemory>
+    requires { writable list.now ≡ true }
+
+    ensures written { OnOk result (out.new ≡ out.old ++ spelling list.now) }
+    ensures kept { OnErr result (out.new ≡ out.old) }
+{
+    let Some(size) = list.size() else {
+        return Err(NoMemory);
+    };
+    let mut room = out.room(size)?;
+    put_attrs(list, &mut room);
+    out.append(room.as_slice())
+}
+
+/// Writes attributes into memory that was taken before.
+pub fn put_attrs(list: &AttrList, room: &mut Room)
+    requires writable { writable list.now ≡ true }
+    requires room { length (spelling list.now) ≤ room.old.left }
+    ensures { room.new ≡ wrote room.old (spelling list.now) }
+{
+    for attr in list.as_slice() {
+        put_attr(attr, room);
+    }
+}
+
+fn put_attr(attr: &Attr, room: &mut Room)
+    requires fits { fits_item (item_of attr.now) ≡ true }
+    requires room { length (item_text (item_of attr.now)) ≤ room.old.left }
+    ensures { room.new ≡ wrote room.old (item_text (item_of attr.now)) }
+{
+    let parts = parts_of(attr);
+    let layout = layout_of_item(parts.kind, parts.value.as_slice());
+    put_layout(room, parts.kind, layout);
+}
+
+/// How many bytes an attribute is written in.
+fn size_of_attr(attr: &Attr) -> usize
+    requires { fits_item (item_of attr.now) ≡ true }
+    ensures { result ≡ length (item_text (item_of attr.now)) }
+{
+    let parts = parts_of(attr);
+    size_of(layout_of_item(parts.kind, parts.value.as_slice()))
+}
+
+/// Whether an attribute may be written where its type stood before or not.
+#[tactic(auto, unfolding(crate::specs::Spelling::fits_item))]
+fn may_follow(attr: &Attr, stood: bool) -> bool
+    ensures { result ≡ may_follow attr.now stood }
+{
+    let parts = parts_of(attr);
+    let row = row_of(parts.kind);
+    fits_row(row, parts.value.as_slice()) && is_named(attr) && may_stand_row(row, stood)
+}
+
+fn fits_row(row: Option<Row>, value: &[u8]) -> bool
+    ensures { result ≡ fits_row row value.now }
+{
+    match row {
+        None => false,
+        Some(row) => fits(row.shape, value),
+    }
+}
+
+fn may_stand_row(row: Option<Row>, stood: bool) -> bool
+    ensures { result ≡ may_stand_row row stood }
+{
+    match row {
+        None => false,
+        Some(row) => !(row.once && stood),
+    }
+}
+
+impl AttrList {
+    /// Whether the list may be written: each attribute keeps to the length and the bytes that its value may
+    /// have, a `Skipped` has a type from 128 on that isn't known, and no known type other than AT_KDF stands
+    /// twice.
+    pub fn writable(&self) -> bool
+        ensures { result ≡ writable self.now }
+    {
+        let mut seen = no_marks();
+        for attr in self.as_slice() {
+            let kind = parts_of(attr).kind;
+            if !may_follow(attr, is_marked(&seen, kind)) {
+                return false;
+            }
+            mark(&mut seen, kind);
+        }
+        true
+    }
+
+    /// How many bytes the attributes are written in, or `None` where so many can't be counted.
+    pub fn size(&self) -> Option<usize>
+        requires { writable self.now ≡ true }
+
+        ensures counted { IfSome result (λ size. size ≡ length (spelling self.now)) }
+        ensures none { IfNone result (2 ^ 64 ≤ length (spelling self.now)) }
+    {
+        let mut size: usize = 0;
+        for attr in self.as_slice() {
+            size = size.checked_add(size_of_attr(attr))?;
+        }
+        Some(size)
+    }
+}
