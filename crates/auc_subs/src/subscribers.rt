@@ -72,6 +72,7 @@ impl Subscribers {
     /// The place of the row with an identity, or `None` where no row has it.
     pub fn find(&self, imsi: Imsi) -> Option<u32>
         ensures place { result ≡ place_of self.now imsi }
+        ensures within { IfSome result (λ sub. sub < length self.now) }
         ensures found { IfSome result (λ sub. HasIdentity self.now sub imsi) }
         ensures none { IfNone result (All (λ row. row.imsi ≢ imsi) self.now) }
     {
