@@ -1,0 +1,4 @@
+mod TextLemmas
+mod JobLemmas
+mod ReadingLemmas
+mod LawLemmas

@@ -1,0 +1,5 @@
+pub mod Law
+pub mod Limits
+pub mod Reading
+pub mod Refusal
+pub mod Scenario

@@ -1,0 +1,69 @@
+//! Why a scenario is refused.
+
+ghost use Rattle.std.specs.Prelude.{◌≡◌};
+ghost use Rattle.auc_script.specs.declared.refusal.ScriptRefusal.TheVariants as refusal;
+ghost use Rattle.auc_script.specs.declared.refusal.LineRefusal.TheVariants as line;
+ghost use Rattle.auc_script.specs.Refusal.{refusal_at};
+
+use auc_edge::NoMemory;
+
+/// What is wrong with a line.
+#[derive(Clone, Copy, Debug, PartialEq, Eq)]
+pub enum ScriptWhy {
+    /// The line isn't one that is read so far.
+    NotYet,
+}
+
+/// Why a scenario isn't read.
+#[derive(Clone, Copy, Debug, PartialEq, Eq)]
+pub enum ScriptRefusal {
+    /// The line of this number, from 1, is the first that is wrong.
+    Line(u32, ScriptWhy),
+    /// There was no memory for the script or a subscriber.
+    NoMemory,
+}
+
+impl From<NoMemory> for ScriptRefusal {
+    ghost from_gives = { λ _ e. e ≡ refusal.NoMemory };
+
+    fn from(_: NoMemory) -> ScriptRefusal {
+        ScriptRefusal::NoMemory
+    }
+}
+
+/// Why a line isn't taken.
+#[derive(Clone, Copy)]
+pub enum LineRefusal {
+    /// It is wrong.
+    Why(ScriptWhy),
+    /// There was no memory for it.
+    NoMemory,
+}
+
+impl LineRefusal {
+    /// The refusal of the scenario whose line of this number it is.
+    pub fn at(self, number: u32) -> ScriptRefusal
+        ensures { result ≡ refusal_at number self }
+    {
+        match self {
+            LineRefusal::Why(why) => ScriptRefusal::Line(number, why),
+            LineRefusal::NoMemory => ScriptRefusal::NoMemory,
+        }
+    }
+}
+
+impl From<ScriptWhy> for LineRefusal {
+    ghost from_gives = { λ why e. e ≡ line.Why why };
+
+    fn from(why: ScriptWhy) -> LineRefusal {
+        LineRefusal::Why(why)
+    }
+}
+
+impl From<NoMemory> for LineRefusal {
+    ghost from_gives = { λ _ e. e ≡ line.NoMemory };
+
+    fn from(_: NoMemory) -> LineRefusal {
+        LineRefusal::NoMemory
+    }
+}
