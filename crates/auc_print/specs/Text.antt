@@ -72,7 +72,7 @@ round_text identities round = flat_map (line_text identities) (lines_of round)
 abbrev pub transcript_text : List Identity → List RoundRecord → List ℕ
 transcript_text identities rounds = flat_map (round_text identities) rounds
 
--- a text begins with another
+-- a text begins with a front
 pub record BeginsWith (front text : List ℕ) : Type 0 where
   pub rest : List ℕ
   pub is : text ≡ front ++ rest

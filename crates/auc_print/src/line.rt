@@ -73,8 +73,8 @@ fn print_request(
 ) -> Result<(), NoMemory>
     requires { sub < length subs.now }
 
-    ensures printed { OnOk result
-        (out.new ≡ out.old ++ spaced (word.now ∷ imsi_of (identities_of subs.now) sub ∷ decimal number ∷ [])) }
+    ensures printed { OnOk result (out.new ≡ out.old
+        ++ spaced (word.now ∷ imsi_of (identities_of subs.now) sub ∷ decimal number ∷ [])) }
     ensures grows { BeginsWith out.old out.new }
 {
     out.append(word)?;

@@ -10,8 +10,8 @@ use auc_subs::Subscribers;
 use auc_world::{Closing, JobRecord, LineRecord, RoundRecord};
 
 /// Appends the text of a round: its own line, the lines of its jobs, numbered from 1, and those of its
-/// closings. Each subscriber that it names is a row. Where memory is
-/// wanting, some bytes may stand behind those that were there.
+/// closings. Each subscriber that it names is a row. Where there is no memory for all of it, `out` begins
+/// with what it had, and a part of the text may stand behind that.
 pub fn print_round(
     round: &RoundRecord,
     subs: &Subscribers,
@@ -19,7 +19,8 @@ pub fn print_round(
 ) -> Result<(), NoMemory>
     requires { NamesBelow (length subs.now) round.now }
 
-    ensures printed { OnOk result (out.new ≡ out.old ++ round_text (identities_of subs.now) round.now) }
+    ensures printed { OnOk result
+        (out.new ≡ out.old ++ round_text (identities_of subs.now) round.now) }
     ensures grows { BeginsWith out.old out.new }
 {
     print_heading(b"round", round.number as u64, out)?;
@@ -31,8 +32,8 @@ pub fn print_round(
 fn print_jobs(jobs: &[JobRecord], subs: &Subscribers, out: &mut Octets) -> Result<(), NoMemory>
     requires { All (All (λ answer. subscriber_of answer < length subs.now)) jobs.now }
 
-    ensures printed { OnOk result
-        (out.new ≡ out.old ++ flat_map (line_text (identities_of subs.now)) (jobs_lines 1 jobs.now)) }
+    ensures printed { OnOk result (out.new ≡ out.old
+        ++ flat_map (line_text (identities_of subs.now)) (jobs_lines 1 jobs.now)) }
     ensures grows { BeginsWith out.old out.new }
 {
     for (place, job) in jobs.iter().enumerate() {
@@ -50,8 +51,8 @@ fn print_job(
 ) -> Result<(), NoMemory>
     requires { All (λ answer. subscriber_of answer < length subs.now) job.now }
 
-    ensures printed { OnOk result
-        (out.new ≡ out.old ++ flat_map (line_text (identities_of subs.now)) (job_lines number job.now)) }
+    ensures printed { OnOk result (out.new ≡ out.old
+        ++ flat_map (line_text (identities_of subs.now)) (job_lines number job.now)) }
     ensures grows { BeginsWith out.old out.new }
 {
     print_heading(b"job", number, out)?;
@@ -62,8 +63,8 @@ fn print_job(
 fn print_answers(job: &[LineRecord], subs: &Subscribers, out: &mut Octets) -> Result<(), NoMemory>
     requires { All (λ answer. subscriber_of answer < length subs.now) job.now }
 
-    ensures printed { OnOk result
-        (out.new ≡ out.old ++ flat_map (λ answer. line_text (identities_of subs.now) (RecordLine answer)) job.now) }
+    ensures printed { OnOk result (out.new ≡ out.old
+        ++ flat_map (λ answer. line_text (identities_of subs.now) (RecordLine answer)) job.now) }
     ensures grows { BeginsWith out.old out.new }
 {
     for answer in job {
@@ -80,8 +81,9 @@ fn print_closings(
 ) -> Result<(), NoMemory>
     requires { All (λ closing. closing.sub < length subs.now) closings.now }
 
-    ensures printed { OnOk result (out.new
-        ≡ out.old ++ flat_map (λ closing. line_text (identities_of subs.now) (ClosedLine closing)) closings.now) }
+    ensures printed { OnOk result (out.new ≡ out.old
+        ++ flat_map (λ closing. line_text (identities_of subs.now) (ClosedLine closing))
+        closings.now) }
     ensures grows { BeginsWith out.old out.new }
 {
     for closing in closings {

@@ -1,3 +1,4 @@
+-- With the lines of the jobs that are left the text is that of all jobs.
 use Rattle.std.proofs.Common.{◌≡◌, ◌+◌, ◌++◌, flat_map, drop}
 use Rattle.auc_print.specs.Text.{identities_of, BeginsWith, line_text, jobs_lines}
 use Rattle.auc_print.proofs.round.print_jobs.Given as goal
