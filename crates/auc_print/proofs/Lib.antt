@@ -1,5 +1,5 @@
 mod LineLemmas
-mod OneTextLemmas
+pub mod OneTextLemmas
 mod RoundLemmas
 mod SpacedLemmas
 mod TextLemmas

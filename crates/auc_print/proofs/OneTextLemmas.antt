@@ -1,13 +1,16 @@
 -- A text is the text of one transcript alone.
-use Rattle.std.proofs.Common.{ℕ, ◌+◌, ◌^◌, ◌<◌, ◌≤◌, ◌≡◌, ◌∙◌, refl, sym, ap, List, [], ◌∷◌, ◌++◌, length, map, flat_map, All, arith}
+use Rattle.std.proofs.Common.{ℕ, ◌+◌, ◌^◌, ◌<◌, ◌≤◌, ◌≡◌, ◌≢◌, ◌∙◌, refl, sym, ap, List, [], ◌∷◌, ◌++◌, length, map, flat_map, All, arith}
+use Rattle.std.proofs.lemmas.List.{get_or-map, length-map}
+use Rattle.std.specs.List.{AllPairs}
 use Rattle.std.proofs.lemmas.List.Concat.{flat_map-append}
 use Rattle.std.proofs.lemmas.List.Elements.{All-nil, All-cons, All-head, All-tail, All-append, All-map, recursion_from_All}
-use Rattle.auc_edge.specs.Identity.{Identity}
+use Rattle.auc_edge.specs.Identity.{Identity, IsIdentity}
+use Rattle.auc_subs.specs.declared.row.Row.{Row}
 use Rattle.auc_world.specs.Record.{NamesBelow, subscriber_of}
 use Rattle.auc_world.specs.declared.record.LineRecord.{LineRecord}
 use Rattle.auc_world.specs.declared.record.RoundRecord.{RoundRecord}
-use Rattle.auc_print.specs.Text.{RoundLine, JobLine, RecordLine, ClosedLine, job_lines, jobs_lines, lines_of, line_text, round_text, transcript_text}
-use Rattle.auc_print.specs.OneText.{AnswerFits, RoundFits, OneTranscript}
+use Rattle.auc_print.specs.Text.{RoundLine, JobLine, RecordLine, ClosedLine, job_lines, jobs_lines, lines_of, identities_of, line_text, round_text, transcript_text}
+use Rattle.auc_print.specs.OneText.{AreIdentities, AnswerFits, RoundFits, OneTranscript}
 use Rattle.auc_print.proofs.LineLemmas.{LineFits, lines_injective}
 use Rattle.auc_print.proofs.RoundLemmas.{rounds_injective}
 
@@ -66,3 +69,20 @@ one_transcript identities rounds others are p q e =
     (recursion_from_All (LineFits identities) (flat_map lines_of rounds) (rounds_fit identities rounds p.named p.fit))
     (recursion_from_All (LineFits identities) (flat_map lines_of others) (rounds_fit identities others q.named q.fit))
     (sym (text_of_lines identities rounds) ∙ e ∙ text_of_lines identities others))
+
+-- rows with different identities have identities of which no two are the same
+rows_differ : (rows : List Row) → AllPairs (λ a b. a.imsi ≢ b.imsi) rows → AllPairs ◌≢◌ (identities_of rows)
+rows_differ [] differ i j d before within same = absurd (omega arith)
+rows_differ (row ∷ rows) differ i j d before within same =
+    let second : j < length (row ∷ rows) = omega (arith, length-map rows (λ (r : Row). r.imsi)) in
+    let first : i < length (row ∷ rows) = omega arith in
+    differ i j row before second
+    (sym (get_or-map (λ r. r.imsi) (row ∷ rows) i row d first) ∙ same ∙ get_or-map (λ r. r.imsi) (row ∷ rows) j row d second)
+
+-- subscribers with different identities, for whoever cites the law of them
+pub are_identities : (rows : List Row) → All (λ row. IsIdentity row.imsi.digits row.imsi.number) rows
+    → AllPairs (λ a b. a.imsi ≢ b.imsi) rows → AreIdentities (identities_of rows)
+are_identities rows each differ = record {
+  each = All-map (λ identity. IsIdentity identity.digits identity.number) (λ row. row.imsi) rows each;
+  differ = rows_differ rows differ;
+}

@@ -34,7 +34,7 @@ pub record RoundFits (round : RoundRecord) : Type 0 where
   pub jobs : All (All AnswerFits) round.jobs
   pub closings : All ClosingFits round.closings
 
--- rounds that name subscribers with an identity alone, and whose numbers have 64 bits
+-- rounds of which each named subscriber has an identity, and whose numbers have 64 bits
 pub record IsPrintable (identities : List Identity) (rounds : List RoundRecord) : Type 0 where
   pub named : All (NamesBelow (length identities)) rounds
   pub fit : All RoundFits rounds

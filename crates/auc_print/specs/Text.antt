@@ -2,6 +2,7 @@
 -- The first word says which kind of line it is.
 use Rattle.std.specs.Prelude.{ℕ, ◌≡◌, ◌+◌, List, [], ◌∷◌, ◌++◌, map, slice_index_or, flat_map, codes, decimal}
 use Rattle.auc_edge.specs.Identity.{Identity, digits_of}
+use Rattle.auc_subs.specs.declared.row.Row.{Row}
 use Rattle.auc_world.specs.declared.record.LineRecord.{LineRecord}
 use Rattle.auc_world.specs.declared.record.LineRecord.TheVariants.{Vector, Exhausted}
 use Rattle.auc_world.specs.declared.record.Closing.{Closing}
@@ -26,6 +27,10 @@ jobs_lines number (job ∷ jobs) = job_lines number job ++ jobs_lines (number + 
 -- a round's lines: its number, its jobs, numbered from 1, and its closings
 abbrev pub lines_of : RoundRecord → List Line
 lines_of round = RoundLine round.number ∷ (jobs_lines 1 round.jobs ++ map ClosedLine round.closings)
+
+-- the identities of subscribers, in the order of their rows
+abbrev pub identities_of : List Row → List Identity
+identities_of rows = map (λ row. row.imsi) rows
 
 -- the IMSI of a subscriber, who is named by a place in the list of identities
 abbrev pub imsi_of : List Identity → ℕ → List ℕ
@@ -67,7 +72,7 @@ round_text identities round = flat_map (line_text identities) (lines_of round)
 abbrev pub transcript_text : List Identity → List RoundRecord → List ℕ
 transcript_text identities rounds = flat_map (round_text identities) rounds
 
--- a text begins with another
+-- a text begins with a front
 pub record BeginsWith (front text : List ℕ) : Type 0 where
   pub rest : List ℕ
   pub is : text ≡ front ++ rest

@@ -2,9 +2,10 @@
 
 ghost use Rattle.std.specs.Prelude.{◌≡◌, ◌++◌, ◌∷◌, [], ◌<◌, length, decimal, flat_map, OnOk};
 ghost use Rattle.auc_world.specs.Record.{subscriber_of};
-ghost use Rattle.auc_print.specs.Text.{BeginsWith, RecordLine, ClosedLine, imsi_of, line_text, spaced};
+ghost use Rattle.auc_print.specs.Text.{BeginsWith, RecordLine, ClosedLine, identities_of, imsi_of, line_text, spaced};
 
-use auc_edge::{Imsi, NoMemory, Octets};
+use auc_edge::{NoMemory, Octets};
+use auc_subs::Subscribers;
 use auc_world::{Closing, LineRecord};
 
 /// Appends a line of a word and a number.
@@ -18,25 +19,33 @@ pub fn print_heading(word: &[u8], number: u64, out: &mut Octets) -> Result<(), N
 }
 
 /// Appends the line of a job's record.
-pub fn print_answer(answer: &LineRecord, imsis: &[Imsi], out: &mut Octets) -> Result<(), NoMemory>
-    requires { subscriber_of answer.now < length imsis.now }
+pub fn print_answer(
+    answer: &LineRecord,
+    subs: &Subscribers,
+    out: &mut Octets,
+) -> Result<(), NoMemory>
+    requires { subscriber_of answer.now < length subs.now }
 
     ensures printed { OnOk result
-        (out.new ≡ out.old ++ line_text imsis.now (RecordLine answer.now)) }
+        (out.new ≡ out.old ++ line_text (identities_of subs.now) (RecordLine answer.now)) }
     ensures grows { BeginsWith out.old out.new }
 {
     match *answer {
-        LineRecord::Vector { sub, n } => print_request(b"vector", sub, n, imsis, out),
-        LineRecord::Exhausted { sub, word } => print_request(b"exhausted", sub, word, imsis, out),
+        LineRecord::Vector { sub, n } => print_request(b"vector", sub, n, subs, out),
+        LineRecord::Exhausted { sub, word } => print_request(b"exhausted", sub, word, subs, out),
     }
 }
 
 /// Appends the line of a closing.
-pub fn print_closing(closing: &Closing, imsis: &[Imsi], out: &mut Octets) -> Result<(), NoMemory>
-    requires { closing.now.sub < length imsis.now }
+pub fn print_closing(
+    closing: &Closing,
+    subs: &Subscribers,
+    out: &mut Octets,
+) -> Result<(), NoMemory>
+    requires { closing.now.sub < length subs.now }
 
     ensures printed { OnOk result
-        (out.new ≡ out.old ++ line_text imsis.now (ClosedLine closing.now)) }
+        (out.new ≡ out.old ++ line_text (identities_of subs.now) (ClosedLine closing.now)) }
     ensures grows { BeginsWith out.old out.new }
 {
     let Closing {
@@ -49,7 +58,7 @@ pub fn print_closing(closing: &Closing, imsis: &[Imsi], out: &mut Octets) -> Res
         withheld,
     } = *closing;
     out.append(b"closed")?;
-    print_imsi(sub, imsis, out)?;
+    print_imsi(sub, subs, out)?;
     print_numbers(&[first, last, drawn, skipped, released, withheld], out)?;
     out.append(b"\n")
 }
@@ -59,30 +68,30 @@ fn print_request(
     word: &[u8],
     sub: u32,
     number: u64,
-    imsis: &[Imsi],
+    subs: &Subscribers,
     out: &mut Octets,
 ) -> Result<(), NoMemory>
-    requires { sub < length imsis.now }
+    requires { sub < length subs.now }
 
-    ensures printed { OnOk result
-        (out.new ≡ out.old ++ spaced (word.now ∷ imsi_of imsis.now sub ∷ decimal number ∷ [])) }
+    ensures printed { OnOk result (out.new ≡ out.old
+        ++ spaced (word.now ∷ imsi_of (identities_of subs.now) sub ∷ decimal number ∷ [])) }
     ensures grows { BeginsWith out.old out.new }
 {
     out.append(word)?;
-    print_imsi(sub, imsis, out)?;
+    print_imsi(sub, subs, out)?;
     print_number(number, out)?;
     out.append(b"\n")
 }
 
 /// Appends a space and the IMSI of a subscriber.
-fn print_imsi(sub: u32, imsis: &[Imsi], out: &mut Octets) -> Result<(), NoMemory>
-    requires { sub < length imsis.now }
+fn print_imsi(sub: u32, subs: &Subscribers, out: &mut Octets) -> Result<(), NoMemory>
+    requires { sub < length subs.now }
 
-    ensures printed { OnOk result (out.new ≡ out.old ++ 32 ∷ imsi_of imsis.now sub) }
+    ensures printed { OnOk result (out.new ≡ out.old ++ 32 ∷ imsi_of (identities_of subs.now) sub) }
     ensures grows { BeginsWith out.old out.new }
 {
     out.append(b" ")?;
-    imsis[sub as usize].write_to(out)
+    subs.row(sub).imsi.write_to(out)
 }
 
 /// Appends numbers, a space before each.

@@ -2,36 +2,42 @@
 
 ghost use Rattle.std.specs.Prelude.{◌≡◌, ◌+◌, ◌++◌, ◌<◌, length, All, OnOk, flat_map};
 ghost use Rattle.auc_world.specs.Record.{subscriber_of, NamesBelow};
-ghost use Rattle.auc_print.specs.Text.{BeginsWith, RecordLine, ClosedLine, job_lines, jobs_lines, line_text, round_text};
+ghost use Rattle.auc_print.specs.Text.{BeginsWith, RecordLine, ClosedLine, identities_of, job_lines, jobs_lines, line_text, round_text};
 
 use crate::line::{print_answer, print_closing, print_heading};
-use auc_edge::{Imsi, NoMemory, Octets};
+use auc_edge::{NoMemory, Octets};
+use auc_subs::Subscribers;
 use auc_world::{Closing, JobRecord, LineRecord, RoundRecord};
 
 /// Appends the text of a round: its own line, the lines of its jobs, numbered from 1, and those of its
-/// closings. Each subscriber that it names is a place in the list of identities. Where memory is
-/// wanting, some bytes may stand behind those that were there.
-pub fn print_round(round: &RoundRecord, imsis: &[Imsi], out: &mut Octets) -> Result<(), NoMemory>
-    requires { NamesBelow (length imsis.now) round.now }
+/// closings. Each subscriber that it names is a row. Where there is no memory for all of it, `out` begins
+/// with what it had, and a part of the text may stand behind that.
+pub fn print_round(
+    round: &RoundRecord,
+    subs: &Subscribers,
+    out: &mut Octets,
+) -> Result<(), NoMemory>
+    requires { NamesBelow (length subs.now) round.now }
 
-    ensures printed { OnOk result (out.new ≡ out.old ++ round_text imsis.now round.now) }
+    ensures printed { OnOk result
+        (out.new ≡ out.old ++ round_text (identities_of subs.now) round.now) }
     ensures grows { BeginsWith out.old out.new }
 {
     print_heading(b"round", round.number as u64, out)?;
-    print_jobs(round.jobs.as_slice(), imsis, out)?;
-    print_closings(round.closings.as_slice(), imsis, out)
+    print_jobs(round.jobs.as_slice(), subs, out)?;
+    print_closings(round.closings.as_slice(), subs, out)
 }
 
 /// Appends the lines of a round's jobs.
-fn print_jobs(jobs: &[JobRecord], imsis: &[Imsi], out: &mut Octets) -> Result<(), NoMemory>
-    requires { All (All (λ answer. subscriber_of answer < length imsis.now)) jobs.now }
+fn print_jobs(jobs: &[JobRecord], subs: &Subscribers, out: &mut Octets) -> Result<(), NoMemory>
+    requires { All (All (λ answer. subscriber_of answer < length subs.now)) jobs.now }
 
-    ensures printed { OnOk result
-        (out.new ≡ out.old ++ flat_map (line_text imsis.now) (jobs_lines 1 jobs.now)) }
+    ensures printed { OnOk result (out.new ≡ out.old
+        ++ flat_map (line_text (identities_of subs.now)) (jobs_lines 1 jobs.now)) }
     ensures grows { BeginsWith out.old out.new }
 {
     for (place, job) in jobs.iter().enumerate() {
-        print_job(place as u64 + 1, job.as_slice(), imsis, out)?;
+        print_job(place as u64 + 1, job.as_slice(), subs, out)?;
     }
     Ok(())
 }
@@ -40,43 +46,48 @@ fn print_jobs(jobs: &[JobRecord], imsis: &[Imsi], out: &mut Octets) -> Result<()
 fn print_job(
     number: u64,
     job: &[LineRecord],
-    imsis: &[Imsi],
+    subs: &Subscribers,
     out: &mut Octets,
 ) -> Result<(), NoMemory>
-    requires { All (λ answer. subscriber_of answer < length imsis.now) job.now }
+    requires { All (λ answer. subscriber_of answer < length subs.now) job.now }
 
-    ensures printed { OnOk result
-        (out.new ≡ out.old ++ flat_map (line_text imsis.now) (job_lines number job.now)) }
+    ensures printed { OnOk result (out.new ≡ out.old
+        ++ flat_map (line_text (identities_of subs.now)) (job_lines number job.now)) }
     ensures grows { BeginsWith out.old out.new }
 {
     print_heading(b"job", number, out)?;
-    print_answers(job, imsis, out)
+    print_answers(job, subs, out)
 }
 
 /// Appends the lines of a job's records.
-fn print_answers(job: &[LineRecord], imsis: &[Imsi], out: &mut Octets) -> Result<(), NoMemory>
-    requires { All (λ answer. subscriber_of answer < length imsis.now) job.now }
+fn print_answers(job: &[LineRecord], subs: &Subscribers, out: &mut Octets) -> Result<(), NoMemory>
+    requires { All (λ answer. subscriber_of answer < length subs.now) job.now }
 
-    ensures printed { OnOk result
-        (out.new ≡ out.old ++ flat_map (λ answer. line_text imsis.now (RecordLine answer)) job.now) }
+    ensures printed { OnOk result (out.new ≡ out.old
+        ++ flat_map (λ answer. line_text (identities_of subs.now) (RecordLine answer)) job.now) }
     ensures grows { BeginsWith out.old out.new }
 {
     for answer in job {
-        print_answer(answer, imsis, out)?;
+        print_answer(answer, subs, out)?;
     }
     Ok(())
 }
 
 /// Appends the lines of a round's closings.
-fn print_closings(closings: &[Closing], imsis: &[Imsi], out: &mut Octets) -> Result<(), NoMemory>
-    requires { All (λ closing. closing.sub < length imsis.now) closings.now }
+fn print_closings(
+    closings: &[Closing],
+    subs: &Subscribers,
+    out: &mut Octets,
+) -> Result<(), NoMemory>
+    requires { All (λ closing. closing.sub < length subs.now) closings.now }
 
-    ensures printed { OnOk result (out.new
-        ≡ out.old ++ flat_map (λ closing. line_text imsis.now (ClosedLine closing)) closings.now) }
+    ensures printed { OnOk result (out.new ≡ out.old
+        ++ flat_map (λ closing. line_text (identities_of subs.now) (ClosedLine closing))
+        closings.now) }
     ensures grows { BeginsWith out.old out.new }
 {
     for closing in closings {
-        print_closing(closing, imsis, out)?;
+        print_closing(closing, subs, out)?;
     }
     Ok(())
 }

@@ -4,7 +4,8 @@ ghost use Rattle.std.specs.Prelude.{IsTrue, All, ◌<◌};
 ghost use Rattle.auc_world.specs.Record.{subscriber_of, NamesBelow};
 
 use crate::print_round;
-use auc_edge::{Imsi, Items, NoMemory, Octets};
+use auc_edge::{Items, NoMemory, Octets};
+use auc_subs::Subscribers;
 use auc_world::{Closing, JobRecord, LineRecord, RoundRecord};
 use std::alloc::Global;
 use std::test::Fail;
@@ -90,12 +91,18 @@ closed 001010000000001 0 5 5 0 5 0
 closed 000007 8796093022206 8796093022208 2 0 1 0
 ";
 
+const FIRST: &[u8] =
+    b"001010000000001 465b5ce8b199b49faa5f0a2ee238a6bc opc cd63cb71954a9f4e48a5994e37a02baf 8000 0 0";
+
+const SECOND: &[u8] =
+    b"000007 465b5ce8b199b49faa5f0a2ee238a6bc opc cd63cb71954a9f4e48a5994e37a02baf 8000 8796093022206 0";
+
 #[test]
 fn each_line_has_its_words_in_order(rt: HostRuntime) -> Result<(), Fail> {
-    let (Some(first), Some(second)) = (Imsi::read(b"001010000000001"), Imsi::read(b"000007")) else {
-        assert!(rt; false, "the identities are read");
-        return Ok(());
-    };
+    let mut subs = Subscribers::new(rt.alloc());
+    for line in [FIRST, SECOND] {
+        subs.add(line)?;
+    }
     let draws = [1, 2, 3, 4, 5].map(|n| LineRecord::Vector { sub: 0, n });
     let exhausted = LineRecord::Exhausted {
         sub: 1,
@@ -114,9 +121,9 @@ fn each_line_has_its_words_in_order(rt: HostRuntime) -> Result<(), Fail> {
         closing(1, [8796093022206, 8796093022208, 2, 0, 1, 0]),
     ];
     let round = round_of(rt.alloc(), 7, &draws, &last, &closings)?;
-    assert!(rt; names_below(&round, 2));
+    assert!(rt; names_below(&round, subs.len() as usize));
     let mut text = Octets::new(rt.alloc());
-    print_round(&round, &[first, second], &mut text)?;
+    print_round(&round, &subs, &mut text)?;
     assert_eq!(rt; text.as_slice(), TEXT);
     Ok(())
 }

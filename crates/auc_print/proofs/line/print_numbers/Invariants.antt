@@ -1,3 +1,4 @@
+-- The numbers before this one were appended.
 use Rattle.std.proofs.Common.{◌≡◌, ◌++◌, ◌∷◌, decimal, flat_map, take}
 use Rattle.auc_print.proofs.line.print_numbers.Given as goal
 
