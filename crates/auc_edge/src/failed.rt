@@ -1,6 +1,6 @@
 //! Failure of a call of the outside.
 
-ghost use Rattle.std.specs.Prelude.{◌≡◌, Ok, Err, MatchResult};
+ghost use Rattle.std.specs.Prelude.{◌≡◌, IsErr, MatchResult};
 ghost use Rattle.auc_edge.specs.Faults.{raised};
 
 use std::io;
@@ -13,7 +13,7 @@ pub struct Failed;
 pub(crate) fn counted(faults: &mut u64, answer: io::Result<usize>) -> Result<usize, Failed>
     ensures { MatchResult answer
         (λ count. (result ≡ Ok count) × (faults.new ≡ faults.old))
-        (λ _. (result ≡ Err (record {})) × (faults.new ≡ raised faults.old)) }
+        (λ _. IsErr result × (faults.new ≡ raised faults.old)) }
 {
     match answer {
         Ok(count) => Ok(count),
