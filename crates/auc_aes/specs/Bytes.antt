@@ -10,7 +10,7 @@ xor (a ∷ as') (b ∷ bs) = bit_xor a b ∷ xor as' bs
 
 -- a block turned cyclically by r bits towards its most significant bit, which is the first bit of
 -- its first byte
-abbrev pub rot : List ℕ → ℕ → List ℕ
+unfoldable pub rot : List ℕ → ℕ → List ℕ
 rot block r = to_be_bytes w128 (rotate_left w128 (from_be_bytes w128 block) r)
 
 -- the block of four words of 32 bits, the most significant byte of each first

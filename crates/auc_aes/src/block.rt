@@ -14,6 +14,7 @@ pub fn xor<const N: usize>(mut string: [u8; N], other: [u8; N]) -> [u8; N]
 }
 
 /// A block turned cyclically by `bits` bits towards its most significant bit.
+#[tactic(auto, unfolding(crate::specs::Bytes::rot))]
 pub fn rot(block: [u8; 16], bits: u32) -> [u8; 16]
     ensures { result ≡ turned block bits }
 {

@@ -1,13 +1,21 @@
-// A library with one function.
+//! The Milenage algorithm set of the authentication and key generation functions (3GPP TS 35.206).
+//!
+//! A [`Secret`] is what the authentication centre and a USIM share: K and OPc, which [`opc_of`] gives.
+//! Under it [`f1`] and [`f1_star`] authenticate SQN and AMF, [`f2345`] gives RES, CK, IK and AK,
+//! [`f5_star`] the AK of a resynchronisation, and [`make_auts`] its AUTS (TS 33.102 §6.3.3).
+//! [`f12345`] gives what one authentication vector needs for five blocks and one key schedule.
+//!
+//! Contracts are the standard's equations on lists of bytes, over AES-128 of `auc_aes`. Nothing here takes
+//! memory, waits or can fail.
 #![tactic(auto)]
 
-ghost use Rattle.std.specs.Prelude.{◌≡◌};
-ghost use Rattle.auc_milenage.specs.Echo.{echo_of};
+mod auts;
+mod functions;
+mod kernel;
+mod secret;
+#[cfg(test)]
+mod tests;
 
-// The `ensures` clause is the contract: what `echo` returns is `echo_of` of its argument, a definition
-// in `specs/Echo.antt`, which a caller's clause can cite too.
-pub fn echo(x: usize) -> usize
-    ensures { result ≡ echo_of x }
-{
-    x
-}
+pub use auts::make_auts;
+pub use functions::{f1, f1_star, f5_star, f2345, f12345};
+pub use secret::{Four, Secret, opc_of};

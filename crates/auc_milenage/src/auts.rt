@@ -1,0 +1,28 @@
+//! AUTS, the USIM's answer to a number out of range (TS 33.102 §6.3.3).
+
+ghost use Rattle.std.specs.Prelude.{◌≡◌, ◌++◌};
+ghost use Rattle.auc_milenage.specs.Milenage.{auts};
+
+use crate::kernel::{Kernel, first_six, second_half};
+use crate::secret::Secret;
+use auc_aes::xor;
+
+/// AUTS: SQN_MS masked by f5*, 6 bytes, and MAC-S over SQN_MS, RAND and an AMF of two zero bytes, 8 bytes.
+#[tactic(auto, unfolding(crate::specs::Milenage::auts, crate::specs::Milenage::f1_star, crate::specs::Milenage::f5_star))]
+pub fn make_auts(s: &Secret, rand: [u8; 16], sqn_ms: [u8; 6]) -> [u8; 14]
+    ensures { result ≡ auts s.now.k s.now.opc rand sqn_ms }
+{
+    let kernel = Kernel::new(s, rand);
+    let masked = xor(sqn_ms, first_six(kernel.out5()));
+    join(masked, second_half(kernel.out1(sqn_ms, [0, 0])))
+}
+
+/// The two parts of AUTS, one after the other.
+fn join(masked: [u8; 6], mac_s: [u8; 8]) -> [u8; 14]
+    ensures { result ≡ masked ++ mac_s }
+{
+    [
+        masked[0], masked[1], masked[2], masked[3], masked[4], masked[5], mac_s[0], mac_s[1],
+        mac_s[2], mac_s[3], mac_s[4], mac_s[5], mac_s[6], mac_s[7],
+    ]
+}

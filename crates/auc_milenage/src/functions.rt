@@ -1,0 +1,71 @@
+//! The functions f1 to f5* (TS 35.206 §4.1).
+
+ghost use Rattle.std.specs.Prelude.{◌≡◌, take, drop};
+ghost use Rattle.auc_milenage.specs.Milenage.{f1 as f1_by, f1_star as f1_star_by, f2, f3, f4, f5, f5_star as f5_star_by, out, r2, r3, r4, c2, c3, c4};
+
+use crate::kernel::{Kernel, first_half, first_six, second_half};
+use crate::secret::{Four, Secret};
+
+/// f1: MAC-A over RAND, SQN and AMF.
+#[tactic(auto, unfolding(crate::specs::Milenage::f1))]
+pub fn f1(s: &Secret, rand: [u8; 16], sqn: [u8; 6], amf: [u8; 2]) -> [u8; 8]
+    ensures { result ≡ f1_by s.now.k s.now.opc rand sqn amf }
+{
+    first_half(Kernel::new(s, rand).out1(sqn, amf))
+}
+
+/// f1*: MAC-S, the authentication code of a resynchronisation.
+#[tactic(auto, unfolding(crate::specs::Milenage::f1_star))]
+pub fn f1_star(s: &Secret, rand: [u8; 16], sqn: [u8; 6], amf: [u8; 2]) -> [u8; 8]
+    ensures { result ≡ f1_star_by s.now.k s.now.opc rand sqn amf }
+{
+    second_half(Kernel::new(s, rand).out1(sqn, amf))
+}
+
+/// f2, f3, f4 and f5: RES, CK, IK and AK of a RAND.
+#[tactic(auto, unfolding(crate::specs::Milenage::f2, crate::specs::Milenage::f3, crate::specs::Milenage::f4, crate::specs::Milenage::f5))]
+pub fn f2345(s: &Secret, rand: [u8; 16]) -> Four
+    ensures res { result.res ≡ f2 s.now.k s.now.opc rand }
+    ensures ck { result.ck ≡ f3 s.now.k s.now.opc rand }
+    ensures ik { result.ik ≡ f4 s.now.k s.now.opc rand }
+    ensures ak { result.ak ≡ f5 s.now.k s.now.opc rand }
+{
+    four(&Kernel::new(s, rand))
+}
+
+/// f1 to f5 at once, for five blocks and one key schedule: MAC-A, and RES, CK, IK and AK.
+#[tactic(auto, unfolding(crate::specs::Milenage::f1, crate::specs::Milenage::f2, crate::specs::Milenage::f3, crate::specs::Milenage::f4, crate::specs::Milenage::f5))]
+pub fn f12345(s: &Secret, rand: [u8; 16], sqn: [u8; 6], amf: [u8; 2]) -> ([u8; 8], Four)
+    ensures mac { result.0 ≡ f1_by s.now.k s.now.opc rand sqn amf }
+    ensures res { result.1.res ≡ f2 s.now.k s.now.opc rand }
+    ensures ck { result.1.ck ≡ f3 s.now.k s.now.opc rand }
+    ensures ik { result.1.ik ≡ f4 s.now.k s.now.opc rand }
+    ensures ak { result.1.ak ≡ f5 s.now.k s.now.opc rand }
+{
+    let kernel = Kernel::new(s, rand);
+    (first_half(kernel.out1(sqn, amf)), four(&kernel))
+}
+
+/// f5*: the AK of a resynchronisation.
+#[tactic(auto, unfolding(crate::specs::Milenage::f5_star))]
+pub fn f5_star(s: &Secret, rand: [u8; 16]) -> [u8; 6]
+    ensures { result ≡ f5_star_by s.now.k s.now.opc rand }
+{
+    first_six(Kernel::new(s, rand).out5())
+}
+
+/// RES, CK, IK and AK from OUT2, OUT3 and OUT4.
+fn four(kernel: &Kernel) -> Four
+    ensures res { result.res ≡ drop 8 (out r2 c2 kernel.now.key kernel.now.opc kernel.now.temp) }
+    ensures ck { result.ck ≡ out r3 c3 kernel.now.key kernel.now.opc kernel.now.temp }
+    ensures ik { result.ik ≡ out r4 c4 kernel.now.key kernel.now.opc kernel.now.temp }
+    ensures ak { result.ak ≡ take 6 (out r2 c2 kernel.now.key kernel.now.opc kernel.now.temp) }
+{
+    let out2 = kernel.out2();
+    Four {
+        res: second_half(out2),
+        ck: kernel.out3(),
+        ik: kernel.out4(),
+        ak: first_six(out2),
+    }
+}
