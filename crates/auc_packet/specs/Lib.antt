@@ -1,0 +1,3 @@
+pub mod Packet
+pub mod Spelling
+pub mod Head
