@@ -2,6 +2,7 @@
 #![tactic(auto)]
 
 mod first_bytes;
+mod law;
 mod packet;
 mod reading;
 mod refusal;
@@ -9,6 +10,10 @@ mod subtype;
 mod writing;
 
 pub use first_bytes::head;
+pub use law::{
+    bytes_are_one_packet, bytes_have_one_first_fault, read_packets_may_be_written,
+    refused_bytes_are_no_packet, written_packets_are_read,
+};
 pub use packet::{Head, Packet};
 pub use reading::read_packet;
 pub use refusal::PacketRefusal;
