@@ -1,0 +1,48 @@
+-- Bytes and the packet that they are: EAP (RFC 3748 §4 and §5.1), EAP-AKA (RFC 4187 §8.1) and EAP-AKA'
+-- (RFC 9048 §3). Reserved bytes, fill and what follows the bytes that Length counts are free.
+use Rattle.std.specs.Prelude.{◌≡◌, ℕ, Bool, true, false, List}
+use Rattle.auc_hmac.specs.declared.method.Method.{Method}
+use Rattle.auc_hmac.specs.declared.method.Method.TheVariants as method
+use Rattle.auc_attr.specs.declared.frame.FrameFault.TheVariants as faults
+use Rattle.auc_attr.specs.Frame.{Ended, Named, Message, IsFramed}
+use Rattle.auc_attr.specs.Grammar.{ReadsAttrs}
+use Rattle.auc_attr.specs.PacketFault.{Before, Within, IsFirstFault}
+use Rattle.auc_packet.specs.declared.packet.Packet.{Packet}
+use Rattle.auc_packet.specs.declared.packet.Packet.TheVariants as packet
+use Rattle.auc_packet.specs.declared.refusal.PacketRefusal.{PacketRefusal}
+use Rattle.auc_packet.specs.declared.refusal.PacketRefusal.TheVariants as refusal
+use Rattle.auc_packet.specs.declared.subtype.Subtype.{Subtype}
+use Rattle.auc_packet.specs.declared.subtype.Subtype.TheVariants as subtype
+
+-- the type of a method
+abbrev pub kind_of : Method → ℕ
+kind_of method.Aka = 23
+kind_of method.Prime = 50
+
+-- the number of a Subtype (RFC 4187 §11)
+abbrev pub number_of : Subtype → ℕ
+number_of subtype.Challenge = 1
+number_of subtype.AuthenticationReject = 2
+number_of subtype.SynchronizationFailure = 4
+number_of subtype.Identity = 5
+number_of subtype.Notification = 12
+number_of subtype.Reauthentication = 13
+number_of subtype.ClientError = 14
+
+-- the bytes are the packet
+abbrev pub ReadsPacket : List ℕ → Packet → Type 0
+ReadsPacket bytes (packet.Success id) = IsFramed (Ended true id) bytes
+ReadsPacket bytes (packet.Failure id) = IsFramed (Ended false id) bytes
+ReadsPacket bytes (packet.Identity request id text) = IsFramed (Named request id text) bytes
+ReadsPacket bytes (packet.Aka request id m s list) =
+    (attrs : List ℕ) × IsFramed (Message request id (kind_of m) (number_of s) attrs) bytes × ReadsAttrs attrs list
+
+-- the refusal names the first fault of the bytes; want of memory is none of theirs
+abbrev pub FirstPacketFault : List ℕ → PacketRefusal → Type 0
+FirstPacketFault bytes refusal.Short = IsFirstFault bytes (Before faults.Short)
+FirstPacketFault bytes refusal.BadCode = IsFirstFault bytes (Before faults.BadCode)
+FirstPacketFault bytes refusal.LengthDisagrees = IsFirstFault bytes (Before faults.LengthDisagrees)
+FirstPacketFault bytes (refusal.OtherType kind) = IsFirstFault bytes (Before (faults.OtherType kind))
+FirstPacketFault bytes (refusal.UnknownSubtype number) = IsFirstFault bytes (Before (faults.UnknownSubtype number))
+FirstPacketFault bytes (refusal.Attr fault) = IsFirstFault bytes (Within fault)
+FirstPacketFault bytes refusal.NoMemory = Unit {0}

@@ -1,0 +1,29 @@
+//! Laws of the grammar that no single call shows.
+
+ghost use Rattle.auc_packet.specs.Laws.{OnePacket, OneFault, RefusedIsNotRead, WrittenIsRead, ReadIsWritable};
+
+/// Bytes are one packet.
+pub fn bytes_are_one_packet()
+    ensures { OnePacket }
+{}
+
+/// Bytes have one first fault.
+pub fn bytes_have_one_first_fault()
+    ensures { OneFault }
+{}
+
+/// Bytes with a fault are no packet.
+pub fn refused_bytes_are_no_packet()
+    ensures { RefusedIsNotRead }
+{}
+
+/// What is written of a packet is read as that packet, whatever follows it.
+pub fn written_packets_are_read()
+    ensures { WrittenIsRead }
+{}
+
+/// A packet that is read may be written where it isn't too long, and takes as many bytes as Length says:
+/// only reserved bytes and fill differ.
+pub fn read_packets_may_be_written()
+    ensures { ReadIsWritable }
+{}
