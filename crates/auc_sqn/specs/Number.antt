@@ -16,9 +16,13 @@ seq_of sqn = value_of sqn / 32
 abbrev pub ind_of : List ℕ → ℕ
 ind_of sqn = value_of sqn % 32
 
+-- SEQ and IND side by side in 6 bytes
+abbrev pub sqn_with : ℕ → ℕ → List ℕ
+sqn_with seq ind = drop 2 (to_be_bytes w64 (32 * seq + ind))
+
 -- the SQN of a number: SEQ is the number, IND its remainder by 32
 abbrev pub sqn_bytes : ℕ → List ℕ
-sqn_bytes number = drop 2 (to_be_bytes w64 (32 * number + number % 32))
+sqn_bytes number = sqn_with number (number % 32)
 
 -- an SQN taken apart gives its number, and as IND the number's remainder by 32
 abbrev pub SplitUndoesSqn : Type 0

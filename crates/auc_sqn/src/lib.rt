@@ -2,15 +2,23 @@
 //!
 //! The home network numbers a subscriber's vectors 1, 2, 3 and so on up to [`MAX_SEQ`]. [`sqn_of`]
 //! spells a number as the SQN of 6 bytes that AUTN carries, and [`split`] takes an SQN apart into SEQ
-//! and IND. That an SQN gives its number back is [`split_undoes_sqn_of`].
+//! and IND. That an SQN gives its number back is [`split_undoes_sqn_of`]. A [`SqnArray`] is what a USIM
+//! remembers: the greatest SEQ that it has accepted for each IND.
+//!
+//! Contracts see an `SqnArray` through the list of all that it has accepted; the 32 entries are the
+//! code's own.
 //!
 //! Nothing here takes memory, waits or fails.
 #![tactic(auto)]
 
 mod law;
 mod number;
+mod sqn_array;
 #[cfg(test)]
 mod tests;
+mod verdict;
 
 pub use law::{each_number_has_its_own_sqn, split_undoes_sqn_of};
 pub use number::{MAX_SEQ, split, sqn_of};
+pub use sqn_array::SqnArray;
+pub use verdict::Verdict;

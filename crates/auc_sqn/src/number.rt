@@ -1,7 +1,7 @@
 //! The SQN of a number, and SEQ and IND of an SQN.
 
-ghost use Rattle.std.specs.Prelude.{◌≡◌, ◌≤◌};
-ghost use Rattle.auc_sqn.specs.Number.{sqn_bytes, seq_of, ind_of};
+ghost use Rattle.std.specs.Prelude.{◌≡◌, ◌≤◌, ◌<◌, ◌%◌};
+ghost use Rattle.auc_sqn.specs.Number.{sqn_bytes, sqn_with, seq_of, ind_of};
 
 /// The greatest number that a subscriber's vectors have: SEQ has 43 bits.
 pub const MAX_SEQ: u64 = 8796093022207;
@@ -12,7 +12,16 @@ pub fn sqn_of(n: u64) -> [u8; 6]
     requires { n ≤ MAX_SEQ }
     ensures { result ≡ sqn_bytes n }
 {
-    let sqn = 32 * n + n % 32;
+    spell(n, n % 32)
+}
+
+/// SEQ and IND side by side in 6 bytes.
+pub(crate) fn spell(seq: u64, ind: u64) -> [u8; 6]
+    requires seq { seq ≤ MAX_SEQ }
+    requires ind { ind < 32 }
+    ensures { result ≡ sqn_with seq ind }
+{
+    let sqn = 32 * seq + ind;
     let [_, _, a, b, c, d, e, f] = sqn.to_be_bytes();
     [a, b, c, d, e, f]
 }
@@ -21,6 +30,8 @@ pub fn sqn_of(n: u64) -> [u8; 6]
 pub fn split(sqn: [u8; 6]) -> (u64, u8)
     ensures seq { result.0 ≡ seq_of sqn }
     ensures ind { result.1 ≡ ind_of sqn }
+    ensures seq_within { result.0 ≤ MAX_SEQ }
+    ensures ind_within { result.1 < 32 }
 {
     let [a, b, c, d, e, f] = sqn;
     let value = u64::from_be_bytes([0, 0, a, b, c, d, e, f]);

@@ -1,0 +1,82 @@
+-- What a USIM has accepted, and its verdict on the next SQN by that (TS 33.102 §6.3.3 and Annex C.2).
+use Rattle.std.specs.Prelude.{◌≡◌, ℕ, zero, suc, ◌+◌, ◌%◌, ◌^◌, ◌<◌, ◌≤◌, ◌==◌, ◌&&◌, nat_lt, nat_le, max, if◌then◌else◌, Bool, List, [], ◌∷◌, ◌++◌, All, Contains, slice_index}
+use Rattle.std.specs.List.{list_any}
+use Rattle.auc_sqn.specs.Number.{sqn_with}
+use Rattle.auc_sqn.specs.declared.verdict.Verdict.{Verdict}
+use Rattle.auc_sqn.specs.declared.verdict.Verdict.TheVariants.{Fresh, Old, Far}
+
+-- the SEQ and the IND of each SQN that was accepted, the last one first
+abbrev pub Past : Type 0
+Past = List (ℕ × ℕ)
+
+-- SEQ 0 with each IND below a bound
+unfoldable pub zeros : ℕ → Past
+zeros zero = []
+zeros (suc ind) = (0, ind) ∷ zeros ind
+
+-- the numbers from 1 on to a last one, each with its remainder by 32
+unfoldable pub numbers_to : ℕ → Past
+numbers_to zero = []
+numbers_to (suc number) = (suc number, suc number % 32) ∷ numbers_to number
+
+-- the past of a USIM for which the numbers up to v count as accepted
+unfoldable pub opening_past : ℕ → Past
+opening_past v = numbers_to v ++ zeros 32
+
+-- whether a SEQ at least as great was accepted with the same IND
+abbrev pub is_old : Past → ℕ → ℕ → Bool
+is_old past seq ind = list_any (λ pair. (pair.1 == ind) && nat_le seq pair.0) past
+
+-- the greatest SEQ that was accepted with an IND
+abbrev pub entry_of : ℕ → Past → ℕ
+entry_of ind [] = 0
+entry_of ind (pair ∷ past) = if pair.1 == ind then max pair.0 (entry_of ind past) else entry_of ind past
+
+-- the greatest SEQ that was accepted
+abbrev pub greatest_of : Past → ℕ
+greatest_of [] = 0
+greatest_of (pair ∷ past) = max pair.0 (greatest_of past)
+
+-- the verdict on a SEQ and an IND: old where the past has one at least as great with this IND, far where
+-- the SEQ is more than 2 ^ 28 above the greatest, and fresh otherwise
+abbrev pub verdict_of : Past → ℕ → ℕ → Verdict
+verdict_of past seq ind =
+    if is_old past seq ind then Old (entry_of ind past)
+    else if nat_lt (greatest_of past + 2 ^ 28) seq then Far (greatest_of past)
+    else Fresh
+
+-- the past after a verdict: a fresh SEQ joins it
+abbrev pub past_after : Past → ℕ → ℕ → Verdict → Past
+past_after past seq ind Fresh = (seq, ind) ∷ past
+past_after past seq ind (Old entry) = past
+past_after past seq ind (Far greatest) = past
+
+-- a SEQ and an IND are the highest of a past: no SEQ is greater, and none that is equal has a lesser IND
+pub record IsHighest (past : Past) (seq ind : ℕ) : Type 0 where
+  pub accepted : Contains past (seq, ind)
+  pub greatest : All (λ pair. pair.0 ≤ seq) past
+  pub least : All (λ pair. pair.0 ≡ seq → ind ≤ pair.1) past
+
+-- the bytes are SQN_MS: the highest of the past as an SQN
+abbrev pub IsSqnMs : Past → List ℕ → Type 0
+IsSqnMs past sqn = (seq : ℕ) × (ind : ℕ) × IsHighest past seq ind × (sqn ≡ sqn_with seq ind)
+
+-- the array remembers the past: with each IND its entry is the greatest SEQ that was accepted
+pub record Remembers (entries : List ℕ) (past : Past) : Type 0 where
+  -- each entry was accepted with its IND
+  pub there : (ind : ℕ) → ind < 32 → Contains past (slice_index entries ind, ind)
+  -- and nothing greater was
+  pub above : (seq ind : ℕ) → Contains past (seq, ind) → (ind < 32) × (seq ≤ slice_index entries ind)
+
+-- the verdict by the entry for the IND and the greatest entry
+abbrev pub verdict_at : ℕ → ℕ → ℕ → Verdict
+verdict_at entry greatest seq =
+    if nat_le seq entry then Old entry
+    else if nat_lt (greatest + 2 ^ 28) seq then Far greatest
+    else Fresh
+
+-- the last number up to v with a remainder by 32, or 0 where there is none
+pub record IsLastNumber (v ind number : ℕ) : Type 0 where
+  pub within : number ≤ v
+  pub remainder : 0 < number → number % 32 ≡ ind
+  pub last : (m : ℕ) → m ≤ v → m % 32 ≡ ind → m ≤ number
