@@ -13,7 +13,7 @@
 use Rattle.std.specs.Prelude.{ℕ, ◌≡◌, ◌≢◌, ◌==◌, ◌&&◌, ◌≤◌, ◌++◌, nat_eq, nat_le, Bool, List, [], ◌∷◌, length, codes, Option, Some, is_some, Result, Ok, Err, if◌then◌else◌, All, AllPairs, position, slice_get, slice_index_or}
 use Rattle.std.specs.Cmp.Lexicographic.{pointwise}
 use Rattle.std.specs.Option.{ok_or}
-use Rattle.auc_edge.specs.Identity.{Identity, identity_of}
+use Rattle.auc_edge.specs.Identity.{Identity, IsIdentity, identity_of}
 use Rattle.auc_sqn.specs.declared.number.TheConstants.{MAX_SEQ}
 use Rattle.auc_subs.specs.declared.row.Row.{Row}
 use Rattle.auc_subs.specs.declared.row.OperatorField.{OperatorField}
@@ -87,8 +87,9 @@ rows_after rows line = do
   row ← row_of line
   rows_with rows row
 
--- a row whose numbers are such
+-- a row of an identity, whose numbers are such
 pub record IsRow (row : Row) : Type 0 where
+  pub identity : IsIdentity row.imsi.digits row.imsi.number
   pub drawn : row.seq ≤ MAX_SEQ
   pub accepted : row.usim ≤ MAX_SEQ
 

@@ -1,6 +1,8 @@
 //! What seven fields say of a subscriber.
 
 ghost use Rattle.std.specs.Prelude.{◌≡◌, IfOk};
+ghost use Rattle.std.specs.Option.{ok_or};
+ghost use Rattle.auc_edge.specs.Identity.{IsIdentity, identity_of};
 ghost use Rattle.auc_subs.specs.Subscriber.{IsRow, operator_of, row_in};
 
 use crate::field::{read_decimal, read_octets2, read_octets16};
@@ -22,6 +24,14 @@ fn read_operator(kind: &[u8], text: &[u8]) -> Result<OperatorField, SubsWhy>
     }
 }
 
+/// The identity that a field is.
+fn read_imsi(text: &[u8]) -> Result<Imsi, SubsWhy>
+    ensures value { result ≡ ok_or (identity_of text.now) SubsWhy.Imsi }
+    ensures identity { IfOk result (λ imsi. IsIdentity imsi.digits imsi.number) }
+{
+    Imsi::read(text).ok_or(SubsWhy::Imsi)
+}
+
 /// The subscriber that seven fields are, or the first fault.
 pub fn read_row(
     imsi: &[u8],
@@ -33,10 +43,10 @@ pub fn read_row(
     usim: &[u8],
 ) -> Result<Row, SubsWhy>
     ensures value { result ≡ row_in imsi.now k.now kind.now op.now amf.now seq.now usim.now }
-    ensures numbers { IfOk result IsRow }
+    ensures row { IfOk result IsRow }
 {
     Ok(Row {
-        imsi: Imsi::read(imsi).ok_or(SubsWhy::Imsi)?,
+        imsi: read_imsi(imsi)?,
         k: read_octets16(k).ok_or(SubsWhy::Key)?,
         operator: read_operator(kind, op)?,
         amf: read_octets2(amf).ok_or(SubsWhy::Amf)?,
