@@ -1,1 +1,6 @@
 pub mod Words
+pub mod Entries
+pub mod Lawful
+pub mod Serving
+pub mod Output
+pub mod Outcome

@@ -1,11 +1,11 @@
 //! Serving the jobs of a round, one after the other, by one centre.
 
 ghost use Rattle.std.specs.Prelude.{◌≡◌, ◌++◌, ◌<◌, ◌≤◌, List, length, OnOk, IfOk};
-ghost use Rattle.auc_script.specs.declared.script.Line.{Line};
+ghost use Rattle.auc_script.specs.declared.part.Line.{Line};
 ghost use Rattle.auc_world.specs.declared.record.LineRecord.{LineRecord};
-ghost use Rattle.auc_run.specs.Lawful.{DrawGives, JobGives, JobsGive};
+ghost use Rattle.auc_run.specs.Lawful.{DrawGives, LineGives, JobGives, JobsGive};
 ghost use Rattle.auc_run.specs.Entries.{all_lines};
-ghost use Rattle.auc_run.specs.Serving.{Adds, Plays, AreKnown, AreAllKnown};
+ghost use Rattle.auc_run.specs.Serving.{Adds, Plays, IsKnownLine, AreKnown, AreAllKnown};
 
 use auc_core::{Core, Event, Reply};
 use auc_edge::{Items, NoMemory};
@@ -31,6 +31,17 @@ fn draw(core: &mut Core, sub: u32, count: u32, lines: &mut JobRecord) -> Result<
     Ok(())
 }
 
+/// Serves a line of a job.
+fn serve_line(core: &mut Core, line: &Line, lines: &mut JobRecord) -> Result<(), NoMemory>
+    requires { IsKnownLine (length core.old) line.now }
+    ensures served { OnOk result (Adds core.old lines.old core.new lines.new (LineGives line.now)) }
+    ensures size { length core.new ≡ length core.old }
+{
+    match line {
+        Line::Draw { sub, count } => draw(core, *sub, *count, lines),
+    }
+}
+
 /// Serves the lines of a job.
 fn serve_job(alloc: Global, core: &mut Core, job: &[Line]) -> Result<JobRecord, NoMemory>
     requires { AreKnown (length core.old) job.now }
@@ -39,9 +50,7 @@ fn serve_job(alloc: Global, core: &mut Core, job: &[Line]) -> Result<JobRecord, 
 {
     let mut lines = Items::new(alloc);
     for line in job {
-        match line {
-            Line::Draw { sub, count } => draw(core, *sub, *count, &mut lines)?,
-        }
+        serve_line(core, line, &mut lines)?;
     }
     Ok(lines)
 }

@@ -1,0 +1,24 @@
+//! The program: `auc_run::run` over the real files and standard output.
+//!
+//! It ends with the number of the run's status, and with 10 where there is no memory for its words. A
+//! word that isn't UTF-8 is handed on as an empty word.
+#![tactic(auto)]
+
+mod words;
+
+use auc_edge::{FileShelf, NoMemory, StdSink};
+use auc_run::{Status, run};
+use std::process::ExitCode;
+use words::read_words;
+
+fn main(rt: HostRuntime) -> ExitCode {
+    let status = match read_words(&rt, rt.alloc()) {
+        Ok(words) => {
+            let mut shelf = FileShelf::new(&rt);
+            let mut out = StdSink::new(&rt);
+            run(&rt, rt.alloc(), words.as_slice(), &mut shelf, &mut out).status
+        }
+        Err(NoMemory) => Status::NoMemory,
+    };
+    ExitCode::from(status.number())
+}
