@@ -5,6 +5,7 @@ use Rattle.std.specs.List.{AllPairs}
 use Rattle.std.proofs.lemmas.List.Concat.{flat_map-append}
 use Rattle.std.proofs.lemmas.List.Elements.{All-nil, All-cons, All-head, All-tail, All-append, All-map, recursion_from_All}
 use Rattle.auc_edge.specs.Identity.{Identity, IsIdentity}
+use Rattle.auc_subs.specs.Subscriber.{AreSubscribers}
 use Rattle.auc_subs.specs.declared.row.Row.{Row}
 use Rattle.auc_world.specs.Record.{NamesBelow, subscriber_of}
 use Rattle.auc_world.specs.declared.record.LineRecord.{LineRecord}
@@ -79,10 +80,9 @@ rows_differ (row ∷ rows) differ i j d before within same =
     differ i j row before second
     (sym (get_or-map (λ r. r.imsi) (row ∷ rows) i row d first) ∙ same ∙ get_or-map (λ r. r.imsi) (row ∷ rows) j row d second)
 
--- subscribers with different identities, for whoever cites the law of them
-pub are_identities : (rows : List Row) → All (λ row. IsIdentity row.imsi.digits row.imsi.number) rows
-    → AllPairs (λ a b. a.imsi ≢ b.imsi) rows → AreIdentities (identities_of rows)
-are_identities rows each differ = record {
-  each = All-map (λ identity. IsIdentity identity.digits identity.number) (λ row. row.imsi) rows each;
-  differ = rows_differ rows differ;
+-- subscribers have identities of which no two are the same, for whoever cites the law of them
+pub are_identities : (rows : List Row) → AreSubscribers rows → AreIdentities (identities_of rows)
+are_identities rows are = record {
+  each = All-map (λ identity. IsIdentity identity.digits identity.number) (λ row. row.imsi) rows (λ k d within. (are.each k d within).identity);
+  differ = rows_differ rows are.differ;
 }
