@@ -1,5 +1,5 @@
 -- The sizes of what the functions give, for the crates above.
-use Rattle.std.proofs.Common.{◌≡◌, ℕ, zero, suc, ◌+◌, ◌/◌, ◌%◌, ◌^◌, ◌<◌, ◌≤◌, List, [], ◌∷◌, length, take, refl, arith}
+use Rattle.std.proofs.Common.{◌≡◌, ℕ, zero, suc, ◌<◌, List, length, refl, arith}
 use Rattle.std.specs.Int.{w128, from_be_bytes, to_be_bytes, byte_at, bytes_high_first, rotate_left}
 use Rattle.std.proofs.lemmas.List.{length-take-le}
 use Rattle.auc_aes.specs.Bytes.{xor, rot, IsBytes, IsBlock}
@@ -12,6 +12,7 @@ byte_lt : (i n : ℕ) → byte_at i n < 256
 byte_lt zero n = omega arith
 byte_lt (suc i) n = omega arith
 
+-- the bytes of a number are bytes
 bytes_are : (k n : ℕ) → IsBytes (bytes_high_first k n)
 bytes_are zero n i = omega arith
 bytes_are (suc k) n zero = byte_lt k n
@@ -31,7 +32,7 @@ pub out_block : (r c : ℕ) (k opc temp : List ℕ) → IsBlock k → IsBlock op
 unfolding out
 out_block r c k opc temp hk ho =
     let input : IsBlock (xor (rot (xor temp opc) r) (to_be_bytes w128 c)) =
-        xor_block (rot (xor temp opc) r) (to_be_bytes w128 c) (rot_block (xor temp opc) r) (number_block c) in
+    xor_block (rot (xor temp opc) r) (to_be_bytes w128 c) (rot_block (xor temp opc) r) (number_block c) in
     xor_block (aes k (xor (rot (xor temp opc) r) (to_be_bytes w128 c))) opc
     (aes_block k (xor (rot (xor temp opc) r) (to_be_bytes w128 c)) hk input) ho
 

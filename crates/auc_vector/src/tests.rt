@@ -3,13 +3,12 @@
 use crate::{Rands, vector};
 use auc_milenage::Secret;
 
-/// The key of 32 bytes 00, 01, 02 and so on.
+/// The key of the 32 bytes from 0 to 31.
 fn rands() -> Rands {
-    let mut key = [0; 32];
-    for (i, byte) in (0_u8..32).enumerate() {
-        key[i] = byte;
-    }
-    Rands::new(key)
+    Rands::new([
+        0, 1, 2, 3, 4, 5, 6, 7, 8, 9, 10, 11, 12, 13, 14, 15, 16, 17, 18, 19, 20, 21, 22, 23, 24,
+        25, 26, 27, 28, 29, 30, 31,
+    ])
 }
 
 // The key stream of Python's `cryptography` 48 (ChaCha20 with a counter of 64 bits, and the stream as its nonce),

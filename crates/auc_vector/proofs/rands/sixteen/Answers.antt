@@ -1,4 +1,3 @@
-use Rattle.std.proofs.Common.{◌≡◌}
 use Rattle.auc_vector.proofs.RandomLemmas.{sixteen_is}
 use Rattle.auc_vector.proofs.rands.sixteen.Goals as goal
 
