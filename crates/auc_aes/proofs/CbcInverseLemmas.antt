@@ -15,6 +15,7 @@ no_bytes (b ∷ bs) e = absurd (omega arith)
 first_block : (bytes : List ℕ) (n : ℕ) → IsBytes bytes → length bytes ≡ 16 * suc n → IsBlock (take 16 bytes)
 first_block bytes n h e = record { size = length-take-le 16 bytes (omega arith); bytes = bytes_take 16 bytes h }
 
+-- what follows the first block has the other blocks
 rest_size : (bytes : List ℕ) (n : ℕ) → length bytes ≡ 16 * suc n → length (drop 16 bytes) ≡ 16 * n
 rest_size bytes n e = omega (arith, length-drop 16 bytes)
 
@@ -32,6 +33,7 @@ module _ (key : List ℕ) (k : IsBlock key) where
       length-append (aes key (xor (take 16 bytes) iv)) (encrypted_blocks key (aes key (xor (take 16 bytes) iv)) n (drop 16 bytes))
       ∙ omega (arith, block.size)
 
+  -- n blocks decrypted have 16 n bytes
   decrypted_size : (n : ℕ) (iv bytes : List ℕ) → IsBlock iv → IsBytes bytes → length bytes ≡ 16 * n
       → length (decrypted_blocks key iv n bytes) ≡ 16 * n
   unfolding decrypted_blocks

@@ -7,6 +7,7 @@ use Rattle.auc_aes.specs.Cbc.{encrypted_blocks, decrypted_blocks, cbc_encrypted,
 
 module _ (bytes block new : List ℕ) (at : ℕ) (fits : at + 16 ≤ length bytes) (size : length block ≡ 16)
     (is : new ≡ take at bytes ++ (block ++ drop (at + 16) bytes)) where
+  -- up to the end of the block there are 16 bytes more
   front_size : length (take at bytes ++ block) ≡ at + 16
   front_size =
       let front : length (take at bytes) ≡ at = length-take-le at bytes (omega arith) in
@@ -62,6 +63,7 @@ encrypted_first key iv bytes =
     let same : length bytes - 0 ≡ length bytes = omega arith in
     ap (λ n. encrypted_blocks key iv (n / 16) bytes) same
 
+-- before the first block is decrypted
 pub decrypted_first : (key iv bytes : List ℕ)
     → take 0 bytes ++ decrypted_blocks key iv ((length bytes - 0) / 16) (drop 0 bytes) ≡ cbc_decrypted key iv bytes
 decrypted_first key iv bytes =
@@ -77,6 +79,7 @@ encrypted_last key last bytes at e =
     ap (λ n. take at bytes ++ encrypted_blocks key last n (drop at bytes)) none ∙ append-nil (take at bytes)
     ∙ take_all at bytes (omega arith)
 
+-- after the last block is decrypted
 pub decrypted_last : (key last bytes : List ℕ) (at : ℕ) → at ≡ length bytes
     → take at bytes ++ decrypted_blocks key last ((length bytes - at) / 16) (drop at bytes) ≡ bytes
 unfolding decrypted_blocks

@@ -10,9 +10,11 @@ use Rattle.auc_aes.proofs.TableLemmas.{agree, agree_at, S_BOX_is, INVERSE_S_BOX_
 
 -- ---- the S-boxes
 
+-- each entry of the S-box is below 256
 S_BOX_bytes : agree (λ b. get_or S_BOX b 0 / 256) (λ b. 0) 256 ≡ true
 S_BOX_bytes = refl
 
+-- each entry of the inverse S-box is below 256
 INVERSE_S_BOX_bytes : agree (λ b. get_or INVERSE_S_BOX b 0 / 256) (λ b. 0) 256 ≡ true
 INVERSE_S_BOX_bytes = refl
 
@@ -22,14 +24,17 @@ sub_byte_lt b l =
     let none : get_or S_BOX b 0 / 256 ≡ 0 = agree_at (λ x. get_or S_BOX x 0 / 256) (λ x. 0) 256 b S_BOX_bytes l in
     omega (arith, S_BOX_is b l)
 
+-- and so is what the inverse S-box gives
 pub inv_sub_byte_lt : (b : ℕ) → b < 256 → inv_sub_byte b < 256
 inv_sub_byte_lt b l =
     let none : get_or INVERSE_S_BOX b 0 / 256 ≡ 0 = agree_at (λ x. get_or INVERSE_S_BOX x 0 / 256) (λ x. 0) 256 b INVERSE_S_BOX_bytes l in
     omega (arith, INVERSE_S_BOX_is b l)
 
+-- the inverse table undoes the table
 inverse_of_S_BOX : agree (λ b. get_or INVERSE_S_BOX (get_or S_BOX b 0) 0) (λ b. b) 256 ≡ true
 inverse_of_S_BOX = refl
 
+-- the table undoes the inverse table
 S_BOX_of_inverse : agree (λ b. get_or S_BOX (get_or INVERSE_S_BOX b 0) 0) (λ b. b) 256 ≡ true
 S_BOX_of_inverse = refl
 
@@ -88,6 +93,7 @@ bit_times (suc zero) a b l =
     e ∙ sym (ap (λ x. bit_xor x (1 * b)) ea ∙ ap (bit_xor a) eb)
 bit_times (suc (suc u)) a b l = absurd (omega arith)
 
+-- a sum of bits times a number
 bits_times : (u v k : ℕ) → u < 2 → v < 2 → bit_xor u v * k ≡ bit_xor (u * k) (v * k)
 bits_times zero v k lu lv =
     let e : 0 * k ≡ 0 = omega arith in
@@ -103,6 +109,7 @@ bits_times (suc (suc u)) v k lu lv = absurd (omega arith)
 
 -- ---- products
 
+-- each byte times x is below 256
 xtimes_bytes : agree (λ b. xtimes b / 256) (λ b. 0) 256 ≡ true
 unfolding xtimes
 xtimes_bytes = refl
@@ -152,10 +159,12 @@ record IsLinear (f : ℕ → ℕ) : Type 0 where
   byte : (b : ℕ) → b < 256 → f b < 256
   adds : (b c : ℕ) → b < 256 → c < 256 → f (bit_xor b c) ≡ bit_xor (f b) (f c)
 
+-- a product by a constant is linear
 product_linear : (k : ℕ) → IsLinear (product k)
 unfolding product
 product_linear k = record { byte = λ b l. product_by_lt 8 k b l; adds = λ b c lb lc. product_by_xor 8 k b c lb lc }
 
+-- the byte itself is linear
 same_linear : IsLinear (λ b. b)
 same_linear = record { byte = λ b l. l; adds = λ b c lb lc. refl }
 
@@ -248,6 +257,7 @@ undone f g h a b c d la lb lc ld =
     ∙ ap (λ x. sum4 a 0 0 x) (h.four d ld)
     ∙ xor_zero_r (bit_xor (bit_xor a 0) 0) ∙ xor_zero_r (bit_xor a 0) ∙ xor_zero_r a
 
+-- the row of 2, 3, 1 and 1
 mixing : Row
 mixing = record {
   f1 = product 2;
@@ -260,6 +270,7 @@ mixing = record {
   l4 = same_linear;
 }
 
+-- the row of 14, 11, 13 and 9
 unmixing : Row
 unmixing = record {
   f1 = product 14;
@@ -277,18 +288,22 @@ unmixing_one : agree (λ x. bit_xor (bit_xor (bit_xor (product 14 (product 2 x))
 unfolding product product_by xtimes
 unmixing_one = refl
 
+-- the coefficient of the second byte is 0
 unmixing_two : agree (λ x. bit_xor (bit_xor (bit_xor (product 14 (product 3 x)) (product 11 (product 2 x))) (product 13 x)) (product 9 x)) (λ x. 0) 256 ≡ true
 unfolding product product_by xtimes
 unmixing_two = refl
 
+-- the coefficient of the third byte is 0
 unmixing_three : agree (λ x. bit_xor (bit_xor (bit_xor (product 14 x) (product 11 (product 3 x))) (product 13 (product 2 x))) (product 9 x)) (λ x. 0) 256 ≡ true
 unfolding product product_by xtimes
 unmixing_three = refl
 
+-- the coefficient of the fourth byte is 0
 unmixing_four : agree (λ x. bit_xor (bit_xor (bit_xor (product 14 x) (product 11 x)) (product 13 (product 3 x))) (product 9 (product 2 x))) (λ x. 0) 256 ≡ true
 unfolding product product_by xtimes
 unmixing_four = refl
 
+-- so the product is the identity
 unmixing_is_inverse : IsInverse unmixing mixing
 unfolding mixing unmixing
 unmixing_is_inverse = record {
@@ -303,18 +318,22 @@ mixing_one : agree (λ x. bit_xor (bit_xor (bit_xor (product 2 (product 14 x)) (
 unfolding product product_by xtimes
 mixing_one = refl
 
+-- the coefficient of the second byte is 0
 mixing_two : agree (λ x. bit_xor (bit_xor (bit_xor (product 2 (product 11 x)) (product 3 (product 14 x))) (product 9 x)) (product 13 x)) (λ x. 0) 256 ≡ true
 unfolding product product_by xtimes
 mixing_two = refl
 
+-- the coefficient of the third byte is 0
 mixing_three : agree (λ x. bit_xor (bit_xor (bit_xor (product 2 (product 13 x)) (product 3 (product 11 x))) (product 14 x)) (product 9 x)) (λ x. 0) 256 ≡ true
 unfolding product product_by xtimes
 mixing_three = refl
 
+-- the coefficient of the fourth byte is 0
 mixing_four : agree (λ x. bit_xor (bit_xor (bit_xor (product 2 (product 9 x)) (product 3 (product 13 x))) (product 11 x)) (product 14 x)) (λ x. 0) 256 ≡ true
 unfolding product product_by xtimes
 mixing_four = refl
 
+-- so this product is the identity too
 mixing_is_inverse : IsInverse mixing unmixing
 unfolding mixing unmixing
 mixing_is_inverse = record {
@@ -329,6 +348,7 @@ pub mixed_lt : (a b c d : ℕ) → a < 256 → b < 256 → c < 256 → d < 256 �
 unfolding mixed mixing
 mixed_lt a b c d la lb lc ld = row_times_lt mixing a b c d la lb lc ld
 
+-- and so is a byte whose mixing is undone
 pub inv_mixed_lt : (a b c d : ℕ) → a < 256 → b < 256 → c < 256 → d < 256 → inv_mixed a b c d < 256
 unfolding inv_mixed unmixing
 inv_mixed_lt a b c d la lb lc ld = row_times_lt unmixing a b c d la lb lc ld

@@ -26,6 +26,7 @@ S_BOX_agrees : agree (λ b. get_or S_BOX b 0) sub_byte 256 ≡ true
 unfolding sub_byte affine turned inverse inverse_among product product_by xtimes
 S_BOX_agrees = refl
 
+-- an entry of the S-box
 pub S_BOX_is : (b : ℕ) → b < 256 → get_or S_BOX b 0 ≡ sub_byte b
 S_BOX_is b = agree_at (λ x. get_or S_BOX x 0) sub_byte 256 b S_BOX_agrees
 
@@ -34,6 +35,7 @@ INVERSE_S_BOX_agrees : agree (λ b. get_or INVERSE_S_BOX b 0) inv_sub_byte 256 �
 unfolding inv_sub_byte inverse_affine turned inverse inverse_among product product_by xtimes
 INVERSE_S_BOX_agrees = refl
 
+-- an entry of the inverse S-box
 pub INVERSE_S_BOX_is : (b : ℕ) → b < 256 → get_or INVERSE_S_BOX b 0 ≡ inv_sub_byte b
 INVERSE_S_BOX_is b = agree_at (λ x. get_or INVERSE_S_BOX x 0) inv_sub_byte 256 b INVERSE_S_BOX_agrees
 
@@ -42,21 +44,26 @@ double_agrees : agree (λ b. bit_xor (bit_and b 127 * 2) (b / 128 * 27)) xtimes 
 unfolding xtimes
 double_agrees = refl
 
+-- a byte times x by the code is so by the definition
 pub double_is : (b : ℕ) → b < 256 → bit_xor (bit_and b 127 * 2) (b / 128 * 27) ≡ xtimes b
 double_is b = agree_at (λ x. bit_xor (bit_and x 127 * 2) (x / 128 * 27)) xtimes 256 b double_agrees
 
+-- the most significant byte of each word of row 0
 column_0_0_agrees : agree (λ x. get_or COLUMN_0 x 0 / 16777216 % 256) (λ x. product 2 (get_or S_BOX x 0)) 256 ≡ true
 unfolding product product_by xtimes
 column_0_0_agrees = refl
 
+-- the second byte of each word of row 0
 column_0_1_agrees : agree (λ x. get_or COLUMN_0 x 0 / 65536 % 256) (λ x. get_or S_BOX x 0) 256 ≡ true
 unfolding product product_by xtimes
 column_0_1_agrees = refl
 
+-- the third byte of each word of row 0
 column_0_2_agrees : agree (λ x. get_or COLUMN_0 x 0 / 256 % 256) (λ x. get_or S_BOX x 0) 256 ≡ true
 unfolding product product_by xtimes
 column_0_2_agrees = refl
 
+-- the least significant byte of each word of row 0
 column_0_3_agrees : agree (λ x. get_or COLUMN_0 x 0 % 256) (λ x. product 3 (get_or S_BOX x 0)) 256 ≡ true
 unfolding product product_by xtimes
 column_0_3_agrees = refl
@@ -75,18 +82,22 @@ column_0_is b l =
     agree_at (λ x. get_or COLUMN_0 x 0 % 256) (λ x. product 3 (get_or S_BOX x 0)) 256 b column_0_3_agrees l ∙ ap (product 3) (S_BOX_is b l) in
     rw (e0, e1, e2, e3) refl
 
+-- the most significant byte of each word of row 1
 column_1_0_agrees : agree (λ x. get_or COLUMN_1 x 0 / 16777216 % 256) (λ x. product 3 (get_or S_BOX x 0)) 256 ≡ true
 unfolding product product_by xtimes
 column_1_0_agrees = refl
 
+-- the second byte of each word of row 1
 column_1_1_agrees : agree (λ x. get_or COLUMN_1 x 0 / 65536 % 256) (λ x. product 2 (get_or S_BOX x 0)) 256 ≡ true
 unfolding product product_by xtimes
 column_1_1_agrees = refl
 
+-- the third byte of each word of row 1
 column_1_2_agrees : agree (λ x. get_or COLUMN_1 x 0 / 256 % 256) (λ x. get_or S_BOX x 0) 256 ≡ true
 unfolding product product_by xtimes
 column_1_2_agrees = refl
 
+-- the least significant byte of each word of row 1
 column_1_3_agrees : agree (λ x. get_or COLUMN_1 x 0 % 256) (λ x. get_or S_BOX x 0) 256 ≡ true
 unfolding product product_by xtimes
 column_1_3_agrees = refl
@@ -105,18 +116,22 @@ column_1_is b l =
     agree_at (λ x. get_or COLUMN_1 x 0 % 256) (λ x. get_or S_BOX x 0) 256 b column_1_3_agrees l ∙ S_BOX_is b l in
     rw (e0, e1, e2, e3) refl
 
+-- the most significant byte of each word of row 2
 column_2_0_agrees : agree (λ x. get_or COLUMN_2 x 0 / 16777216 % 256) (λ x. get_or S_BOX x 0) 256 ≡ true
 unfolding product product_by xtimes
 column_2_0_agrees = refl
 
+-- the second byte of each word of row 2
 column_2_1_agrees : agree (λ x. get_or COLUMN_2 x 0 / 65536 % 256) (λ x. product 3 (get_or S_BOX x 0)) 256 ≡ true
 unfolding product product_by xtimes
 column_2_1_agrees = refl
 
+-- the third byte of each word of row 2
 column_2_2_agrees : agree (λ x. get_or COLUMN_2 x 0 / 256 % 256) (λ x. product 2 (get_or S_BOX x 0)) 256 ≡ true
 unfolding product product_by xtimes
 column_2_2_agrees = refl
 
+-- the least significant byte of each word of row 2
 column_2_3_agrees : agree (λ x. get_or COLUMN_2 x 0 % 256) (λ x. get_or S_BOX x 0) 256 ≡ true
 unfolding product product_by xtimes
 column_2_3_agrees = refl
@@ -135,18 +150,22 @@ column_2_is b l =
     agree_at (λ x. get_or COLUMN_2 x 0 % 256) (λ x. get_or S_BOX x 0) 256 b column_2_3_agrees l ∙ S_BOX_is b l in
     rw (e0, e1, e2, e3) refl
 
+-- the most significant byte of each word of row 3
 column_3_0_agrees : agree (λ x. get_or COLUMN_3 x 0 / 16777216 % 256) (λ x. get_or S_BOX x 0) 256 ≡ true
 unfolding product product_by xtimes
 column_3_0_agrees = refl
 
+-- the second byte of each word of row 3
 column_3_1_agrees : agree (λ x. get_or COLUMN_3 x 0 / 65536 % 256) (λ x. get_or S_BOX x 0) 256 ≡ true
 unfolding product product_by xtimes
 column_3_1_agrees = refl
 
+-- the third byte of each word of row 3
 column_3_2_agrees : agree (λ x. get_or COLUMN_3 x 0 / 256 % 256) (λ x. product 3 (get_or S_BOX x 0)) 256 ≡ true
 unfolding product product_by xtimes
 column_3_2_agrees = refl
 
+-- the least significant byte of each word of row 3
 column_3_3_agrees : agree (λ x. get_or COLUMN_3 x 0 % 256) (λ x. product 2 (get_or S_BOX x 0)) 256 ≡ true
 unfolding product product_by xtimes
 column_3_3_agrees = refl
@@ -198,27 +217,34 @@ TIMES_9_agrees : agree (λ b. get_or TIMES_9 b 0) (product 9) 256 ≡ true
 unfolding product product_by xtimes
 TIMES_9_agrees = refl
 
+-- an entry of the table of products by 9
 pub TIMES_9_is : (b : ℕ) → b < 256 → get_or TIMES_9 b 0 ≡ product 9 b
 TIMES_9_is b = agree_at (λ x. get_or TIMES_9 x 0) (product 9) 256 b TIMES_9_agrees
 
+-- the table of products by 11
 TIMES_11_agrees : agree (λ b. get_or TIMES_11 b 0) (product 11) 256 ≡ true
 unfolding product product_by xtimes
 TIMES_11_agrees = refl
 
+-- an entry of it
 pub TIMES_11_is : (b : ℕ) → b < 256 → get_or TIMES_11 b 0 ≡ product 11 b
 TIMES_11_is b = agree_at (λ x. get_or TIMES_11 x 0) (product 11) 256 b TIMES_11_agrees
 
+-- the table of products by 13
 TIMES_13_agrees : agree (λ b. get_or TIMES_13 b 0) (product 13) 256 ≡ true
 unfolding product product_by xtimes
 TIMES_13_agrees = refl
 
+-- an entry of it
 pub TIMES_13_is : (b : ℕ) → b < 256 → get_or TIMES_13 b 0 ≡ product 13 b
 TIMES_13_is b = agree_at (λ x. get_or TIMES_13 x 0) (product 13) 256 b TIMES_13_agrees
 
+-- the table of products by 14
 TIMES_14_agrees : agree (λ b. get_or TIMES_14 b 0) (product 14) 256 ≡ true
 unfolding product product_by xtimes
 TIMES_14_agrees = refl
 
+-- an entry of it
 pub TIMES_14_is : (b : ℕ) → b < 256 → get_or TIMES_14 b 0 ≡ product 14 b
 TIMES_14_is b = agree_at (λ x. get_or TIMES_14 x 0) (product 14) 256 b TIMES_14_agrees
 

@@ -52,11 +52,12 @@ keyed m k bytes e = to_be_bytes-xor m k ∙ ap (λ b. xor b (to_be_bytes w32 k))
 abbrev pub byte_of : List ℕ → ℕ → ℕ → ℕ
 byte_of s j i = get_or (to_be_bytes w32 (get_or s j 0)) i 0
 
--- the mixed column of four bytes' substitutes, and the substitutes themselves
+-- the mixed column of four bytes' substitutes
 abbrev pub mixed_substitutes : List ℕ → List ℕ
 mixed_substitutes t =
     mixed_column (sub_byte (get_or t 0 0)) (sub_byte (get_or t 1 0)) (sub_byte (get_or t 2 0)) (sub_byte (get_or t 3 0))
 
+-- the substitutes of four bytes
 abbrev pub substitutes : List ℕ → List ℕ
 substitutes t = sub_byte (get_or t 0 0) ∷ sub_byte (get_or t 1 0) ∷ sub_byte (get_or t 2 0) ∷ sub_byte (get_or t 3 0) ∷ []
 

@@ -1,0 +1,34 @@
+-- What AUTN says of its number, for the law.
+use Rattle.std.proofs.Common.{◌≡◌, ℕ, ◌≤◌, List, ◌++◌, length, take, refl, sym, ap, ◌∙◌, append_assoc}
+use Rattle.std.proofs.lemmas.List.{take_at}
+use Rattle.auc_aes.specs.Bytes.{xor, IsBlock}
+use Rattle.auc_aes.proofs.InverseLemmas.{xor_twice, length_xor}
+use Rattle.auc_milenage.specs.Milenage.{f1, f5}
+use Rattle.auc_milenage.proofs.BlockLemmas.{f5_size}
+use Rattle.auc_sqn.specs.Number.{sqn_bytes}
+use Rattle.auc_sqn.specs.declared.number.TheConstants.{MAX_SEQ}
+use Rattle.auc_sqn.proofs.NumberLemmas.{each_number_has_its_own_sqn}
+use Rattle.auc_vector.specs.Vector.{autn_of, sqn_in}
+
+-- the SQN of a number has 6 bytes
+sqn_size : (n : ℕ) → length (sqn_bytes n) ≡ 6
+sqn_size n = refl
+
+-- the SQN that is found in the AUTN of a number is that of the number
+pub autn_carries : (k opc rand amf : List ℕ) (n : ℕ) → IsBlock k → IsBlock opc
+    → sqn_in k opc rand (autn_of k opc rand amf n) ≡ sqn_bytes n
+unfolding sqn_in autn_of
+autn_carries k opc rand amf n hk ho =
+    let ak : List ℕ = f5 k opc rand in
+    let mac : List ℕ = f1 k opc rand (sqn_bytes n) amf in
+    let same : length (sqn_bytes n) ≡ length ak = sqn_size n ∙ sym (f5_size k opc rand hk ho) in
+    let masked : length (xor (sqn_bytes n) ak) ≡ 6 = length_xor (sqn_bytes n) ak same ∙ sqn_size n in
+    ap (λ b. xor (take 6 b) ak) (append_assoc (xor (sqn_bytes n) ak) amf mac)
+    ∙ ap (λ b. xor b ak) (take_at (xor (sqn_bytes n) ak) (amf ++ mac) 6 masked) ∙ xor_twice (sqn_bytes n) ak same
+
+-- AUTNs in which one SQN is found are of one number
+pub one_number : (k opc amf r s : List ℕ) (m n : ℕ) → IsBlock k → IsBlock opc → m ≤ MAX_SEQ → n ≤ MAX_SEQ
+    → sqn_in k opc r (autn_of k opc r amf m) ≡ sqn_in k opc s (autn_of k opc s amf n) → m ≡ n
+one_number k opc amf r s m n hk ho lm ln e =
+    each_number_has_its_own_sqn m n lm ln
+    (sym (autn_carries k opc r amf m hk ho) ∙ e ∙ autn_carries k opc s amf n hk ho)

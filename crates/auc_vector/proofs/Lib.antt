@@ -1,0 +1,2 @@
+pub mod RandomLemmas
+pub mod AutnLemmas

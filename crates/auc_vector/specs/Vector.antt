@@ -1,0 +1,27 @@
+-- The authentication vector of a number (TS 33.102 §6.3.2), and the SQN that its AUTN carries.
+use Rattle.std.specs.Prelude.{◌≡◌, ℕ, ◌≤◌, List, ◌++◌, take}
+use Rattle.auc_aes.specs.Bytes.{xor, IsBlock}
+use Rattle.auc_milenage.specs.Milenage.{f1, f5}
+use Rattle.auc_sqn.specs.Number.{sqn_bytes}
+use Rattle.auc_sqn.specs.declared.number.TheConstants.{MAX_SEQ}
+
+-- AUTN: SQN masked by AK, AMF, and the MAC f1
+unfoldable pub autn_of : List ℕ → List ℕ → List ℕ → List ℕ → ℕ → List ℕ
+autn_of k opc rand amf n =
+    xor (sqn_bytes n) (f5 k opc rand) ++ amf ++ f1 k opc rand (sqn_bytes n) amf
+
+-- the SQN that a USIM finds in AUTN
+unfoldable pub sqn_in : List ℕ → List ℕ → List ℕ → List ℕ → List ℕ
+sqn_in k opc rand autn = xor (take 6 autn) (f5 k opc rand)
+
+-- a USIM finds in the AUTN of a number its SQN
+abbrev pub AutnCarriesTheSqn : Type 0
+AutnCarriesTheSqn =
+    (k opc rand amf : List ℕ) (n : ℕ) → IsBlock k → IsBlock opc
+    → sqn_in k opc rand (autn_of k opc rand amf n) ≡ sqn_bytes n
+
+-- two vectors under one secret, with any RANDs, in which one SQN is found, are of one number
+abbrev pub NumbersHaveDifferentSqns : Type 0
+NumbersHaveDifferentSqns =
+    (k opc amf r s : List ℕ) (m n : ℕ) → IsBlock k → IsBlock opc → m ≤ MAX_SEQ → n ≤ MAX_SEQ
+    → sqn_in k opc r (autn_of k opc r amf m) ≡ sqn_in k opc s (autn_of k opc s amf n) → m ≡ n

@@ -1,0 +1,46 @@
+//! The authentication vector of a number.
+
+ghost use Rattle.std.specs.Prelude.{◌≡◌, ◌≤◌, ◌++◌};
+ghost use Rattle.auc_milenage.specs.Milenage.{f2, f3, f4};
+ghost use Rattle.auc_vector.specs.Vector.{autn_of};
+
+use crate::parts::Vector;
+use auc_aes::xor;
+use auc_milenage::{Four, Secret, f12345};
+use auc_sqn::{MAX_SEQ, sqn_of};
+
+/// The vector of number `n` with a RAND, under a subscriber's secret and AMF.
+#[tactic(auto, unfolding(crate::specs::Vector::autn_of))]
+pub fn vector(s: &Secret, amf: [u8; 2], n: u64, rand: [u8; 16]) -> Vector
+    requires first { 1 ≤ n }
+    requires last { n ≤ MAX_SEQ }
+    ensures number { result.n ≡ n }
+    ensures rand { result.rand ≡ rand }
+    ensures autn { result.autn ≡ autn_of s.now.k s.now.opc rand amf n }
+    ensures xres { result.xres ≡ f2 s.now.k s.now.opc rand }
+    ensures ck { result.ck ≡ f3 s.now.k s.now.opc rand }
+    ensures ik { result.ik ≡ f4 s.now.k s.now.opc rand }
+{
+    let sqn = sqn_of(n);
+    let (mac, four) = f12345(s, rand, sqn, amf);
+    let Four { res, ck, ik, ak } = four;
+    let autn = join(xor(sqn, ak), amf, mac);
+    Vector {
+        n,
+        rand,
+        autn,
+        xres: res,
+        ck,
+        ik,
+    }
+}
+
+/// The three parts of AUTN, one after the other.
+fn join(masked: [u8; 6], amf: [u8; 2], mac: [u8; 8]) -> [u8; 16]
+    ensures { result ≡ masked ++ amf ++ mac }
+{
+    [
+        masked[0], masked[1], masked[2], masked[3], masked[4], masked[5], amf[0], amf[1], mac[0],
+        mac[1], mac[2], mac[3], mac[4], mac[5], mac[6], mac[7],
+    ]
+}
