@@ -1,0 +1,4 @@
+mod GeneratorLemmas
+mod NumberLemmas
+mod ScheduleLemmas
+mod SumLemmas

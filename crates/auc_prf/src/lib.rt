@@ -1,0 +1,19 @@
+//! The keys of EAP-AKA (RFC 4187 §7) and the generator that they come from.
+//!
+//! [`next_word`] is one step of the generator of RFC 4187 Appendix A, which is that of FIPS 186-2 with
+//! change notice 1: a word of 20 bytes from XKEY, and the next XKEY. [`aka_keys`] makes all keys of a full
+//! authentication from it, and [`aka_reauth_keys`] those of a fast re-authentication. Contracts speak of
+//! XKEY as a number below 2^160 and of the generator as one recursion over such numbers; the code works
+//! on strings of 20 bytes. Nothing here takes memory, waits or fails.
+#![tactic(auto)]
+
+mod compression;
+mod generator;
+mod keys;
+mod schedule;
+mod sum;
+#[cfg(test)]
+mod tests;
+
+pub use generator::next_word;
+pub use keys::{aka_keys, aka_reauth_keys};
