@@ -9,19 +9,41 @@ fn first_fault_of_a_packet_is_told(rt: HostRuntime) {
     let cases: [(&[u8], PacketRefusal); 12] = [
         (&[1, 2, 0], PacketRefusal::Short),
         (&[5, 2, 0, 4], PacketRefusal::BadCode),
-        (&[1, 2, 0, 13, 23, 5, 0, 0, 10, 1, 0, 0], PacketRefusal::LengthDisagrees),
+        (
+            &[1, 2, 0, 13, 23, 5, 0, 0, 10, 1, 0, 0],
+            PacketRefusal::LengthDisagrees,
+        ),
         (&[3, 2, 0, 5, 0], PacketRefusal::LengthDisagrees),
         (&[1, 2, 0, 7, 23, 5, 0], PacketRefusal::LengthDisagrees),
         (&[1, 2, 0, 5, 3], PacketRefusal::OtherType(3)),
         (&[1, 2, 0, 8, 23, 3, 0, 0], PacketRefusal::UnknownSubtype(3)),
-        (&[1, 2, 0, 12, 23, 5, 0, 0, 127, 1, 0, 0], PacketRefusal::Attr(AttrRefusal::UnknownType(127))),
-        (&[1, 2, 0, 12, 23, 5, 0, 0, 10, 0, 0, 0], PacketRefusal::Attr(AttrRefusal::ZeroLength)),
-        (&[1, 2, 0, 12, 23, 5, 0, 0, 10, 2, 0, 0], PacketRefusal::Attr(AttrRefusal::Truncated)),
-        (&[1, 2, 0, 16, 23, 5, 0, 0, 6, 1, 0, 1, 10, 1, 0, 0], PacketRefusal::Attr(AttrRefusal::BadPadding)),
-        (&[1, 2, 0, 16, 23, 5, 0, 0, 10, 1, 0, 0, 10, 1, 0, 0], PacketRefusal::Attr(AttrRefusal::Twice(10))),
+        (
+            &[1, 2, 0, 12, 23, 5, 0, 0, 127, 1, 0, 0],
+            PacketRefusal::Attr(AttrRefusal::UnknownType(127)),
+        ),
+        (
+            &[1, 2, 0, 12, 23, 5, 0, 0, 10, 0, 0, 0],
+            PacketRefusal::Attr(AttrRefusal::ZeroLength),
+        ),
+        (
+            &[1, 2, 0, 12, 23, 5, 0, 0, 10, 2, 0, 0],
+            PacketRefusal::Attr(AttrRefusal::Truncated),
+        ),
+        (
+            &[1, 2, 0, 16, 23, 5, 0, 0, 6, 1, 0, 1, 10, 1, 0, 0],
+            PacketRefusal::Attr(AttrRefusal::BadPadding),
+        ),
+        (
+            &[1, 2, 0, 16, 23, 5, 0, 0, 10, 1, 0, 0, 10, 1, 0, 0],
+            PacketRefusal::Attr(AttrRefusal::Twice(10)),
+        ),
     ];
     for (bytes, refusal) in cases {
-        assert_eq!(rt; read_packet(rt.alloc(), bytes).err(), Some(refusal), "at {bytes:?}");
+        assert_eq!(rt;
+            read_packet(rt.alloc(), bytes).err(),
+            Some(refusal),
+            "at {bytes:?}"
+        );
     }
 }
 
@@ -35,7 +57,10 @@ fn packet_is_read_and_written_again(rt: HostRuntime) -> Result<(), Fail> {
         &[2, 1, 0, 6, 1, 48],
         &[1, 2, 0, 12, 23, 5, 0, 0, 10, 1, 0, 0],
         &[1, 2, 0, 12, 23, 5, 0, 0, 200, 1, 0, 0],
-        &[2, 2, 0, 28, 50, 4, 0, 0, 4, 4, 1, 2, 3, 4, 5, 6, 7, 8, 9, 10, 11, 12, 13, 14, 24, 1, 0, 1],
+        &[
+            2, 2, 0, 28, 50, 4, 0, 0, 4, 4, 1, 2, 3, 4, 5, 6, 7, 8, 9, 10, 11, 12, 13, 14, 24, 1,
+            0, 1,
+        ],
         &[2, 3, 0, 12, 50, 14, 0, 0, 22, 1, 0, 0],
     ];
     for bytes in cases {
