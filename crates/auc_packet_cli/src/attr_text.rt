@@ -47,12 +47,7 @@ fn push_bytes(
     text.push_str(more.as_str())
 }
 
-fn push_number(
-    alloc: Global,
-    text: &mut String,
-    name: &str,
-    value: u16,
-) -> Result<(), AllocError> {
+fn push_number(alloc: Global, text: &mut String, name: &str, value: u16) -> Result<(), AllocError> {
     let more = format!(in alloc; " {name}={value}")?;
     text.push_str(more.as_str())
 }
