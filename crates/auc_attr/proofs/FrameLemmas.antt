@@ -1,16 +1,16 @@
 -- What the tests of a packet find is what stands there, and the other way round.
-use Rattle.std.proofs.Common.{◌≡◌, ◌≢◌, ℕ, zero, suc, ◌+◌, ◌-◌, ◌*◌, ◌^◌, ◌<◌, ◌≤◌, ◌⊎◌, Bool, true, false, cond, not, ◌&&◌, ◌||◌, ltb, leb, eqb, ◌==◌, nat_lt, nat_le, List, [], ◌∷◌, ◌++◌, length, get_or, take, drop, Option, Some, None, Result, Ok, Err, IfOk, refl, sym, ap, ◌∙◌, subst, arith, inl, inr, append_assoc, length-append, length-drop, drop-cons}
-use Rattle.std.specs.Int.{w16, to_be_bytes, from_be_bytes}
+use Rattle.std.proofs.Common.{◌≡◌, ℕ, ◌+◌, ◌<◌, ◌≤◌, ◌⊎◌, Bool, true, false, cond, not, ◌||◌, ◌==◌, nat_lt, nat_le, List, [], ◌∷◌, ◌++◌, length, get_or, take, drop, Result, Ok, Err, IfOk, refl, sym, ap, ◌∙◌, subst, arith, inl, inr, append_assoc, length-append, length-drop, drop-cons}
+use Rattle.std.specs.Int.{w16, to_be_bytes}
 use Rattle.std.proofs.lemmas.Bool.{eqb-true, ltb-false, le-ltb}
 use Rattle.std.proofs.lemmas.Bool.Decides.{nat_tests}
-use Rattle.std.proofs.lemmas.List.{take_at, drop_at, take-append-drop, length-take, get_or-take, drop-drop, drop-append-le}
+use Rattle.std.proofs.lemmas.List.{take_at, take-append-drop, length-take, get_or-take, drop-drop, drop-append-le}
 use Rattle.std.proofs.lemmas.Nat.{from_be_bytes-to_be_bytes_2}
 use Rattle.auc_attr.specs.declared.frame.FrameFault.{FrameFault}
 use Rattle.auc_attr.specs.declared.frame.FrameFault.TheVariants as faults
 use Rattle.auc_attr.specs.Frame.{Frame, Ended, Named, Message, length_of, is_code, is_wrong_length, is_method, is_subtype, typed_at, sized_at, frame_at, end_code, message_code, IsEnded, IsIdentity, IsMessage, IsFramed}
 use Rattle.auc_attr.specs.declared.frame.Framed.{Framed}
 use Rattle.auc_attr.specs.FrameView.{frame_of, Frames}
-use Rattle.auc_attr.proofs.Tools.{IsBytes, IsBytes-drop, IsBytes-take, passed, ok_is, not-false}
+use Rattle.auc_attr.proofs.Tools.{IsBytes, IsBytes-drop, passed, ok_is, not-false}
 use Rattle.auc_attr.proofs.ValueLemmas.{number_front}
 
 -- ---- what stands there is found

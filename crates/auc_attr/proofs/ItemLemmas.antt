@@ -1,5 +1,5 @@
 -- The attribute that is read at the front is the one that the grammar has there, and the other way round.
-use Rattle.std.proofs.Common.{◌≡◌, ◌≢◌, ℕ, zero, suc, ◌+◌, ◌-◌, ◌*◌, ◌<◌, ◌≤◌, Bool, true, false, cond, ◌&&◌, ltb, leb, eqb, List, [], ◌∷◌, ◌++◌, length, get_or, take, drop, Option, Some, None, Result, Ok, Err, refl, sym, ap, ◌∙◌, subst, arith, length-append}
+use Rattle.std.proofs.Common.{◌≡◌, ℕ, ◌+◌, ◌-◌, ◌*◌, ◌<◌, ◌≤◌, Bool, true, false, ◌&&◌, ltb, eqb, List, [], ◌∷◌, ◌++◌, length, get_or, take, drop, Option, Some, None, Result, Ok, refl, sym, ap, ◌∙◌, subst, arith, length-append}
 use Rattle.std.proofs.lemmas.Bool.{ltb-false, le-ltb}
 use Rattle.std.proofs.lemmas.Bool.Decides.{nat_tests}
 use Rattle.std.proofs.lemmas.List.{length-take, take-append-drop, take_at, drop_at}
@@ -8,7 +8,7 @@ use Rattle.auc_attr.specs.declared.refusal.AttrRefusal.TheVariants as refusal
 use Rattle.auc_attr.specs.declared.table.Row.{Row}
 use Rattle.auc_attr.specs.Table.{row_of}
 use Rattle.auc_attr.specs.Item.{Item, item}
-use Rattle.auc_attr.specs.Fault.{◌>>=◌, value_at, row_at, known_at, item_at}
+use Rattle.auc_attr.specs.Fault.{value_at, row_at, known_at, item_at}
 use Rattle.auc_attr.specs.Grammar.{IsBody, IsAttr}
 use Rattle.auc_attr.specs.Spelling.{stands_in, fits, fits_row, fits_item}
 use Rattle.auc_attr.proofs.Tools.{IsBytes, IsBytes-take, IsBytes-drop, IsBytes-tail, bind_ok, passed, ok_is}

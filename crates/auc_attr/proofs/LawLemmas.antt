@@ -1,7 +1,7 @@
 -- The laws of the grammar.
-use Rattle.std.proofs.Common.{◌≡◌, ◌≢◌, ℕ, ◌+◌, ◌<◌, ◌↔◌, if◌then◌else◌, Bool, true, false, not, cond, ◌&&◌, ◌==◌, ltb, List, [], ◌∷◌, ◌++◌, length, get_or, Option, Some, None, Result, Ok, Err, refl, sym, ap, ◌∙◌, subst, arith, length-append}
+use Rattle.std.proofs.Common.{◌≡◌, ◌≢◌, ℕ, ◌<◌, if◌then◌else◌, Bool, true, false, not, ◌&&◌, ◌==◌, ltb, List, [], ◌∷◌, ◌++◌, length, get_or, Option, Some, None, refl, sym, ap, ◌∙◌, arith, length-append}
 use Rattle.std.specs.List.{list_all}
-use Rattle.std.specs.Int.{w16, to_be_bytes, from_be_bytes}
+use Rattle.std.specs.Int.{w16, from_be_bytes}
 use Rattle.std.proofs.lemmas.Bool.Decides.{nat_tests}
 use Rattle.std.proofs.lemmas.Nat.{from_be_bytes-to_be_bytes_2}
 use Rattle.auc_attr.specs.declared.attr.Attr.{Attr}
@@ -10,15 +10,14 @@ use Rattle.auc_attr.specs.declared.refusal.AttrRefusal.{AttrRefusal}
 use Rattle.auc_attr.specs.declared.refusal.AttrRefusal.TheVariants as refusal
 use Rattle.auc_attr.specs.declared.table.Row.{Row}
 use Rattle.auc_attr.specs.Table.{row_of}
-use Rattle.auc_attr.specs.Frame.{Frame, frame_at, IsFramed}
-use Rattle.auc_attr.specs.Grammar.{IsAttr, Walks, ReadsAttrs, FirstFault}
+use Rattle.auc_attr.specs.Grammar.{IsAttr, Walks, FirstFault}
 use Rattle.auc_attr.specs.Item.{Item, item_of, items, is_named, is_skipped_row}
-use Rattle.auc_attr.specs.Laws.{is_value, OneWalk, OneList, OneFault, RefusedIsNotRead, WrittenIsRead, ReadIsWritable, FoundIsFramed}
-use Rattle.auc_attr.specs.Spelling.{stands_in, fits_item, may_stand_row, may_follow, writable_from, writable, item_text, spelling}
+use Rattle.auc_attr.specs.Laws.{is_value, OneList, OneFault, RefusedIsNotRead, ReadIsWritable, FoundIsFramed}
+use Rattle.auc_attr.specs.Spelling.{stands_in, fits_item, may_stand_row, may_follow, writable_from, item_text, spelling}
 use Rattle.auc_attr.proofs.Tools.{IsBytes, and_parts, and_from, some_is}
 use Rattle.auc_attr.proofs.ItemLemmas.{attr_fits, attr_rest}
 use Rattle.auc_attr.proofs.WalkLemmas.{one_walk}
-use Rattle.auc_attr.proofs.SpellingLemmas.{attr_size, written_attributes_are_read}
+use Rattle.auc_attr.proofs.SpellingLemmas.{attr_size}
 use Rattle.auc_attr.proofs.FrameLemmas.{frame_sound, frame_again}
 
 -- ---- an attribute is determined by its item

@@ -1,5 +1,5 @@
 -- Finding the place of the message authentication code from the front.
-use Rattle.std.proofs.Common.{◌≡◌, ◌≢◌, ℕ, zero, suc, ◌+◌, ◌-◌, ◌*◌, ◌<◌, ◌≤◌, Bool, true, false, cond, ◌==◌, eqb, List, [], ◌∷◌, ◌++◌, length, get_or, Option, Some, None, Ok, Err, IfSome, refl, sym, ap, ◌∙◌, subst, arith, inl, inr, append_assoc, length-append}
+use Rattle.std.proofs.Common.{◌≡◌, ℕ, ◌+◌, ◌-◌, ◌<◌, ◌≤◌, Bool, true, false, cond, ◌==◌, List, [], ◌∷◌, ◌++◌, length, get_or, Option, Some, None, Ok, Err, IfSome, refl, sym, ap, ◌∙◌, subst, arith, length-append}
 use Rattle.std.proofs.lemmas.Bool.{eqb-true}
 use Rattle.std.proofs.lemmas.List.{append-nil}
 use Rattle.std.proofs.lemmas.List.Concat.{flat_map-append}
@@ -10,9 +10,8 @@ use Rattle.auc_attr.specs.declared.table.Shape.TheVariants as shape
 use Rattle.auc_attr.specs.Table.{row_of}
 use Rattle.auc_attr.specs.Item.{Item}
 use Rattle.auc_attr.specs.Fault.{item_at}
-use Rattle.auc_attr.specs.Frame.{Frame, Ended, Named, Message, length_of, frame_at, IsMessage}
 use Rattle.auc_attr.specs.Grammar.{IsBody, IsAttr, Walks}
-use Rattle.auc_attr.specs.Mac.{mac_from, mac_of, place_or, IsMacIn}
+use Rattle.auc_attr.specs.Mac.{mac_from, place_or, IsMacIn}
 use Rattle.auc_attr.specs.Marks.{Marks}
 use Rattle.auc_attr.specs.Spelling.{stands_in, item_text, texts}
 use Rattle.auc_attr.proofs.Tools.{IsBytes, some_is}

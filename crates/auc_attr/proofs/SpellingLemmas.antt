@@ -1,5 +1,5 @@
 -- What is written of an attribute is that attribute, whatever follows it; and how many bytes an attribute takes.
-use Rattle.std.proofs.Common.{◌≡◌, ◌≢◌, ℕ, zero, suc, ◌+◌, ◌-◌, ◌*◌, ◌/◌, ◌%◌, ◌^◌, ◌<◌, ◌≤◌, ◌⊎◌, ◌==◌, nat_le, Bool, true, false, cond, not, ◌&&◌, ◌||◌, ltb, leb, eqb, List, [], ◌∷◌, ◌++◌, length, get_or, take, drop, replicate, Option, Some, None, refl, sym, ap, ◌∙◌, subst, arith, inl, inr, append_assoc, length-append}
+use Rattle.std.proofs.Common.{◌≡◌, ℕ, zero, suc, ◌+◌, ◌*◌, ◌/◌, ◌%◌, ◌<◌, ◌≤◌, ◌⊎◌, ◌==◌, nat_le, Bool, true, false, cond, not, ◌&&◌, ◌||◌, ltb, leb, eqb, List, [], ◌∷◌, ◌++◌, length, get_or, replicate, Option, Some, None, refl, ap, ◌∙◌, arith, inl, inr, length-append}
 use Rattle.std.specs.List.{list_all}
 use Rattle.std.specs.Int.{w16, to_be_bytes}
 use Rattle.std.proofs.lemmas.Bool.{eqb-true}
@@ -10,9 +10,9 @@ use Rattle.auc_attr.specs.declared.table.Row.{Row}
 use Rattle.auc_attr.specs.declared.table.Shape.{Shape}
 use Rattle.auc_attr.specs.declared.table.Shape.TheVariants as shape
 use Rattle.auc_attr.specs.Table.{once, often, row_of}
-use Rattle.auc_attr.specs.Item.{Item, item, item_of, items, is_named}
-use Rattle.auc_attr.specs.Grammar.{IsAfterReserved, IsCounted, IsFlag, IsBody, IsAttr, Walks, Reads, ReadsAttrs}
-use Rattle.auc_attr.specs.Spelling.{stands_in, is_zero, fill, fits, fits_row, fits_item, may_stand_row, may_follow, writable_from, writable, parts_text, reserved, shape_text, row_text, item_text, texts, spelling}
+use Rattle.auc_attr.specs.Item.{Item, item_of, items, is_named}
+use Rattle.auc_attr.specs.Grammar.{IsAfterReserved, IsCounted, IsBody, IsAttr, Walks, ReadsAttrs}
+use Rattle.auc_attr.specs.Spelling.{stands_in, is_zero, fill, fits, fits_row, fits_item, may_stand_row, may_follow, writable_from, writable, parts_text, reserved, shape_text, row_text, item_text, spelling}
 use Rattle.auc_attr.proofs.Tools.{and_parts, and_from}
 use Rattle.auc_attr.proofs.ValueLemmas.{filled}
 

@@ -1,19 +1,18 @@
 -- The value that is read in a body is the one that the grammar gives it, and the other way round.
-use Rattle.std.proofs.Common.{◌≡◌, ◌≢◌, ℕ, zero, suc, ◌+◌, ◌-◌, ◌*◌, ◌/◌, ◌%◌, ◌^◌, ◌<◌, ◌≤◌, ◌⊎◌, Bool, true, false, cond, not, ◌&&◌, ◌||◌, ltb, leb, eqb, List, [], ◌∷◌, ◌++◌, length, get_or, take, drop, Option, Some, None, Result, Ok, Err, refl, sym, ap, ◌∙◌, subst, arith, inl, inr, append_assoc, length-append, eq-eqb}
+use Rattle.std.proofs.Common.{◌≡◌, ℕ, ◌+◌, ◌*◌, ◌/◌, ◌%◌, ◌^◌, ◌<◌, ◌≤◌, ◌⊎◌, Bool, true, false, cond, not, ◌&&◌, ◌||◌, ltb, leb, eqb, List, [], ◌∷◌, ◌++◌, length, get_or, take, drop, Ok, Err, refl, sym, ap, ◌∙◌, subst, arith, inl, inr, length-append, eq-eqb}
 use Rattle.std.specs.List.{list_all}
 use Rattle.std.specs.Int.{w16, to_be_bytes, from_be_bytes}
 use Rattle.std.proofs.lemmas.Bool.{eqb-true}
 use Rattle.std.proofs.lemmas.Bool.Decides.{nat_tests}
-use Rattle.std.proofs.lemmas.List.{get_or-take, length-take, length-drop, take-append-drop, take_at, drop_at}
+use Rattle.std.proofs.lemmas.List.{length-take, length-drop, take-append-drop, take_at, drop_at}
 use Rattle.std.proofs.lemmas.Nat.{be_bytes_2, from_be_bytes-to_be_bytes_2}
-use Rattle.auc_attr.specs.declared.refusal.AttrRefusal.{AttrRefusal}
 use Rattle.auc_attr.specs.declared.refusal.AttrRefusal.TheVariants as refusal
 use Rattle.auc_attr.specs.declared.table.Shape.{Shape}
 use Rattle.auc_attr.specs.declared.table.Shape.TheVariants as shape
 use Rattle.auc_attr.specs.Fault.{value_if, zeros_if, counted, counted_value, value_at}
-use Rattle.auc_attr.specs.Grammar.{IsAfterReserved, IsCounted, IsFlag, IsBody}
+use Rattle.auc_attr.specs.Grammar.{IsAfterReserved, IsCounted, IsBody}
 use Rattle.auc_attr.specs.Spelling.{is_zero, fill, fits}
-use Rattle.auc_attr.proofs.Tools.{IsBytes, IsBytes-drop, IsBytes-take, held, ok_is, and_parts, and_from, passed, not-false}
+use Rattle.auc_attr.proofs.Tools.{IsBytes, IsBytes-take, held, ok_is, and_parts, and_from, passed, not-false}
 
 -- what stands behind two bytes
 after_reserved : (body value : List ℕ) → 2 ≤ length body → drop 2 body ≡ value → IsAfterReserved body value

@@ -1,17 +1,17 @@
 -- Bytes have one reading, or one first fault; and reading them from the front.
-use Rattle.std.proofs.Common.{◌≡◌, ◌≢◌, ℕ, zero, suc, ◌+◌, ◌<◌, ◌≤◌, Bool, true, false, ◌&&◌, List, [], ◌∷◌, ◌++◌, length, get_or, map, drop, Option, Some, None, Result, Ok, Err, refl, sym, ap, ◌∙◌, subst, arith, append_assoc, length-append}
+use Rattle.std.proofs.Common.{◌≡◌, ℕ, ◌<◌, Bool, true, List, [], ◌∷◌, ◌++◌, length, get_or, map, Option, Some, None, Result, Ok, Err, refl, sym, ap, ◌∙◌, subst, arith, append_assoc}
 use Rattle.std.specs.List.{list_all}
 use Rattle.std.proofs.lemmas.List.{append-nil, map_push, nil_from_length}
 use Rattle.auc_attr.specs.declared.attr.Attr.{Attr}
 use Rattle.auc_attr.specs.declared.refusal.AttrRefusal.{AttrRefusal}
 use Rattle.auc_attr.specs.declared.refusal.AttrRefusal.TheVariants as refusal
-use Rattle.auc_attr.specs.Item.{Item, item, item_of, items, is_named}
+use Rattle.auc_attr.specs.Item.{Item, item_of, items, is_named}
 use Rattle.auc_attr.specs.Fault.{item_at}
-use Rattle.auc_attr.specs.Grammar.{IsAttr, IsFault, Ends, Walks, Reads, ReadsAttrs, FirstFault}
+use Rattle.auc_attr.specs.Grammar.{IsAttr, IsFault, Ends, Walks, FirstFault}
 use Rattle.auc_attr.specs.Marks.{Marks}
-use Rattle.auc_attr.specs.Spelling.{stands_in, fits_item}
+use Rattle.auc_attr.specs.Spelling.{stands_in}
 use Rattle.auc_attr.proofs.Tools.{IsBytes, and_parts, and_from, ok_is}
-use Rattle.auc_attr.proofs.ItemLemmas.{attr_sound, attr_again, attr_fits, attr_rest, attr_shorter}
+use Rattle.auc_attr.proofs.ItemLemmas.{attr_sound, attr_again, attr_rest}
 
 err_is : {A : Type 0} (e f : AttrRefusal) → ◌≡◌ {A = Result A AttrRefusal} (Err e) (Err f) → e ≡ f
 err_is e f h = cc

@@ -1,11 +1,11 @@
 -- Writing, measuring and judging a list from its front.
-use Rattle.std.proofs.Common.{◌≡◌, ℕ, suc, ◌+◌, ◌-◌, ◌^◌, ◌<◌, ◌≤◌, Bool, true, false, ◌&&◌, List, [], ◌∷◌, ◌++◌, length, get_or, drop, refl, sym, ap, subst, ◌∙◌, arith, inl, inr, append_assoc, length-append, length-drop, add-one, drop-cons}
+use Rattle.std.proofs.Common.{◌≡◌, ℕ, suc, ◌+◌, ◌-◌, ◌^◌, ◌<◌, ◌≤◌, Bool, true, false, ◌&&◌, List, [], ◌∷◌, ◌++◌, length, get_or, drop, refl, sym, ap, subst, ◌∙◌, arith, inl, inr, append_assoc, length-append, add-one, drop-cons}
 use Rattle.std.specs.List.{list_all}
 use Rattle.std.proofs.lemmas.Bool.{cases_lt}
 use Rattle.std.proofs.lemmas.List.{append-nil, drop_all}
 use Rattle.auc_edge.specs.Reserved.{Reserved, wrote}
 use Rattle.auc_attr.specs.declared.attr.Attr.{Attr}
-use Rattle.auc_attr.specs.Item.{Item, item_of, items, is_named}
+use Rattle.auc_attr.specs.Item.{item_of, is_named}
 use Rattle.auc_attr.specs.Marks.{Marks}
 use Rattle.auc_attr.specs.Spelling.{stands_in, fits_item, may_follow, writable_from, writable, item_text, spelling}
 use Rattle.auc_attr.proofs.Tools.{and_parts, and_from}

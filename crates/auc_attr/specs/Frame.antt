@@ -1,6 +1,6 @@
 -- What stands before the attributes of a packet: EAP (RFC 3748 §4 and §5.1) and EAP-AKA (RFC 4187 §8.1).
 -- The tests stand in their order. What follows the bytes that Length counts is free.
-use Rattle.std.specs.Prelude.{◌≡◌, ℕ, ◌+◌, ◌<◌, ◌==◌, nat_lt, nat_le, Bool, true, false, not, ◌&&◌, ◌||◌, if◌then◌else◌, List, [], ◌∷◌, ◌++◌, length, take, drop, slice_index, Option, Some, None, Result, Ok, Err, IsTrue}
+use Rattle.std.specs.Prelude.{◌≡◌, ℕ, ◌+◌, ◌<◌, ◌==◌, nat_lt, nat_le, Bool, true, not, ◌&&◌, ◌||◌, if◌then◌else◌, List, ◌∷◌, ◌++◌, length, take, drop, slice_index, Result, Ok, Err}
 use Rattle.std.specs.Int.{w16, to_be_bytes, from_be_bytes}
 use Rattle.auc_attr.specs.declared.frame.FrameFault.{FrameFault}
 use Rattle.auc_attr.specs.declared.frame.FrameFault.TheVariants as faults

@@ -1,5 +1,5 @@
 -- Bytes and the attributes that they are. Reserved bytes and fill are free.
-use Rattle.std.specs.Prelude.{◌≡◌, ℕ, ◌+◌, ◌*◌, ◌<◌, ◌≤◌, ◌⊎◌, Bool, true, false, ◌&&◌, nat_lt, if◌then◌else◌, List, [], ◌∷◌, ◌++◌, length, Option, Some, None, Err}
+use Rattle.std.specs.Prelude.{◌≡◌, ℕ, ◌+◌, ◌*◌, ◌<◌, ◌≤◌, ◌⊎◌, true, false, ◌&&◌, nat_lt, if◌then◌else◌, List, [], ◌∷◌, ◌++◌, length, Option, Some, None, Err}
 use Rattle.std.specs.List.{list_all}
 use Rattle.std.specs.Int.{w16, to_be_bytes}
 use Rattle.auc_attr.specs.declared.attr.Attr.{Attr}
@@ -9,7 +9,7 @@ use Rattle.auc_attr.specs.declared.table.Row.{Row}
 use Rattle.auc_attr.specs.declared.table.Shape.{Shape}
 use Rattle.auc_attr.specs.declared.table.Shape.TheVariants as shape
 use Rattle.auc_attr.specs.Table.{row_of}
-use Rattle.auc_attr.specs.Item.{Item, item_of, items, is_named}
+use Rattle.auc_attr.specs.Item.{Item, items, is_named}
 use Rattle.auc_attr.specs.Spelling.{stands_in, is_zero}
 use Rattle.auc_attr.specs.Fault.{item_at}
 

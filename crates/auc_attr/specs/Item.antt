@@ -1,7 +1,6 @@
 -- An attribute as its type and the bytes of its value, without length, reserved bytes and fill. A number
 -- is two bytes, the bit D is one byte, 0 or 1.
 use Rattle.std.specs.Prelude.{ℕ, Bool, true, false, List, [], ◌∷◌, map, Option, Some, None}
-use Rattle.std.specs.List.{list_all}
 use Rattle.std.specs.Int.{w16, to_be_bytes}
 use Rattle.auc_attr.specs.declared.attr.Attr.{Attr}
 use Rattle.auc_attr.specs.declared.attr.Attr.TheVariants as attr

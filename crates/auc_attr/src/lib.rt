@@ -1,4 +1,13 @@
-//! Attributes of EAP-AKA (RFC 4187 §8 and §10) and EAP-AKA' (RFC 9048 §3 and §4), read and written.
+//! Attributes of EAP-AKA (RFC 4187 §8.1 and §10) and EAP-AKA' (RFC 9048 §3 and §4), read and written.
+//!
+//! [`read_attrs`] gives the attributes that bytes are, or their first fault in a stated order;
+//! [`write_attrs`] gives their one spelling, and [`put_attrs`] the same into memory that was taken before.
+//! [`read_frame`] tells what stands before the attributes of a packet, and [`mac_place`] where its AT_MAC
+//! is.
+//!
+//! Contracts see an [`AttrList`] as the list of its [`Attr`]s. What bytes are is a relation in which
+//! reserved bytes and fill are free; the table of attributes stands in `specs/Table`. Reading takes memory
+//! for the values, `read_frame`, `mac_place` and `put_attrs` take none.
 #![tactic(auto)]
 
 mod attr;
@@ -29,3 +38,6 @@ pub use mac::mac_place;
 pub use reading::read_attrs;
 pub use refusal::AttrRefusal;
 pub use writing::{put_attrs, write_attrs};
+
+#[cfg(test)]
+mod tests;

@@ -237,12 +237,18 @@ attrs_are_bytes request id kind number attrs bytes fits p =
     let these : take (length attrs) (drop 8 bytes) ≡ attrs = ap (λ (b : List ℕ). take (length attrs) b) behind ∙ take_at attrs p.past (length attrs) refl in
     subst AreBytes these (IsBytes-take (length attrs) (drop 8 bytes) (IsBytes-drop 8 bytes fits))
 
+ended_length : (success : Bool) (id : ℕ) (bytes : List ℕ) → IsEnded success id bytes → (4 ≡ length_of bytes) × (length_of bytes ≤ length bytes)
+ended_length success id bytes p =
+    let number : length_of bytes ≡ 4 = ap (λ (b : List ℕ). length_of b) p.parts in
+    (sym number, omega (arith, number, ap length p.parts))
+
 pub read_may_be_written : ReadIsWritable
-read_may_be_written bytes (packet.Success id) fits r = (refl, sym (ap (λ (b : List ℕ). length_of b) r.parts))
-read_may_be_written bytes (packet.Failure id) fits r = (refl, sym (ap (λ (b : List ℕ). length_of b) r.parts))
+read_may_be_written bytes (packet.Success id) fits r = let e = ended_length true id bytes r in (refl, e.0, e.1)
+read_may_be_written bytes (packet.Failure id) fits r = let e = ended_length false id bytes r in (refl, e.0, e.1)
 read_may_be_written bytes (packet.Identity request id text) fits r =
     let number : length_of bytes ≡ 5 + length text = ap (λ (b : List ℕ). length_of b) r.parts ∙ from_be_bytes-to_be_bytes_2 (5 + length text) r.size in
-    (refl, omega (arith, number))
+    (refl, omega (arith, number), omega (arith, number, ap length r.parts, length-append text r.past))
 read_may_be_written bytes (packet.Aka request id m s list) fits r =
     let w = read_is_writable r.0 list (attrs_are_bytes request id (kind_of m) (number_of s) r.0 bytes fits r.1) r.2 in
-    (w.0, omega (arith, w.1, (attrs_within request id (kind_of m) (number_of s) r.0 bytes r.1).0))
+    let within = attrs_within request id (kind_of m) (number_of s) r.0 bytes r.1 in
+    (w.0, omega (arith, w.1, within.0), within.1)

@@ -1,5 +1,5 @@
 -- What holds of all bytes and all packets.
-use Rattle.std.specs.Prelude.{◌≡◌, ◌≢◌, ℕ, Bool, true, false, List, ◌++◌, length}
+use Rattle.std.specs.Prelude.{◌≡◌, ◌≢◌, ◌≤◌, ℕ, Bool, true, false, List, ◌++◌, length}
 use Rattle.std.specs.List.{list_all}
 use Rattle.auc_attr.specs.Frame.{length_of}
 use Rattle.auc_attr.specs.Laws.{AreBytes, is_value}
@@ -31,6 +31,6 @@ RefusedIsNotRead = (bytes : List ℕ) (p : Packet) (f : PacketRefusal) → f ≢
 abbrev pub WrittenIsRead : Type 0
 WrittenIsRead = (p : Packet) (past : List ℕ) → MayBeWritten p → ReadsPacket (packet_text p ++ past) p
 
--- what is read may be written, in as many bytes as Length says
+-- what is read has attributes that may be written, and is written in as many bytes as Length says, no more than there are
 abbrev pub ReadIsWritable : Type 0
-ReadIsWritable = (bytes : List ℕ) (p : Packet) → AreBytes bytes → ReadsPacket bytes p → (writable_attrs p ≡ true) × (length (packet_text p) ≡ length_of bytes)
+ReadIsWritable = (bytes : List ℕ) (p : Packet) → AreBytes bytes → ReadsPacket bytes p → (writable_attrs p ≡ true) × (length (packet_text p) ≡ length_of bytes) × (length_of bytes ≤ length bytes)

@@ -22,8 +22,8 @@ pub fn written_packets_are_read()
     ensures { WrittenIsRead }
 {}
 
-/// A packet that is read may be written where it isn't too long, and takes as many bytes as Length says:
-/// only reserved bytes and fill differ.
+/// A packet that is read may be written where it isn't too long, and takes as many bytes as Length says, no
+/// more than there are: only reserved bytes and fill differ.
 pub fn read_packets_may_be_written()
     ensures { ReadIsWritable }
 {}

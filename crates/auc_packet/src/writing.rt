@@ -1,6 +1,6 @@
 //! Packets as bytes.
 
-ghost use Rattle.std.specs.Prelude.{◌≡◌, ◌+◌, ◌≤◌, ◌++◌, length, true, OnOk, OnErr, [], ◌∷◌};
+ghost use Rattle.std.specs.Prelude.{◌≡◌, ◌+◌, ◌≤◌, ◌++◌, length, true, IsTrue, ◌↔◌, OnOk, OnErr, [], ◌∷◌};
 ghost use Rattle.std.specs.Int.{w16, to_be_bytes};
 ghost use Rattle.auc_attr.specs.Frame.{end_code, message_code};
 ghost use Rattle.auc_attr.specs.Spelling.{spelling, writable};
@@ -73,6 +73,39 @@ pub fn size_of(packet: &Packet) -> usize
             subtype: _,
             attrs,
         } => 8 + size_of_attrs(attrs),
+    }
+}
+
+impl Packet {
+    /// Whether the packet may be written: its attributes may, and it has at most 4096 bytes.
+    pub fn writable(&self) -> bool
+        ensures { IsTrue result ↔ MayBeWritten self.now }
+    {
+        match self {
+            Packet::Success(_) | Packet::Failure(_) => true,
+            Packet::Identity {
+                request: _,
+                id: _,
+                text,
+            } => text.len() <= 4091,
+            Packet::Aka {
+                request: _,
+                id: _,
+                method: _,
+                subtype: _,
+                attrs,
+            } => attrs.writable() && are_short(attrs),
+        }
+    }
+}
+
+fn are_short(attrs: &AttrList) -> bool
+    requires { writable attrs.now ≡ true }
+    ensures { IsTrue result ↔ (length (spelling attrs.now) ≤ 4088) }
+{
+    match attrs.size() {
+        Some(size) => size <= 4088,
+        None => false,
     }
 }
 

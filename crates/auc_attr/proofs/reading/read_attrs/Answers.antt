@@ -1,7 +1,6 @@
-use Rattle.std.proofs.Common.{◌≡◌, ℕ, ◌<◌, List, length, refl, arith, rules}
+use Rattle.std.proofs.Common.{◌≡◌, ◌<◌, length, arith}
 use Rattle.std.proofs.lemmas.Bool.Decides.{nat_tests}
 use Rattle.std.proofs.lemmas.Result.{err_from_is_err_and}
-use Rattle.auc_attr.specs.Item.{item}
 use Rattle.auc_attr.proofs.ItemLemmas.{attr_fits, attr_shorter}
 use Rattle.auc_attr.proofs.WalkLemmas.{list_begins, list_goes_on, taken, first_fault, ended}
 use Rattle.auc_attr.proofs.reading.read_attrs.Goals as goal

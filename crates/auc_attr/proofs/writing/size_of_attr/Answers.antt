@@ -1,4 +1,4 @@
-use Rattle.std.proofs.Common.{◌≡◌, length, ap, ◌∙◌}
+use Rattle.std.proofs.Common.{length, ap, ◌∙◌}
 use Rattle.auc_attr.specs.Spelling.{item_text}
 use Rattle.auc_attr.proofs.writing.size_of_attr.Goals as goal
 

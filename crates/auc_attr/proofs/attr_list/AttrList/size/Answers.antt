@@ -1,5 +1,4 @@
-use Rattle.std.proofs.Common.{ℕ, ◌+◌, ◌^◌, ◌<◌, ◌≤◌, sym, subst, arith}
-use Rattle.auc_attr.proofs.WritingLemmas.{IsCountedTo, past_most, count_begins, count_first, count_goes_on, count_within, count_at, count_done}
+use Rattle.auc_attr.proofs.WritingLemmas.{past_most, count_begins, count_first, count_goes_on, count_within, count_at, count_done}
 use Rattle.auc_attr.proofs.attr_list.AttrList.size.Goals as goal
 
 pub loop-attr-init : goal.loop-attr-init
