@@ -1,15 +1,15 @@
 -- For the closings: what one centre counted is what the lines and their entries say.
-use Rattle.std.proofs.Common.{◌≡◌, ◌≢◌, ℕ, zero, suc, ◌+◌, ◌-◌, ◌<◌, ◌≤◌, ◌⊎◌, All, Bool, true, false, eqb, List, [], ◌∷◌, ◌++◌, length, get_or, refl, sym, ◌∙◌, ap, subst, arith, inl, inr, min}
+use Rattle.std.proofs.Common.{◌≡◌, ◌≢◌, ℕ, suc, ◌+◌, ◌-◌, ◌<◌, ◌≤◌, ◌⊎◌, All, Bool, true, false, eqb, List, [], ◌∷◌, ◌++◌, length, get_or, refl, sym, ◌∙◌, ap, subst, arith, inl, inr, min}
 use Rattle.std.specs.Prelude.{◌==◌, if◌then◌else◌}
 use Rattle.std.specs.List.{list_any}
-use Rattle.std.proofs.Math.ListN.{set, length-set}
+use Rattle.std.proofs.Math.ListN.{length-set}
 use Rattle.std.proofs.lemmas.List.Sums.{sum_by-cons}
 use Rattle.std.proofs.lemmas.Bool.Decides.{eqb_tells}
 use Rattle.auc_sqn.specs.declared.number.TheConstants.{MAX_SEQ}
 use Rattle.auc_history.specs.declared.entry.Entry.{Entry}
 use Rattle.auc_history.specs.declared.entry.Entry.TheVariants.{Drawn}
 use Rattle.auc_history.specs.History.{drawn, skipped, skipped_by}
-use Rattle.auc_history.specs.Split.{Splits, all_entries}
+use Rattle.auc_history.specs.Split.{all_entries}
 use Rattle.auc_history.proofs.SplitLemmas.{split_counts_its_numbers}
 use Rattle.auc_world.specs.declared.record.Closing.{Closing}
 use Rattle.auc_world.specs.declared.record.LineRecord.{LineRecord}
@@ -96,7 +96,7 @@ pub closing_of-played : (sub : ℕ) (openings words : List ℕ) (jobs : List (Li
     → closing_of sub (get_or openings sub 0) (get_or words sub 0) jobs ≡ counted_closing sub (get_or openings sub 0) (get_or words sub 0)
 closing_of-played sub openings words jobs inside within played =
     let whole = split_counts_its_numbers MAX_SEQ (get_or openings sub 0) (get_or words sub 0) (entries_of_jobs sub [] jobs)
-        (jobs_split sub openings words jobs inside within played) in
+    (jobs_split sub openings words jobs inside within played) in
     let passes = ap skipped (all_entries-of_jobs sub [] jobs) ∙ skipped-of_lines sub [] (all_lines jobs) in
     let releases = counts_released sub (all_lines jobs) openings words inside played in
     closing_of-counted sub (get_or openings sub 0) (get_or words sub 0) jobs (omega (arith, whole, passes)) passes (omega (arith, releases))
@@ -110,10 +110,10 @@ closings_from-counted sub (opening ∷ openings) [] jobs each = refl
 closings_from-counted sub (opening ∷ openings) (word ∷ words) jobs each =
     let here : sub + 0 ≡ sub = omega arith in
     let first : closing_of sub opening word jobs ≡ counted_closing sub opening word =
-        subst (λ (s : ℕ). closing_of s opening word jobs ≡ counted_closing s opening word) here (each 0 (omega arith)) in
+    subst (λ (s : ℕ). closing_of s opening word jobs ≡ counted_closing s opening word) here (each 0 (omega arith)) in
     let rest = closings_from-counted (sub + 1) openings words jobs (λ k k<n.
-        let there : sub + suc k ≡ sub + 1 + k = omega arith in
-        subst (λ (s : ℕ). closing_of s (get_or openings k 0) (get_or words k 0) jobs ≡ counted_closing s (get_or openings k 0) (get_or words k 0)) there (each (suc k) (omega arith))) in
+    let there : sub + suc k ≡ sub + 1 + k = omega arith in
+    subst (λ (s : ℕ). closing_of s (get_or openings k 0) (get_or words k 0) jobs ≡ counted_closing s (get_or openings k 0) (get_or words k 0)) there (each (suc k) (omega arith))) in
     rw (first, rest) refl
 
 -- a round whose records are what its jobs give, with the counted closings, is lawful
@@ -122,14 +122,15 @@ pub lawful_round : (openings words : List ℕ) (jobs : List (List Line)) (number
     → Plays openings (all_lines records) words → closings ≡ counted_closings 0 openings words
     → IsLawfulRound openings jobs (record { number = number; jobs = records; closings = closings }) words
 lawful_round openings words jobs number records closings within sizes given played counted = record {
-    sizes = sizes;
-    fits = λ sub inside.
-        let known : sub < length openings = omega arith in
-        let bound = played_bound sub (all_lines records) [] openings words (stands_at_first sub openings known (within sub 0 known)) played in
-        omega arith;
-    given = given;
-    split = λ sub inside. jobs_split sub openings words records inside (within sub 0 inside) played;
-    closings = counted ∙ sym (closings_from-counted 0 openings words records (λ sub inside.
-        let here : sub ≡ 0 + sub = omega arith in
-        subst (λ (s : ℕ). closing_of s (get_or openings sub 0) (get_or words sub 0) records ≡ counted_closing s (get_or openings sub 0) (get_or words sub 0))
-            here (closing_of-played sub openings words records inside (within sub 0 inside) played))) }
+  sizes = sizes;
+  fits = λ sub inside.
+      let known : sub < length openings = omega arith in
+      let bound = played_bound sub (all_lines records) [] openings words (stands_at_first sub openings known (within sub 0 known)) played in
+      omega arith;
+  given = given;
+  split = λ sub inside. jobs_split sub openings words records inside (within sub 0 inside) played;
+  closings = counted ∙ sym (closings_from-counted 0 openings words records (λ sub inside.
+      let here : sub ≡ 0 + sub = omega arith in
+      subst (λ (s : ℕ). closing_of s (get_or openings sub 0) (get_or words sub 0) records ≡ counted_closing s (get_or openings sub 0) (get_or words sub 0))
+      here (closing_of-played sub openings words records inside (within sub 0 inside) played)));
+}

@@ -1,5 +1,5 @@
 -- For the transcript: the vectors of a subscriber have different numbers, over all rounds.
-use Rattle.std.proofs.Common.{◌≡◌, ◌≢◌, ℕ, zero, suc, ◌+◌, ◌<◌, ◌≤◌, ◌⊎◌, Bool, true, false, List, [], ◌∷◌, ◌++◌, length, get_or, All, AllPairs, map, refl, sym, ◌∙◌, ap, subst, arith, inl, inr, min}
+use Rattle.std.proofs.Common.{◌≡◌, ℕ, zero, suc, ◌+◌, ◌<◌, ◌≤◌, ◌⊎◌, Bool, true, false, List, [], ◌∷◌, ◌++◌, length, get_or, All, refl, ◌∙◌, ap, subst, arith, inl, inr, min}
 use Rattle.std.specs.Prelude.{◌==◌, ◌&&◌, nat_lt, nat_le, if◌then◌else◌}
 use Rattle.std.specs.List.{list_any}
 use Rattle.std.proofs.Math.ListN.{get_or-map, length-map}
@@ -8,8 +8,8 @@ use Rattle.std.proofs.lemmas.Bool.Decides.{nat_tests}
 use Rattle.auc_sqn.specs.declared.number.TheConstants.{MAX_SEQ}
 use Rattle.auc_history.specs.declared.entry.Entry.{Entry}
 use Rattle.auc_history.specs.declared.entry.Entry.TheVariants.{Drawn}
-use Rattle.auc_history.specs.History.{covered, drawn}
-use Rattle.auc_history.specs.Split.{Splits, all_entries, times}
+use Rattle.auc_history.specs.History.{drawn}
+use Rattle.auc_history.specs.Split.{all_entries, times}
 use Rattle.auc_history.proofs.ListLemmas.{times-cons, times-append, differ_from_times}
 use Rattle.auc_history.proofs.SplitLemmas.{times-drawn}
 use Rattle.auc_script.specs.declared.part.Line.{Line}
@@ -51,7 +51,7 @@ times-numbers n sub before (Vector s m ∷ lines) =
     drawn-vector (s == sub) n m (numbers_of sub lines) (entries_of_lines sub (before ++ Vector s m ∷ []) lines) (times-numbers n sub (before ++ Vector s m ∷ []) lines)
 times-numbers n sub before (Exhausted s word ∷ lines) =
     drawn-mark (s == sub) (list_any (reports sub word) before) n (word + 1) (numbers_of sub lines) (entries_of_lines sub (before ++ Exhausted s word ∷ []) lines)
-        (times-numbers n sub (before ++ Exhausted s word ∷ []) lines)
+    (times-numbers n sub (before ++ Exhausted s word ∷ []) lines)
 
 -- the numbers of some lines and of further ones
 numbers_of-append : (sub : ℕ) (xs ys : List LineRecord) → numbers_of sub (xs ++ ys) ≡ numbers_of sub xs ++ numbers_of sub ys
@@ -118,7 +118,7 @@ round_once n sub openings words jobs round inside lawful = cases (cases_lt MAX_S
         let covering = times-drawn n (all_entries (entries_of_jobs sub [] round.jobs)) in
         let splits = lawful.split sub inside in
         once_within (times n (numbers_of sub (all_lines round.jobs))) n (get_or openings sub 0) (get_or words sub 0) within
-            (subst (λ (bound : ℕ). times n (numbers_of sub (all_lines round.jobs)) ≤ bound) (splits.once n) (omega (arith, fewer, same, covering)))
+        (subst (λ (bound : ℕ). times n (numbers_of sub (all_lines round.jobs)) ≤ bound) (splits.once n) (omega (arith, fewer, same, covering)))
 
 -- where a subscriber is opened again
 pub get_or-reopened : (words : List ℕ) (sub : ℕ) → get_or (reopened words) sub 0 ≡ min (get_or words sub 0) MAX_SEQ

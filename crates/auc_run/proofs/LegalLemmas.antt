@@ -1,5 +1,5 @@
 -- For the rounds: the entries for which the lines of a round stand are a legal history of each subscriber.
-use Rattle.std.proofs.Common.{◌≡◌, ◌≢◌, ℕ, ◌+◌, ◌<◌, ◌≤◌, ◌⊎◌, Bool, true, false, eqb, ltb, List, [], ◌∷◌, ◌++◌, length, get_or, refl, sym, ◌∙◌, ap, subst, arith, ⊎_elim, inl, inr}
+use Rattle.std.proofs.Common.{◌≡◌, ◌≢◌, ℕ, ◌+◌, ◌<◌, ◌≤◌, ◌⊎◌, Bool, true, false, eqb, ltb, List, [], ◌∷◌, ◌++◌, length, get_or, refl, sym, ◌∙◌, ap, subst, arith, inl, inr}
 use Rattle.std.specs.List.{list_any}
 use Rattle.std.specs.Prelude.{◌||◌, ◌==◌, if◌then◌else◌}
 use Rattle.std.proofs.Math.ListN.{set, length-set}
@@ -10,11 +10,10 @@ use Rattle.std.proofs.lemmas.List.Folds.{list_any-append}
 use Rattle.auc_sqn.specs.declared.number.TheConstants.{MAX_SEQ}
 use Rattle.auc_history.specs.declared.entry.Entry.{Entry}
 use Rattle.auc_history.specs.declared.entry.Entry.TheVariants.{Drawn}
-use Rattle.auc_history.specs.History.{IsLegal}
-use Rattle.auc_history.proofs.Walk.{Goes, IsLegal-from_goes}
+use Rattle.auc_history.proofs.Walk.{Goes}
 use Rattle.auc_world.specs.declared.record.LineRecord.{LineRecord}
 use Rattle.auc_world.specs.declared.record.LineRecord.TheVariants.{Vector, Exhausted}
-use Rattle.auc_run.specs.Entries.{reports, entries_of_line, entries_of_lines}
+use Rattle.auc_run.specs.Entries.{reports, entries_of_lines}
 use Rattle.auc_run.specs.Serving.{Plays}
 
 -- the lines so far have reported the subscriber's mark where its word stands above its numbers, and only there
@@ -65,13 +64,15 @@ Stands-vector sub s n before old mid (inl same) below up is stands =
     record {
       inside = rw (is, length-set {A = ℕ}) stands.inside;
       bound = omega arith;
-      tells = Tells-quiet sub (get_or old sub 0) (get_or mid sub 0) before (Vector s n) refl (grind (arith, nat_tests)) stands.tells }
+      tells = Tells-quiet sub (get_or old sub 0) (get_or mid sub 0) before (Vector s n) refl (grind (arith, nat_tests)) stands.tells;
+    }
 Stands-vector sub s n before old mid (inr other) below up is stands =
     let word : get_or mid sub 0 ≡ get_or old sub 0 = word-set_other old mid s sub n other is in
     record {
       inside = rw (is, length-set {A = ℕ}) stands.inside;
       bound = omega arith;
-      tells = Tells-quiet sub (get_or old sub 0) (get_or mid sub 0) before (Vector s n) refl (ap (ltb MAX_SEQ) word) stands.tells }
+      tells = Tells-quiet sub (get_or old sub 0) (get_or mid sub 0) before (Vector s n) refl (ap (ltb MAX_SEQ) word) stands.tells;
+    }
 
 -- it stands so after the line of a spent subscriber
 pub Stands-spent : (sub s word : ℕ) (before : List LineRecord) (old mid : List ℕ) → ((eqb s sub ≡ true) × (s ≡ sub)) ⊎ ((eqb s sub ≡ false) × (s ≢ sub))
@@ -82,13 +83,15 @@ Stands-spent sub s word before old mid (inl (e, same)) is_max is stands =
     record {
       inside = rw (is, length-set {A = ℕ}) stands.inside;
       bound = omega arith;
-      tells = Tells-report sub (get_or mid sub 0) before (Exhausted s word) (rw (e, is_max) refl) (rw now refl) }
+      tells = Tells-report sub (get_or mid sub 0) before (Exhausted s word) (rw (e, is_max) refl) (rw now refl);
+    }
 Stands-spent sub s word before old mid (inr (e, other)) is_max is stands =
     let now : get_or mid sub 0 ≡ get_or old sub 0 = word-set_other old mid s sub (MAX_SEQ + 1) other is in
     record {
       inside = rw (is, length-set {A = ℕ}) stands.inside;
       bound = omega arith;
-      tells = Tells-quiet sub (get_or old sub 0) (get_or mid sub 0) before (Exhausted s word) (rw e refl) (ap (ltb MAX_SEQ) now) stands.tells }
+      tells = Tells-quiet sub (get_or old sub 0) (get_or mid sub 0) before (Exhausted s word) (rw e refl) (ap (ltb MAX_SEQ) now) stands.tells;
+    }
 
 -- the entry of a vector's line goes to where the further entries begin
 goes-vector : (sub s n closing : ℕ) (old mid : List ℕ) (entries : List Entry)
@@ -121,13 +124,13 @@ goes-spent : (sub s word closing : ℕ) (before : List LineRecord) (old mid : Li
     → ((eqb s sub ≡ true) × (s ≡ sub)) ⊎ ((eqb s sub ≡ false) × (s ≢ sub)) → MAX_SEQ ≤ get_or old s 0 → word ≡ MAX_SEQ
     → mid ≡ set old s (MAX_SEQ + 1) → Stands sub before old → Goes MAX_SEQ (get_or mid sub 0) entries closing
     → Goes MAX_SEQ (get_or old sub 0)
-      ((if s == sub then (if list_any (reports sub word) before then [] else Drawn (word + 1) ∷ []) else []) ++ entries) closing
+    ((if s == sub then (if list_any (reports sub word) before then [] else Drawn (word + 1) ∷ []) else []) ++ entries) closing
 goes-spent sub s word closing before old mid entries (inl (e, same)) above is_max is stands more =
     let now : get_or mid sub 0 ≡ MAX_SEQ + 1 = word-set_same old mid s sub (MAX_SEQ + 1) same stands.inside is in
     let from : get_or old s 0 ≡ get_or old sub 0 = ap (λ (k : ℕ). get_or old k 0) same in
     let told : list_any (reports sub word) before ≡ ltb MAX_SEQ (get_or old sub 0) = rw is_max stands.tells in
     rw e (goes-mark sub s word closing before old entries (list_any (reports sub word) before) refl told stands.bound (omega arith) is_max
-        (subst (λ (w : ℕ). Goes MAX_SEQ w entries closing) now more))
+    (subst (λ (w : ℕ). Goes MAX_SEQ w entries closing) now more))
 goes-spent sub s word closing before old mid entries (inr (e, other)) above is_max is stands more =
     rw e (subst (λ (w : ℕ). Goes MAX_SEQ w entries closing) (word-set_other old mid s sub (MAX_SEQ + 1) other is) more)
 
@@ -142,12 +145,12 @@ pub goes-lines : (sub : ℕ) (lines before : List LineRecord) (old new : List �
 goes-lines sub [] before old new stands played = ap (λ (words : List ℕ). get_or words sub 0) played
 goes-lines sub (Vector s n ∷ lines) before old new stands (mid, ((below, up), is), rest) =
     goes-vector sub s n (get_or new sub 0) old mid (entries_of_lines sub (before ++ Vector s n ∷ []) lines)
-        (eqb_tells s sub) up is stands.inside
-        (goes-lines sub lines (before ++ Vector s n ∷ []) mid new
-            (Stands-vector sub s n before old mid (apart s sub (eqb_tells s sub)) below up is stands) rest)
+    (eqb_tells s sub) up is stands.inside
+    (goes-lines sub lines (before ++ Vector s n ∷ []) mid new
+    (Stands-vector sub s n before old mid (apart s sub (eqb_tells s sub)) below up is stands) rest)
 goes-lines sub (Exhausted s word ∷ lines) before old new stands (mid, ((above, is_max), is), rest) =
     let spent : mid ≡ set old s (MAX_SEQ + 1) = is ∙ ap (λ (w : ℕ). set old s (w + 1)) is_max in
     goes-spent sub s word (get_or new sub 0) before old mid (entries_of_lines sub (before ++ Exhausted s word ∷ []) lines)
-        (eqb_tells s sub) above is_max spent stands
-        (goes-lines sub lines (before ++ Exhausted s word ∷ []) mid new
-            (Stands-spent sub s word before old mid (eqb_tells s sub) is_max spent stands) rest)
+    (eqb_tells s sub) above is_max spent stands
+    (goes-lines sub lines (before ++ Exhausted s word ∷ []) mid new
+    (Stands-spent sub s word before old mid (eqb_tells s sub) is_max spent stands) rest)

@@ -1,24 +1,21 @@
 -- For the top call: what was written is the text of exactly one lawful transcript, and each cause has its status.
-use Rattle.std.proofs.Common.{◌≡◌, ℕ, ◌+◌, ◌^◌, ◌<◌, ◌≤◌, List, [], ◌∷◌, length, All, map, Option, Some, None, Result, Ok, Err, refl, sym, ◌∙◌, ap, subst, arith}
+use Rattle.std.proofs.Common.{◌≡◌, ℕ, ◌<◌, ◌≤◌, List, [], length, All, map, Option, Some, None, Result, Ok, Err, refl, sym, ◌∙◌, ap, subst, arith}
 use Rattle.std.proofs.lemmas.List.{length-map}
 use Rattle.std.proofs.lemmas.List.Elements.{All-weaker}
-use Rattle.auc_edge.specs.Identity.{Identity, IsIdentity}
 use Rattle.auc_edge.specs.Shelf.{File, file_of}
-use Rattle.auc_edge.specs.Sink.{Appends}
 use Rattle.auc_script.specs.declared.part.Line.{Line}
 use Rattle.auc_script.specs.declared.part.Line.TheVariants.{Draw}
 use Rattle.auc_script.specs.declared.part.Part.{Part}
 use Rattle.auc_script.specs.declared.part.Part.TheVariants.{Round}
 use Rattle.auc_script.specs.declared.script.Script.{Script}
-use Rattle.auc_script.specs.Limits.{IsLine, AreJobs, IsPart, IsWithin}
+use Rattle.auc_script.specs.Limits.{IsLine, IsPart, IsWithin}
 use Rattle.auc_script.specs.declared.refusal.ScriptRefusal.{ScriptRefusal}
 use Rattle.auc_script.specs.Reading.{script_of, script_in, read_lines, beginning, lines_of}
 use Rattle.auc_script.specs.Scenario.{Scenario, parts_of}
 use Rattle.auc_subs.specs.declared.row.Row.{Row}
-use Rattle.auc_subs.specs.Subscriber.{AreSubscribers, IsRow}
 use Rattle.auc_world.specs.declared.record.RoundRecord.{RoundRecord}
 use Rattle.auc_world.specs.Record.{NamesBelow}
-use Rattle.auc_print.specs.OneText.{AreIdentities, RoundFits, IsPrintable}
+use Rattle.auc_print.specs.OneText.{IsPrintable}
 use Rattle.auc_print.specs.Text.{identities_of, transcript_text}
 use Rattle.auc_print.proofs.OneTextLemmas.{one_transcript, are_identities}
 use Rattle.auc_run.specs.declared.status.Status.{Status}
@@ -26,18 +23,19 @@ use Rattle.auc_run.specs.declared.status.Status.TheVariants.{Done, Usage, Scenar
 use Rattle.auc_run.specs.declared.top_call.TheConstants.{MAX_FILE}
 use Rattle.auc_run.specs.Lawful.{IsLawful, NumbersDiffer}
 use Rattle.auc_run.specs.Output.{WritesParts}
-use Rattle.auc_run.specs.Outcome.{IsOutput, RunsText, TextEnds, HasText, FileEnds, IsServed, MayEndTooLong}
-use Rattle.auc_run.specs.Serving.{IsKnownLine, AreKnown, AreAllKnown, IsKnownPart}
+use Rattle.auc_run.specs.Outcome.{IsOutput, TextEnds, HasText, FileEnds, IsServed, MayEndTooLong}
+use Rattle.auc_run.specs.Serving.{IsKnownLine, AreKnown, IsKnownPart}
 use Rattle.auc_run.proofs.DifferLemmas.{numbers_differ}
 use Rattle.auc_run.proofs.OutputLemmas.{first_within}
 use Rattle.auc_run.proofs.PrintableLemmas.{rounds_printable}
 
 -- a part that was read names subscribers that there are
 known_part : (rows : List Row) (part : Part) → IsPart rows part → IsKnownPart (length rows) part
-known_part rows (Round jobs) are =
-    (All-weaker (λ job. All (IsLine rows) job) (AreKnown (length rows))
+known_part rows (Round jobs) are = (
+  All-weaker (λ job. All (IsLine rows) job) (AreKnown (length rows))
       (λ job lines. All-weaker (IsLine rows) (IsKnownLine (length rows)) (known_line rows) job lines) jobs are.lines,
-     (let limit = are.limit in omega arith))
+  (let limit = are.limit in omega arith),
+)
   where
     known_line : (rows : List Row) (line : Line) → IsLine rows line → IsKnownLine (length rows) line
     known_line rows (Draw sub count) (named, least, most) = named
@@ -49,7 +47,7 @@ printable rows script rounds within few lawful =
     let openings = length-map rows (λ (row : Row). row.seq) in
     let identities = length-map rows (λ (row : Row). row.imsi) in
     let known : All (IsKnownPart (length (map (λ row. row.seq) rows))) script.parts =
-        subst (λ (count : ℕ). All (IsKnownPart count) script.parts) (sym openings) (All-weaker (IsPart rows) (IsKnownPart (length rows)) (known_part rows) script.parts within.parts) in
+    subst (λ (count : ℕ). All (IsKnownPart count) script.parts) (sym openings) (All-weaker (IsPart rows) (IsKnownPart (length rows)) (known_part rows) script.parts within.parts) in
     let both = rounds_printable 1 (map (λ row. row.seq) rows) script.parts rounds known (omega arith) lawful in
     record { named = subst (λ (count : ℕ). All (NamesBelow count) rounds) (openings ∙ sym identities) both.0; fit = both.1 }
 
@@ -58,7 +56,7 @@ is_output : (rows : List Row) (script : Script) (rounds : List RoundRecord) → 
     → IsLawful rows script.parts rounds → IsOutput rows script.parts (transcript_text (identities_of rows) rounds)
 is_output rows script rounds within few lawful =
     let subscribers = within.subscribers in
-    let identities = are_identities rows (All-weaker IsRow (λ row. IsIdentity row.imsi.digits row.imsi.number) (λ row is. is.identity) rows subscribers.each) subscribers.differ in
+    let identities = are_identities rows subscribers in
     record {
       transcript = rounds;
       lawful = lawful;
@@ -66,7 +64,8 @@ is_output rows script rounds within few lawful =
       only = λ other is same. sym (one_transcript (identities_of rows) rounds other identities
           (printable rows script rounds within few lawful) (printable rows script other within few is) same);
       differ = subst (λ (count : ℕ). NumbersDiffer count rounds) (length-map rows (λ (row : Row). row.seq))
-          (numbers_differ 1 (map (λ row. row.seq) rows) script.parts rounds (first_within rows subscribers) lawful) }
+          (numbers_differ 1 (map (λ row. row.seq) rows) script.parts rounds (first_within rows subscribers) lawful);
+    }
 
 -- a scenario has at most one part
 few_in : (round : Option (List (List Line))) → length (parts_of round) ≤ 1
@@ -96,10 +95,13 @@ pub text_ends : (text : List ℕ) (status : Status) (script : Script) (rows : Li
 text_ends text Done script rows old new read within served writes =
     let written = writes refl in
     record {
-      script = script; rows = rows; read = read;
+      script = script;
+      rows = rows;
+      read = read;
       output = transcript_text (identities_of rows) written.rounds;
       is_output = is_output rows script written.rounds within (few_parts text script rows read) written.lawful;
-      written = written.written }
+      written = written.written;
+    }
 text_ends text WriteFault script rows old new read within served writes = tt
 text_ends text NoMemory script rows old new read within served writes = tt
 text_ends text Usage script rows old new read within served writes = absurd served

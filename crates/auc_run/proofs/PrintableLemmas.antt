@@ -1,16 +1,15 @@
 -- For the transcript: a lawful one names subscribers alone, and its numbers have 64 bits, so its text is its own.
-use Rattle.std.proofs.Common.{◌≡◌, ◌≢◌, ℕ, zero, suc, ◌+◌, ◌-◌, ◌^◌, ◌<◌, ◌≤◌, ◌⊎◌, Bool, true, false, eqb, List, [], ◌∷◌, ◌++◌, length, get_or, All, refl, sym, ◌∙◌, ap, subst, arith, inl, inr, min}
-use Rattle.std.specs.Prelude.{◌==◌, nat_lt, nat_le, if◌then◌else◌}
+use Rattle.std.proofs.Common.{◌≡◌, ◌≢◌, ℕ, zero, suc, ◌+◌, ◌^◌, ◌<◌, ◌≤◌, ◌⊎◌, Bool, true, false, eqb, List, [], ◌∷◌, ◌++◌, length, get_or, All, refl, sym, ◌∙◌, ap, subst, arith, inl, inr, min}
+use Rattle.std.specs.Prelude.{◌==◌, if◌then◌else◌}
 use Rattle.std.specs.List.{list_any}
 use Rattle.std.proofs.lemmas.List.{length-map}
 use Rattle.std.proofs.lemmas.List.Elements.{All-nil, All-cons, All-head, All-tail, All-append, All-same, All-get_or, All-weaker}
 use Rattle.std.proofs.lemmas.List.Folds.{list_any_at, list_any-append}
 use Rattle.std.proofs.lemmas.Bool.Decides.{nat_tests, eqb_tells}
 use Rattle.auc_sqn.specs.declared.number.TheConstants.{MAX_SEQ}
-use Rattle.auc_edge.specs.Identity.{Identity}
 use Rattle.auc_history.specs.declared.entry.Entry.{Entry}
 use Rattle.auc_history.specs.declared.entry.Entry.TheVariants.{Drawn}
-use Rattle.auc_history.specs.History.{covered, drawn, skipped}
+use Rattle.auc_history.specs.History.{drawn, skipped}
 use Rattle.auc_history.specs.Split.{Splits, all_entries, times}
 use Rattle.auc_history.proofs.ListLemmas.{times-cons}
 use Rattle.auc_history.proofs.SplitLemmas.{times-drawn, split_counts_its_numbers}
@@ -23,7 +22,7 @@ use Rattle.auc_world.specs.declared.record.Closing.{Closing}
 use Rattle.auc_world.specs.declared.record.LineRecord.{LineRecord}
 use Rattle.auc_world.specs.declared.record.LineRecord.TheVariants.{Vector, Exhausted}
 use Rattle.auc_world.specs.declared.record.RoundRecord.{RoundRecord}
-use Rattle.auc_print.specs.OneText.{AnswerFits, ClosingFits, RoundFits, IsPrintable}
+use Rattle.auc_print.specs.OneText.{AnswerFits, ClosingFits, RoundFits}
 use Rattle.auc_run.specs.Entries.{reports, entries_of_lines, entries_of_jobs, numbers_of, all_lines}
 use Rattle.auc_run.specs.Lawful.{DrawGives, JobGives, JobsGive, closing_of, closings_from, IsLawfulRound, reopened, AreLawful}
 use Rattle.auc_run.specs.Serving.{AreKnown, AreAllKnown, IsKnownPart}
@@ -53,8 +52,8 @@ job_given : (count : ℕ) (job : List Line) (lines : List LineRecord) → AreKno
 job_given count [] lines known given = All-same (IsGiven count) lines [] given (All-nil (IsGiven count))
 job_given count (Draw sub asked ∷ job) lines known (front, rest, cut, given, more) =
     All-same (IsGiven count) lines (front ++ rest) cut
-        (All-append (IsGiven count) front rest (draw_given count sub asked front (known 0 (Draw sub asked) (omega arith)) given)
-            (job_given count job rest (λ k d inside. known (suc k) d (omega arith)) more))
+    (All-append (IsGiven count) front rest (draw_given count sub asked front (known 0 (Draw sub asked) (omega arith)) given)
+    (job_given count job rest (λ k d inside. known (suc k) d (omega arith)) more))
 
 -- those of the jobs of a round
 jobs_given : (count : ℕ) (jobs : List (List Line)) (records : List (List LineRecord)) → AreAllKnown count jobs → JobsGive jobs records
@@ -63,7 +62,7 @@ jobs_given count [] records known given = rw given (All-nil (IsGiven count))
 jobs_given count (job ∷ jobs) [] known given = absurd given
 jobs_given count (job ∷ jobs) (lines ∷ records) known (given, more) =
     All-append (IsGiven count) lines (all_lines records) (job_given count job lines (known 0 job (omega arith)) given)
-        (jobs_given count jobs records (λ k d inside. known (suc k) d (omega arith)) more)
+    (jobs_given count jobs records (λ k d inside. known (suc k) d (omega arith)) more)
 
 -- there are as many records as jobs
 length-given : (jobs : List (List Line)) (records : List (List LineRecord)) → JobsGive jobs records → length records ≡ length jobs
@@ -80,6 +79,7 @@ each_job P (job ∷ jobs) all =
     right : (xs ys : List LineRecord) → All P (xs ++ ys) → All P ys
     right [] ys both = both
     right (x ∷ xs) ys both = right xs ys (All-tail P x (xs ++ ys) both)
+
     left : (xs ys : List LineRecord) → All P (xs ++ ys) → All P xs
     left [] ys both = All-nil P
     left (x ∷ xs) ys both = All-cons P x xs (All-head P x (xs ++ ys) both) (left xs ys (All-tail P x (xs ++ ys) both))
@@ -115,11 +115,11 @@ pub mark_drawn : (sub word : ℕ) (before lines : List LineRecord) → list_any 
 mark_drawn sub word before [] quiet reported = absurd (cc)
 mark_drawn sub word before (Vector s n ∷ lines) quiet reported =
     drawn_more (s == sub) (word + 1) n (entries_of_lines sub (before ++ Vector s n ∷ []) lines)
-        (mark_drawn sub word (before ++ Vector s n ∷ []) lines (quiet_more sub word before (Vector s n) quiet refl) reported)
+    (mark_drawn sub word (before ++ Vector s n ∷ []) lines (quiet_more sub word before (Vector s n) quiet refl) reported)
 mark_drawn sub word before (Exhausted s w ∷ lines) quiet reported =
     cases (eqb_tells s sub) (eqb_tells w word)
-        (λ other more. drawn_more_mark (s == sub) (list_any (reports sub w) before) (word + 1) (w + 1) (entries_of_lines sub (before ++ Exhausted s w ∷ []) lines)
-            (mark_drawn sub word (before ++ Exhausted s w ∷ []) lines (quiet_more sub word before (Exhausted s w) quiet other) more))
+    (λ other more. drawn_more_mark (s == sub) (list_any (reports sub w) before) (word + 1) (w + 1) (entries_of_lines sub (before ++ Exhausted s w ∷ []) lines)
+    (mark_drawn sub word (before ++ Exhausted s w ∷ []) lines (quiet_more sub word before (Exhausted s w) quiet other) more))
   where
     cases : ((eqb s sub ≡ true) × (s ≡ sub)) ⊎ ((eqb s sub ≡ false) × (s ≢ sub)) → ((eqb w word ≡ true) × (w ≡ word)) ⊎ ((eqb w word ≡ false) × (w ≢ word))
         → (reports sub word (Exhausted s w) ≡ false → list_any (reports sub word) lines ≡ true → 1 ≤ times (word + 1) (drawn (entries_of_lines sub before (Exhausted s w ∷ lines))))
@@ -142,7 +142,7 @@ length-numbers sub before (Vector s n ∷ lines) = vector (s == sub) (length-num
   where
     vector : (there : Bool) → length (numbers_of sub lines) ≤ length (drawn (entries_of_lines sub (before ++ Vector s n ∷ []) lines))
         → length (if there then n ∷ numbers_of sub lines else numbers_of sub lines)
-          ≤ length (drawn ((if there then Drawn n ∷ [] else []) ++ entries_of_lines sub (before ++ Vector s n ∷ []) lines))
+        ≤ length (drawn ((if there then Drawn n ∷ [] else []) ++ entries_of_lines sub (before ++ Vector s n ∷ []) lines))
     vector true rest = omega arith
     vector false rest = rest
 length-numbers sub before (Exhausted s word ∷ lines) =
@@ -150,7 +150,7 @@ length-numbers sub before (Exhausted s word ∷ lines) =
   where
     mark : (there told : Bool) → length (numbers_of sub lines) ≤ length (drawn (entries_of_lines sub (before ++ Exhausted s word ∷ []) lines))
         → length (numbers_of sub lines)
-          ≤ length (drawn ((if there then (if told then [] else Drawn (word + 1) ∷ []) else []) ++ entries_of_lines sub (before ++ Exhausted s word ∷ []) lines))
+        ≤ length (drawn ((if there then (if told then [] else Drawn (word + 1) ∷ []) else []) ++ entries_of_lines sub (before ++ Exhausted s word ∷ []) lines))
     mark true true rest = rest
     mark true false rest = omega arith
     mark false told rest = rest
@@ -160,8 +160,8 @@ lines_fit : (openings words : List ℕ) (jobs : List (List Line)) (round : Round
     → AreAllKnown (length openings) jobs → All AnswerFits (all_lines round.jobs)
 lines_fit openings words jobs round lawful known = λ k d inside.
     fits (get_or (all_lines round.jobs) k d)
-        (All-get_or (IsGiven (length openings)) (all_lines round.jobs) k d inside (jobs_given (length openings) jobs round.jobs known lawful.given))
-        (λ sub word reported. list_any_at (reports sub word) (all_lines round.jobs) k d inside reported)
+    (All-get_or (IsGiven (length openings)) (all_lines round.jobs) k d inside (jobs_given (length openings) jobs round.jobs known lawful.given))
+    (λ sub word reported. list_any_at (reports sub word) (all_lines round.jobs) k d inside reported)
   where
     fits : (line : LineRecord) → IsGiven (length openings) line
         → ((sub word : ℕ) → reports sub word line ≡ true → list_any (reports sub word) (all_lines round.jobs) ≡ true) → AnswerFits line
@@ -195,18 +195,26 @@ closing_fits : (count sub opening closing : ℕ) (jobs : List (List LineRecord))
 closing_fits count sub opening closing jobs counts = cases (opening == closing)
   where
     cases : (stood : Bool) → All (IsClosing count) (if stood then [] else record {
-        sub = sub; first = opening; last = closing;
-        drawn = length (drawn (all_entries (entries_of_jobs sub [] jobs)));
-        skipped = skipped (all_entries (entries_of_jobs sub [] jobs));
-        released = length (numbers_of sub (all_lines jobs)); withheld = 0 } ∷ [])
+      sub = sub;
+      first = opening;
+      last = closing;
+      drawn = length (drawn (all_entries (entries_of_jobs sub [] jobs)));
+      skipped = skipped (all_entries (entries_of_jobs sub [] jobs));
+      released = length (numbers_of sub (all_lines jobs));
+      withheld = 0;
+    } ∷ [])
     cases true = All-nil (IsClosing count)
     cases false = All-cons (IsClosing count) (record {
-        sub = sub; first = opening; last = closing;
-        drawn = length (drawn (all_entries (entries_of_jobs sub [] jobs)));
-        skipped = skipped (all_entries (entries_of_jobs sub [] jobs));
-        released = length (numbers_of sub (all_lines jobs)); withheld = 0 }) []
-      (record { named = counts.named; fits = record { first = counts.first; last = counts.last; drawn = counts.draws; skipped = counts.passes; released = counts.releases; withheld = omega arith } })
-      (All-nil (IsClosing count))
+      sub = sub;
+      first = opening;
+      last = closing;
+      drawn = length (drawn (all_entries (entries_of_jobs sub [] jobs)));
+      skipped = skipped (all_entries (entries_of_jobs sub [] jobs));
+      released = length (numbers_of sub (all_lines jobs));
+      withheld = 0;
+    }) []
+        (record { named = counts.named; fits = record { first = counts.first; last = counts.last; drawn = counts.draws; skipped = counts.passes; released = counts.releases; withheld = omega arith } })
+        (All-nil (IsClosing count))
 
 -- and all closings
 closings_fit : (count sub : ℕ) (openings words : List ℕ) (jobs : List (List LineRecord))
@@ -217,10 +225,10 @@ closings_fit count sub (opening ∷ openings) [] jobs each = All-nil (IsClosing 
 closings_fit count sub (opening ∷ openings) (word ∷ words) jobs each =
     let here : sub + 0 ≡ sub = omega arith in
     All-append (IsClosing count) (closing_of sub opening word jobs) (closings_from (sub + 1) openings words jobs)
-        (closing_fits count sub opening word jobs (subst (λ (s : ℕ). CountsFit count s opening word jobs) here (each 0 (omega arith))))
-        (closings_fit count (sub + 1) openings words jobs (λ k k<n.
-            let there : sub + suc k ≡ sub + 1 + k = omega arith in
-            subst (λ (s : ℕ). CountsFit count s (get_or openings k 0) (get_or words k 0) jobs) there (each (suc k) (omega arith))))
+    (closing_fits count sub opening word jobs (subst (λ (s : ℕ). CountsFit count s opening word jobs) here (each 0 (omega arith))))
+    (closings_fit count (sub + 1) openings words jobs (λ k k<n.
+    let there : sub + suc k ≡ sub + 1 + k = omega arith in
+    subst (λ (s : ℕ). CountsFit count s (get_or openings k 0) (get_or words k 0) jobs) there (each (suc k) (omega arith))))
 
 -- the counts of a lawful round
 counts_fit : (sub : ℕ) (openings words : List ℕ) (jobs : List (List Line)) (round : RoundRecord) → IsLawfulRound openings jobs round words → sub < length openings
@@ -232,28 +240,36 @@ counts_fit sub openings words jobs round lawful inside =
     let fewer = length-numbers sub [] (all_lines round.jobs) in
     let same = ap (λ (es : List Entry). length (drawn es)) (all_entries-of_jobs sub [] round.jobs) in
     record {
-      named = inside; first = omega (arith, bound, whole); last = bound; draws = omega (arith, bound, whole);
-      passes = omega (arith, bound, whole); releases = omega (arith, bound, whole, fewer, same) }
+      named = inside;
+      first = omega (arith, bound, whole);
+      last = bound;
+      draws = omega (arith, bound, whole);
+      passes = omega (arith, bound, whole);
+      releases = omega (arith, bound, whole, fewer, same);
+    }
 
 -- a lawful round names subscribers alone, and its numbers have 64 bits
 pub round_printable : (openings words : List ℕ) (jobs : List (List Line)) (round : RoundRecord) → IsLawfulRound openings jobs round words
     → IsKnownPart (length openings) (Round jobs) → round.number < 2 ^ 64 → NamesBelow (length openings) round × RoundFits round
 round_printable openings words jobs round lawful (known, few) number =
     let closings = All-same (IsClosing (length openings)) round.closings (closings_from 0 openings words round.jobs) lawful.closings
-        (closings_fit (length openings) 0 openings words round.jobs (λ sub inside.
-            let here : sub ≡ 0 + sub = omega arith in
-            subst (λ (s : ℕ). CountsFit (length openings) s (get_or openings sub 0) (get_or words sub 0) round.jobs) here (counts_fit sub openings words jobs round lawful inside))) in
+    (closings_fit (length openings) 0 openings words round.jobs (λ sub inside.
+    let here : sub ≡ 0 + sub = omega arith in
+    subst (λ (s : ℕ). CountsFit (length openings) s (get_or openings sub 0) (get_or words sub 0) round.jobs) here (counts_fit sub openings words jobs round lawful inside))) in
     let given = jobs_given (length openings) jobs round.jobs known lawful.given in
-    let many = length-given jobs round.jobs lawful.given in
-    (record {
-      jobs = each_job (λ line. subscriber_of line < length openings) round.jobs
-          (All-weaker (IsGiven (length openings)) (λ line. subscriber_of line < length openings) (λ line is. is.named) (all_lines round.jobs) given);
-      closings = All-weaker (IsClosing (length openings)) (λ closing. closing.sub < length openings) (λ closing is. is.named) round.closings closings },
-     record {
-      number = number;
-      count = omega (arith, many);
-      jobs = each_job AnswerFits round.jobs (lines_fit openings words jobs round lawful known);
-      closings = All-weaker (IsClosing (length openings)) ClosingFits (λ closing is. is.fits) round.closings closings })
+    let many = length-given jobs round.jobs lawful.given in (
+      record {
+        jobs = each_job (λ line. subscriber_of line < length openings) round.jobs
+            (All-weaker (IsGiven (length openings)) (λ line. subscriber_of line < length openings) (λ line is. is.named) (all_lines round.jobs) given);
+        closings = All-weaker (IsClosing (length openings)) (λ closing. closing.sub < length openings) (λ closing is. is.named) round.closings closings;
+      },
+      record {
+        number = number;
+        count = omega (arith, many);
+        jobs = each_job AnswerFits round.jobs (lines_fit openings words jobs round lawful known);
+        closings = All-weaker (IsClosing (length openings)) ClosingFits (λ closing is. is.fits) round.closings closings;
+      },
+    )
 
 -- the rounds of a lawful transcript
 pub rounds_printable : (number : ℕ) (openings : List ℕ) (parts : List Part) (rounds : List RoundRecord) → All (IsKnownPart (length openings)) parts
@@ -267,6 +283,7 @@ rounds_printable number openings (Round jobs ∷ parts) (round ∷ rounds) known
     let same : length (reopened words) ≡ length openings = omega (arith, sizes, kept) in
     let first = round_printable openings words jobs round lawful (known 0 (Round jobs) (omega arith)) (omega arith) in
     let others = rounds_printable (number + 1) (reopened words) parts rounds
-        (subst (λ (count : ℕ). All (IsKnownPart count) parts) (sym same) (λ k d inside. known (suc k) d (omega arith))) (omega arith) more in
-    (All-cons (NamesBelow (length openings)) round rounds first.0 (subst (λ (count : ℕ). All (NamesBelow count) rounds) same others.0),
-     All-cons RoundFits round rounds first.1 others.1)
+    (subst (λ (count : ℕ). All (IsKnownPart count) parts) (sym same) (λ k d inside. known (suc k) d (omega arith))) (omega arith) more in (
+      All-cons (NamesBelow (length openings)) round rounds first.0 (subst (λ (count : ℕ). All (NamesBelow count) rounds) same others.0),
+      All-cons RoundFits round rounds first.1 others.1,
+    )

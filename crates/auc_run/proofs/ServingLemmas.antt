@@ -1,5 +1,5 @@
 -- For serving: what a request, a job and a round have given so far, and the centre's answers in a row.
-use Rattle.std.proofs.Common.{◌≡◌, ℕ, zero, suc, ◌+◌, ◌-◌, ◌<◌, ◌≤◌, List, [], ◌∷◌, ◌++◌, length, refl, sym, ◌∙◌, ap, subst, append_assoc, append-nil, arith}
+use Rattle.std.proofs.Common.{◌≡◌, ℕ, suc, ◌≤◌, List, [], ◌∷◌, ◌++◌, refl, sym, ◌∙◌, ap, subst, append_assoc, append-nil, arith}
 use Rattle.auc_sqn.specs.declared.number.TheConstants.{MAX_SEQ}
 use Rattle.auc_script.specs.declared.part.Line.{Line}
 use Rattle.auc_world.specs.declared.record.LineRecord.{LineRecord}
@@ -65,10 +65,11 @@ pub Adding-vector : (sub left next count n : ℕ) (old mid new : List ℕ) (befo
     → left ≡ suc next → Adding sub left count old before mid between → Steps mid (draw sub) (Number n) new
     → after ≡ between ++ Vector sub n ∷ [] → Adding sub next count old before new after
 Adding-vector sub left next count n old mid new before between after counted a step pushed = record {
-    lines = a.lines ++ Vector sub n ∷ [];
-    added = pushed ∙ ap (λ (s : List LineRecord). s ++ Vector sub n ∷ []) a.added ∙ append_assoc before a.lines (Vector sub n ∷ []);
-    goes = GoesOn-vector sub left next count n a.lines counted (within step) a.goes;
-    played = Plays-append a.lines (Vector sub n ∷ []) old mid new a.played (new, step, refl) }
+  lines = a.lines ++ Vector sub n ∷ [];
+  added = pushed ∙ ap (λ (s : List LineRecord). s ++ Vector sub n ∷ []) a.added ∙ append_assoc before a.lines (Vector sub n ∷ []);
+  goes = GoesOn-vector sub left next count n a.lines counted (within step) a.goes;
+  played = Plays-append a.lines (Vector sub n ∷ []) old mid new a.played (new, step, refl);
+}
   where
     within : Steps mid (draw sub) (Number n) new → n ≤ MAX_SEQ
     within ((below, is), set) = omega arith
@@ -78,10 +79,11 @@ pub Adding-spent : (sub left next count word : ℕ) (old mid new : List ℕ) (be
     → left ≡ suc next → Adding sub left count old before mid between → Steps mid (draw sub) (exhausted word) new
     → after ≡ between ++ Exhausted sub word ∷ [] → Adds old before new after (DrawGives sub count)
 Adding-spent sub left next count word old mid new before between after counted a step pushed = record {
-    lines = a.lines ++ Exhausted sub word ∷ [];
-    added = pushed ∙ ap (λ (s : List LineRecord). s ++ Exhausted sub word ∷ []) a.added ∙ append_assoc before a.lines (Exhausted sub word ∷ []);
-    given = GoesOn-spent sub left next count word a.lines counted (spent step) a.goes;
-    played = Plays-append a.lines (Exhausted sub word ∷ []) old mid new a.played (new, step, refl) }
+  lines = a.lines ++ Exhausted sub word ∷ [];
+  added = pushed ∙ ap (λ (s : List LineRecord). s ++ Exhausted sub word ∷ []) a.added ∙ append_assoc before a.lines (Exhausted sub word ∷ []);
+  given = GoesOn-spent sub left next count word a.lines counted (spent step) a.goes;
+  played = Plays-append a.lines (Exhausted sub word ∷ []) old mid new a.played (new, step, refl);
+}
   where
     spent : Steps mid (draw sub) (exhausted word) new → MAX_SEQ ≤ word
     spent ((above, is), set) = omega arith
@@ -102,7 +104,7 @@ pub JobGoesOn-line : (line : Line) (left next job : List Line) (front lines afte
 JobGoesOn-line line left next job front lines after cut goes given added rest more =
     let whole : JobGives (line ∷ next) (lines ++ rest) = (lines, rest, refl, given, more) in
     let joined : JobGives job (front ++ (lines ++ rest)) =
-        goes (lines ++ rest) (subst (λ (l : List Line). JobGives l (lines ++ rest)) (sym cut) whole) in
+    goes (lines ++ rest) (subst (λ (l : List Line). JobGives l (lines ++ rest)) (sym cut) whole) in
     rw added (rw append_assoc joined)
 
 -- all lines are served
@@ -121,7 +123,7 @@ pub JobsGoOn-job : (job : List Line) (left next jobs : List (List Line)) (front 
 JobsGoOn-job job left next jobs front after lines cut goes given added rest more =
     let whole : JobsGive (job ∷ next) (lines ∷ rest) = (given, more) in
     let joined : JobsGive jobs (front ++ lines ∷ rest) =
-        goes (lines ∷ rest) (subst (λ (l : List (List Line)). JobsGive l (lines ∷ rest)) (sym cut) whole) in
+    goes (lines ∷ rest) (subst (λ (l : List (List Line)). JobsGive l (lines ∷ rest)) (sym cut) whole) in
     rw added (rw append_assoc joined)
 
 -- all jobs are served

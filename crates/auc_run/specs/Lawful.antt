@@ -1,7 +1,6 @@
 -- Lawful rounds and transcripts: what a scenario demands of the records, and what they say of each
 -- subscriber's history. Nothing here speaks of an order between the jobs of a round.
-use Rattle.std.specs.Prelude.{◌≡◌, ◌≢◌, ℕ, ◌+◌, ◌^◌, ◌<◌, ◌≤◌, ◌==◌, zero, suc, min, List, [], ◌∷◌, ◌++◌, length, map, All, AllPairs, slice_index, if◌then◌else◌}
-use Rattle.std.specs.List.{flat_map}
+use Rattle.std.specs.Prelude.{◌≡◌, ◌≢◌, ℕ, ◌+◌, ◌^◌, ◌<◌, ◌≤◌, ◌==◌, zero, suc, min, List, [], ◌∷◌, ◌++◌, length, map, AllPairs, slice_index, if◌then◌else◌}
 use Rattle.auc_sqn.specs.declared.number.TheConstants.{MAX_SEQ}
 use Rattle.auc_history.specs.History.{drawn, skipped}
 use Rattle.auc_history.specs.Split.{Splits, all_entries}
@@ -14,7 +13,7 @@ use Rattle.auc_world.specs.declared.record.LineRecord.{LineRecord}
 use Rattle.auc_world.specs.declared.record.LineRecord.TheVariants.{Vector, Exhausted}
 use Rattle.auc_world.specs.declared.record.Closing.{Closing}
 use Rattle.auc_world.specs.declared.record.RoundRecord.{RoundRecord}
-use Rattle.auc_run.specs.Entries.{entries_of_lines, entries_of_jobs, numbers_of, all_lines}
+use Rattle.auc_run.specs.Entries.{entries_of_jobs, numbers_of, all_lines}
 
 -- what a request for so many vectors of a subscriber gives: as many vectors, or fewer and then the
 -- word of a spent subscriber, which is no number that a vector may still have
@@ -45,10 +44,14 @@ JobsGive (job ∷ jobs) (lines ∷ records) = JobGives job lines × JobsGive job
 abbrev pub closing_of : ℕ → ℕ → ℕ → List (List LineRecord) → List Closing
 closing_of sub opening closing jobs =
     if opening == closing then [] else record {
-        sub = sub; first = opening; last = closing;
-        drawn = length (drawn (all_entries (entries_of_jobs sub [] jobs)));
-        skipped = skipped (all_entries (entries_of_jobs sub [] jobs));
-        released = length (numbers_of sub (all_lines jobs)); withheld = 0 } ∷ []
+      sub = sub;
+      first = opening;
+      last = closing;
+      drawn = length (drawn (all_entries (entries_of_jobs sub [] jobs)));
+      skipped = skipped (all_entries (entries_of_jobs sub [] jobs));
+      released = length (numbers_of sub (all_lines jobs));
+      withheld = 0;
+    } ∷ []
 
 -- the closings of the subscribers from one on, in their order
 abbrev pub closings_from : ℕ → List ℕ → List ℕ → List (List LineRecord) → List Closing

@@ -1,5 +1,5 @@
 -- How a run ends: what each status says of the words, the shelf's files and the output.
-use Rattle.std.specs.Prelude.{◌≡◌, ℕ, ◌<◌, ◌≤◌, ◌++◌, List, [], length, codes, decimal, Option, Some, None, Ok, Err}
+use Rattle.std.specs.Prelude.{◌≡◌, ℕ, ◌≤◌, ◌++◌, List, [], length, codes, decimal, Option, Some, Ok, Err}
 use Rattle.auc_edge.specs.Shelf.{File, file_of, IsFile, IsLongerFile}
 use Rattle.auc_edge.specs.Sink.{Appends}
 use Rattle.auc_script.specs.declared.part.Part.{Part}

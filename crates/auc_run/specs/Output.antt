@@ -1,5 +1,5 @@
 -- What a run writes.
-use Rattle.std.specs.Prelude.{◌≡◌, ℕ, List, Option}
+use Rattle.std.specs.Prelude.{ℕ, List, Option}
 use Rattle.auc_edge.specs.Identity.{Identity}
 use Rattle.auc_edge.specs.Sink.{Appends}
 use Rattle.auc_script.specs.declared.part.Part.{Part}

@@ -52,8 +52,14 @@ AreAllKnown count jobs = All (AreKnown count) jobs
 -- the greatest number was a mark
 abbrev pub counted_closing : ℕ → ℕ → ℕ → List Closing
 counted_closing sub opening closing = if opening == closing then [] else record {
-    sub = sub; first = opening; last = closing; drawn = closing - opening; skipped = 0;
-    released = min closing MAX_SEQ - opening; withheld = 0 } ∷ []
+  sub = sub;
+  first = opening;
+  last = closing;
+  drawn = closing - opening;
+  skipped = 0;
+  released = min closing MAX_SEQ - opening;
+  withheld = 0;
+} ∷ []
 
 -- the closings of the subscribers from one on, in their order
 abbrev pub counted_closings : ℕ → List ℕ → List ℕ → List Closing

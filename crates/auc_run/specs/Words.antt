@@ -1,5 +1,5 @@
 -- The words with which the program is called, and the exit status with which it ends.
-use Rattle.std.specs.Prelude.{◌≡◌, ℕ, List, [], ◌∷◌, length, Option, Some, None, if◌then◌else◌, ◌&&◌, nat_lt, codes}
+use Rattle.std.specs.Prelude.{ℕ, List, [], ◌∷◌, length, Option, Some, None, if◌then◌else◌, ◌&&◌, nat_lt, codes}
 use Rattle.std.specs.Str.{bytes_eq}
 use Rattle.auc_run.specs.declared.status.Status.{Status}
 use Rattle.auc_run.specs.declared.status.Status.TheVariants.{Done, Usage, ScenarioRefused, ReadFault, WriteFault, TooLong, NoMemory}

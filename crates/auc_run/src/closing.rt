@@ -32,7 +32,11 @@ fn closing(sub: u32, first: u64, last: u64) -> Option<Closing>
 }
 
 /// The closings of all subscribers whose words rose, in the subscribers' order.
-pub(crate) fn closings(alloc: Global, openings: &[u64], core: &Core) -> Result<Items<Closing>, NoMemory>
+pub(crate) fn closings(
+    alloc: Global,
+    openings: &[u64],
+    core: &Core,
+) -> Result<Items<Closing>, NoMemory>
     requires sizes { length openings.now ≡ length core.now }
     requires limit { length core.now < 2 ^ 32 }
     requires numbers { (k : ℕ) → k < length openings.now → slice_index openings.now k ≤ MAX_SEQ }

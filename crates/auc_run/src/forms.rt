@@ -11,7 +11,9 @@ pub fn scenario_name(words: &[Octets]) -> Option<&[u8]>
     ensures { option_copied result ≡ scenario_named words.now }
 {
     match words {
-        [word, name] if word.as_slice() == b"run".as_slice() && !name.is_empty() => Some(name.as_slice()),
+        [word, name] if word.as_slice() == b"run".as_slice() && !name.is_empty() => Some(
+            name.as_slice(),
+        ),
         _ => None,
     }
 }

@@ -16,6 +16,8 @@ mod refusal;
 mod round;
 mod rounds;
 mod status;
+#[cfg(test)]
+mod tests;
 mod top_call;
 
 pub use status::{Ended, Status};

@@ -1,4 +1,4 @@
-use Rattle.std.proofs.Common.{◌≡◌, length, drop, List, ◌++◌}
+use Rattle.std.proofs.Common.{◌≡◌, length, drop}
 use Rattle.auc_run.specs.Serving.{Plays}
 use Rattle.auc_run.proofs.ServingLemmas.{JobGoesOn}
 use Rattle.auc_run.proofs.drawing.serve_job.Given as goal
@@ -7,4 +7,5 @@ abbrev pub invariant-loop-line : goal.invariant-loop-line
 invariant-loop-line l = record {
   size : length l.core ≡ length l.initial.core;
   goes : JobGoesOn (drop l.line-index l.job) l.job l.lines;
-  played : Plays l.initial.core l.lines l.core }
+  played : Plays l.initial.core l.lines l.core;
+}

@@ -8,4 +8,5 @@ abbrev pub invariant-loop-job : goal.invariant-loop-job
 invariant-loop-job l = record {
   size : length l.core ≡ length l.initial.core;
   goes : JobsGoOn (drop l.job-index l.jobs) l.jobs l.records;
-  played : Plays l.initial.core (all_lines l.records) l.core }
+  played : Plays l.initial.core (all_lines l.records) l.core;
+}

@@ -11,4 +11,5 @@ invariant-loop-part g l = record {
   within : All (λ number. number ≤ MAX_SEQ) l.openings.items;
   quiet : g.K.Sink.faults l.out ≡ g.K.Sink.faults l.initial.out;
   serving : Serving (identities_of l.subs) (l.number + 1) l.openings.items (drop l.part-index l.parts) (map (λ row. row.seq) l.subs) l.parts
-      (g.K.Sink.written l.initial.out) (g.K.Sink.written l.out) }
+      (g.K.Sink.written l.initial.out) (g.K.Sink.written l.out);
+}
