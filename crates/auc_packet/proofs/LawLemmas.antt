@@ -1,5 +1,5 @@
 -- The laws of packets.
-use Rattle.std.proofs.Common.{◌≡◌, ◌≢◌, ℕ, ◌+◌, ◌<◌, ◌≤◌, Bool, true, false, cond, ◌==◌, List, [], ◌∷◌, ◌++◌, length, get_or, take, drop, Option, Some, None, Result, Ok, Err, refl, sym, ap, ◌∙◌, subst, arith, append_assoc, length-append, if◌then◌else◌}
+use Rattle.std.proofs.Common.{◌≡◌, ◌≢◌, ℕ, ◌+◌, ◌≤◌, Bool, true, false, ◌==◌, List, [], ◌∷◌, ◌++◌, length, take, drop, Result, Ok, Err, refl, sym, ap, ◌∙◌, subst, arith, length-append, if◌then◌else◌}
 use Rattle.std.specs.List.{list_all}
 use Rattle.std.specs.Int.{w16, to_be_bytes}
 use Rattle.std.proofs.lemmas.List.{take_at, drop_at}
@@ -9,12 +9,11 @@ use Rattle.auc_hmac.specs.declared.method.Method.TheVariants as method
 use Rattle.auc_attr.specs.declared.attr.Attr.{Attr}
 use Rattle.auc_attr.specs.declared.frame.FrameFault.{FrameFault}
 use Rattle.auc_attr.specs.declared.frame.FrameFault.TheVariants as faults
-use Rattle.auc_attr.specs.declared.refusal.AttrRefusal.{AttrRefusal}
 use Rattle.auc_attr.specs.declared.refusal.AttrRefusal.TheVariants as attr_refusal
-use Rattle.auc_attr.specs.Frame.{Frame, Ended, Named, Message, frame_at, is_method, is_subtype, length_of, message_code, IsEnded, IsIdentity, IsMessage, IsFramed}
+use Rattle.auc_attr.specs.Frame.{Frame, Ended, Named, Message, is_method, is_subtype, length_of, message_code, IsEnded, IsMessage, IsFramed}
 use Rattle.auc_attr.specs.Grammar.{FirstFault, ReadsAttrs}
 use Rattle.auc_attr.specs.Laws.{AreBytes, is_value}
-use Rattle.auc_attr.specs.PacketFault.{PacketFault, Before, Within, IsFaultWithin, IsFirstFault}
+use Rattle.auc_attr.specs.PacketFault.{PacketFault, Before, Within, IsFirstFault}
 use Rattle.auc_attr.specs.Spelling.{spelling}
 use Rattle.auc_attr.proofs.FrameLemmas.{frame_again, attrs_within}
 use Rattle.auc_attr.proofs.LawLemmas.{one_list, one_fault, refused_is_not_read, read_is_writable}
@@ -28,7 +27,6 @@ use Rattle.auc_packet.specs.declared.subtype.Subtype.{Subtype}
 use Rattle.auc_packet.specs.declared.subtype.Subtype.TheVariants as subtype
 use Rattle.auc_packet.specs.Laws.{has_values, OnePacket, OneFault, RefusedIsNotRead, WrittenIsRead, ReadIsWritable}
 use Rattle.auc_packet.specs.Packet.{kind_of, number_of, ReadsPacket, FirstPacketFault}
-use Rattle.auc_packet.specs.Spelling.{packet_text, writable_attrs, MayBeWritten}
 
 -- ---- what is written is read
 

@@ -1,5 +1,5 @@
 -- What holds of all bytes and all packets.
-use Rattle.std.specs.Prelude.{◌≡◌, ◌≢◌, ◌≤◌, ℕ, Bool, true, false, List, ◌++◌, length}
+use Rattle.std.specs.Prelude.{◌≡◌, ◌≢◌, ◌≤◌, ℕ, Bool, true, List, ◌++◌, length}
 use Rattle.std.specs.List.{list_all}
 use Rattle.auc_attr.specs.Frame.{length_of}
 use Rattle.auc_attr.specs.Laws.{AreBytes, is_value}

@@ -1,6 +1,6 @@
 -- Bytes and the packet that they are: EAP (RFC 3748 §4 and §5.1), EAP-AKA (RFC 4187 §8.1) and EAP-AKA'
 -- (RFC 9048 §3). Reserved bytes, fill and what follows the bytes that Length counts are free.
-use Rattle.std.specs.Prelude.{◌≡◌, ℕ, Bool, true, false, List}
+use Rattle.std.specs.Prelude.{ℕ, true, false, List}
 use Rattle.auc_hmac.specs.declared.method.Method.{Method}
 use Rattle.auc_hmac.specs.declared.method.Method.TheVariants as method
 use Rattle.auc_attr.specs.declared.frame.FrameFault.TheVariants as faults
