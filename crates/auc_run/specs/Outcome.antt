@@ -1,5 +1,5 @@
 -- How a run ends: what each status says of the words, the shelf's files and the output.
-use Rattle.std.specs.Prelude.{◌≡◌, ℕ, ◌≤◌, ◌++◌, List, [], length, codes, decimal, Option, Some, Ok, Err}
+use Rattle.std.specs.Prelude.{None, ◌≡◌, ℕ, ◌≤◌, ◌++◌, List, [], length, codes, decimal, Option, Some, Ok, Err}
 use Rattle.auc_edge.specs.Shelf.{File, file_of, IsFile, IsLongerFile}
 use Rattle.auc_edge.specs.Sink.{Appends}
 use Rattle.auc_script.specs.declared.part.Part.{Part}
@@ -15,6 +15,8 @@ use Rattle.auc_run.specs.declared.top_call.TheConstants.{MAX_FILE}
 use Rattle.auc_run.specs.declared.status.Status.{Status}
 use Rattle.auc_run.specs.declared.status.Status.TheVariants.{Done, Usage, ScenarioRefused, ReadFault, WriteFault, TooLong, NoMemory}
 use Rattle.auc_run.specs.Lawful.{IsLawful, NumbersDiffer}
+use Rattle.auc_run.specs.declared.algorithm.AlgorithmWords.{AlgorithmWords}
+use Rattle.auc_run.specs.Algorithm.{values_named, algorithm_text}
 use Rattle.auc_run.specs.Words.{scenario_named}
 
 -- a text is that of exactly one lawful transcript, and no two vectors of a subscriber in it have one number
@@ -97,6 +99,22 @@ pub record FindsLong (words : List (List ℕ)) (told : Option (List File)) (old 
   pub long : IsLongerFile told name MAX_FILE
   pub silent : Appends old new []
 
+-- the words give the values of Milenage's functions, and these were written
+pub record PrintsAlgorithm (words : List (List ℕ)) (old new : Option (List ℕ)) : Type 0 where
+  pub values : AlgorithmWords
+  pub named : values_named words ≡ Some values
+  pub written : Appends old new (algorithm_text values)
+
+-- how a run of words that name no scenario ends
+abbrev pub OtherEnds : Option AlgorithmWords → Status → Option (List ℕ) → Option (List ℕ) → Type 0
+OtherEnds None Usage old new = Appends old new (codes "usage\n")
+OtherEnds None WriteFault old new = Unit {0}
+OtherEnds None _ old new = ⊥
+OtherEnds (Some values) Done old new = Appends old new (algorithm_text values)
+OtherEnds (Some values) WriteFault old new = Unit {0}
+OtherEnds (Some values) NoMemory old new = Unit {0}
+OtherEnds (Some values) _ old new = ⊥
+
 -- on a shelf that tells its files, the words name one of this text
 pub record NamesText (words : List (List ℕ)) (told : Option (List File)) (text : List ℕ) : Type 0 where
   pub files : List File
@@ -124,6 +142,13 @@ abbrev pub MayEndUsage : Status → Type 0
 MayEndUsage Usage = Unit {0}
 MayEndUsage WriteFault = Unit {0}
 MayEndUsage _ = ⊥
+
+-- how a run may end whose words give the values of Milenage's functions
+abbrev pub MayEndPrinted : Status → Type 0
+MayEndPrinted Done = Unit {0}
+MayEndPrinted WriteFault = Unit {0}
+MayEndPrinted NoMemory = Unit {0}
+MayEndPrinted _ = ⊥
 
 -- how a run may end whose scenario is too long
 abbrev pub MayEndTooLong : Status → Type 0

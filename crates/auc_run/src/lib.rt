@@ -9,6 +9,7 @@
 //! entries split a legal history of each subscriber. Memory is taken; nothing waits.
 #![tactic(auto)]
 
+mod algorithm;
 mod closing;
 mod drawing;
 mod forms;

@@ -80,11 +80,23 @@ fn each_scenario_has_its_output(rt: HostRuntime) -> Result<(), NoMemory> {
 #[test]
 fn words_of_no_form_are_answered_by_usage(rt: HostRuntime) -> Result<(), NoMemory> {
     let alloc = rt.alloc();
-    let cases: [&[&[u8]]; 5] = [
+    let cases: [&[&[u8]]; 7] = [
         &[],
         &[b"run".as_slice()],
         &[b"run".as_slice(), b"".as_slice()],
         &[b"--help".as_slice()],
+        &[
+            b"vector".as_slice(),
+            b"465b5ce8b199b49faa5f0a2ee238a6bc".as_slice(),
+            b"cd63cb71954a9f4e48a5994e37a02baf".as_slice(),
+            b"23553cbe9637a89d218ae64dae47bf35".as_slice(),
+            b"ff9bb4d0b60".as_slice(),
+            b"b9b9".as_slice(),
+        ],
+        &[
+            b"vector".as_slice(),
+            b"465b5ce8b199b49faa5f0a2ee238a6bc".as_slice(),
+        ],
         &[b"run".as_slice(), b"a".as_slice(), b"b".as_slice()],
     ];
     for case in cases {
@@ -95,6 +107,32 @@ fn words_of_no_form_are_answered_by_usage(rt: HostRuntime) -> Result<(), NoMemor
         assert_eq!(rt; ended.status.number(), 1);
         assert_eq!(rt; out.as_slice(), b"usage\n".as_slice());
     }
+    Ok(())
+}
+
+// TS 35.208, test set 1, in digits of either case.
+#[test]
+fn vector_prints_the_functions_of_milenage(rt: HostRuntime) -> Result<(), NoMemory> {
+    let alloc = rt.alloc();
+    let words = words(
+        alloc,
+        &[
+            b"vector".as_slice(),
+            b"465b5ce8b199b49faa5f0a2ee238a6bc".as_slice(),
+            b"CD63CB71954A9F4E48A5994E37A02BAF".as_slice(),
+            b"23553cbe9637a89d218ae64dae47bf35".as_slice(),
+            b"ff9bb4d0b607".as_slice(),
+            b"B9b9".as_slice(),
+        ],
+    )?;
+    let mut shelf = MemShelf::new(alloc);
+    let mut out = MemSink::new(alloc);
+    let ended = run(&rt, alloc, words.as_slice(), &mut shelf, &mut out);
+    assert_eq!(rt; ended.status, Status::Done);
+    assert_eq!(rt;
+        out.as_slice(),
+        b"f1 4a9ffac354dfafb3\nf1* 01cfaf9ec4e871e9\nf2 a54211d5e3ba50bf\nf3 b40ba9a3c58b2a05bbf0d987b21bf8cb\nf4 f769bcd751044604127672711c6d3441\nf5 aa689c648370\nf5* 451e8beca43b\n".as_slice()
+    );
     Ok(())
 }
 

@@ -1,6 +1,6 @@
 //! The top call.
 
-ghost use Rattle.std.specs.Prelude.{◌≡◌, ◌≤◌, ◌<◌, ◌^◌, ℕ, List, [], length, Some, None, Ok, Err, IfOk, codes};
+ghost use Rattle.std.specs.Prelude.{◌≡◌, ◌≤◌, ◌<◌, ◌^◌, ◌⊎◌, ℕ, List, [], length, Some, None, Ok, Err, IfOk, codes};
 ghost use Rattle.auc_edge.specs.Faults.{Rose};
 ghost use Rattle.auc_edge.specs.Sink.{Appends};
 ghost use Rattle.auc_script.specs.declared.refusal.ScriptRefusal.TheVariants as refusal;
@@ -8,9 +8,11 @@ ghost use Rattle.auc_script.specs.Reading.{script_of};
 ghost use Rattle.auc_script.specs.Limits.{IsWithin};
 ghost use Rattle.auc_subs.specs.declared.row.Row.{Row};
 ghost use Rattle.auc_run.specs.Words.{scenario_named};
+ghost use Rattle.auc_run.specs.Algorithm.{values_named};
 ghost use Rattle.auc_run.specs.Output.{WritesParts};
-ghost use Rattle.auc_run.specs.Outcome.{TextEnds, FileEnds, RunsScenario, RefusesScenario, FindsLong, NamesText, IsServed, IsRefused, MayEndUsage, MayEndTooLong, MayEndRefused, MayEndDone, refusal_line, why_word};
+ghost use Rattle.auc_run.specs.Outcome.{TextEnds, FileEnds, OtherEnds, RunsScenario, PrintsAlgorithm, RefusesScenario, FindsLong, NamesText, IsServed, IsRefused, MayEndUsage, MayEndPrinted, MayEndTooLong, MayEndRefused, MayEndDone, refusal_line, why_word};
 
+use crate::algorithm::{AlgorithmWords, algorithm_lines, algorithm_words};
 use crate::forms::scenario_name;
 use crate::refusal::RoundRefusal;
 use crate::rounds::serve_parts;
@@ -24,7 +26,8 @@ use std::alloc::Global;
 pub const MAX_FILE: usize = 67108864;
 
 /// Runs the program with its words. The words `run SCENARIO` read the file SCENARIO of the shelf, serve
-/// its rounds and write their text, each when it has ended; any others are answered by `usage`.
+/// its rounds and write their text, each when it has ended. The words `vector K OPC RAND SQN AMF` write
+/// the seven functions of Milenage at these values. Any others are answered by `usage`.
 pub fn run<R, H: Shelf, K: Sink>(
     _rt: &R,
     alloc: Global,
@@ -34,9 +37,10 @@ pub fn run<R, H: Shelf, K: Sink>(
 ) -> Ended
     // What each status says.
     ensures done { result.status ≡ Status.Done
-        → RunsScenario words.now (H.files shelf.old) (K.written out.old) (K.written out.new) }
-    ensures usage { result.status ≡ Status.Usage
-        → (scenario_named words.now ≡ None) × Appends (K.written out.old) (K.written out.new) (codes "usage\n") }
+        → RunsScenario words.now (H.files shelf.old) (K.written out.old) (K.written out.new)
+        ⊎ PrintsAlgorithm words.now (K.written out.old) (K.written out.new) }
+    ensures usage { result.status ≡ Status.Usage → (scenario_named words.now ≡ None) × (values_named words.now ≡ None)
+        × Appends (K.written out.old) (K.written out.new) (codes "usage\n") }
     ensures refused { result.status ≡ Status.ScenarioRefused
         → RefusesScenario words.now (H.files shelf.old) (K.written out.old) (K.written out.new) }
     ensures too_long { result.status ≡ Status.TooLong
@@ -50,7 +54,8 @@ pub fn run<R, H: Shelf, K: Sink>(
         × ((name : List ℕ) → H.faults shelf.new name ≡ H.faults shelf.old name) }
 
     // Each cause has its status, unless a fault or want of memory comes before it.
-    ensures usage_comes { scenario_named words.now ≡ None → MayEndUsage result.status }
+    ensures usage_comes { scenario_named words.now ≡ None → values_named words.now ≡ None → MayEndUsage result.status }
+    ensures algorithm_comes { (values : AlgorithmWords) → values_named words.now ≡ Some values → MayEndPrinted result.status }
     ensures too_long_comes { (text : List ℕ) → NamesText words.now (H.files shelf.old) text
         → MAX_FILE < length text → MayEndTooLong result.status }
     ensures refused_comes { (text : List ℕ) (line : ℕ) (why : ScriptWhy) → NamesText words.now (H.files shelf.old) text
@@ -60,15 +65,41 @@ pub fn run<R, H: Shelf, K: Sink>(
 {
     let status = match scenario_name(words) {
         Some(name) => run_file(alloc, name, shelf, out),
-        None => say_usage(out),
+        None => run_other(alloc, words, out),
     };
     Ended { status }
 }
 
+/// Answers words that name no scenario.
+fn run_other<K: Sink>(alloc: Global, words: &[Octets], out: &mut K) -> Status
+    ensures ends { OtherEnds (values_named words.now) result (K.written out.old) (K.written out.new) }
+    ensures fault { result ≡ Status.WriteFault → Rose (K.faults out.old) (K.faults out.new) }
+    ensures quiet { result ≡ Status.Done → K.faults out.new ≡ K.faults out.old }
+{
+    match algorithm_words(words) {
+        Some(values) => print_algorithm(alloc, &values, out),
+        None => say_usage(out),
+    }
+}
+
+/// Writes the functions of Milenage at some values.
+fn print_algorithm<K: Sink>(alloc: Global, values: &AlgorithmWords, out: &mut K) -> Status
+    ensures ends { OtherEnds (Some values.now) result (K.written out.old) (K.written out.new) }
+    ensures fault { result ≡ Status.WriteFault → Rose (K.faults out.old) (K.faults out.new) }
+    ensures quiet { result ≡ Status.Done → K.faults out.new ≡ K.faults out.old }
+{
+    match algorithm_lines(alloc, values) {
+        Ok(text) => match write_whole(out, text.as_slice()) {
+            Ok(()) => Status::Done,
+            Err(_) => Status::WriteFault,
+        },
+        Err(_) => Status::NoMemory,
+    }
+}
+
 /// Answers words of no form.
 fn say_usage<K: Sink>(out: &mut K) -> Status
-    ensures ends { MayEndUsage result }
-    ensures said { result ≡ Status.Usage → Appends (K.written out.old) (K.written out.new) (codes "usage\n") }
+    ensures ends { OtherEnds None result (K.written out.old) (K.written out.new) }
     ensures fault { result ≡ Status.WriteFault → Rose (K.faults out.old) (K.faults out.new) }
 {
     match write_whole(out, b"usage\n".as_slice()) {
