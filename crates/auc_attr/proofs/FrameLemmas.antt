@@ -15,23 +15,29 @@ use Rattle.auc_attr.proofs.ValueLemmas.{number_front}
 
 -- ---- what stands there is found
 
+-- bytes of a code that exists are judged by their Length
 pub frame_steps : (bytes : List ℕ) → 4 ≤ length bytes → is_code (get_or bytes 0 0) ≡ true → frame_at bytes ≡ sized_at (get_or bytes 0 0) (get_or bytes 1 0) (length_of bytes) bytes
 unfolding frame_at
 frame_steps bytes long code = rw (le-ltb (length bytes) 4 long, code) refl
 
+-- a Success or Failure of right Length is one
 sized_ended : (code id size : ℕ) (bytes : List ℕ) → is_wrong_length code size (length bytes) ≡ false → nat_le 3 code ≡ true → sized_at code id size bytes ≡ Ok (Ended (code == 3) id)
 sized_ended code id size bytes e f = rw (e, f) refl
 
+-- a Request or Response of right Length is judged by its type
 sized_typed : (code id size : ℕ) (bytes : List ℕ) → is_wrong_length code size (length bytes) ≡ false → nat_le 3 code ≡ false
     → sized_at code id size bytes ≡ typed_at (code == 1) id (get_or bytes 4 0) (take size bytes)
 sized_typed code id size bytes e f = rw (e, f) refl
 
+-- as many bytes as a Length of at least 5 counts are enough
 enough : (given size : ℕ) → size ≤ given → 5 ≤ size → (nat_lt given size || nat_lt size 5) ≡ false
 enough given size h k = grind (arith, nat_tests)
 
+-- four bytes are enough for a Length of 4
 four : (given : ℕ) → 4 ≤ given → (nat_lt given 4 || false) ≡ false
 four given h = grind (arith, nat_tests)
 
+-- Success and Failure are found, whatever follows them
 ended_again : (success : Bool) (id : ℕ) (past : List ℕ) → frame_at (end_code success ∷ id ∷ 0 ∷ 4 ∷ past) ≡ Ok (Ended success id)
 ended_again true id past =
     let bytes = 3 ∷ id ∷ 0 ∷ 4 ∷ past in
@@ -57,18 +63,22 @@ typed_code code id size front past known below small whole some =
     ∙ sized_typed code id size bytes right below
     ∙ ap (λ (b : List ℕ). typed_at (code == 1) id (get_or (front ++ past) 0 0) b) (take_at inner past size (omega arith))
 
+-- Identity is found, whatever follows it
 named_again : (request : Bool) (id : ℕ) (text past : List ℕ) → 5 + length text < 65536
     → frame_at (message_code request ∷ id ∷ (to_be_bytes w16 (5 + length text) ++ (1 ∷ (text ++ past)))) ≡ Ok (Named request id text)
 named_again true id text past small = typed_code 1 id (5 + length text) (1 ∷ text) past refl refl small (omega arith) (omega arith)
 named_again false id text past small = typed_code 2 id (5 + length text) (1 ∷ text) past refl refl small (omega arith) (omega arith)
 
+-- the type of a method is not that of Identity
 not_one : (kind : ℕ) → is_method kind ≡ true → (kind == 1) ≡ false
 not_one kind e = grind (arith, nat_tests)
 
+-- a message of a known method and Subtype is found
 typed_message : (request : Bool) (id kind : ℕ) (bytes : List ℕ) → is_method kind ≡ true → 8 ≤ length bytes → is_subtype (get_or bytes 5 0) ≡ true
     → typed_at request id kind bytes ≡ Ok (Message request id kind (get_or bytes 5 0) (drop 8 bytes))
 typed_message request id kind bytes m long s = rw (not_one kind m, m, le-ltb (length bytes) 8 long, s) refl
 
+-- a message is found, whatever its reserved bytes are and whatever follows it
 message_again : (request : Bool) (id kind subtype : ℕ) (reserved attrs past : List ℕ) → is_method kind ≡ true → is_subtype subtype ≡ true → length reserved ≡ 2 → 8 + length attrs < 65536
     → frame_at (message_code request ∷ id ∷ (to_be_bytes w16 (8 + length attrs) ++ (kind ∷ subtype ∷ (reserved ++ (attrs ++ past))))) ≡ Ok (Message request id kind subtype attrs)
 message_again request id kind subtype [] attrs past m s two small = absurd (omega arith)
@@ -90,10 +100,12 @@ frame_again (Message request id kind subtype attrs) bytes p =
 
 -- ---- what is found stands there
 
+-- which of two answers a test chose
 chosen : {A : Type 0} (b : Bool) (x y z : A) → cond b x y ≡ z → ((b ≡ true) × (x ≡ z)) ⊎ ((b ≡ false) × (y ≡ z))
 chosen true x y z e = inl (refl, e)
 chosen false x y z e = inr (refl, e)
 
+-- bytes are code, Identifier, the two bytes of Length and what follows them
 header : (bytes : List ℕ) → 4 ≤ length bytes → IsBytes bytes → bytes ≡ get_or bytes 0 0 ∷ get_or bytes 1 0 ∷ (to_be_bytes w16 (length_of bytes) ++ drop 4 bytes)
 header [] long fits = absurd (omega arith)
 header (a ∷ []) long fits = absurd (omega arith)
@@ -101,6 +113,7 @@ header (a ∷ b ∷ rest) long fits =
     ap (λ (r : List ℕ). a ∷ b ∷ r)
     (sym (take-append-drop 2 rest) ∙ ap (λ (f : List ℕ). f ++ drop 2 rest) (sym (number_front rest (omega arith) (IsBytes-drop 2 (a ∷ b ∷ rest) fits))))
 
+-- Length has 16 bits
 length_below : (bytes : List ℕ) → IsBytes bytes → length_of bytes < 65536
 length_below bytes fits = omega (arith, IsBytes-drop 2 bytes fits 0, IsBytes-drop 2 bytes fits 1)
 
@@ -114,6 +127,7 @@ tail_is bytes size some within =
     ∙ ap (λ (b : List ℕ). b ++ drop size bytes) (drop-cons t 4 0 (omega arith))
     ∙ ap (λ (x : ℕ). x ∷ (drop 5 t ++ drop size bytes)) (get_or-take size bytes 4 0 (omega arith))
 
+-- an Identity that is found stands in the bytes
 named_sound : (request : Bool) (id : ℕ) (bytes : List ℕ) → IsBytes bytes → get_or bytes 0 0 ≡ message_code request → get_or bytes 1 0 ≡ id → 5 ≤ length_of bytes → length_of bytes ≤ length bytes
     → get_or bytes 4 0 ≡ 1 → IsIdentity request id (drop 5 (take (length_of bytes) bytes)) bytes
 named_sound request id bytes fits code ident some within one =
@@ -138,6 +152,7 @@ rest_is t long =
     drop-cons t 5 0 (omega arith)
     ∙ ap (λ (r : List ℕ). get_or t 5 0 ∷ r) (sym (take-append-drop 2 (drop 6 t)) ∙ ap (λ (r : List ℕ). take 2 (drop 6 t) ++ r) (drop-drop 2 6 t))
 
+-- a message that is found stands in the bytes
 message_sound : (request : Bool) (id : ℕ) (bytes : List ℕ) → IsBytes bytes → get_or bytes 0 0 ≡ message_code request → get_or bytes 1 0 ≡ id → length_of bytes ≤ length bytes
     → is_method (get_or bytes 4 0) ≡ true → 8 ≤ length (take (length_of bytes) bytes) → is_subtype (get_or (take (length_of bytes) bytes) 5 0) ≡ true
     → IsMessage request id (get_or bytes 4 0) (get_or (take (length_of bytes) bytes) 5 0) (drop 8 (take (length_of bytes) bytes)) bytes
@@ -168,6 +183,7 @@ message_sound request id bytes fits code ident within m long s =
           ∙ ap (λ (n : ℕ). message_code request ∷ id ∷ (to_be_bytes w16 n ++ (kind ∷ subtype ∷ (free ++ (attrs ++ past))))) whole;
     }
 
+-- a Request or Response that is found stands in the bytes
 typed_sound : (request : Bool) (id : ℕ) (bytes : List ℕ) (f : Frame) → IsBytes bytes → get_or bytes 0 0 ≡ message_code request → get_or bytes 1 0 ≡ id → 5 ≤ length_of bytes → length_of bytes ≤ length bytes
     → typed_at request id (get_or bytes 4 0) (take (length_of bytes) bytes) ≡ Ok f → IsFramed f bytes
 typed_sound request id bytes f fits code ident some within e =
@@ -183,20 +199,25 @@ typed_sound request id bytes f fits code ident some within e =
           (message_sound request id bytes fits code ident within (not-false _ p.0) (ltb-false (length t) 8 q.0) (not-false _ r.0))
     ]
 
+-- what a right Length says
 record IsRight (code size given : ℕ) : Type 0 where
   within : size ≤ given
   least : nat_le 3 code ≡ false → 5 ≤ size
   whole : nat_le 3 code ≡ true → size ≡ 4
 
+-- a Length that is not wrong is right
 right_is : (code size given : ℕ) → is_wrong_length code size given ≡ false → IsRight code size given
 right_is code size given e = record { within = grind (arith, nat_tests); least = λ h. grind (arith, nat_tests); whole = λ h. grind (arith, nat_tests) }
 
+-- the code of a Success or Failure is 3 or 4
 end_is : (code : ℕ) → is_code code ≡ true → nat_le 3 code ≡ true → code ≡ end_code (code == 3)
 end_is code e f = grind (arith, nat_tests)
 
+-- the code of a Request or Response is 1 or 2
 message_is : (code : ℕ) → is_code code ≡ true → nat_le 3 code ≡ false → code ≡ message_code (code == 1)
 message_is code e f = grind (arith, nat_tests)
 
+-- a Success or Failure that is found stands in the bytes
 ended_sound : (bytes : List ℕ) → IsBytes bytes → 4 ≤ length bytes → get_or bytes 0 0 ≡ end_code (get_or bytes 0 0 == 3) → length_of bytes ≡ 4
     → IsEnded (get_or bytes 0 0 == 3) (get_or bytes 1 0) bytes
 ended_sound bytes fits long code size = record {

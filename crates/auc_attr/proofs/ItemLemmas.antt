@@ -14,9 +14,11 @@ use Rattle.auc_attr.specs.Spelling.{stands_in, fits, fits_row, fits_item}
 use Rattle.auc_attr.proofs.Tools.{IsBytes, IsBytes-take, IsBytes-drop, IsBytes-tail, bind_ok, passed, ok_is}
 use Rattle.auc_attr.proofs.ValueLemmas.{body_sound, body_again, body_fits}
 
+-- a number that is not 0 is above it
 eqb-not : (a : ℕ) → eqb a 0 ≡ false → 0 < a
 eqb-not a h = grind (arith, nat_tests)
 
+-- an attribute that is read by its row is there
 row_sound : (seen : List ℕ) (row : Row) (kind units : ℕ) (after : List ℕ) (i : Item) (rest : List ℕ) → IsBytes after → row_of kind ≡ Some row
     → row_at row (stands_in seen kind) kind units after ≡ Ok (i, rest) → IsAttr seen i (kind ∷ units ∷ after) rest
 row_sound seen row kind units after i rest fits known e =
@@ -44,6 +46,7 @@ row_sound seen row kind units after i rest fits known e =
     } in
     subst (λ (x : Item × List ℕ). IsAttr seen x.0 (kind ∷ units ∷ after) x.1) pair attr
 
+-- an attribute that is read by its type is there
 known_sound : (seen : List ℕ) (o : Option Row) (kind units : ℕ) (after : List ℕ) (i : Item) (rest : List ℕ) → IsBytes after → row_of kind ≡ o
     → known_at o (stands_in seen kind) kind units after ≡ Ok (i, rest) → IsAttr seen i (kind ∷ units ∷ after) rest
 known_sound seen None kind units after i rest fits known e = absurd cc
@@ -57,6 +60,7 @@ attr_sound seen kind [] i rest fits e = absurd cc
 attr_sound seen kind (units ∷ after) i rest fits e =
     known_sound seen (row_of kind) kind units after i rest (IsBytes-tail units after (IsBytes-tail kind (units ∷ after) fits)) refl e
 
+-- an attribute that is there is read by its row
 row_again : (row : Row) (stood : Bool) (kind units : ℕ) (body value rest : List ℕ) → (row.once && stood) ≡ false → 0 < units → length body + 2 ≡ 4 * units
     → IsBody row.shape body value → row_at row stood kind units (body ++ rest) ≡ Ok (item kind value, rest)
 row_again row stood kind units body value rest first some size p =
@@ -73,6 +77,7 @@ attr_again seen i bytes rest p =
     ∙ ap (λ (o : Option Row). known_at o (stands_in seen i.kind) i.kind p.units (p.body ++ rest)) p.known
     ∙ row_again p.row (stands_in seen i.kind) i.kind p.units p.body i.value rest p.first p.some p.size p.value
 
+-- the length in units is a byte
 units_small : (seen : List ℕ) (i : Item) (bytes rest : List ℕ) (p : IsAttr seen i bytes rest) → IsBytes bytes → p.units < 256
 units_small seen i bytes rest p fits = subst (λ (b : List ℕ). get_or b 1 0 < 256) p.parts (fits 1)
 
@@ -82,6 +87,7 @@ unfolding fits_item
 attr_fits seen i bytes rest p fits =
     ap (λ (o : Option Row). fits_row o i.value) p.known ∙ body_fits p.row.shape p.body i.value p.units p.some (units_small seen i bytes rest p fits) p.size p.value
 
+-- an attribute is its type, its length and its body, and the rest follows
 front_is : (seen : List ℕ) (i : Item) (bytes rest : List ℕ) (p : IsAttr seen i bytes rest) → bytes ≡ (i.kind ∷ p.units ∷ p.body) ++ rest
 front_is seen i bytes rest p = p.parts
 

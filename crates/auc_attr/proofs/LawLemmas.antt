@@ -22,6 +22,7 @@ use Rattle.auc_attr.proofs.FrameLemmas.{frame_sound, frame_again}
 
 -- ---- an attribute is determined by its item
 
+-- the attribute of a type in the table with a value
 abbrev known_from : ℕ → List ℕ → Attr
 known_from kind v =
     if kind == 1 then attr.Rand v
@@ -49,12 +50,15 @@ known_from kind v =
     else if kind == 135 then attr.ResultInd
     else attr.Bidding (get_or v 0 0 == 1)
 
+-- the attribute of an item
 abbrev attr_from : Item → Attr
 attr_from i = if is_skipped_row (row_of i.kind) then attr.Skipped i.kind i.value else known_from i.kind i.value
 
+-- a number that passes the test of 16 bits has them
 below : (n : ℕ) → ltb n 65536 ≡ true → n < 65536
 below n e = grind (arith, nat_tests)
 
+-- an attribute is that of its item
 from_item : (a : Attr) → is_named a ≡ true → is_value a ≡ true → attr_from (item_of a) ≡ a
 unfolding row_of
 from_item (attr.Rand v) e f = refl
@@ -84,9 +88,11 @@ from_item (attr.Bidding true) e f = refl
 from_item (attr.Bidding false) e f = refl
 from_item (attr.Skipped kind v) e f = ap (λ (b : Bool). if b then attr.Skipped kind v else known_from kind v) e
 
+-- two attributes with one item are one
 same_attr : (a b : Attr) → is_named a ≡ true → is_value a ≡ true → is_named b ≡ true → is_value b ≡ true → item_of a ≡ item_of b → a ≡ b
 same_attr a b na va nb vb e = sym (from_item a na va) ∙ ap (λ i. attr_from i) e ∙ from_item b nb vb
 
+-- two lists with one list of items are one
 same_list : (list other : List Attr) → list_all is_named list ≡ true → list_all is_value list ≡ true → list_all is_named other ≡ true → list_all is_value other ≡ true
     → items list ≡ items other → list ≡ other
 same_list [] [] na va nb vb e = refl
@@ -101,12 +107,14 @@ same_list (a ∷ list) (b ∷ other) na va nb vb e =
     let back : items list ≡ items other = cc in
     ap (λ (x : Attr). x ∷ list) (same_attr a b pa.0 qa.0 pb.0 qb.0 front) ∙ ap (λ (xs : List Attr). b ∷ xs) (same_list list other pa.1 qa.1 pb.1 qb.1 back)
 
+-- bytes are one list of attributes
 pub one_list : OneList
 one_list bytes list other va vb p q =
     same_list list other p.1 va q.1 vb (one_walk [] bytes (items list) (items other) None None p.0 q.0).0
 
 -- ---- faults
 
+-- a first fault stands behind a list of items
 fault_walk : (bytes : List ℕ) (f : AttrRefusal) → f ≢ refusal.NoMemory → FirstFault bytes f → (is : List Item) × Walks [] bytes is (Some f)
 fault_walk bytes refusal.Truncated n p = p
 fault_walk bytes refusal.ZeroLength n p = p
@@ -116,15 +124,18 @@ fault_walk bytes (refusal.Twice k) n p = p
 fault_walk bytes refusal.BadPadding n p = p
 fault_walk bytes refusal.NoMemory n p = absurd (n refl)
 
+-- bytes have one first fault
 pub one_fault : OneFault
 one_fault bytes f g nf ng p q =
     let a = fault_walk bytes f nf p in
     let b = fault_walk bytes g ng q in
     some_is f g (one_walk [] bytes a.0 b.0 (Some f) (Some g) a.1 b.1).1
 
+-- an end is no fault
 none_or_some : (f : AttrRefusal) → Some f ≡ None → ⊥
 none_or_some f e = cc
 
+-- bytes with a fault are no list of attributes
 pub refused_is_not_read : RefusedIsNotRead
 refused_is_not_read bytes list f nf p q =
     let a = fault_walk bytes f nf p in
@@ -132,12 +143,14 @@ refused_is_not_read bytes list f nf p q =
 
 -- ---- what is read may be written
 
+-- an attribute that is read may be written where it stood
 may_again : (seen : List ℕ) (a : Attr) (bytes rest : List ℕ) → IsBytes bytes → IsAttr seen (item_of a) bytes rest → is_named a ≡ true → may_follow a (stands_in seen (item_of a).kind) ≡ true
 may_again seen a bytes rest fits p named =
     and_from (fits_item (item_of a) && is_named a) _
     (and_from (fits_item (item_of a)) (is_named a) (attr_fits seen (item_of a) bytes rest p fits) named)
     (ap (λ (o : Option Row). may_stand_row o (stands_in seen (item_of a).kind)) p.known ∙ ap (λ b. not b) p.first)
 
+-- a list that is read may be written
 read_may : (seen bytes : List ℕ) (list : List Attr) → IsBytes bytes → Walks seen bytes (items list) None → list_all is_named list ≡ true → writable_from seen list ≡ true
 read_may seen bytes [] fits w named = refl
 read_may seen bytes (a ∷ list) fits w named =
@@ -145,13 +158,16 @@ read_may seen bytes (a ∷ list) fits w named =
     and_from _ (writable_from (seen ++ (item_of a).kind ∷ []) list) (may_again seen a bytes w.0 fits w.1 p.0)
     (read_may (seen ++ (item_of a).kind ∷ []) w.0 list (attr_rest seen (item_of a) bytes w.0 w.1 fits) w.2 p.1)
 
+-- a list that is read is written in as many bytes
 read_size : (seen bytes : List ℕ) (list : List Attr) → Walks seen bytes (items list) None → length (spelling list) ≡ length bytes
 read_size seen bytes [] w = ap length (sym w)
 read_size seen bytes (a ∷ list) w =
     omega (arith, length-append (item_text (item_of a)) (spelling list), attr_size seen (item_of a) bytes w.0 w.1, read_size (seen ++ (item_of a).kind ∷ []) w.0 list w.2)
 
+-- what is read may be written, in as many bytes
 pub read_is_writable : ReadIsWritable
 read_is_writable bytes list fits p = (read_may [] bytes list fits p.0 p.1, read_size [] bytes list p.0)
 
+-- what the tests of a packet find is what stands there
 pub found_is_framed : FoundIsFramed
 found_is_framed bytes f fits = (frame_sound bytes f fits, frame_again f bytes)

@@ -22,17 +22,21 @@ is_whole (shape.Fixed n) = eqb (n % 4) 2
 is_whole (shape.AfterReserved n) = eqb (n % 4) 0
 is_whole _ = true
 
+-- the same of a row that may not be there
 abbrev row_is_whole : Option Row → Bool
 row_is_whole None = true
 row_is_whole (Some row) = is_whole row.shape
 
+-- the same as a fact
 record IsWholeRow (o : Option Row) : Type 0 where
   whole : row_is_whole o ≡ true
 
+-- one of two rows that fill whole units does
 if_whole : (b : Bool) (x y : Option Row) → row_is_whole x ≡ true → IsWholeRow y → IsWholeRow (cond b x y)
 if_whole true x y p q = record { whole = p }
 if_whole false x y p q = q
 
+-- each row of the table fills whole units
 each_is_whole : (kind : ℕ) → IsWholeRow (row_of kind)
 unfolding row_of
 each_is_whole kind =
@@ -62,6 +66,7 @@ each_is_whole kind =
     if_whole (kind == 136) (once shape.Flag) _ refl (
     if_whole (nat_le 128 kind) (often shape.Skipped) None refl (record { whole = refl })))))))))))))))))))))))))
 
+-- how many bytes a body of parts has
 parts_length : (front value : List ℕ) (zeros : ℕ) → length (front ++ (value ++ replicate zeros 0)) ≡ length front + length value + zeros
 parts_length front value zeros =
     length-append front (value ++ replicate zeros 0) ∙ omega (arith, length-append value (replicate zeros 0), length-replicate {A = ℕ} zeros 0)
@@ -73,6 +78,7 @@ record HasParts (kind : ℕ) (text body : List ℕ) : Type 0 where
   size : length body + 2 ≡ 4 * units
   text_is : text ≡ kind ∷ units ∷ body
 
+-- parts that fill whole units are an attribute
 parts_have : (kind : ℕ) (front value : List ℕ) (zeros : ℕ) → (length front + length value + zeros) % 4 ≡ 2
     → HasParts kind (parts_text kind front value zeros) (front ++ (value ++ replicate zeros 0))
 parts_have kind front value zeros e = record {
@@ -82,22 +88,27 @@ parts_have kind front value zeros e = record {
   text_is = refl;
 }
 
+-- one of three tests of a number held
 three_sizes : (n a b c : ℕ) → (eqb n a || eqb n b || eqb n c) ≡ true → (n ≡ a) ⊎ ((n ≡ b) ⊎ (n ≡ c))
 three_sizes n a b c e = grind (arith, nat_tests)
 
+-- a test of an order that held
 leb-le : (a b : ℕ) → leb a b ≡ true → a ≤ b
 leb-le a b e = grind (arith, nat_tests)
 
+-- a hash behind two bytes fills whole units
 hash_whole : (n : ℕ) → (n ≡ 0) ⊎ ((n ≡ 20) ⊎ (n ≡ 32)) → (2 + n + 0) % 4 ≡ 2
 hash_whole n (inl e) = rw e refl
 hash_whole n (inr (inl e)) = rw e refl
 hash_whole n (inr (inr e)) = rw e refl
 
+-- a padding fills whole units
 zeros_whole : (n : ℕ) → (n ≡ 2) ⊎ ((n ≡ 6) ⊎ (n ≡ 10)) → (0 + n + 0) % 4 ≡ 2
 zeros_whole n (inl e) = rw e refl
 zeros_whole n (inr (inl e)) = rw e refl
 zeros_whole n (inr (inr e)) = rw e refl
 
+-- the top bit of 128 times a bit is the bit
 flag_value : (value : List ℕ) → length value ≡ 1 → get_or value 0 0 ≤ 1 → value ≡ cond (ltb (128 * get_or value 0 0) 128) 0 1 ∷ []
 flag_value [] e f = absurd (omega arith)
 flag_value (zero ∷ []) e f = refl
@@ -105,6 +116,7 @@ flag_value (suc zero ∷ []) e f = refl
 flag_value (suc (suc n) ∷ []) e f = absurd (omega arith)
 flag_value (a ∷ b ∷ value) e f = absurd (omega arith)
 
+-- a value behind two zero bytes stands behind two reserved ones
 behind : (value : List ℕ) → IsAfterReserved (reserved ++ (value ++ [])) value
 behind value = record { free = reserved; two = refl; parts = ap (λ (v : List ℕ). reserved ++ v) (append-nil value) }
 
@@ -171,10 +183,12 @@ shape_body shape.Skipped kind value w f =
     let whole : length value % 4 ≡ 2 = eqb-true (length value % 4) 2 p.1 in
     (value ++ [], parts_have kind [] value 0 (omega arith), append-nil value)
 
+-- a test whose contrary held
 not-true : (b : Bool) → not b ≡ true → b ≡ false
 not-true true e = absurd cc
 not-true false e = refl
 
+-- what is written by a row is the attribute
 spelled_row : (seen : List ℕ) (i : Item) (rest : List ℕ) (o : Option Row) → row_of i.kind ≡ o → row_is_whole o ≡ true → fits_row o i.value ≡ true
     → may_stand_row o (stands_in seen i.kind) ≡ true → IsAttr seen i (row_text o i.kind i.value ++ rest) rest
 spelled_row seen i rest None known w f may = absurd cc
@@ -209,21 +223,26 @@ spelled_list seen (a ∷ list) e =
     let more = spelled_list (seen ++ kind ∷ []) list p.1 in
     ((spelling list, spelled_attr seen (item_of a) (spelling list) r.0 q.1, more.0), and_from (is_named a) (list_all is_named list) r.1 more.1)
 
+-- what is written of a list that may be written is read as that list
 pub written_attributes_are_read : (list : List Attr) → writable list ≡ true → ReadsAttrs (spelling list) list
 written_attributes_are_read list e = spelled_list [] list e
 
+-- how many bytes an attribute of parts has
 parts_size : (kind : ℕ) (front value : List ℕ) (zeros : ℕ) → length (parts_text kind front value zeros) ≡ length front + length value + zeros + 2
 parts_size kind front value zeros = omega (arith, parts_length front value zeros)
 
+-- a value behind its length takes as many bytes as its body
 counted_size : (unit least most kind : ℕ) (front body value : List ℕ) (units : ℕ) → length front ≡ 2 → length body + 2 ≡ 4 * units → IsCounted unit least most body value
     → length (parts_text kind front value (fill (length value))) ≡ length body + 2
 counted_size unit least most kind front body value units two size p =
     let long : length body ≡ 2 + (length value + length p.filling) = ap length p.parts ∙ omega (arith, length-append value p.filling) in
     omega (arith, parts_size kind front value (fill (length value)), filled (length value) (length p.filling) (length body) units p.short long size)
 
+-- a value behind two reserved bytes has two fewer than its body
 behind_size : (body value : List ℕ) → IsAfterReserved body value → length body ≡ 2 + length value
 behind_size body value p = ap length p.parts ∙ omega (arith, length-append p.free value, p.two)
 
+-- a value's spelling takes as many bytes as its body, type and length
 body_size : (s : Shape) (kind : ℕ) (body value : List ℕ) (units : ℕ) → length body + 2 ≡ 4 * units → IsBody s body value → length (shape_text s kind value) ≡ length body + 2
 unfolding shape_text
 body_size (shape.Fixed n) kind body value units size p = omega (arith, parts_size kind [] value 0, ap length p.1)

@@ -33,15 +33,18 @@ pub number_front : (body : List ℕ) → 2 ≤ length body → IsBytes body → 
 number_front body long fits =
     be_bytes_2 (take 2 body) (from_be_bytes w16 body) (omega (arith, length-take 2 body)) (IsBytes-take 2 body fits) (sym (front_number body))
 
+-- what the test of a value behind its length says
 record Tested (unit least most count size long : ℕ) : Type 0 where
   whole : unit * size ≡ count
   at_least : least ≤ size
   at_most : size ≤ most
   exact : long ≡ 2 + size + fill size
 
+-- a number without remainder is a multiple
 whole_is : (unit count : ℕ) → 0 < unit → count % unit ≡ 0 → unit * (count / unit) ≡ count
 whole_is unit count some e = omega arith
 
+-- the test of a value behind its length says so
 tested : (unit least most : ℕ) (body : List ℕ) → 0 < unit → counted unit least most body ≡ true
     → Tested unit least most (from_be_bytes w16 body) (from_be_bytes w16 body / unit) (length body)
 tested unit least most body some e =
@@ -63,6 +66,7 @@ tested unit least most body some e =
     leb-is : (a b : ℕ) → leb a b ≡ true → a ≤ b
     leb-is a b h = grind (arith, nat_tests)
 
+-- a value behind its length that is read stands there
 counted_sound : (unit least most : ℕ) (body value : List ℕ) → 0 < unit → 2 ≤ length body → IsBytes body
     → counted unit least most body ≡ true → counted_value unit body ≡ value → IsCounted unit least most body value
 counted_sound unit least most body value some long fits test e =
@@ -82,20 +86,24 @@ counted_sound unit least most body value some long fits test e =
           ∙ ap (λ (r : List ℕ). to_be_bytes w16 (unit * length value) ++ r) (sym (take-append-drop size rest) ∙ ap (λ (v : List ℕ). v ++ drop size rest) e);
     }
 
+-- one of three tests of a number held
 three_sizes : (n a b c : ℕ) → (eqb n a || eqb n b || eqb n c) ≡ true → (n ≡ a) ⊎ ((n ≡ b) ⊎ (n ≡ c))
 three_sizes n a b c e = grind (arith, nat_tests)
 
+-- a body of 2, 22 or 34 bytes has a hash of 0, 20 or 32
 hash_sizes : (n m : ℕ) → n ≡ 2 + m → (n ≡ 2) ⊎ ((n ≡ 22) ⊎ (n ≡ 34)) → (m ≡ 0) ⊎ ((m ≡ 20) ⊎ (m ≡ 32))
 hash_sizes n m e (inl h) = inl (omega arith)
 hash_sizes n m e (inr (inl h)) = inr (inl (omega arith))
 hash_sizes n m e (inr (inr h)) = inr (inr (omega arith))
 
+-- two bytes are the first and the second
 two_cells : (body : List ℕ) → length body ≡ 2 → body ≡ get_or body 0 0 ∷ get_or body 1 0 ∷ []
 two_cells [] e = absurd (omega arith)
 two_cells (a ∷ []) e = absurd (omega arith)
 two_cells (a ∷ b ∷ []) e = refl
 two_cells (a ∷ b ∷ c ∷ body) e = absurd (omega arith)
 
+-- a body is two bytes longer than what stands behind two
 long_by : (body value : List ℕ) → 2 ≤ length body → drop 2 body ≡ value → length body ≡ 2 + length value
 long_by body value long e = omega (arith, length-drop 2 body, ap length e)
 
@@ -129,17 +137,21 @@ body_sound shape.Flag kind body value long fits e =
     record { first = get_or body 0 0; second = get_or body 1 0; parts = two_cells body (eqb-true (length body) 2 h.0); top = sym h.1 }
 body_sound shape.Skipped kind body value long fits e = ok_is body value e
 
+-- an order passes its test
 le-leb : (a b : ℕ) → a ≤ b → leb a b ≡ true
 le-leb a b h = grind (arith, nat_tests)
 
+-- a value behind its length passes the test
 test_is : (unit least most count n long : ℕ) → count ≡ unit * n → (unit * n) / unit ≡ n → (unit * n) % unit ≡ 0 → least ≤ n → n ≤ most → long ≡ 2 + n + fill n
     → (((eqb (count % unit) 0 && leb least (count / unit)) && leb (count / unit) most) && eqb long (2 + count / unit + fill (count / unit))) ≡ true
 test_is unit least most count n long e d m lo hi size =
     rw (e, d, m) (and_from (leb least n && leb n most) (eqb long (2 + n + fill n)) (and_from (leb least n) (leb n most) (le-leb least n lo) (le-leb n most hi)) (eq-eqb long (2 + n + fill n) size))
 
+-- fewer than four bytes that fill whole units are the least fill
 pub filled : (n filling long units : ℕ) → filling < 4 → long ≡ 2 + (n + filling) → long + 2 ≡ 4 * units → long ≡ 2 + n + fill n
 filled n filling long units short e f = omega arith
 
+-- a value behind its length is read
 counted_again : (unit least most : ℕ) (body value : List ℕ) (units : ℕ) → ((n : ℕ) → (unit * n) / unit ≡ n) → ((n : ℕ) → (unit * n) % unit ≡ 0)
     → ((n : ℕ) → n ≤ most → unit * n < 2 ^ 16) → length body + 2 ≡ 4 * units → IsCounted unit least most body value
     → (counted unit least most body ≡ true) × (counted_value unit body ≡ value)
@@ -152,19 +164,24 @@ counted_again unit least most body value units d m small size p =
       ap (λ (k : ℕ). take (k / unit) (drop 2 body)) number ∙ ap (λ (k : ℕ). take k (drop 2 body)) (d n) ∙ ap (λ (b : List ℕ). take n b) rest ∙ take_at value p.filling n refl,
     )
 
+-- a value whose test holds is read
 value_if_true : (b : Bool) (kind : ℕ) (v w : List ℕ) → b ≡ true → v ≡ w → value_if b kind v ≡ Ok w
 value_if_true b kind v w e f = rw e (ap (λ x. Ok x) f)
 
+-- zero bytes of a right length are read
 zeros_if_true : (b : Bool) (kind : ℕ) (body value : List ℕ) → b ≡ true → list_all is_zero body ≡ true → body ≡ value → zeros_if b kind body ≡ Ok value
 zeros_if_true b kind body value e z f = rw (e, z) (ap (λ x. Ok x) f)
 
+-- what stands behind two reserved bytes is read there
 behind_two : (body value : List ℕ) → IsAfterReserved body value → (length body ≡ 2 + length value) × (drop 2 body ≡ value)
 behind_two body value p =
     (ap length p.parts ∙ omega (arith, length-append p.free value, p.two), ap (λ (b : List ℕ). drop 2 b) p.parts ∙ drop_at p.free value 2 p.two)
 
+-- a number that is one of three passes their test
 three_tests : (n a b c : ℕ) → (n ≡ a) ⊎ ((n ≡ b) ⊎ (n ≡ c)) → (eqb n a || eqb n b || eqb n c) ≡ true
 three_tests n a b c e = grind (arith, nat_tests)
 
+-- a hash of 0, 20 or 32 bytes has a body of 2, 22 or 34
 hash_tests : (n m : ℕ) → n ≡ 2 + m → (m ≡ 0) ⊎ ((m ≡ 20) ⊎ (m ≡ 32)) → (n ≡ 2) ⊎ ((n ≡ 22) ⊎ (n ≡ 34))
 hash_tests n m e (inl h) = inl (omega arith)
 hash_tests n m e (inr (inl h)) = inr (inl (omega arith))
@@ -193,6 +210,7 @@ body_again shape.Flag kind body value units size p =
     (ap (λ (b : List ℕ). cond (ltb (get_or b 0 0) 128) 0 1 ∷ []) p.parts ∙ sym p.top)
 body_again shape.Skipped kind body value units size p = ap (λ x. Ok x) p
 
+-- a bit has a spelling
 flag_fits : (b : Bool) (value : List ℕ) → value ≡ cond b 0 1 ∷ [] → fits shape.Flag value ≡ true
 unfolding fits
 flag_fits true value e = rw e refl

@@ -13,13 +13,16 @@ use Rattle.auc_attr.specs.Spelling.{stands_in}
 use Rattle.auc_attr.proofs.Tools.{IsBytes, and_parts, and_from, ok_is}
 use Rattle.auc_attr.proofs.ItemLemmas.{attr_sound, attr_again, attr_rest}
 
+-- two refusals that are one have one cause
 err_is : {A : Type 0} (e f : AttrRefusal) → ◌≡◌ {A = Result A AttrRefusal} (Err e) (Err f) → e ≡ f
 err_is e f h = cc
 
+-- at a place there is one fault
 one_fault : (seen bytes : List ℕ) (e f : AttrRefusal) → IsFault seen bytes e → IsFault seen bytes f → e ≡ f
 one_fault seen [] e f p q = absurd p
 one_fault seen (kind ∷ bytes) e f p q = err_is {A = Item × List ℕ} e f (sym p ∙ q)
 
+-- at a place the bytes end, or have one fault
 one_end : (seen bytes : List ℕ) (e f : Option AttrRefusal) → Ends seen bytes e → Ends seen bytes f → e ≡ f
 one_end seen bytes None None p q = refl
 one_end seen bytes None (Some f) p q = absurd (subst (λ (b : List ℕ). IsFault seen b f) p q)
@@ -73,9 +76,11 @@ pub record IsReadTo (bytes : List ℕ) (is : List Item) (marks : List Bool) (res
   pub marked : Marks marks (kinds is)
   pub completes : Completes bytes is rest
 
+-- nothing is read at first
 pub begins : (bytes : List ℕ) (marks : List Bool) → IsBytes bytes → Marks marks [] → IsReadTo bytes [] marks bytes
 begins bytes marks fits m = record { fits = fits; marked = m; completes = λ more end w. w }
 
+-- one more attribute is read
 pub goes_on : (bytes : List ℕ) (is : List Item) (marks after : List Bool) (rest : List ℕ) (i : Item) (more : List ℕ) → IsReadTo bytes is marks rest
     → IsAttr (kinds is) i rest more → ((ks : List ℕ) → Marks marks ks → Marks after (ks ++ i.kind ∷ [])) → IsReadTo bytes (is ++ i ∷ []) after more
 goes_on bytes is marks after rest i more p attr m =
@@ -95,6 +100,7 @@ taken bytes is marks [] stood i more p some tells e = absurd (omega arith)
 taken bytes is marks (kind ∷ rest) stood i more p some tells e =
     attr_sound (kinds is) kind rest i more p.fits (ap (λ b. item_at b (kind ∷ rest)) (sym (tells (kinds is) p.marked)) ∙ e)
 
+-- a fault behind attributes is the first
 fault_of : (bytes : List ℕ) (f : AttrRefusal) (is : List Item) → Walks [] bytes is (Some f) → FirstFault bytes f
 fault_of bytes refusal.Truncated is w = (is, w)
 fault_of bytes refusal.ZeroLength is w = (is, w)
@@ -112,6 +118,7 @@ faulty bytes is marks (kind ∷ rest) stood f p some tells e =
     subst (λ (x : List Item). Walks [] bytes x (Some f)) (append-nil is)
     (p.completes [] (Some f) (ap (λ b. item_at b (kind ∷ rest)) (sym (tells (kinds is) p.marked)) ∙ e))
 
+-- a fault at the front of the rest is the first of the bytes
 pub first_fault : (bytes : List ℕ) (is : List Item) (marks : List Bool) (rest : List ℕ) (stood : Bool) (f : AttrRefusal) → IsReadTo bytes is marks rest → 0 < length rest
     → ((ks : List ℕ) → Marks marks ks → stood ≡ stands_in ks (get_or rest 0 0)) → item_at stood rest ≡ Err f → FirstFault bytes f
 first_fault bytes is marks rest stood f p some tells e = fault_of bytes f is (faulty bytes is marks rest stood f p some tells e)
@@ -126,12 +133,14 @@ pub record IsListedTo (bytes : List ℕ) (list : List Attr) (marks : List Bool) 
   pub read : IsReadTo bytes (items list) marks rest
   pub named : list_all is_named list ≡ true
 
+-- one more attribute that goes by its own name
 all_named : (list : List Attr) (a : Attr) → list_all is_named list ≡ true → is_named a ≡ true → list_all is_named (list ++ a ∷ []) ≡ true
 all_named [] a e f = and_from (is_named a) true f refl
 all_named (b ∷ list) a e f =
     let p = and_parts (is_named b) (list_all is_named list) e in
     and_from (is_named b) (list_all is_named (list ++ a ∷ [])) p.0 (all_named list a p.1 f)
 
+-- one more attribute is put on the list
 pub list_goes_on : (bytes : List ℕ) (list longer : List Attr) (marks after : List Bool) (rest : List ℕ) (a : Attr) (i : Item) (more : List ℕ) → IsListedTo bytes list marks rest
     → IsAttr (kinds (items list)) i rest more → item_of a ≡ i → is_named a ≡ true → longer ≡ list ++ a ∷ [] → ((ks : List ℕ) → Marks marks ks → Marks after (ks ++ i.kind ∷ []))
     → IsListedTo bytes longer after more
@@ -142,6 +151,7 @@ list_goes_on bytes list longer marks after rest a i more p attr is named push m 
       named = all_named list a p.named named;
     })
 
+-- the list is empty at first
 pub list_begins : (bytes : List ℕ) (list : List Attr) (marks : List Bool) → list ≡ [] → IsBytes bytes → Marks marks [] → IsListedTo bytes list marks bytes
 list_begins bytes list marks e fits m =
     subst (λ (l : List Attr). IsListedTo bytes l marks bytes) (sym e) (record { read = begins bytes marks fits m; named = refl })

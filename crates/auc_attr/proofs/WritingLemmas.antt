@@ -10,6 +10,7 @@ use Rattle.auc_attr.specs.Marks.{Marks}
 use Rattle.auc_attr.specs.Spelling.{stands_in, fits_item, may_follow, writable_from, writable, item_text, spelling}
 use Rattle.auc_attr.proofs.Tools.{and_parts, and_from}
 
+-- whether an attribute has a spelling
 abbrev pub has_spelling : Attr → Bool
 has_spelling a = fits_item (item_of a)
 
@@ -34,14 +35,17 @@ pub record IsPut (room : Reserved ℕ) (list : List Attr) (done : Reserved ℕ) 
   pub size : length (spelling list) ≤ room.left
   pub rest : wrote room (spelling list) ≡ done
 
+-- the whole list is still to be written at first
 pub put_begins : (room : Reserved ℕ) (list : List Attr) → writable list ≡ true → length (spelling list) ≤ room.left → IsPut room list (wrote room (spelling list))
 put_begins room list e fits = record { each = each_has_spelling [] list e; size = fits; rest = refl }
 
+-- the first attribute has a spelling, and there is room for it
 pub put_first : (room : Reserved ℕ) (a : Attr) (list : List Attr) (done : Reserved ℕ) → IsPut room (a ∷ list) done
     → (fits_item (item_of a) ≡ true) × (length (item_text (item_of a)) ≤ room.left)
 put_first room a list done p =
     ((and_parts (has_spelling a) (list_all has_spelling list) p.each).0, omega (arith, p.size, length-append (item_text (item_of a)) (spelling list)))
 
+-- the first attribute is written
 pub put_goes_on : (room : Reserved ℕ) (a : Attr) (list : List Attr) (done after : Reserved ℕ) → IsPut room (a ∷ list) done
     → after ≡ wrote room (item_text (item_of a)) → IsPut after list done
 put_goes_on room a list done after p e =
@@ -53,6 +57,7 @@ put_goes_on room a list done after p e =
       rest = ap (λ (r : Reserved ℕ). wrote r (spelling list)) e ∙ wrote_twice room text (spelling list) ∙ p.rest;
     }
 
+-- nothing is left to be written
 pub put_ends : (room done : Reserved ℕ) → IsPut room [] done → room ≡ done
 put_ends room done p =
     ap (λ (w : List ℕ). record { written = w; left = room.left }) (sym (append-nil room.written))
@@ -62,9 +67,11 @@ put_ends room done p =
 pub rest_from : {X : Type 0} (xs : List X) (i : ℕ) (x : X) → i < length xs → x ≡ get_or xs i x → drop i xs ≡ x ∷ drop (i + 1) xs
 rest_from xs i x lt e = rw add-one (drop-cons xs i x lt ∙ ap (λ y. y ∷ drop (suc i) xs) (sym e))
 
+-- what is still to be written at a place of the list begins with the attribute there
 pub put_at : (room done : Reserved ℕ) (xs : List Attr) (i : ℕ) (x : Attr) → i < length xs → x ≡ get_or xs i x → IsPut room (drop i xs) done → IsPut room (x ∷ drop (i + 1) xs) done
 put_at room done xs i x lt e p = subst (λ (r : List Attr). IsPut room r done) (rest_from xs i x lt e) p
 
+-- at the end of the list all is written
 pub put_done : (room done : Reserved ℕ) (xs : List Attr) (i : ℕ) → length xs ≤ i → IsPut room (drop i xs) done → room ≡ done
 put_done room done xs i le p = put_ends room done (subst (λ (r : List Attr). IsPut room r done) (drop_all i xs le) p)
 
@@ -73,9 +80,11 @@ pub record IsCountedTo (size : ℕ) (rest : List Attr) (total : ℕ) : Type 0 wh
   pub each : list_all has_spelling rest ≡ true
   pub sum : size + length (spelling rest) ≡ total
 
+-- the first attribute has a spelling
 pub count_first : (size : ℕ) (a : Attr) (rest : List Attr) (total : ℕ) → IsCountedTo size (a ∷ rest) total → fits_item (item_of a) ≡ true
 count_first size a rest total p = (and_parts (has_spelling a) (list_all has_spelling rest) p.each).0
 
+-- the first attribute is counted
 pub count_goes_on : (size : ℕ) (a : Attr) (rest : List Attr) (total more after : ℕ) → IsCountedTo size (a ∷ rest) total → more ≡ length (item_text (item_of a))
     → after ≡ size + more → IsCountedTo after rest total
 count_goes_on size a rest total more after p e f = record {
@@ -83,6 +92,7 @@ count_goes_on size a rest total more after p e f = record {
   sum = omega (arith, p.sum, e, f, length-append (item_text (item_of a)) (spelling rest));
 }
 
+-- a part of the bytes is no more than all
 pub count_within : (size : ℕ) (a : Attr) (rest : List Attr) (total more : ℕ) → IsCountedTo size (a ∷ rest) total → more ≡ length (item_text (item_of a)) → size + more ≤ total
 count_within size a rest total more p e = omega (arith, p.sum, e, length-append (item_text (item_of a)) (spelling rest))
 
@@ -90,12 +100,15 @@ count_within size a rest total more p e = omega (arith, p.sum, e, length-append 
 pub past_most : (sum total : ℕ) → sum ≤ total → (sum < 2 ^ 64 → ⊥) → 2 ^ 64 ≤ total
 past_most sum total within past = elim (cases_lt sum (2 ^ 64)) [ inl lt ↦ absurd (past lt) | inr le ↦ omega (arith, le) ]
 
+-- what is still to be counted at a place of the list begins with the attribute there
 pub count_at : (size total : ℕ) (xs : List Attr) (i : ℕ) (x : Attr) → i < length xs → x ≡ get_or xs i x → IsCountedTo size (drop i xs) total → IsCountedTo size (x ∷ drop (i + 1) xs) total
 count_at size total xs i x lt e p = subst (λ (r : List Attr). IsCountedTo size r total) (rest_from xs i x lt e) p
 
+-- nothing is counted at first
 pub count_begins : (list : List Attr) → writable list ≡ true → IsCountedTo 0 list (length (spelling list))
 count_begins list e = record { each = each_has_spelling [] list e; sum = omega arith }
 
+-- at the end of the list all is counted
 pub count_done : (size total : ℕ) (xs : List Attr) (i : ℕ) → length xs ≤ i → IsCountedTo size (drop i xs) total → size ≡ total
 count_done size total xs i le p =
     let q = subst (λ (r : List Attr). IsCountedTo size r total) (drop_all i xs le) p in
@@ -107,14 +120,17 @@ pub record IsJudgedTo (marks : List Bool) (rest : List Attr) (whole : Bool) : Ty
   pub marked : Marks marks kinds
   pub judged : writable_from kinds rest ≡ whole
 
+-- what is still to be judged at a place of the list begins with the attribute there
 pub judge_at : (marks : List Bool) (whole : Bool) (xs : List Attr) (i : ℕ) (x : Attr) → i < length xs → x ≡ get_or xs i x → IsJudgedTo marks (drop i xs) whole → IsJudgedTo marks (x ∷ drop (i + 1) xs) whole
 judge_at marks whole xs i x lt e p = subst (λ (r : List Attr). IsJudgedTo marks r whole) (rest_from xs i x lt e) p
 
+-- a list of which nothing is left may be written
 pub judge_done : (marks : List Bool) (whole : Bool) (xs : List Attr) (i : ℕ) → length xs ≤ i → IsJudgedTo marks (drop i xs) whole → true ≡ whole
 judge_done marks whole xs i le p = (subst (λ (r : List Attr). IsJudgedTo marks r whole) (drop_all i xs le) p).judged
 
 module _ (marks : List Bool) (a : Attr) (rest : List Attr) (whole stood may : Bool) (kind : ℕ) (named : kind ≡ (item_of a).kind)
     (tells : (kinds : List ℕ) → Marks marks kinds → stood ≡ stands_in kinds kind) (is : may ≡ may_follow a stood) where
+  -- the mark of its type tells whether an attribute may follow
   may_is : (kinds : List ℕ) → Marks marks kinds → may_follow a (stands_in kinds (item_of a).kind) ≡ may
   may_is kinds m = ap (λ k. may_follow a (stands_in kinds k)) (sym named) ∙ ap (λ b. may_follow a b) (sym (tells kinds m)) ∙ sym is
 

@@ -30,10 +30,12 @@ use Rattle.auc_packet.specs.Packet.{kind_of, number_of, ReadsPacket, FirstPacket
 
 -- ---- what is written is read
 
+-- each method has its type
 method_known : (m : Method) → is_method (kind_of m) ≡ true
 method_known method.Aka = refl
 method_known method.Prime = refl
 
+-- each Subtype has its number
 subtype_known : (s : Subtype) → is_subtype (number_of s) ≡ true
 subtype_known subtype.Challenge = refl
 subtype_known subtype.AuthenticationReject = refl
@@ -43,6 +45,7 @@ subtype_known subtype.Notification = refl
 subtype_known subtype.Reauthentication = refl
 subtype_known subtype.ClientError = refl
 
+-- what is written is read, whatever follows it
 pub written_is_read : WrittenIsRead
 written_is_read (packet.Success id) past w = record { past = past; parts = refl }
 written_is_read (packet.Failure id) past w = record { past = past; parts = refl }
@@ -68,15 +71,19 @@ written_is_read (packet.Aka request id m s list) past w =
 
 -- ---- bytes are one packet
 
+-- two answers that are one have one frame
 ok_frame : (f g : Frame) → ◌≡◌ {A = Result Frame FrameFault} (Ok f) (Ok g) → f ≡ g
 ok_frame f g e = cc
 
+-- one frame stands in bytes
 one_frame : (bytes : List ℕ) (f g : Frame) → IsFramed f bytes → IsFramed g bytes → f ≡ g
 one_frame bytes f g p q = ok_frame f g (sym (frame_again f bytes p) ∙ frame_again g bytes q)
 
+-- the method of a type
 abbrev method_from : ℕ → Method
 method_from n = if n == 23 then method.Aka else method.Prime
 
+-- the Subtype of a number
 abbrev subtype_from : ℕ → Subtype
 subtype_from n =
     if n == 1 then subtype.Challenge
@@ -87,10 +94,12 @@ subtype_from n =
     else if n == 13 then subtype.Reauthentication
     else subtype.ClientError
 
+-- a method is that of its type
 from_kind : (m : Method) → method_from (kind_of m) ≡ m
 from_kind method.Aka = refl
 from_kind method.Prime = refl
 
+-- a Subtype is that of its number
 from_number : (s : Subtype) → subtype_from (number_of s) ≡ s
 from_number subtype.Challenge = refl
 from_number subtype.AuthenticationReject = refl
@@ -106,20 +115,24 @@ packet_from (Ended success id) list = if success then packet.Success id else pac
 packet_from (Named request id text) list = packet.Identity request id text
 packet_from (Message request id kind number attrs) list = packet.Aka request id (method_from kind) (subtype_from number) list
 
+-- a packet's attributes
 abbrev list_of : Packet → List Attr
 list_of (packet.Aka request id m s list) = list
 list_of _ = []
 
+-- a packet's frame around the bytes of its attributes
 abbrev frame_of : Packet → List ℕ → Frame
 frame_of (packet.Success id) attrs = Ended true id
 frame_of (packet.Failure id) attrs = Ended false id
 frame_of (packet.Identity request id text) attrs = Named request id text
 frame_of (packet.Aka request id m s list) attrs = Message request id (kind_of m) (number_of s) attrs
 
+-- a frame's bytes of attributes
 abbrev attrs_of : Frame → List ℕ
 attrs_of (Message request id kind number attrs) = attrs
 attrs_of _ = []
 
+-- a packet is that of its frame and its attributes
 from_frame : (p : Packet) (attrs : List ℕ) → packet_from (frame_of p attrs) (list_of p) ≡ p
 from_frame (packet.Success id) attrs = refl
 from_frame (packet.Failure id) attrs = refl
@@ -134,18 +147,21 @@ record IsRead (bytes : List ℕ) (p : Packet) : Type 0 where
   own : attrs_of (frame_of p attrs) ≡ attrs
   listed : ReadsAttrs attrs (list_of p)
 
+-- a packet that bytes are has its frame and its attributes there
 read_is : (bytes : List ℕ) (p : Packet) → ReadsPacket bytes p → IsRead bytes p
 read_is bytes (packet.Success id) r = record { attrs = []; framed = r; own = refl; listed = (refl, refl) }
 read_is bytes (packet.Failure id) r = record { attrs = []; framed = r; own = refl; listed = (refl, refl) }
 read_is bytes (packet.Identity request id text) r = record { attrs = []; framed = r; own = refl; listed = (refl, refl) }
 read_is bytes (packet.Aka request id m s list) r = record { attrs = r.0; framed = r.1; own = refl; listed = r.2 }
 
+-- the numbers of a packet are those of its attributes
 values_of : (p : Packet) → has_values p ≡ true → list_all is_value (list_of p) ≡ true
 values_of (packet.Success id) e = refl
 values_of (packet.Failure id) e = refl
 values_of (packet.Identity request id text) e = refl
 values_of (packet.Aka request id m s list) e = e
 
+-- bytes are one packet
 pub one_packet : OnePacket
 one_packet bytes p q vp vq rp rq =
     let a = read_is bytes p rp in
@@ -158,6 +174,7 @@ one_packet bytes p q vp vq rp rq =
 
 -- ---- faults
 
+-- the fault that a refusal names
 abbrev fault_of : PacketRefusal → PacketFault
 fault_of refusal.Short = Before faults.Short
 fault_of refusal.BadCode = Before faults.BadCode
@@ -167,6 +184,7 @@ fault_of (refusal.UnknownSubtype number) = Before (faults.UnknownSubtype number)
 fault_of (refusal.Attr fault) = Within fault
 fault_of refusal.NoMemory = Within attr_refusal.NoMemory
 
+-- the refusal that names a fault
 abbrev refusal_of : PacketFault → PacketRefusal
 refusal_of (Before faults.Short) = refusal.Short
 refusal_of (Before faults.BadCode) = refusal.BadCode
@@ -175,6 +193,7 @@ refusal_of (Before (faults.OtherType kind)) = refusal.OtherType kind
 refusal_of (Before (faults.UnknownSubtype number)) = refusal.UnknownSubtype number
 refusal_of (Within fault) = refusal.Attr fault
 
+-- a refusal is that of its fault
 from_fault : (f : PacketRefusal) → f ≢ refusal.NoMemory → refusal_of (fault_of f) ≡ f
 from_fault refusal.Short n = refl
 from_fault refusal.BadCode n = refl
@@ -184,6 +203,7 @@ from_fault (refusal.UnknownSubtype number) n = refl
 from_fault (refusal.Attr fault) n = refl
 from_fault refusal.NoMemory n = absurd (n refl)
 
+-- a refusal names the first fault
 first_is : (bytes : List ℕ) (f : PacketRefusal) → f ≢ refusal.NoMemory → FirstPacketFault bytes f → IsFirstFault bytes (fault_of f)
 first_is bytes refusal.Short n p = p
 first_is bytes refusal.BadCode n p = p
@@ -193,12 +213,15 @@ first_is bytes (refusal.UnknownSubtype number) n p = p
 first_is bytes (refusal.Attr fault) n p = p
 first_is bytes refusal.NoMemory n p = absurd (n refl)
 
+-- two refusals that are one have one fault
 err_is : (e f : FrameFault) → ◌≡◌ {A = Result Frame FrameFault} (Err e) (Err f) → e ≡ f
 err_is e f h = cc
 
+-- a frame is no fault
 ok_or_err : (f : Frame) (e : FrameFault) → ◌≡◌ {A = Result Frame FrameFault} (Ok f) (Err e) → ⊥
 ok_or_err f e h = cc
 
+-- bytes have one first fault, before their attributes or in them
 one_packet_fault : (bytes : List ℕ) (x y : PacketFault) → IsFirstFault bytes x → IsFirstFault bytes y → x ≡ y
 one_packet_fault bytes (Before e) (Before f) p q = ap (λ x. Before x) (err_is e f (sym p ∙ q))
 one_packet_fault bytes (Before e) (Within f) p q = absurd (ok_or_err _ e (sym (frame_again (Message q.1.request q.1.id q.1.kind q.1.subtype q.1.attrs) bytes q.1.framed) ∙ p))
@@ -210,10 +233,12 @@ one_packet_fault bytes (Within e) (Within f) p q =
     let attrs : a.attrs ≡ b.attrs = ap (λ (f : Frame). attrs_of f) frames in
     ap (λ x. Within x) (one_fault a.attrs e f p.0 q.0 a.first (subst (λ (x : List ℕ). FirstFault x f) (sym attrs) b.first))
 
+-- bytes have one refusal
 pub one_first_fault : OneFault
 one_first_fault bytes f g nf ng p q =
     sym (from_fault f nf) ∙ ap (λ (x : PacketFault). refusal_of x) (one_packet_fault bytes (fault_of f) (fault_of g) (first_is bytes f nf p) (first_is bytes g ng q)) ∙ from_fault g ng
 
+-- bytes with a first fault are no packet
 not_both : (bytes : List ℕ) (p : Packet) (x : PacketFault) → IsFirstFault bytes x → IsRead bytes p → ⊥
 not_both bytes p (Before e) q a = ok_or_err (frame_of p a.attrs) e (sym (frame_again (frame_of p a.attrs) bytes a.framed) ∙ q)
 not_both bytes p (Within e) q a =
@@ -222,6 +247,7 @@ not_both bytes p (Within e) q a =
     let attrs : a.attrs ≡ b.attrs = sym a.own ∙ ap (λ (f : Frame). attrs_of f) frames in
     refused_is_not_read b.attrs (list_of p) e q.0 b.first (subst (λ (x : List ℕ). ReadsAttrs x (list_of p)) attrs a.listed)
 
+-- bytes that are refused are no packet
 pub refused_is_no_packet : RefusedIsNotRead
 refused_is_no_packet bytes p f nf q r = not_both bytes p (fault_of f) (first_is bytes f nf q) (read_is bytes p r)
 
@@ -235,11 +261,13 @@ attrs_are_bytes request id kind number attrs bytes fits p =
     let these : take (length attrs) (drop 8 bytes) ≡ attrs = ap (λ (b : List ℕ). take (length attrs) b) behind ∙ take_at attrs p.past (length attrs) refl in
     subst AreBytes these (IsBytes-take (length attrs) (drop 8 bytes) (IsBytes-drop 8 bytes fits))
 
+-- Length of a Success or Failure is 4
 ended_length : (success : Bool) (id : ℕ) (bytes : List ℕ) → IsEnded success id bytes → (4 ≡ length_of bytes) × (length_of bytes ≤ length bytes)
 ended_length success id bytes p =
     let number : length_of bytes ≡ 4 = ap (λ (b : List ℕ). length_of b) p.parts in
     (sym number, omega (arith, number, ap length p.parts))
 
+-- what is read may be written, in as many bytes as Length says
 pub read_may_be_written : ReadIsWritable
 read_may_be_written bytes (packet.Success id) fits r = let e = ended_length true id bytes r in (refl, e.0, e.1)
 read_may_be_written bytes (packet.Failure id) fits r = let e = ended_length false id bytes r in (refl, e.0, e.1)
