@@ -1,0 +1,85 @@
+#!/usr/bin/env python3
+"""Measures how many authentication vectors a second one core makes, with this code and with libosmogsm's
+`osmo_auth_gen_vec` (Debian's libosmocore-dev), as a ratio in one run.
+
+    bench/milenage.py [PROGRAM]     PROGRAM: crates/auc_vector_rate/out/auc_vector_rate, unless it is given
+
+`rt run` in crates/auc_vector_rate builds PROGRAM. Each side makes two counts of vectors, and the difference of
+their processor times is taken, so that starting up doesn't count. The goal is 2.9: a table AES in C with one key
+schedule and five blocks a vector. Without libosmocore-dev or a C compiler it says so and ends.
+"""
+import resource
+import shutil
+import subprocess
+import sys
+import tempfile
+from pathlib import Path
+
+TOP = Path(__file__).resolve().parent.parent
+FEW, MANY, REPEATS = 200_000, 2_200_000, 3
+LOOP = r"""
+#include <stdio.h>
+#include <stdlib.h>
+#include <string.h>
+#include <osmocom/crypt/auth.h>
+
+int main(int argc, char **argv) {
+    long count = argc > 1 ? atol(argv[1]) : 0;
+    unsigned long folded = 0;
+    unsigned char rand[16];
+    struct osmo_sub_auth_data data = { .type = OSMO_AUTH_TYPE_UMTS, .algo = OSMO_AUTH_ALG_MILENAGE };
+    struct osmo_auth_vector made;
+    memset(data.u.umts.opc, 9, 16);
+    memset(data.u.umts.k, 7, 16);
+    data.u.umts.opc_is_op = 0;
+    data.u.umts.amf[0] = 0x80;
+    memset(rand, 5, 16);
+    for (long n = 1; n <= count; n++) {
+        memset(&made, 0, sizeof made);
+        data.u.umts.sqn = n;
+        memcpy(rand, &n, sizeof n);
+        if (osmo_auth_gen_vec(&made, &data, rand) < 0)
+            return 1;
+        folded ^= made.autn[15] ^ made.res[0];
+    }
+    printf("%lu\n", folded);
+    return 0;
+}
+"""
+
+
+def seconds(program, count):
+    before = resource.getrusage(resource.RUSAGE_CHILDREN).ru_utime
+    subprocess.run([program, str(count)], stdout=subprocess.DEVNULL, check=True)
+    return resource.getrusage(resource.RUSAGE_CHILDREN).ru_utime - before
+
+
+def rate(program):
+    return (MANY - FEW) / (seconds(program, MANY) - seconds(program, FEW))
+
+
+def built_loop(folder):
+    source, program = Path(folder) / "loop.c", Path(folder) / "loop"
+    source.write_text(LOOP)
+    libraries = ["-losmogsm", "-losmocore", "-ltalloc"]
+    done = subprocess.run(["cc", "-O2", "-o", str(program), str(source), *libraries], capture_output=True)
+    if done.returncode != 0:
+        sys.exit("libosmocore-dev isn't here: nothing to compare with")
+    return str(program)
+
+
+def main():
+    ours = sys.argv[1] if len(sys.argv) > 1 else str(TOP / "crates/auc_vector_rate/out/auc_vector_rate")
+    if not Path(ours).exists():
+        sys.exit(f"{ours} isn't built: run `rt run` in crates/auc_vector_rate")
+    if shutil.which("cc") is None:
+        sys.exit("no C compiler: nothing to compare with")
+    with tempfile.TemporaryDirectory() as folder:
+        theirs = built_loop(folder)
+        print(f"{'ours':>10} {'libosmogsm':>11} {'ratio':>6}   vectors a second of processor time")
+        for _ in range(REPEATS):
+            a, b = rate(ours), rate(theirs)
+            print(f"{a:>10.0f} {b:>11.0f} {a / b:>6.2f}")
+
+
+main()
