@@ -1,0 +1,100 @@
+//! The USIM by vectors of the standard.
+
+ghost use Rattle.std.specs.Prelude.{◌≤◌};
+
+use crate::{Answer, Usim};
+use auc_milenage::Secret;
+use auc_sqn::{MAX_SEQ, sqn_of};
+
+// TS 35.208, test set 1: K, OPc, RAND and SQN; AUTN of SQN masked by f5, AMF and f1.
+const RAND: u128 = 0x23553cbe9637a89d218ae64dae47bf35;
+
+const SQN: [u8; 6] = [0xff, 0x9b, 0xb4, 0xd0, 0xb6, 0x07];
+
+const AUTN: u128 = 0x55f328b43577b9b94a9ffac354dfafb3;
+
+/// SEQ of the test set's SQN.
+const SEQ: u64 = 8782631830960;
+
+/// The USIM of the test set, for which the numbers up to `opening` count as accepted.
+fn usim(opening: u64) -> Usim
+    requires { opening ≤ MAX_SEQ }
+{
+    let s = Secret {
+        k: 0x465b5ce8b199b49faa5f0a2ee238a6bc_u128.to_be_bytes(),
+        opc: 0xcd63cb71954a9f4e48a5994e37a02baf_u128.to_be_bytes(),
+    };
+    Usim::new(s, opening)
+}
+
+// RES, CK, IK and AK as TS 35.208 prints them; the openings by hand: SEQ is at most 2^28 above them, and the last
+// number up to them whose remainder by 32 is the SQN's IND, which is 7, is SEQ - 9.
+#[test]
+fn genuine_vector_is_accepted_within_reach(rt: HostRuntime) {
+    let accepted = Answer::Accepted {
+        res: 0xa54211d5e3ba50bf_u64.to_be_bytes(),
+        ck: 0xb40ba9a3c58b2a05bbf0d987b21bf8cb_u128.to_be_bytes(),
+        ik: 0xf769bcd751044604127672711c6d3441_u128.to_be_bytes(),
+        ak: [0xaa, 0x68, 0x9c, 0x64, 0x83, 0x70],
+        amf: [0xb9, 0xb9],
+        sqn: SQN,
+    };
+    for opening in [SEQ - 268435456, SEQ - 1, SEQ, SEQ + 22] {
+        let answer = usim(opening).challenge(RAND.to_be_bytes(), AUTN.to_be_bytes());
+        assert_eq!(rt; answer, accepted, "at {opening}");
+    }
+}
+
+// The first and the last bit of each part of AUTN turned over; at the second opening the genuine SQN is stale.
+#[test]
+fn forged_autn_gets_no_auts_and_changes_nothing(rt: HostRuntime) {
+    for bit in [0, 47, 48, 63, 64, 127] {
+        for opening in [SEQ - 1, SEQ + 100] {
+            let mut usim = usim(opening);
+            let before = usim;
+            let forged = AUTN ^ (1 << bit);
+            let answer = usim.challenge(RAND.to_be_bytes(), forged.to_be_bytes());
+            assert_eq!(rt; answer, Answer::WrongMac, "at {bit}");
+            assert!(rt; usim == before, "at {bit}");
+        }
+    }
+}
+
+// The openings by hand: SEQ is 2^28 + 1 above the first, and SEQ + 23 is the number behind it whose remainder by 32 is
+// IND. The AUTS by the equations of TS 35.206 over the AES of Python's `cryptography` 48; it begins with SQN_MS masked
+// by the test set's f5*, 451e8beca43b.
+#[test]
+fn stale_and_far_numbers_get_the_auts_of_sqn_ms(rt: HostRuntime) {
+    let cases: [(u64, [u8; 6], u128); 2] = [
+        (
+            SEQ - 268435457,
+            sqn_of(SEQ - 268435457),
+            0xba873f3c11d479dba87465736ce1,
+        ),
+        (SEQ + 23, sqn_of(SEQ + 23), 0xba853f3c1cdc1ab8c59f4595199f),
+    ];
+    for (opening, sqn, auts) in cases {
+        let mut usim = usim(opening);
+        let before = usim;
+        let answer = usim.challenge(RAND.to_be_bytes(), AUTN.to_be_bytes());
+        assert_eq!(rt; answer, failure(auts, sqn), "at {opening}");
+        assert!(rt; usim == before, "at {opening}");
+    }
+}
+
+// The AUTS as above.
+#[test]
+fn accepted_number_is_not_accepted_again(rt: HostRuntime) {
+    let mut usim = usim(SEQ - 1);
+    let first = usim.challenge(RAND.to_be_bytes(), AUTN.to_be_bytes());
+    assert!(rt; matches!(first, Answer::Accepted { .. }));
+    let second = usim.challenge(RAND.to_be_bytes(), AUTN.to_be_bytes());
+    assert_eq!(rt; second, failure(0xba853f3c123ccf44e93596e355c6, SQN));
+}
+
+/// A synchronisation failure, with AUTS as a number of 112 bits.
+fn failure(auts: u128, sqn: [u8; 6]) -> Answer {
+    let mut sent = [0; 14];
+    sent.copy_from_slice(&auts.to_be_bytes()[2..]);
+    Answer::SyncFailure { auts: sent, sqn }
+}
