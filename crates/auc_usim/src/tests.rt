@@ -27,8 +27,8 @@ fn usim(opening: u64) -> Usim
     Usim::new(s, opening)
 }
 
-// RES, CK, IK and AK as TS 35.208 prints them; the openings by hand: SEQ is at most 2^28 above them, and the last
-// number up to them whose remainder by 32 is the SQN's IND, which is 7, is SEQ - 9.
+// RES, CK, IK and AK as TS 35.208 prints them; the openings by hand: SEQ is at most 2^28 above each, and the last
+// number up to it whose remainder by 32 is the SQN's IND, which is 7, is at most SEQ - 9.
 #[test]
 fn genuine_vector_is_accepted_within_reach(rt: HostRuntime) {
     let accepted = Answer::Accepted {
