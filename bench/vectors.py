@@ -6,7 +6,8 @@ linearly and that the memory stays within 200 bytes a vector.
 
 Each count is drawn in jobs of 1000 vectors over 100 subscribers. The figures are those of one run: the program's
 own processor time, its greatest resident size, and both as ratios: of the time to the row before, and of the size to
-the count. On four shared cores a run gave 46 MB, 46 bytes a vector, at a million; the rows grew linearly.
+the count. A run on four shared cores gave 0.003, 0.025 and 0.205 seconds, so ratios of 8.6 and 8.2, and 45.8 MB, 46
+bytes a vector, at a million.
 """
 import os
 import subprocess
