@@ -1,5 +1,5 @@
--- The message authentication code of a packet (RFC 4187 §10.15, RFC 9048 §3.4.2). A packet is seen as the list of
--- its bytes; the place is that of the first of the 16 bytes of AT_MAC's value.
+-- The message authentication code of a packet (RFC 4187 §10.15, RFC 9048 §3.4.2). A packet is seen as
+-- the list of its bytes; the place is that of the first of the 16 bytes of AT_MAC's value.
 use Rattle.std.specs.Prelude.{◌≡◌, ◌≢◌, ℕ, ◌+◌, List, ◌++◌, take, drop, replicate, Some, None}
 use Rattle.auc_attr.specs.Frame.{length_of}
 use Rattle.auc_attr.specs.Mac.{IsMacPlace}

@@ -54,7 +54,8 @@ pub fn seal_mac(method: Method, k_aut: &[u8; 32], packet: &mut [u8], extra: &[u8
 
     ensures right { IsRight method k_aut.now packet.new extra.now }
     ensures kept { (place : ℕ) → IsMacPlace packet.old (Some place)
-        → packet.new ≡ with_block packet.old place (right_mac method k_aut.now packet.old place extra.now) }
+        → packet.new
+        ≡ with_block packet.old place (right_mac method k_aut.now packet.old place extra.now) }
 {
     if let Some(place) = mac_place(packet) {
         let mac = right_mac(method, k_aut, packet, place, extra);
