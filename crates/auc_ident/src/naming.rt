@@ -1,0 +1,43 @@
+//! Identities of subscribers.
+
+ghost use Rattle.std.specs.Prelude.{◌≡◌, length};
+ghost use Rattle.auc_edge.specs.Identity.{last_digits};
+ghost use Rattle.auc_ident.specs.Permanent.{leading, permanent_text};
+
+use crate::identity::{MOST, Permanent};
+use auc_edge::Imsi;
+use auc_hmac::Method;
+
+/// The permanent identity of an IMSI: `0` for EAP-AKA (RFC 4187 §4.1.1.6) or `6` for EAP-AKA'
+/// (RFC 9048 §5.1), and then all digits of the IMSI. It has no realm.
+pub fn permanent(method: Method, imsi: Imsi) -> Permanent
+    ensures { result ≡ permanent_text method imsi }
+{
+    let mut text = [leading(method); MOST];
+    let size = 1 + usize::from(imsi.digits());
+    write_digits(&mut text[1..size], imsi.number());
+    Permanent::front_of(text, size)
+}
+
+// The ASCII digit that an identity of the method begins with.
+fn leading(method: Method) -> u8
+    ensures { result ≡ leading method }
+{
+    match method {
+        Method::Aka => b'0',
+        Method::Prime => b'6',
+    }
+}
+
+// Fills a text with the last digits of a number.
+fn write_digits(text: &mut [u8], number: u64)
+    ensures { text.new ≡ last_digits (length text.old) number }
+{
+    let mut left = text.len();
+    let mut rest = number;
+    while left > 0 {
+        left -= 1;
+        text[left] = b'0' + (rest % 10) as u8;
+        rest /= 10;
+    }
+}

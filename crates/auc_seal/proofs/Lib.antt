@@ -1,0 +1,4 @@
+pub mod PlaceLemmas
+pub mod BlockLemmas
+pub mod CheckcodeLemmas
+pub mod SealLemmas

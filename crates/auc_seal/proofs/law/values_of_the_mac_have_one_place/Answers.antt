@@ -1,0 +1,5 @@
+use Rattle.auc_seal.proofs.PlaceLemmas.{one_place}
+use Rattle.auc_seal.proofs.law.values_of_the_mac_have_one_place.Goals as goal
+
+pub returns : goal.returns
+returns c = one_place

@@ -1,0 +1,38 @@
+-- The checkcode (RFC 4187 §10.13, RFC 9048 §3.4.3): a hash of packets in their order.
+use Rattle.std.specs.Prelude.{◌≡◌, ℕ, Bool, true, false, List, [], ◌∷◌}
+use Rattle.std.specs.List.{concat}
+use Rattle.sha1.specs.Sha1.{sha1}
+use Rattle.sha1.specs.Sha1 as One
+use Rattle.sha2.specs.Sha256.{sha256}
+use Rattle.sha2.specs.Hashers.{Holds256}
+use Rattle.auc_hmac.specs.declared.method.Method.{Method}
+use Rattle.auc_hmac.specs.declared.method.Method.TheVariants as methods
+use Rattle.auc_seal.specs.declared.checkcode.CheckValue.{CheckValue}
+use Rattle.auc_seal.specs.declared.checkcode.CheckValue.TheVariants as values
+use Rattle.auc_seal.specs.declared.checkcode.Checkcode.{Checkcode}
+use Rattle.auc_seal.specs.declared.checkcode.Hasher.{Hasher}
+use Rattle.auc_seal.specs.declared.checkcode.Hasher.TheVariants as hashers
+
+-- the method's hash of the packets, one behind the other
+abbrev pub hash_of : Method → List ℕ → CheckValue
+hash_of methods.Aka bytes = values.Sha1 (sha1 bytes)
+hash_of methods.Prime bytes = values.Sha256 (sha256 bytes)
+
+-- the value for packets: Empty where there is none
+abbrev pub checkcode_of : Method → List (List ℕ) → CheckValue
+checkcode_of method [] = values.Empty
+checkcode_of method (packet ∷ packets) = hash_of method (concat (packet ∷ packets))
+
+abbrev pub is_none : List (List ℕ) → Bool
+is_none [] = true
+is_none (packet ∷ packets) = false
+
+-- the method's hash was fed these bytes, in any pieces
+abbrev pub HoldsBytes : Hasher → Method → List ℕ → Type 0
+HoldsBytes (hashers.Sha1 hasher) method bytes = (method ≡ methods.Aka) × One.Holds hasher bytes
+HoldsBytes (hashers.Sha256 hasher) method bytes = (method ≡ methods.Prime) × Holds256 hasher bytes
+
+-- the checkcode was begun for this method and was given these packets
+pub record HoldsPackets (code : Checkcode) (method : Method) (packets : List (List ℕ)) : Type 0 where
+  pub hashed : HoldsBytes code.hasher method (concat packets)
+  pub counted : code.is_empty ≡ is_none packets

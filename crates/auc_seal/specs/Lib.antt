@@ -1,0 +1,4 @@
+pub mod Mac
+pub mod Pieces
+pub mod Checkcode
+pub mod Laws

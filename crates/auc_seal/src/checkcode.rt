@@ -1,0 +1,114 @@
+//! The checkcode of the AKA-Identity packets.
+
+ghost use Rattle.std.specs.Prelude.{◌≡◌, ℕ, List, [], ◌∷◌, ◌++◌, IsOk};
+ghost use Rattle.auc_hmac.specs.declared.method.Method.{Method};
+ghost use Rattle.sha1.specs.Sha1.{sha1};
+ghost use Rattle.sha1.specs.Sha1 as One;
+ghost use Rattle.sha2.specs.Sha256.{sha256};
+ghost use Rattle.sha2.specs.Hashers.{Holds256};
+ghost use Rattle.auc_seal.specs.Checkcode.{HoldsBytes, HoldsPackets, checkcode_of};
+
+use auc_edge::NoMemory;
+use auc_hmac::Method;
+use sha1::Sha1;
+use sha2::{Digest, Sha256};
+
+/// The checkcode of the packets with Subtype AKA-Identity that were sent and received, in their order
+/// (RFC 4187 §10.13, RFC 9048 §3.4.3). Contracts see its method and the packets so far.
+#[derive(Drop)]
+pub struct Checkcode {
+    hasher: Hasher,
+    is_empty: bool,
+}
+
+// The hash of the method, under way.
+#[derive(Drop)]
+pub(crate) enum Hasher {
+    Sha1(Sha1),
+    Sha256(Sha256),
+}
+
+/// The value of a checkcode.
+#[derive(Clone, Copy, Debug, PartialEq, Eq)]
+pub enum CheckValue {
+    /// There was no packet.
+    Empty,
+    /// The SHA-1 of the packets of EAP-AKA, 20 bytes.
+    Sha1([u8; 20]),
+    /// The SHA-256 of the packets of EAP-AKA', 32 bytes.
+    Sha256([u8; 32]),
+}
+
+impl Checkcode {
+    /// The checkcode of no packet.
+    pub fn new(method: Method) -> Checkcode
+        ensures { HoldsPackets result method [] }
+    {
+        let hasher = match method {
+            Method::Aka => Hasher::Sha1(Sha1::new()),
+            Method::Prime => Hasher::Sha256(Sha256::new()),
+        };
+        Checkcode {
+            hasher,
+            is_empty: true,
+        }
+    }
+
+    /// Adds the next packet. It takes no memory, so it never fails.
+    pub fn update(&mut self, packet: &[u8]) -> Result<(), NoMemory>
+        ensures added { (method : Method) (packets : List (List ℕ)) → HoldsPackets self.old method packets
+            → HoldsPackets self.new method (packets ++ packet.now ∷ []) }
+        ensures total { IsOk result }
+    {
+        self.hasher.feed(packet);
+        self.is_empty = false;
+        Ok(())
+    }
+
+    /// The hash of all packets, one behind the other, or `Empty` where there was none.
+    pub fn value(&self) -> CheckValue
+        ensures { (method : Method) (packets : List (List ℕ)) → HoldsPackets self.now method packets
+            → result ≡ checkcode_of method packets }
+    {
+        if self.is_empty {
+            return CheckValue::Empty;
+        }
+        match &self.hasher {
+            Hasher::Sha1(hasher) => CheckValue::Sha1(sha1_of(hasher)),
+            Hasher::Sha256(hasher) => CheckValue::Sha256(sha256_of(hasher)),
+        }
+    }
+}
+
+impl Hasher {
+    // Feeds the next bytes.
+    fn feed(&mut self, bytes: &[u8])
+        ensures { (method : Method) (fed : List ℕ) → HoldsBytes self.old method fed
+            → HoldsBytes self.new method (fed ++ bytes.now) }
+    {
+        match self {
+            Hasher::Sha1(hasher) => hasher.update(bytes),
+            Hasher::Sha256(hasher) => hasher.update(bytes),
+        }
+    }
+}
+
+// The digest of what a hasher was fed.
+fn sha1_of(hasher: &Sha1) -> [u8; 20]
+    ensures { (bytes : List ℕ) → One.Holds hasher.now bytes → result ≡ sha1 bytes }
+{
+    match hasher.clone() {
+        Ok(copy) => copy.finalize(),
+        Err(_) => unreachable!(),
+    }
+}
+
+// The same of SHA-256.
+fn sha256_of(hasher: &Sha256) -> [u8; 32]
+    ensures { (bytes : List ℕ) → Holds256 hasher.now bytes → result ≡ sha256 bytes }
+{
+    match hasher.clone() {
+        Ok(copy) => copy.finalize(),
+        Err(_) => unreachable!(),
+    }
+}

@@ -1,0 +1,139 @@
+//! The message authentication code of a packet.
+
+ghost use Rattle.std.specs.Prelude.{◌≡◌, ℕ, ◌+◌, ◌≤◌, length, take, drop, Some};
+ghost use Rattle.auc_attr.specs.Frame.{length_of};
+ghost use Rattle.auc_attr.specs.Laws.{AreBytes};
+ghost use Rattle.auc_attr.specs.Mac.{IsMacPlace};
+ghost use Rattle.auc_hmac.specs.Hmac.{hmac_sha1, hmac_sha256};
+ghost use Rattle.auc_seal.specs.Mac.{with_block, right_mac, IsRight, Checks};
+ghost use Rattle.auc_seal.specs.Pieces.{input_bytes};
+
+use auc_attr::mac_place;
+use auc_hmac::{HmacSha1, HmacSha256, Method};
+
+/// What a check of a packet's message authentication code finds.
+#[derive(Clone, Copy, Debug, PartialEq, Eq)]
+pub enum Mac {
+    /// The value is the right one.
+    Right,
+    /// The value is another one.
+    Wrong,
+    /// The bytes have a fault, or the packet has no AT_MAC.
+    Absent,
+}
+
+// What is authenticated, in pieces that follow one another: a packet up to the value of its AT_MAC, what
+// counts as the value, the packet behind it, and what else is authenticated.
+#[derive(Clone, Copy)]
+pub(crate) struct Pieces<'a> {
+    pub(crate) front: &'a [u8],
+    pub(crate) value: [u8; 16],
+    pub(crate) back: &'a [u8],
+    pub(crate) extra: &'a [u8],
+}
+
+/// Checks the value of a packet's AT_MAC (RFC 4187 §10.15, RFC 9048 §3.4.2): the first 16 bytes of the
+/// method's HMAC of the packet, the value zero, and of `extra`. Bytes past Length are left out. EAP-AKA
+/// takes the first 16 bytes of `k_aut`, EAP-AKA' all 32. Takes no memory.
+pub fn check_mac(method: Method, k_aut: &[u8; 32], packet: &[u8], extra: &[u8]) -> Mac
+    ensures { Checks method k_aut.now packet.now extra.now result }
+{
+    let Some(place) = mac_place(packet) else {
+        return Mac::Absent;
+    };
+    if block_at(packet, place) == right_mac(method, k_aut, packet, place, extra) {
+        Mac::Right
+    } else {
+        Mac::Wrong
+    }
+}
+
+/// Sets the value of a packet's AT_MAC to the right one, and no other byte. Takes no memory.
+pub fn seal_mac(method: Method, k_aut: &[u8; 32], packet: &mut [u8], extra: &[u8])
+    requires { (place : ℕ) × IsMacPlace packet.old (Some place) }
+
+    ensures right { IsRight method k_aut.now packet.new extra.now }
+    ensures kept { (place : ℕ) → IsMacPlace packet.old (Some place)
+        → packet.new
+        ≡ with_block packet.old place (right_mac method k_aut.now packet.old place extra.now) }
+{
+    if let Some(place) = mac_place(packet) {
+        let mac = right_mac(method, k_aut, packet, place, extra);
+        put_block(packet, place, mac);
+    }
+}
+
+// The value that is right for a packet. The clause `bytes` is for a caller that then changes the packet.
+fn right_mac(
+    method: Method,
+    k_aut: &[u8; 32],
+    packet: &[u8],
+    place: usize,
+    extra: &[u8],
+) -> [u8; 16]
+    requires within { place + 16 ≤ length_of packet.now }
+    requires given { length_of packet.now ≤ length packet.now }
+    ensures value { result ≡ right_mac method k_aut.now packet.now place extra.now }
+    ensures bytes { AreBytes packet.now }
+{
+    let pieces = Pieces {
+        front: &packet[..place],
+        value: [0; 16],
+        back: &packet[place + 16..length_of(packet)],
+        extra,
+    };
+    match method {
+        Method::Aka => mac_aka(&k_aut[..16], &pieces),
+        Method::Prime => mac_prime(k_aut, &pieces),
+    }
+}
+
+// HMAC-SHA1-128.
+fn mac_aka(key: &[u8], pieces: &Pieces) -> [u8; 16]
+    ensures { result ≡ take 16 (hmac_sha1 key.now (input_bytes pieces.now)) }
+{
+    let mut mac = HmacSha1::new(key);
+    mac.update(pieces.front);
+    mac.update(&pieces.value);
+    mac.update(pieces.back);
+    mac.update(pieces.extra);
+    block_at(&mac.finish(), 0)
+}
+
+// HMAC-SHA-256-128.
+fn mac_prime(key: &[u8], pieces: &Pieces) -> [u8; 16]
+    ensures { result ≡ take 16 (hmac_sha256 key.now (input_bytes pieces.now)) }
+{
+    let mut mac = HmacSha256::new(key);
+    mac.update(pieces.front);
+    mac.update(&pieces.value);
+    mac.update(pieces.back);
+    mac.update(pieces.extra);
+    block_at(&mac.finish(), 0)
+}
+
+// The bytes that a packet says that it has.
+fn length_of(packet: &[u8]) -> usize
+    requires { 4 ≤ length packet.now }
+    ensures { result ≡ length_of packet.now }
+{
+    u16::from_be_bytes([packet[2], packet[3]]) as usize
+}
+
+// The 16 bytes that begin at `place`.
+fn block_at(bytes: &[u8], place: usize) -> [u8; 16]
+    requires { place + 16 ≤ length bytes.now }
+    ensures { result ≡ take 16 (drop place bytes.now) }
+{
+    let mut block = [0; 16];
+    block.copy_from_slice(&bytes[place..place + 16]);
+    block
+}
+
+// Sets the 16 bytes that begin at `place`.
+fn put_block(bytes: &mut [u8], place: usize, block: [u8; 16])
+    requires { place + 16 ≤ length bytes.old }
+    ensures { bytes.new ≡ with_block bytes.old place block }
+{
+    bytes[place..place + 16].copy_from_slice(&block);
+}
