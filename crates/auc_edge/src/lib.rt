@@ -8,7 +8,8 @@
 //! [`Octets`] is a string of bytes and [`Items`] a list of records; contracts see both as lists.
 //! [`Imsi`] is a subscriber's identity (TS 23.003 §2.2), which contracts see as the record of how many
 //! digits it has and of their value. [`NoMemory`] is the answer where memory was wanted and not to be
-//! had; nothing else is merged with it. Nothing here waits for another thread.
+//! had; nothing else is merged with it. [`Stop`] names why numbers are withheld. Nothing here waits for
+//! another thread.
 #![tactic(auto)]
 
 mod failed;
@@ -27,6 +28,7 @@ mod room;
 mod shelf;
 mod sink;
 mod std_sink;
+mod stop;
 mod writing;
 
 pub use failed::Failed;
@@ -45,6 +47,7 @@ pub use room::Room;
 pub use shelf::Shelf;
 pub use sink::Sink;
 pub use std_sink::StdSink;
+pub use stop::Stop;
 pub use writing::write_whole;
 
 #[cfg(test)]
