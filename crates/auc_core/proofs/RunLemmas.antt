@@ -1,22 +1,25 @@
 -- What a run of the core leaves of each subscriber, by induction on the run.
 use Rattle.std.proofs.Common.{◌≡◌, ◌≢◌, ℕ, ◌+◌, ◌<◌, ◌≤◌, ◌==◌, nat_le, Bool, true, false, if◌then◌else◌, List, [], ◌∷◌, ◌++◌, length, slice_index, slice_set, arith, ap, sym, ◌∙◌, subst, refl, All, eq-eqb}
 use Rattle.std.proofs.lemmas.Bool.{eqb-true, leb-true, leb-false}
+use Rattle.std.proofs.lemmas.Bool.Decides.{nat_tests}
 use Rattle.std.proofs.lemmas.List.{length-set, get_or-set_same, get_or-set_other}
 use Rattle.std.proofs.lemmas.List.Concat.{flat_map-append}
 use Rattle.std.proofs.lemmas.List.Elements.{All-set, All-get_or}
 use Rattle.auc_sqn.specs.declared.number.TheConstants.{MAX_SEQ}
 use Rattle.auc_history.specs.declared.entry.Entry.{Entry}
-use Rattle.auc_history.specs.declared.entry.Entry.TheVariants.{Drawn}
+use Rattle.auc_history.specs.declared.entry.Entry.TheVariants.{Drawn, Look}
+use Rattle.auc_history.specs.declared.resynchronisation.Resynchronisation.TheVariants.{Moved as moved_to, InRange as in_range, Beyond as beyond}
+use Rattle.auc_history.specs.Resynchronise.{resynchronise_of}
 use Rattle.auc_history.specs.History.{IsLegal, drawn, drawn_by}
 use Rattle.auc_history.specs.Split.{times}
 use Rattle.auc_history.proofs.ListLemmas.{times-append, differ_from_times}
 use Rattle.auc_history.proofs.SplitLemmas.{legal_draws_once}
 use Rattle.auc_history.proofs.Walk.{Goes, IsLegal-from_goes, IsLegal-append, IsLegal-nil}
 use Rattle.auc_core.specs.declared.event.Event.{Event}
-use Rattle.auc_core.specs.declared.event.Event.TheVariants.{Draw}
+use Rattle.auc_core.specs.declared.event.Event.TheVariants.{Draw, Resync}
 use Rattle.auc_core.specs.declared.event.Reply.{Reply}
-use Rattle.auc_core.specs.declared.event.Reply.TheVariants.{Number, Exhausted}
-use Rattle.auc_core.specs.Step.{AnswersDraw, word_after, Steps, entries_of, Run, subscriber_of, history, number_in, numbers_of, EachHistoryIsLegal, NoNumberComesTwice}
+use Rattle.auc_core.specs.declared.event.Reply.TheVariants.{Number, Exhausted, Moved, InRange, Beyond}
+use Rattle.auc_core.specs.Step.{Knows, Answers, standing, word_after, Steps, entries_of, Run, subscriber_of, history, number_in, numbers_of, EachHistoryIsLegal, NoNumberComesTwice}
 
 -- no word is above the mark
 abbrev AreWords : List ℕ → Type 0
@@ -28,46 +31,98 @@ refused_goes : (b : Bool) (word w : ℕ) → MAX_SEQ ≤ word → w ≡ MAX_SEQ 
 refused_goes true word w last same most is = (let low = leb-true word w is in omega arith, refl)
 refused_goes false word w last same most is = let high = leb-false word w is in omega arith
 
--- the entries of a draw are a legal history from the word before it to the word after it
-pub draw_is_legal : (word : ℕ) (reply : Reply) → AnswersDraw word reply → word ≤ MAX_SEQ + 1
-    → IsLegal MAX_SEQ word (word_after word reply) (entries_of word reply)
-draw_is_legal word (Number n) (below, next) most = IsLegal-from_goes MAX_SEQ word n (Drawn n ∷ []) (next, refl)
-draw_is_legal word (Exhausted w) (last, same) most =
-    IsLegal-from_goes MAX_SEQ word (w + 1) (entries_of word (Exhausted w)) (refused_goes (nat_le word w) word w last same most refl)
+-- a resynchronisation that moves goes up from the number that stands to the SEQ
+pub moves_up : (seen seq_ms from to : ℕ) → resynchronise_of seen seq_ms ≡ moved_to from to → (from ≡ seen) × (to ≡ seq_ms) × (seen < seq_ms)
+moves_up seen seq_ms from to = grind (arith, nat_tests)
 
--- no draw leaves a word above the mark
-draw_keeps_bound : (word : ℕ) (reply : Reply) → AnswersDraw word reply → word_after word reply ≤ MAX_SEQ + 1
-draw_keeps_bound word (Number n) (below, next) = omega arith
-draw_keeps_bound word (Exhausted w) (last, same) = omega arith
+-- one that doesn't names the number that stands
+pub in_range_names : (seen seq_ms at seq : ℕ) → resynchronise_of seen seq_ms ≡ in_range at seq → at ≡ seen
+in_range_names seen seq_ms at seq = grind (arith, nat_tests)
 
--- the words after a draw are no higher than the mark
-steps_keep_bound : (old new : List ℕ) (event : Event) (reply : Reply) → AreWords old → Steps old event reply new → AreWords new
-steps_keep_bound old new (Draw sub) reply words (answers, is) =
-    let after = word_after (slice_index old sub) reply in
-    subst AreWords (sym is) (All-set (λ word. word ≤ MAX_SEQ + 1) old sub after (draw_keeps_bound (slice_index old sub) reply answers) words)
+pub beyond_names : (seen seq_ms at seq : ℕ) → resynchronise_of seen seq_ms ≡ beyond at seq → at ≡ seen
+beyond_names seen seq_ms at seq = grind (arith, nat_tests)
+
+-- a look at the number that stands is one at the word, and after a refused draw nothing
+look_goes : (b : Bool) (word seen : ℕ) → seen ≡ standing word → nat_le word seen ≡ b
+    → Goes MAX_SEQ word (if b then Look seen ∷ [] else []) word
+look_goes true word seen names is = (let low = leb-true word seen is in grind arith, refl)
+look_goes false word seen names is = refl
+
+-- the entries of an answer are a walk from the word before it to the word after it
+answer_goes : (word : ℕ) (event : Event) (reply : Reply) (words : List ℕ) → Knows words event → Answers word event reply
+    → word ≤ MAX_SEQ + 1 → Goes MAX_SEQ word (entries_of word reply) (word_after word reply)
+answer_goes word (Draw sub) (Number n) words knows (below, next) most = (next, refl)
+answer_goes word (Draw sub) (Exhausted w) words knows (last, same) most = refused_goes (nat_le word w) word w last same most refl
+answer_goes word (Draw sub) (Moved from to) words knows answers most = absurd answers
+answer_goes word (Draw sub) (InRange seen seq) words knows answers most = absurd answers
+answer_goes word (Draw sub) (Beyond seen seq) words knows answers most = absurd answers
+answer_goes word (Resync sub seq_ms) (Number n) words knows answers most = absurd answers
+answer_goes word (Resync sub seq_ms) (Exhausted w) words knows answers most = absurd answers
+answer_goes word (Resync sub seq_ms) (Moved from to) words (known, number) answers most =
+    let (begins, ends, up) = moves_up (standing word) seq_ms from to answers in (grind arith, omega arith, omega arith, refl)
+answer_goes word (Resync sub seq_ms) (InRange seen seq) words knows answers most =
+    look_goes (nat_le word seen) word seen (in_range_names (standing word) seq_ms seen seq answers) refl
+answer_goes word (Resync sub seq_ms) (Beyond seen seq) words knows answers most =
+    look_goes (nat_le word seen) word seen (beyond_names (standing word) seq_ms seen seq answers) refl
+
+-- the entries of an answer are a legal history from the word before it to the word after it
+pub answer_is_legal : (word : ℕ) (event : Event) (reply : Reply) (words : List ℕ) → Knows words event → Answers word event reply
+    → word ≤ MAX_SEQ + 1 → IsLegal MAX_SEQ word (word_after word reply) (entries_of word reply)
+answer_is_legal word event reply words knows answers most =
+    IsLegal-from_goes MAX_SEQ word (word_after word reply) (entries_of word reply) (answer_goes word event reply words knows answers most)
+
+-- no answer leaves a word above the mark
+answer_keeps_bound : (word : ℕ) (event : Event) (reply : Reply) (words : List ℕ) → Knows words event → Answers word event reply
+    → word ≤ MAX_SEQ + 1 → word_after word reply ≤ MAX_SEQ + 1
+answer_keeps_bound word (Draw sub) (Number n) words knows (below, next) most = omega arith
+answer_keeps_bound word (Draw sub) (Exhausted w) words knows (last, same) most = omega arith
+answer_keeps_bound word (Draw sub) (Moved from to) words knows answers most = absurd answers
+answer_keeps_bound word (Draw sub) (InRange seen seq) words knows answers most = absurd answers
+answer_keeps_bound word (Draw sub) (Beyond seen seq) words knows answers most = absurd answers
+answer_keeps_bound word (Resync sub seq_ms) (Number n) words knows answers most = absurd answers
+answer_keeps_bound word (Resync sub seq_ms) (Exhausted w) words knows answers most = absurd answers
+answer_keeps_bound word (Resync sub seq_ms) (Moved from to) words (known, number) answers most =
+    let (begins, ends, up) = moves_up (standing word) seq_ms from to answers in omega arith
+answer_keeps_bound word (Resync sub seq_ms) (InRange seen seq) words knows answers most = most
+answer_keeps_bound word (Resync sub seq_ms) (Beyond seen seq) words knows answers most = most
+
+-- an event of the core's is of one of its subscribers
+pub known_subscriber : (words : List ℕ) (event : Event) → Knows words event → subscriber_of event < length words
+known_subscriber words (Draw sub) known = known
+known_subscriber words (Resync sub seq_ms) (known, number) = known
+
+-- the words after a step are no higher than the mark
+steps_keep_bound : (old new : List ℕ) (event : Event) (reply : Reply) → AreWords old → Knows old event → Steps old event reply new → AreWords new
+steps_keep_bound old new event reply words knows (answers, is) =
+    let word = slice_index old (subscriber_of event) in
+    let most = All-get_or (λ w. w ≤ MAX_SEQ + 1) old (subscriber_of event) 0 (known_subscriber old event knows) words in
+    subst AreWords (sym is) (All-set (λ w. w ≤ MAX_SEQ + 1) old (subscriber_of event) (word_after word reply)
+    (answer_keeps_bound word event reply old knows answers most) words)
 
 -- each list of words is as long as the one before
 steps_keep_length : (old new : List ℕ) (event : Event) (reply : Reply) → Steps old event reply new → length new ≡ length old
-steps_keep_length old new (Draw sub) reply (answers, is) = ap length is ∙ length-set old sub (word_after (slice_index old sub) reply)
+steps_keep_length old new event reply (answers, is) =
+    ap length is ∙ length-set old (subscriber_of event) (word_after (slice_index old (subscriber_of event)) reply)
 
 -- a step of the subscriber and the steps behind it, or of another and the steps behind it
 run_is_legal : (b : Bool) (old next : List ℕ) (event : Event) (reply : Reply) (sub closing : ℕ) (entries : ℕ → List Entry)
-    → AreWords old → sub < length old → Steps old event reply next → (subscriber_of event == sub) ≡ b
+    → AreWords old → sub < length old → Knows old event → Steps old event reply next → (subscriber_of event == sub) ≡ b
     → IsLegal MAX_SEQ (slice_index next sub) closing (entries (slice_index next sub))
     → IsLegal MAX_SEQ (slice_index old sub) closing
     (if b then entries_of (slice_index old sub) reply ++ entries (word_after (slice_index old sub) reply) else entries (slice_index old sub))
-run_is_legal true old next (Draw s) reply sub closing entries words known (answers, is) same rest =
-    let one = eqb-true s sub same in
+run_is_legal true old next event reply sub closing entries words known knows (answers, is) same rest =
+    let one = eqb-true (subscriber_of event) sub same in
     let word = slice_index old sub in
-    let answers_sub : AnswersDraw word reply = rw one at answers in
+    let answers_sub : Answers word event reply = rw one at answers in
     let set_sub : next ≡ slice_set old sub (word_after word reply) = rw one at is in
     let here : slice_index next sub ≡ word_after word reply =
     ap (λ (ws : List ℕ). slice_index ws sub) set_sub ∙ get_or-set_same old sub (word_after word reply) 0 known in
     let rest_here : IsLegal MAX_SEQ (word_after word reply) closing (entries (word_after word reply)) =
     let P : ℕ → Type 0 = λ w. IsLegal MAX_SEQ w closing (entries w) in subst P here rest in
     IsLegal-append MAX_SEQ word (word_after word reply) closing (entries_of word reply) (entries (word_after word reply))
-    (draw_is_legal word reply answers_sub (All-get_or (λ w. w ≤ MAX_SEQ + 1) old sub 0 known words)) rest_here
-run_is_legal false old next (Draw s) reply sub closing entries words known (answers, is) other rest =
+    (answer_is_legal word event reply old knows answers_sub (All-get_or (λ w. w ≤ MAX_SEQ + 1) old sub 0 known words)) rest_here
+run_is_legal false old next event reply sub closing entries words known knows (answers, is) other rest =
+    let s = subscriber_of event in
     let apart : sub ≢ s = λ same. (let yes = eq-eqb s sub (sym same) in let no : ⊥ = cc in no) in
     let here : slice_index next sub ≡ slice_index old sub =
     ap (λ (ws : List ℕ). slice_index ws sub) is ∙ get_or-set_other old s sub (word_after (slice_index old s) reply) 0 apart in
@@ -78,15 +133,18 @@ pub each_history_is_legal : EachHistoryIsLegal
 each_history_is_legal old new [] sub words leads known =
     let P : List ℕ → Type 0 = λ ws. IsLegal MAX_SEQ (slice_index old sub) (slice_index ws sub) [] in
     subst P leads (IsLegal-nil MAX_SEQ (slice_index old sub))
-each_history_is_legal old new ((event, reply) ∷ run) sub words (next, steps, more) known =
-    run_is_legal (subscriber_of event == sub) old next event reply sub (slice_index new sub) (λ word. history sub word run) words known steps refl
-    (each_history_is_legal next new run sub (steps_keep_bound old next event reply words steps) more
+each_history_is_legal old new ((event, reply) ∷ run) sub words (next, knows, steps, more) known =
+    run_is_legal (subscriber_of event == sub) old next event reply sub (slice_index new sub) (λ word. history sub word run) words known knows steps refl
+    (each_history_is_legal next new run sub (steps_keep_bound old next event reply words knows steps) more
     (let same = steps_keep_length old next event reply steps in omega arith))
 
 -- the number of an answer is drawn in its entries
 number_is_drawn : (n word : ℕ) (reply : Reply) → times n (number_in reply) ≤ times n (drawn (entries_of word reply))
 number_is_drawn n word (Number m) = omega arith
 number_is_drawn n word (Exhausted w) = omega arith
+number_is_drawn n word (Moved from to) = omega arith
+number_is_drawn n word (InRange seen seq) = omega arith
+number_is_drawn n word (Beyond seen seq) = omega arith
 
 -- and in its entries with those behind them, if it is an answer to the subscriber
 numbers_and_more : (b : Bool) (n word : ℕ) (reply : Reply) (numbers : List ℕ) (entries : ℕ → List Entry)

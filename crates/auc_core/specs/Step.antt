@@ -1,53 +1,86 @@
 -- The steps of the pure authentication centre. Its state is the list of its subscribers' words: the last
--- number that was drawn, or MAX_SEQ + 1 after a draw was refused.
-use Rattle.std.specs.Prelude.{◌≡◌, ◌≢◌, ℕ, ◌+◌, ◌<◌, ◌≤◌, ◌==◌, nat_le, if◌then◌else◌, List, [], ◌∷◌, ◌++◌, All, AllPairs, length, slice_index, slice_set}
+-- number that was drawn or passed over, or MAX_SEQ + 1 after a draw was refused.
+use Rattle.std.specs.Prelude.{◌≡◌, ◌≢◌, ℕ, ◌+◌, ◌<◌, ◌≤◌, ◌==◌, nat_le, if◌then◌else◌, min, List, [], ◌∷◌, ◌++◌, All, AllPairs, length, slice_index, slice_set}
 use Rattle.auc_sqn.specs.declared.number.TheConstants.{MAX_SEQ}
 use Rattle.auc_history.specs.declared.entry.Entry.{Entry}
-use Rattle.auc_history.specs.declared.entry.Entry.TheVariants.{Drawn}
+use Rattle.auc_history.specs.declared.entry.Entry.TheVariants.{Drawn, Moved as moved, Look}
+use Rattle.auc_history.specs.declared.resynchronisation.Resynchronisation.TheVariants.{Moved as moved_to, InRange as in_range, Beyond as beyond}
 use Rattle.auc_history.specs.History.{IsLegal}
+use Rattle.auc_history.specs.Resynchronise.{resynchronise_of}
 use Rattle.auc_core.specs.declared.event.Event.{Event}
-use Rattle.auc_core.specs.declared.event.Event.TheVariants.{Draw}
+use Rattle.auc_core.specs.declared.event.Event.TheVariants.{Draw, Resync}
 use Rattle.auc_core.specs.declared.event.Reply.{Reply}
-use Rattle.auc_core.specs.declared.event.Reply.TheVariants.{Number, Exhausted}
+use Rattle.auc_core.specs.declared.event.Reply.TheVariants.{Number, Exhausted, Moved, InRange, Beyond}
 
--- the event is of a subscriber of the core
+-- the subscriber that an event is of
+abbrev pub subscriber_of : Event → ℕ
+subscriber_of (Draw sub) = sub
+subscriber_of (Resync sub seq_ms) = sub
+
+-- the event is of a subscriber of the core, and its SEQ, if it has one, is a number
 abbrev pub Knows : List ℕ → Event → Type 0
 Knows words (Draw sub) = sub < length words
+Knows words (Resync sub seq_ms) = (sub < length words) × (seq_ms ≤ MAX_SEQ)
 
 -- the answer to a draw at a word: the next number, as long as the word is below the greatest
 abbrev pub AnswersDraw : ℕ → Reply → Type 0
 AnswersDraw word (Number n) = (word < MAX_SEQ) × (n ≡ word + 1)
 AnswersDraw word (Exhausted w) = (MAX_SEQ ≤ word) × (w ≡ MAX_SEQ)
+AnswersDraw word (Moved from to) = ⊥
+AnswersDraw word (InRange seen seq) = ⊥
+AnswersDraw word (Beyond seen seq) = ⊥
 
--- the word after a step, from the word before it and its answer: the drawn number, or the mark
+-- the number that stands at a word: after a refused draw it is the greatest
+abbrev pub standing : ℕ → ℕ
+standing word = min word MAX_SEQ
+
+-- the answer to a resynchronisation at a word: the verdict on the number that stands
+abbrev pub AnswersResync : ℕ → ℕ → Reply → Type 0
+AnswersResync word seq_ms (Number n) = ⊥
+AnswersResync word seq_ms (Exhausted w) = ⊥
+AnswersResync word seq_ms (Moved from to) = resynchronise_of (standing word) seq_ms ≡ moved_to from to
+AnswersResync word seq_ms (InRange seen seq) = resynchronise_of (standing word) seq_ms ≡ in_range seen seq
+AnswersResync word seq_ms (Beyond seen seq) = resynchronise_of (standing word) seq_ms ≡ beyond seen seq
+
+-- the answer to an event at its subscriber's word
+abbrev pub Answers : ℕ → Event → Reply → Type 0
+Answers word (Draw sub) reply = AnswersDraw word reply
+Answers word (Resync sub seq_ms) reply = AnswersResync word seq_ms reply
+
+-- the word after a step, from the word before it and its answer: the drawn number, the mark, or the number that it was
+-- moved to
 abbrev pub word_after : ℕ → Reply → ℕ
 word_after word (Number n) = n
 word_after word (Exhausted w) = w + 1
+word_after word (Moved from to) = to
+word_after word (InRange seen seq) = word
+word_after word (Beyond seen seq) = word
 
--- one step: the answer to an event, and the words before and after it, where only the event's
--- subscriber's changes
+-- the words after a step: only the event's subscriber's changes
+abbrev pub words_after : List ℕ → Event → Reply → List ℕ
+words_after words event reply = slice_set words (subscriber_of event) (word_after (slice_index words (subscriber_of event)) reply)
+
+-- one step: the answer to an event, and the words before and after it
 abbrev pub Steps : List ℕ → Event → Reply → List ℕ → Type 0
-Steps old (Draw sub) reply new =
-    AnswersDraw (slice_index old sub) reply × (new ≡ slice_set old sub (word_after (slice_index old sub) reply))
+Steps old event reply new = Answers (slice_index old (subscriber_of event)) event reply × (new ≡ words_after old event reply)
 
--- what a step adds to its subscriber's history, from the word before it and its answer: the drawn
--- number; the mark of the first refused draw; nothing for a later one
+-- what a step adds to its subscriber's history, from the word before it and its answer: the drawn number; the move; the
+-- number that was looked at; the mark of the first refused draw. After the mark nothing is added
 abbrev pub entries_of : ℕ → Reply → List Entry
 entries_of word (Number n) = Drawn n ∷ []
 entries_of word (Exhausted w) = if nat_le word w then Drawn (w + 1) ∷ [] else []
+entries_of word (Moved from to) = moved from to ∷ []
+entries_of word (InRange seen seq) = if nat_le word seen then Look seen ∷ [] else []
+entries_of word (Beyond seen seq) = if nat_le word seen then Look seen ∷ [] else []
 
 -- events one after the other, each with its answer
 abbrev pub Run : Type 0
 Run = List (Event × Reply)
 
--- the run leads from the words to the words
+-- the run leads from the words to the words, where each event is one of the core's
 abbrev pub Leads : List ℕ → Run → List ℕ → Type 0
 Leads old [] new = old ≡ new
-Leads old ((event, reply) ∷ run) new = (next : List ℕ) × Steps old event reply next × Leads next run new
-
--- the subscriber that an event is of
-abbrev pub subscriber_of : Event → ℕ
-subscriber_of (Draw sub) = sub
+Leads old ((event, reply) ∷ run) new = (next : List ℕ) × Knows old event × Steps old event reply next × Leads next run new
 
 -- what a run adds to a subscriber's history, from the subscriber's word before it
 abbrev pub history : ℕ → ℕ → Run → List Entry
@@ -59,6 +92,9 @@ history sub word ((event, reply) ∷ run) =
 abbrev pub number_in : Reply → List ℕ
 number_in (Number n) = n ∷ []
 number_in (Exhausted w) = []
+number_in (Moved from to) = []
+number_in (InRange seen seq) = []
+number_in (Beyond seen seq) = []
 
 -- the numbers that a run draws for a subscriber
 abbrev pub numbers_of : ℕ → Run → List ℕ

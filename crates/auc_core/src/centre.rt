@@ -5,12 +5,13 @@ ghost use Rattle.auc_core.specs.Step.{Knows, Steps};
 
 use crate::event::{Event, Reply};
 use auc_edge::NoMemory;
+use auc_history::{Resynchronisation, resynchronise};
 use auc_sqn::MAX_SEQ;
 use std::alloc::Global;
 use std::marker::Model;
 
-/// The subscribers' numbers. Contracts see the list of words: the last number that was drawn, or
-/// `MAX_SEQ + 1` after a draw was refused.
+/// The subscribers' numbers. Contracts see the list of words: the last number that was drawn or passed
+/// over, or `MAX_SEQ + 1` after a draw was refused.
 #[derive(Drop)]
 pub struct Core {
     words: Vec<u64>,
@@ -38,17 +39,24 @@ impl Core {
         Ok(Core { words })
     }
 
-    /// Answers an event of one of the subscribers. A refused draw answers `Exhausted(MAX_SEQ)`.
+    /// Answers an event of one of the subscribers; a SEQ is at most `MAX_SEQ`. A refused draw answers
+    /// `Exhausted(MAX_SEQ)`. After it the number counts as `MAX_SEQ`, and no SEQ moves it.
     pub fn apply(&mut self, e: Event) -> Reply
         requires { Knows self.old e }
-        ensures { Steps self.old e result self.new }
+        ensures step { Steps self.old e result self.new }
+
+        // No word is ever above the mark.
+        ensures bound { All (λ word. word ≤ MAX_SEQ + 1) self.old }
     {
+        // The bound on the words is known where the field is used.
+        let _ = &self.words;
         match e {
             Event::Draw(sub) => self.draw(sub),
+            Event::Resync(sub, seq_ms) => self.resync(sub, seq_ms),
         }
     }
 
-    /// The subscriber's word: the last number that was drawn, or `MAX_SEQ + 1` after a refused draw.
+    /// The subscriber's word: the last number that was drawn or passed over, or `MAX_SEQ + 1` after a refused draw.
     pub fn word(&self, sub: u32) -> u64
         requires { sub < length self.now }
         ensures value { result ≡ slice_index self.now sub }
@@ -68,6 +76,21 @@ impl Core {
         } else {
             *word = MAX_SEQ + 1;
             Reply::Exhausted(MAX_SEQ)
+        }
+    }
+
+    fn resync(&mut self, sub: u32, seq_ms: u64) -> Reply
+        requires { Knows self.old (Event.Resync sub seq_ms) }
+        ensures { Steps self.old (Event.Resync sub seq_ms) result self.new }
+    {
+        let word = &mut self.words[sub as usize];
+        match resynchronise((*word).min(MAX_SEQ), seq_ms) {
+            Resynchronisation::Moved(from, to) => {
+                *word = to;
+                Reply::Moved(from, to)
+            }
+            Resynchronisation::InRange(seen, seq) => Reply::InRange(seen, seq),
+            Resynchronisation::Beyond(seen, seq) => Reply::Beyond(seen, seq),
         }
     }
 }

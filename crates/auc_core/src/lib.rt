@@ -1,9 +1,13 @@
 //! The pure authentication centre: one number for each subscriber, and the events that change it.
 //!
 //! A [`Core`] answers one [`Event`] after the other: a draw takes the next number of a subscriber's
-//! authentication vectors (TS 33.102 §6.3.2), as long as there is one. Contracts see a core as the
-//! list of its words: a subscriber's word is the last number that was drawn, or `MAX_SEQ + 1` after a
-//! draw was refused.
+//! authentication vectors (TS 33.102 §6.3.2), as long as there is one, and a resynchronisation moves the
+//! number up to the SEQ that the USIM reported, or finds it high enough (TS 33.102 §6.3.5). Contracts see a
+//! core as the list of its words: a subscriber's word is the last number that was drawn or passed over, or
+//! `MAX_SEQ + 1` after a draw was refused.
+//!
+//! It departs from TS 33.102 §6.3.5 in one case: where the number is too far above the SEQ it isn't set back,
+//! since numbers would be drawn again.
 //!
 //! The laws say that the events on each subscriber, whichever they are and in whichever order, leave a
 //! legal history of its numbers, and that no number comes twice. Only [`Core::new`] takes memory.

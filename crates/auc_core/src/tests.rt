@@ -1,5 +1,7 @@
 //! The core, event by event.
 
+ghost use Rattle.std.specs.Prelude.{◌≡◌, ◌<◌, ◌≤◌, length};
+
 use crate::{Core, Event, Reply};
 use auc_sqn::MAX_SEQ;
 use std::test::Fail;
@@ -15,5 +17,42 @@ fn each_subscriber_draws_its_own_numbers_to_the_greatest(rt: HostRuntime) -> Res
     assert_eq!(rt; core.apply(Event::Draw(0)), Reply::Number(12));
     assert_eq!(rt; core.word(0), 12);
     assert_eq!(rt; core.word(1), MAX_SEQ + 1);
+    Ok(())
+}
+
+/// The answer to a resynchronisation.
+fn resync(core: &mut Core, sub: u32, seq_ms: u64) -> Reply
+    requires sub { sub < length core.old }
+    requires number { seq_ms ≤ MAX_SEQ }
+    ensures { length core.new ≡ length core.old }
+{
+    core.apply(Event::Resync(sub, seq_ms))
+}
+
+// TS 33.102 §6.3.5 and Annex C.2.1 with a range of 2^28 = 268435456; the sums are by hand: 268435456 + 1 - 1 is
+// in range, and 268435456 + 1 - 0 isn't. Subscriber, SEQ, answer, the subscriber's word after it.
+#[test]
+fn a_resynchronisation_moves_the_number_up_and_never_back(rt: HostRuntime) -> Result<(), Fail> {
+    let mut core = Core::new(rt.alloc(), &[0, 268435456, MAX_SEQ])?;
+    assert_eq!(rt; core.apply(Event::Draw(2)), Reply::Exhausted(MAX_SEQ));
+    let cases = [
+        (0, 700, Reply::Moved(0, 700), 700),
+        (0, 700, Reply::InRange(700, 700), 700),
+        (0, 699, Reply::InRange(700, 699), 700),
+        (0, 701, Reply::Moved(700, 701), 701),
+        (1, 1, Reply::InRange(268435456, 1), 268435456),
+        (1, 0, Reply::Beyond(268435456, 0), 268435456),
+        (2, MAX_SEQ, Reply::InRange(MAX_SEQ, MAX_SEQ), MAX_SEQ + 1),
+        (2, 0, Reply::Beyond(MAX_SEQ, 0), MAX_SEQ + 1),
+    ];
+    for (sub, seq_ms, reply, word) in cases {
+        assert!(rt; sub < 3 && seq_ms <= MAX_SEQ);
+        assert_eq!(rt;
+            resync(&mut core, sub, seq_ms),
+            reply,
+            "of {sub} at {seq_ms}"
+        );
+        assert_eq!(rt; core.word(sub), word, "of {sub} at {seq_ms}");
+    }
     Ok(())
 }
