@@ -1,6 +1,6 @@
 -- What AUTN says of its number, for the law.
-use Rattle.std.proofs.Common.{◌≡◌, ℕ, ◌≤◌, List, ◌++◌, length, take, refl, sym, ap, ◌∙◌, append_assoc}
-use Rattle.std.proofs.lemmas.List.{take_at}
+use Rattle.std.proofs.Common.{◌≡◌, ℕ, ◌≤◌, List, ◌++◌, length, take, drop, refl, sym, ap, ◌∙◌, append_assoc, arith}
+use Rattle.std.proofs.lemmas.List.{take_at, drop_at, length-append}
 use Rattle.auc_aes.specs.Bytes.{xor, IsBlock}
 use Rattle.auc_aes.proofs.InverseLemmas.{xor_twice, length_xor}
 use Rattle.auc_milenage.specs.Milenage.{f1, f5}
@@ -32,3 +32,27 @@ pub one_number : (k opc amf r s : List ℕ) (m n : ℕ) → IsBlock k → IsBloc
 one_number k opc amf r s m n hk ho lm ln e =
     each_number_has_its_own_sqn m n lm ln
     (sym (autn_carries k opc r amf m hk ho) ∙ e ∙ autn_carries k opc s amf n hk ho)
+
+-- the parts of bytes that stand one after the other
+parts_of : (xs ys zs : List ℕ) → length xs ≡ 6 → length ys ≡ 2
+    → (take 2 (drop 6 (xs ++ ys ++ zs)) ≡ ys) × (drop 8 (xs ++ ys ++ zs) ≡ zs)
+parts_of xs ys zs six two =
+    let front : length (xs ++ ys) ≡ 8 = omega (arith, length-append xs ys) in (
+      ap (λ b. take 2 (drop 6 b)) (append_assoc xs ys zs) ∙ ap (take 2) (drop_at xs (ys ++ zs) 6 six) ∙ take_at ys zs 2 two,
+      drop_at (xs ++ ys) zs 8 front,
+    )
+
+-- the MAC of an AUTN is f1 of the SQN and the AMF that are found there
+pub autn_has_its_mac : (k opc rand amf : List ℕ) (n : ℕ) → IsBlock k → IsBlock opc → length amf ≡ 2
+    → drop 8 (autn_of k opc rand amf n)
+    ≡ f1 k opc rand (sqn_in k opc rand (autn_of k opc rand amf n)) (take 2 (drop 6 (autn_of k opc rand amf n)))
+unfolding autn_of
+autn_has_its_mac k opc rand amf n hk ho two =
+    let ak : List ℕ = f5 k opc rand in
+    let sqn : List ℕ = sqn_bytes n in
+    let mac : List ℕ = f1 k opc rand sqn amf in
+    let same : length sqn ≡ length ak = sqn_size n ∙ sym (f5_size k opc rand hk ho) in
+    let masked : length (xor sqn ak) ≡ 6 = length_xor sqn ak same ∙ sqn_size n in
+    let (amf_there, mac_there) = parts_of (xor sqn ak) amf mac masked two in
+    mac_there ∙ ap (λ b. f1 k opc rand b amf) (sym (autn_carries k opc rand amf n hk ho))
+    ∙ ap (f1 k opc rand (sqn_in k opc rand (xor sqn ak ++ amf ++ mac))) (sym amf_there)

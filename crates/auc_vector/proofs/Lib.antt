@@ -1,2 +1,4 @@
-pub mod RandomLemmas
 pub mod AutnLemmas
+pub mod AutsLemmas
+pub mod CoreCentreLemmas
+pub mod RandomLemmas

@@ -1,2 +1,6 @@
+pub mod Auts
+pub mod Centre
 pub mod Random
+pub mod Stretch
+pub mod StretchLaws
 pub mod Vector

@@ -1,14 +1,27 @@
 -- The authentication vector of a number (TS 33.102 §6.3.2), and the SQN that its AUTN carries.
-use Rattle.std.specs.Prelude.{◌≡◌, ℕ, ◌≤◌, List, ◌++◌, take}
+use Rattle.std.specs.Prelude.{◌≡◌, ℕ, ◌≤◌, List, ◌++◌, length, take, drop}
 use Rattle.auc_aes.specs.Bytes.{xor, IsBlock}
-use Rattle.auc_milenage.specs.Milenage.{f1, f5}
+use Rattle.auc_milenage.specs.Milenage.{f1, f2, f3, f4, f5}
+use Rattle.auc_milenage.specs.declared.secret.Secret.{Secret}
 use Rattle.auc_sqn.specs.Number.{sqn_bytes}
 use Rattle.auc_sqn.specs.declared.number.TheConstants.{MAX_SEQ}
+use Rattle.auc_vector.specs.declared.parts.Vector.{Vector}
 
 -- AUTN: SQN masked by AK, AMF, and the MAC f1
 unfoldable pub autn_of : List ℕ → List ℕ → List ℕ → List ℕ → ℕ → List ℕ
 autn_of k opc rand amf n =
     xor (sqn_bytes n) (f5 k opc rand) ++ amf ++ f1 k opc rand (sqn_bytes n) amf
+
+-- the vector of a number with a RAND, under a secret and an AMF: XRES, CK and IK are f2, f3 and f4 of the RAND
+abbrev pub vector_of : Secret → List ℕ → ℕ → List ℕ → Vector
+vector_of s amf n rand = record {
+  n = n;
+  rand = rand;
+  autn = autn_of s.k s.opc rand amf n;
+  xres = f2 s.k s.opc rand;
+  ck = f3 s.k s.opc rand;
+  ik = f4 s.k s.opc rand;
+}
 
 -- the SQN that a USIM finds in AUTN
 unfoldable pub sqn_in : List ℕ → List ℕ → List ℕ → List ℕ → List ℕ
@@ -25,3 +38,10 @@ abbrev pub NumbersHaveDifferentSqns : Type 0
 NumbersHaveDifferentSqns =
     (k opc amf r s : List ℕ) (m n : ℕ) → IsBlock k → IsBlock opc → m ≤ MAX_SEQ → n ≤ MAX_SEQ
     → sqn_in k opc r (autn_of k opc r amf m) ≡ sqn_in k opc s (autn_of k opc s amf n) → m ≡ n
+
+-- the MAC of an AUTN is the one that a USIM expects: f1 of the SQN and the AMF that it finds there
+abbrev pub AutnHasTheMac : Type 0
+AutnHasTheMac =
+    (k opc rand amf : List ℕ) (n : ℕ) → IsBlock k → IsBlock opc → length amf ≡ 2
+    → drop 8 (autn_of k opc rand amf n)
+    ≡ f1 k opc rand (sqn_in k opc rand (autn_of k opc rand amf n)) (take 2 (drop 6 (autn_of k opc rand amf n)))

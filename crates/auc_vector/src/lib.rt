@@ -1,11 +1,19 @@
-//! Authentication vectors (TS 33.102 §6.3.2) and the random bytes that go into them.
+//! Authentication vectors (TS 33.102 §6.3.2), the random bytes that go into them, AUTS (TS 33.102 §6.3.3), and the
+//! authentication centre whose numbers they are of.
 //!
 //! [`vector`] makes the [`Vector`] of a number under a secret, and [`Rands`] gives its RAND by subscriber and
-//! number, as words of ChaCha20: the same key gives the same bytes again.
+//! number, as words of ChaCha20: the same key gives the same bytes again. [`read_auts`] reads a USIM's AUTS.
 //!
-//! Contracts see a `Rands` as the 32 bytes of its key. Nothing here takes memory, waits or can fail.
+//! A [`Centre`] gives numbers and resynchronises them; its ghost members say which entries of a subscriber's history
+//! each call made. [`CoreCentre`] is the one over the pure core.
+//!
+//! Contracts see a `Rands` as the 32 bytes of its key, and a `CoreCentre` as the list of its subscribers' words. Nothing
+//! here takes memory or can fail. A `Centre`'s calls may wait, and those of `CoreCentre` wait for nobody.
 #![tactic(auto)]
 
+mod auts;
+mod centre;
+mod core_centre;
 mod law;
 mod making;
 mod parts;
@@ -13,7 +21,13 @@ mod rands;
 #[cfg(test)]
 mod tests;
 
-pub use law::each_autn_carries_the_sqn_of_its_number;
+pub use auts::{Auts, read_auts};
+pub use centre::{Centre, CentreRefusal, Resynced};
+pub use core_centre::CoreCentre;
+pub use law::{
+    each_autn_carries_the_sqn_of_its_number, each_autn_has_the_mac_of_its_sqn,
+    each_auts_is_read_back,
+};
 pub use making::vector;
 pub use parts::Vector;
 pub use rands::Rands;

@@ -1,8 +1,7 @@
 //! The authentication vector of a number.
 
 ghost use Rattle.std.specs.Prelude.{◌≡◌, ◌≤◌, ◌++◌};
-ghost use Rattle.auc_milenage.specs.Milenage.{f2, f3, f4};
-ghost use Rattle.auc_vector.specs.Vector.{autn_of};
+ghost use Rattle.auc_vector.specs.Vector.{vector_of};
 
 use crate::parts::Vector;
 use auc_aes::xor;
@@ -14,12 +13,7 @@ use auc_sqn::{MAX_SEQ, sqn_of};
 pub fn vector(s: &Secret, amf: [u8; 2], n: u64, rand: [u8; 16]) -> Vector
     requires first { 1 ≤ n }
     requires last { n ≤ MAX_SEQ }
-    ensures number { result.n ≡ n }
-    ensures rand { result.rand ≡ rand }
-    ensures autn { result.autn ≡ autn_of s.now.k s.now.opc rand amf n }
-    ensures xres { result.xres ≡ f2 s.now.k s.now.opc rand }
-    ensures ck { result.ck ≡ f3 s.now.k s.now.opc rand }
-    ensures ik { result.ik ≡ f4 s.now.k s.now.opc rand }
+    ensures { result ≡ vector_of s.now amf n rand }
 {
     let sqn = sqn_of(n);
     let (mac, four) = f12345(s, rand, sqn, amf);

@@ -1,7 +1,13 @@
-//! Values from other implementations.
+//! Values from other implementations, and a centre by hand.
 
-use crate::{Rands, vector};
-use auc_milenage::Secret;
+ghost use Rattle.std.specs.Prelude.{◌≡◌, ◌<◌};
+
+use crate::{Auts, Centre, CentreRefusal, CoreCentre, Rands, Resynced, read_auts, vector};
+use auc_core::Core;
+use auc_milenage::{Secret, make_auts};
+use auc_sqn::{MAX_SEQ, sqn_of};
+use std::sync::Wait;
+use std::test::Fail;
 
 /// The key of the 32 bytes from 0 to 31.
 fn rands() -> Rands {
@@ -79,4 +85,134 @@ fn each_part_of_a_vector_is_that_of_another_implementation(rt: HostRuntime) {
         assert_eq!(rt; made.ck, ck.to_be_bytes(), "CK at {n}");
         assert_eq!(rt; made.ik, ik.to_be_bytes(), "IK at {n}");
     }
+}
+
+/// The 14 bytes of an AUTS, which is printed as a number.
+fn auts_of(number: u128) -> [u8; 14] {
+    let mut auts = [0; 14];
+    auts.copy_from_slice(&number.to_be_bytes()[2..]);
+    auts
+}
+
+// The first and the third by the equations of TS 35.206 over the AES of Python's `cryptography` 48, the third under K,
+// OPc, RAND and SQN of TS 35.208, test set 1; the second from the test of libosmocore, tests/auth/milenage_test.c. SQN_MS is
+// 00000000001f, 000000000017 and ff9bb4d0b607: K, OPc, RAND, AUTS, SEQ.
+#[test]
+fn auts_of_another_implementation_gives_the_seq(rt: HostRuntime) {
+    let cases: [(u128, u128, u128, u128, u64); 3] = [
+        (
+            0x000102030405060708090a0b0c0d0e0f,
+            0x000102030405060708090a0b0c0d0e0f,
+            0x00000000000000000000000000000000,
+            0x8711a0ec9e1637df17f80b384ee4,
+            0,
+        ),
+        (
+            0xeb215756028d60e3275e613320aec880,
+            0xfb2a3d1b360f599abab99db8669f8308,
+            0x39fa2f4e3d523d8619a73b4f65c3e14d,
+            0x979498b1f72d3e28c59fa2e72f9c,
+            0,
+        ),
+        (
+            0x465b5ce8b199b49faa5f0a2ee238a6bc,
+            0xcd63cb71954a9f4e48a5994e37a02baf,
+            0x23553cbe9637a89d218ae64dae47bf35,
+            0xba853f3c123ccf44e93596e355c6,
+            8782631830960,
+        ),
+    ];
+    for (k, opc, rand, auts, seq) in cases {
+        let s = Secret {
+            k: k.to_be_bytes(),
+            opc: opc.to_be_bytes(),
+        };
+        assert_eq!(rt;
+            read_auts(&s, rand.to_be_bytes(), auts_of(auts)),
+            Auts::SeqMs(seq),
+            "at {auts:x}"
+        );
+    }
+}
+
+/// K and OPc of TS 35.208, test set 1.
+fn secret() -> Secret {
+    Secret {
+        k: 0x465b5ce8b199b49faa5f0a2ee238a6bc_u128.to_be_bytes(),
+        opc: 0xcd63cb71954a9f4e48a5994e37a02baf_u128.to_be_bytes(),
+    }
+}
+
+/// What a centre answers to an AUTS of one of its subscribers, or `None` where MAC-S is wrong.
+fn hear<C: Centre, R: Wait>(
+    rt: &R,
+    centre: &mut C,
+    sub: u32,
+    auts: [u8; 14],
+) -> Option<Result<Resynced, CentreRefusal>>
+    requires { sub < C.subs centre.old }
+    ensures { C.subs centre.new ≡ C.subs centre.old }
+{
+    match read_auts(&secret(), [7; 16], auts) {
+        Auts::SeqMs(seq_ms) => Some(centre.resync(rt, sub, seq_ms)),
+        Auts::WrongMac => None,
+    }
+}
+
+// By hand, with a range of 2^28 below the number.
+#[test]
+fn a_replayed_auts_moves_the_number_once(rt: HostRuntime) -> Result<(), Fail> {
+    let mut centre = CoreCentre::new(Core::new(rt.alloc(), &[10, 10])?);
+    let in_range = |seen, seq| Some(Ok(Resynced::InRange(seen, seq)));
+    let moved = |from, to| Some(Ok(Resynced::Moved(from, to)));
+    let cases = [
+        (0, in_range(10, 0)),
+        (500, moved(10, 500)),
+        (500, in_range(500, 500)),
+        (499, in_range(500, 499)),
+        (MAX_SEQ, moved(500, MAX_SEQ)),
+        (MAX_SEQ, in_range(MAX_SEQ, MAX_SEQ)),
+        (0, Some(Err(CentreRefusal::Beyond(MAX_SEQ, 0)))),
+    ];
+    for (seq, answer) in cases {
+        let auts = make_auts(&secret(), [7; 16], sqn_of(seq));
+        assert_eq!(rt; hear(&rt, &mut centre, 1, auts), answer, "at {seq}");
+    }
+    assert_eq!(rt; centre.word(0), 10);
+    assert_eq!(rt; centre.word(1), MAX_SEQ);
+    Ok(())
+}
+
+// By hand: one number is left.
+#[test]
+fn a_spent_subscriber_keeps_its_word(rt: HostRuntime) -> Result<(), Fail> {
+    let mut centre = CoreCentre::new(Core::new(rt.alloc(), &[MAX_SEQ - 1])?);
+    let spent = Err(CentreRefusal::Exhausted(MAX_SEQ));
+    assert_eq!(rt; centre.next(&rt, 0), Ok(MAX_SEQ));
+    assert_eq!(rt; centre.next(&rt, 0), spent);
+    assert_eq!(rt;
+        centre.resync(&rt, 0, MAX_SEQ),
+        Ok(Resynced::InRange(MAX_SEQ, MAX_SEQ))
+    );
+    assert_eq!(rt; centre.next(&rt, 0), spent);
+    assert_eq!(rt; centre.word(0), MAX_SEQ + 1);
+    Ok(())
+}
+
+#[test]
+fn an_auts_with_one_bit_turned_over_moves_nothing(rt: HostRuntime) -> Result<(), Fail> {
+    let mut centre = CoreCentre::new(Core::new(rt.alloc(), &[10])?);
+    for byte in 0..14 {
+        for bit in [1, 2, 4, 8, 16, 32, 64, 128] {
+            let mut auts = make_auts(&secret(), [7; 16], sqn_of(500));
+            auts[byte] ^= bit;
+            assert_eq!(rt;
+                hear(&rt, &mut centre, 0, auts),
+                None,
+                "at bit {bit} of byte {byte}"
+            );
+        }
+    }
+    assert_eq!(rt; centre.word(0), 10);
+    Ok(())
 }

@@ -1,0 +1,115 @@
+-- The steps of the pure core as the calls of a centre, for `CoreCentre`.
+use Rattle.std.proofs.Common.{◌≡◌, ℕ, ◌+◌, ◌<◌, ◌≤◌, nat_le, Bool, true, false, if◌then◌else◌, List, [], ◌∷◌, length, slice_index, Result, Ok, Err, Some, None, All, arith, refl, sym, ap, ◌∙◌, subst, get_or-set_same}
+use Rattle.std.proofs.lemmas.Bool.Decides.{nat_tests}
+use Rattle.std.proofs.lemmas.List.Elements.{All-get_or}
+use Rattle.auc_sqn.specs.declared.number.TheConstants.{MAX_SEQ}
+use Rattle.auc_history.specs.declared.entry.Entry.{Entry}
+use Rattle.auc_history.specs.declared.entry.Entry.TheVariants.{Drawn, Look}
+use Rattle.auc_history.specs.History.{IsLegal}
+use Rattle.auc_core.specs.declared.event.Event.{Event}
+use Rattle.auc_core.specs.declared.event.Event.TheVariants.{Draw, Resync}
+use Rattle.auc_core.specs.declared.event.Reply.{Reply}
+use Rattle.auc_core.specs.declared.event.Reply.TheVariants.{Number, Exhausted as exhausted, Moved as moved, InRange as in_range, Beyond as beyond}
+use Rattle.auc_core.specs.Step.{Knows, Steps, subscriber_of, standing, word_after, entries_of}
+use Rattle.auc_core.proofs.RunLemmas.{answer_is_legal, known_subscriber, in_range_names, beyond_names}
+use Rattle.auc_vector.specs.declared.centre.Resynced.{Resynced}
+use Rattle.auc_vector.specs.declared.centre.Resynced.TheVariants.{Moved, InRange}
+use Rattle.auc_vector.specs.declared.centre.CentreRefusal.{CentreRefusal}
+use Rattle.auc_vector.specs.declared.centre.CentreRefusal.TheVariants.{Exhausted, Beyond}
+use Rattle.auc_vector.specs.Centre.{unless_spent, entries_of_next, withheld_of_next, entries_of_resync}
+use Rattle.auc_vector.specs.Stretch.{kept_at, IsStretch}
+
+-- a step is a stretch of its subscriber, with the step's entries
+pub step_stretches : (words : List ℕ) (event : Event) (reply : Reply) (new : List ℕ) → All (λ word. word ≤ MAX_SEQ + 1) words
+    → Knows words event → Steps words event reply new
+    → IsStretch words (subscriber_of event) (entries_of (slice_index words (subscriber_of event)) reply) [] new
+step_stretches words event reply new bound knows (answers, is) =
+    let sub = subscriber_of event in
+    let word = slice_index words sub in
+    let known = known_subscriber words event knows in
+    let here : slice_index new sub ≡ word_after word reply =
+    ap (λ (ws : List ℕ). slice_index ws sub) is ∙ get_or-set_same words sub (word_after word reply) 0 known in
+    let legal = answer_is_legal word event reply words knows answers (All-get_or (λ w. w ≤ MAX_SEQ + 1) words sub 0 known bound) in
+    let P : ℕ → Type 0 = λ w. IsLegal MAX_SEQ word w (entries_of word reply) in
+    (subst P (sym here) legal, refl)
+
+-- what is left out after a refused draw, by the word and by the number that stands
+left_out : (b : Bool) (entries : List Entry) → unless_spent (if b then None else Some MAX_SEQ) entries ≡ (if b then entries else [])
+left_out true entries = refl
+left_out false entries = refl
+
+-- no word is kept at a number, for the crates above
+pub kept_at_number : (word : ℕ) → word ≤ MAX_SEQ → kept_at word ≡ None
+kept_at_number word = grind (arith, nat_tests)
+
+-- the word is no higher than what stands where it is no mark
+stands : (word seen : ℕ) → seen ≡ standing word → nat_le word seen ≡ nat_le word MAX_SEQ
+stands word seen = grind (arith, nat_tests)
+
+-- the entries that a call makes for a subscriber that isn't spent are those of the core's step
+entries_are : (word seen : ℕ) (entries : List Entry) → seen ≡ standing word
+    → (if nat_le word seen then entries else []) ≡ unless_spent (kept_at word) entries
+entries_are word seen entries is =
+    ap (λ b. if b then entries else []) (stands word seen is) ∙ sym (left_out (nat_le word MAX_SEQ) entries)
+
+-- a draw of a number, of a core that the centre is seen as
+pub number_goes : (core words new : List ℕ) (sub n : ℕ) (answer : Result ℕ CentreRefusal) → core ≡ words
+    → All (λ word. word ≤ MAX_SEQ + 1) core → sub < length words → Steps core (Draw sub) (Number n) new → answer ≡ Ok n
+    → IsStretch words sub (entries_of_next (kept_at (slice_index words sub)) answer) (withheld_of_next answer) new
+number_goes core words new sub n answer seen bound known steps is =
+    rw is (step_stretches words (Draw sub) (Number n) new (subst (All (λ w. w ≤ MAX_SEQ + 1)) seen bound) known
+    (subst (λ (ws : List ℕ). Steps ws (Draw sub) (Number n) new) seen steps))
+
+-- a draw that is refused
+pub exhausted_goes : (core words new : List ℕ) (sub w : ℕ) (answer : Result ℕ CentreRefusal) → core ≡ words
+    → All (λ word. word ≤ MAX_SEQ + 1) core → sub < length words → Steps core (Draw sub) (exhausted w) new → answer ≡ Err (Exhausted w)
+    → IsStretch words sub (entries_of_next (kept_at (slice_index words sub)) answer) (withheld_of_next answer) new
+exhausted_goes core words new sub w answer seen bound known steps is =
+    let word = slice_index words sub in
+    let ((last, same), set) = steps in
+    let stands_there : nat_le word w ≡ nat_le word MAX_SEQ = ap (nat_le word) same in
+    let entries = ap (λ b. if b then Drawn (w + 1) ∷ [] else []) stands_there ∙ sym (left_out (nat_le word MAX_SEQ) (Drawn (w + 1) ∷ [])) in
+    let goes = step_stretches words (Draw sub) (exhausted w) new (subst (All (λ w. w ≤ MAX_SEQ + 1)) seen bound) known
+    (subst (λ (ws : List ℕ). Steps ws (Draw sub) (exhausted w) new) seen steps) in
+    rw is (subst (λ (es : List Entry). IsStretch words sub es [] new) entries goes)
+
+-- what is known of a resynchronisation by a core that the centre is seen as
+pub record Resyncs (core words new : List ℕ) (sub seq_ms : ℕ) (reply : Reply) : Type 0 where
+  pub seen_as : core ≡ words
+  pub bound : All (λ word. word ≤ MAX_SEQ + 1) core
+  pub known : sub < length words
+  pub number : seq_ms ≤ MAX_SEQ
+  pub steps : Steps core (Resync sub seq_ms) reply new
+
+-- it is a stretch, with the step's entries
+resync_stretches : (core words new : List ℕ) (sub seq_ms : ℕ) (reply : Reply) → Resyncs core words new sub seq_ms reply
+    → IsStretch words sub (entries_of (slice_index words sub) reply) [] new
+resync_stretches core words new sub seq_ms reply r =
+    step_stretches words (Resync sub seq_ms) reply new (subst (All (λ w. w ≤ MAX_SEQ + 1)) r.seen_as r.bound) (r.known, r.number)
+    (subst (λ (ws : List ℕ). Steps ws (Resync sub seq_ms) reply new) r.seen_as r.steps)
+
+-- a resynchronisation that moves the number
+pub moved_goes : (core words new : List ℕ) (sub seq_ms from to : ℕ) (answer : Result Resynced CentreRefusal)
+    → Resyncs core words new sub seq_ms (moved from to) → answer ≡ Ok (Moved from to)
+    → IsStretch words sub (entries_of_resync (kept_at (slice_index words sub)) answer) [] new
+moved_goes core words new sub seq_ms from to answer r is = rw is (resync_stretches core words new sub seq_ms (moved from to) r)
+
+-- one that finds it in range
+pub in_range_goes : (core words new : List ℕ) (sub seq_ms at seq : ℕ) (answer : Result Resynced CentreRefusal)
+    → Resyncs core words new sub seq_ms (in_range at seq) → answer ≡ Ok (InRange at seq)
+    → IsStretch words sub (entries_of_resync (kept_at (slice_index words sub)) answer) [] new
+in_range_goes core words new sub seq_ms at seq answer r is =
+    let word = slice_index words sub in
+    let there : Steps words (Resync sub seq_ms) (in_range at seq) new = subst (λ (ws : List ℕ). Steps ws (Resync sub seq_ms) (in_range at seq) new) r.seen_as r.steps in
+    rw is (subst (λ (es : List Entry). IsStretch words sub es [] new) (entries_are word at (Look at ∷ []) (in_range_names (standing word) seq_ms at seq there.0))
+    (resync_stretches core words new sub seq_ms (in_range at seq) r))
+
+-- and one that finds it beyond
+pub beyond_goes : (core words new : List ℕ) (sub seq_ms at seq : ℕ) (answer : Result Resynced CentreRefusal)
+    → Resyncs core words new sub seq_ms (beyond at seq) → answer ≡ Err (Beyond at seq)
+    → IsStretch words sub (entries_of_resync (kept_at (slice_index words sub)) answer) [] new
+beyond_goes core words new sub seq_ms at seq answer r is =
+    let word = slice_index words sub in
+    let there : Steps words (Resync sub seq_ms) (beyond at seq) new = subst (λ (ws : List ℕ). Steps ws (Resync sub seq_ms) (beyond at seq) new) r.seen_as r.steps in
+    rw is (subst (λ (es : List Entry). IsStretch words sub es [] new) (entries_are word at (Look at ∷ []) (beyond_names (standing word) seq_ms at seq there.0))
+    (resync_stretches core words new sub seq_ms (beyond at seq) r))

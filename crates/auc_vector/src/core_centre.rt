@@ -1,0 +1,87 @@
+//! The centre over the pure core.
+
+ghost use Rattle.std.specs.Prelude.{◌≡◌, ◌<◌, ◌≤◌, ◌+◌, length, slice_index};
+
+use crate::centre::{Centre, CentreRefusal, Resynced};
+use auc_core::{Core, Event, Reply};
+use auc_sqn::MAX_SEQ;
+use std::marker::Model;
+use std::sync::Wait;
+
+/// A centre that owns its subscribers' numbers. It withholds none of them. Contracts see the list of words, as those of
+/// its core: the last number that was drawn or passed over, or `MAX_SEQ + 1` after a draw was refused.
+#[derive(Drop)]
+pub struct CoreCentre {
+    core: Core,
+}
+
+impl Model for CoreCentre {
+    ghost use Rattle.std.specs.Prelude.{ℕ, List};
+
+    ghost Value = { List ℕ };
+
+    ghost view = { λ centre. centre.core };
+}
+
+impl CoreCentre {
+    /// The centre of a core's subscribers, with the core's numbers.
+    pub fn new(core: Core) -> CoreCentre
+        ensures { result ≡ core }
+    {
+        CoreCentre { core }
+    }
+
+    /// The subscriber's word: the last number that was drawn or passed over, or `MAX_SEQ + 1` after a refused draw.
+    pub fn word(&self, sub: u32) -> u64
+        requires { sub < length self.now }
+        ensures value { result ≡ slice_index self.now sub }
+        ensures bound { result ≤ MAX_SEQ + 1 }
+    {
+        self.core.word(sub)
+    }
+}
+
+impl Centre for CoreCentre {
+    ghost use Rattle.std.specs.Prelude.{length, slice_index};
+    ghost use Rattle.auc_sqn.specs.declared.number.TheConstants.{MAX_SEQ};
+    ghost use Rattle.auc_vector.specs.Stretch.{kept_at, IsStretch};
+    ghost use Rattle.auc_vector.specs.StretchLaws.{stretch_stays, stretch_joins, stretch_rises};
+
+    ghost subs = { λ words. length words };
+
+    ghost top = { λ words sub. MAX_SEQ };
+
+    ghost kept = { λ words sub. kept_at (slice_index words sub) };
+
+    ghost name = { λ words. 0 };
+
+    ghost goes = { IsStretch };
+
+    ghost stays = { stretch_stays };
+
+    ghost joins = { stretch_joins };
+
+    ghost rises = { stretch_rises };
+
+    fn next<R: Wait>(&mut self, _rt: &R, sub: u32) -> Result<u64, CentreRefusal> {
+        match self.core.apply(Event::Draw(sub)) {
+            Reply::Number(n) => Ok(n),
+            Reply::Exhausted(word) => Err(CentreRefusal::Exhausted(word)),
+            Reply::Moved(..) | Reply::InRange(..) | Reply::Beyond(..) => unreachable!(),
+        }
+    }
+
+    fn resync<R: Wait>(
+        &mut self,
+        _rt: &R,
+        sub: u32,
+        seq_ms: u64,
+    ) -> Result<Resynced, CentreRefusal> {
+        match self.core.apply(Event::Resync(sub, seq_ms)) {
+            Reply::Moved(from, to) => Ok(Resynced::Moved(from, to)),
+            Reply::InRange(seen, seq) => Ok(Resynced::InRange(seen, seq)),
+            Reply::Beyond(seen, seq) => Err(CentreRefusal::Beyond(seen, seq)),
+            Reply::Number(..) | Reply::Exhausted(..) => unreachable!(),
+        }
+    }
+}
