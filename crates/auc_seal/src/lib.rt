@@ -1,18 +1,33 @@
-//! What makes the packets of EAP-AKA (RFC 4187 §10.13 and §10.15) and EAP-AKA' (RFC 9048 §3.4) authentic.
+//! What makes the packets of EAP-AKA (RFC 4187 §10.13 and §10.15) and EAP-AKA' (RFC 9048 §3.4) authentic, and
+//! their encrypted attributes (RFC 4187 §10.12).
 //!
 //! [`seal_mac`] sets the value of a packet's AT_MAC, [`check_mac`] tells whether it is right. A
-//! [`Checkcode`] hashes the packets of the AKA-Identity rounds in their order. Contracts see a packet as
-//! the list of its bytes, and a `Checkcode` through the method that it was begun for and the packets that
-//! it was given. Nothing here takes memory or waits.
+//! [`Checkcode`] hashes the packets of the AKA-Identity rounds in their order. [`encrypt_attrs`] encrypts
+//! attributes, [`put_encrypted`] does the same into memory that was taken before, and [`decrypt_attrs`]
+//! gives them back.
+//!
+//! Contracts see a packet as the list of its bytes, and a `Checkcode` through the method that it was begun
+//! for and the packets that it was given. An [`EncryptionRoom`] has nothing that they see.
+//! `encrypt_attrs`, `decrypt_attrs` and `EncryptionRoom::new` alone take memory, and nothing waits.
 #![tactic(auto)]
 
 mod checkcode;
+mod copying;
+mod decryption;
+mod encryption;
 mod law;
 mod mac;
+mod refusal;
 
 pub use checkcode::{CheckValue, Checkcode};
-pub use law::values_of_the_mac_have_one_place;
+pub use decryption::decrypt_attrs;
+pub use encryption::{EncryptionRoom, encrypt_attrs, may_be_encrypted, put_encrypted};
+pub use law::{
+    decryption_has_one_answer, encrypted_attributes_are_decrypted,
+    encrypted_attributes_may_be_written, values_of_the_mac_have_one_place,
+};
 pub use mac::{Mac, check_mac, seal_mac};
+pub use refusal::SealRefusal;
 
 #[cfg(test)]
 mod tests;

@@ -1,6 +1,8 @@
 use super::*;
-use auc_attr::mac_place;
+use auc_attr::{Attr, AttrList, AttrRefusal, mac_place, read_attrs, write_attrs};
+use auc_edge::{Octets, Places};
 use auc_hmac::Method;
+use std::test::Fail;
 
 // 0x20, 0x21, .. 0x3f.
 fn k_aut() -> [u8; 32] {
@@ -163,4 +165,186 @@ fn checkcode_is_the_hash_of_the_packets(rt: HostRuntime) {
         assert!(rt; code.update(&response).is_ok());
         assert_eq!(rt; code.value(), value);
     }
+}
+
+// 0x40, 0x41, .. 0x4f.
+const K_ENCR: [u8; 16] = [
+    0x40, 0x41, 0x42, 0x43, 0x44, 0x45, 0x46, 0x47, 0x48, 0x49, 0x4a, 0x4b, 0x4c, 0x4d, 0x4e, 0x4f,
+];
+
+// 0x80, 0x81, .. 0x8f.
+const IV: [u8; 16] = [
+    0x80, 0x81, 0x82, 0x83, 0x84, 0x85, 0x86, 0x87, 0x88, 0x89, 0x8a, 0x8b, 0x8c, 0x8d, 0x8e, 0x8f,
+];
+
+// Attributes, and what Python's `cryptography` makes of them and of AT_PADDING of 0, 4, 8 and 12 bytes, and of
+// 12 bytes behind more than one block: AES-128-CBC under K_ENCR and IV.
+const CIPHERTEXTS: [(&[u8], &[u8]); 5] = [
+    (
+        &[
+            0x13, 0x01, 0x00, 0x01, 0x85, 0x03, 0x00, 0x08, 0x35, 0x61, 0x62, 0x63, 0x64, 0x65,
+            0x66, 0x67,
+        ],
+        &[
+            0xf7, 0x82, 0x40, 0x5f, 0xa2, 0x0f, 0x28, 0x8f, 0x19, 0x33, 0x82, 0xba, 0x79, 0x1a,
+            0x2c, 0x47,
+        ],
+    ),
+    (
+        &[
+            0x13, 0x01, 0x00, 0x01, 0x85, 0x02, 0x00, 0x04, 0x35, 0x61, 0x62, 0x63,
+        ],
+        &[
+            0x6c, 0xf4, 0x89, 0x9a, 0xc7, 0xed, 0xd8, 0x66, 0xd5, 0xc1, 0x8d, 0xca, 0x87, 0xed,
+            0x5a, 0x59,
+        ],
+    ),
+    (
+        &[0x13, 0x01, 0x00, 0x01, 0x14, 0x01, 0x00, 0x00],
+        &[
+            0x2c, 0x8f, 0xf7, 0xbf, 0xd2, 0x23, 0x8a, 0xd2, 0xb0, 0x2f, 0xc8, 0xab, 0xe5, 0xfa,
+            0xb9, 0x71,
+        ],
+    ),
+    (
+        &[0x13, 0x01, 0x00, 0x01],
+        &[
+            0x81, 0xb2, 0x02, 0x41, 0xac, 0x6d, 0xe3, 0x2f, 0xcc, 0x11, 0x34, 0xd0, 0xd4, 0xf5,
+            0x26, 0x95,
+        ],
+    ),
+    (
+        &[
+            0x13, 0x01, 0x00, 0x01, 0x15, 0x05, 0x00, 0x00, 0xa0, 0xa1, 0xa2, 0xa3, 0xa4, 0xa5,
+            0xa6, 0xa7, 0xa8, 0xa9, 0xaa, 0xab, 0xac, 0xad, 0xae, 0xaf, 0x85, 0x03, 0x00, 0x07,
+            0x35, 0x61, 0x62, 0x63, 0x64, 0x65, 0x66, 0x00,
+        ],
+        &[
+            0x57, 0x96, 0x1d, 0x43, 0xe0, 0x06, 0x83, 0x86, 0x99, 0x0c, 0x6d, 0xf7, 0x0a, 0x11,
+            0x07, 0x69, 0x56, 0x6b, 0x5d, 0xe5, 0x90, 0x7e, 0xcb, 0x2e, 0x03, 0x98, 0xa2, 0xfb,
+            0x8e, 0xbb, 0xf0, 0xc7, 0x8c, 0x20, 0x8a, 0xe3, 0xb9, 0x7b, 0x9d, 0xa1, 0x48, 0x07,
+            0xc1, 0xc1, 0xb5, 0x4b, 0x34, 0xf2,
+        ],
+    ),
+];
+
+// Attributes that are encrypted behind AT_RESULT_IND, or that alone where they may not be.
+fn encrypted_list(rt: &HostRuntime, plain: &[u8]) -> Result<AttrList, Fail> {
+    let inner = read_attrs(rt.alloc(), plain)?;
+    let mut out = AttrList::new(rt.alloc());
+    out.push(Attr::ResultInd)?;
+    if may_be_encrypted(&inner) {
+        encrypt_attrs(rt.alloc(), K_ENCR, IV, &inner, &mut out)?;
+    }
+    Ok(out)
+}
+
+// The same alone and in places.
+fn list_in_places(rt: &HostRuntime, plain: &[u8]) -> Result<AttrList, Fail> {
+    let inner = read_attrs(rt.alloc(), plain)?;
+    let room = EncryptionRoom::new(rt.alloc())?;
+    let mut places = Places::new(rt.alloc(), 2)?;
+    if may_be_encrypted(&inner) {
+        put_encrypted(K_ENCR, IV, &inner, room, &mut places);
+    }
+    Ok(AttrList::from_places(places))
+}
+
+// AT_ENCR_DATA, behind AT_IV where it is wanted.
+fn list_of(rt: &HostRuntime, has_iv: bool, ciphertext: &[u8]) -> Result<AttrList, Fail> {
+    let mut octets = Octets::new(rt.alloc());
+    octets.append(ciphertext)?;
+    let mut list = AttrList::new(rt.alloc());
+    if has_iv {
+        list.push(Attr::Iv(IV))?;
+    }
+    list.push(Attr::EncrData(octets))?;
+    Ok(list)
+}
+
+// Whether a list ends in AT_IV and AT_ENCR_DATA.
+fn ends_in(list: &AttrList, ciphertext: &[u8]) -> bool {
+    match list.as_slice() {
+        [.., Attr::Iv(iv), Attr::EncrData(v)] => *iv == IV && v.as_slice() == ciphertext,
+        _ => false,
+    }
+}
+
+// The attributes that a list has encrypted, as bytes.
+fn decrypted_text(rt: &HostRuntime, list: &AttrList) -> Result<Octets, Fail> {
+    let inner = decrypt_attrs(rt.alloc(), K_ENCR, list)?;
+    let mut text = Octets::new(rt.alloc());
+    if inner.writable() {
+        write_attrs(&inner, &mut text)?;
+    }
+    Ok(text)
+}
+
+#[test]
+fn attributes_are_encrypted_as_by_another_implementation(rt: HostRuntime) -> Result<(), Fail> {
+    for (plain, ciphertext) in CIPHERTEXTS {
+        let out = encrypted_list(&rt, plain)?;
+        assert_eq!(rt; out.len(), 3);
+        assert!(rt; ends_in(&out, ciphertext), "at {plain:?}");
+        let out = list_in_places(&rt, plain)?;
+        assert!(rt; ends_in(&out, ciphertext), "at {plain:?}");
+    }
+    Ok(())
+}
+
+#[test]
+fn attributes_of_another_implementation_are_decrypted(rt: HostRuntime) -> Result<(), Fail> {
+    for (plain, ciphertext) in CIPHERTEXTS {
+        let list = list_of(&rt, true, ciphertext)?;
+        assert_eq!(rt; decrypted_text(&rt, &list)?.as_slice(), plain);
+    }
+    Ok(())
+}
+
+// RFC 4187 §10.12, by hand; the faults are of ciphertexts of Python's `cryptography`, as above: AT_PADDING with
+// a byte that isn't zero, and a type that is unknown and may not be passed over.
+#[test]
+fn each_refusal_comes_where_it_should(rt: HostRuntime) -> Result<(), Fail> {
+    let whole: &[u8] = &[
+        0xf7, 0x82, 0x40, 0x5f, 0xa2, 0x0f, 0x28, 0x8f, 0x19, 0x33, 0x82, 0xba, 0x79, 0x1a, 0x2c,
+        0x47,
+    ];
+    let padding: &[u8] = &[
+        0xed, 0x23, 0x3f, 0xd5, 0xdb, 0xaa, 0x41, 0xbe, 0x84, 0xeb, 0x6d, 0x26, 0x00, 0x36, 0xc5,
+        0x53,
+    ];
+    let unknown: &[u8] = &[
+        0x7c, 0x8d, 0x09, 0xaa, 0xbd, 0xbc, 0x80, 0x47, 0x42, 0xab, 0x21, 0x5e, 0x40, 0xa1, 0xf7,
+        0xe3,
+    ];
+    let cases: [(bool, &[u8], SealRefusal); 8] = [
+        (false, whole, SealRefusal::NoIv),
+        (false, &[0; 4], SealRefusal::NoIv),
+        (true, &[], SealRefusal::BadSize),
+        (true, &[0; 4], SealRefusal::BadSize),
+        (true, &[0; 24], SealRefusal::BadSize),
+        (true, padding, SealRefusal::Attr(AttrRefusal::BadPadding)),
+        (
+            true,
+            unknown,
+            SealRefusal::Attr(AttrRefusal::UnknownType(127)),
+        ),
+        (true, &whole[..15], SealRefusal::BadSize),
+    ];
+    for (has_iv, ciphertext, refusal) in cases {
+        let list = list_of(&rt, has_iv, ciphertext)?;
+        assert_eq!(rt;
+            decrypt_attrs(rt.alloc(), K_ENCR, &list).err(),
+            Some(refusal),
+            "at {has_iv} {ciphertext:?}"
+        );
+    }
+    Ok(())
+}
+
+#[test]
+fn list_that_encrypts_nothing_decrypts_to_none(rt: HostRuntime) -> Result<(), Fail> {
+    let list = AttrList::new(rt.alloc());
+    assert_eq!(rt; decrypt_attrs(rt.alloc(), K_ENCR, &list)?.len(), 0);
+    Ok(())
 }

@@ -1,0 +1,6 @@
+use Rattle.std.proofs.Common.{◌≡◌, drop}
+use Rattle.auc_seal.specs.Encrypted.{iv_of, first_value}
+use Rattle.auc_seal.proofs.decryption.first_iv.Given as goal
+
+abbrev pub invariant-loop-attr : goal.invariant-loop-attr
+invariant-loop-attr l = first_value iv_of (drop l.attr-index l.attr-items) ≡ first_value iv_of l.list
