@@ -1,2 +1,4 @@
+mod FileLemmas
+mod LookupLemmas
 mod NumberLemmas
 mod RowLemmas

@@ -1,5 +1,6 @@
 -- What stays true of the rows of subscribers, for `Subscribers`.
 use Rattle.std.proofs.Common.{◌⊎◌, inl, inr, slice_get, ℕ, ◌≡◌, ◌≢◌, ◌<◌, ◌≤◌, true, false, List, ◌++◌, ◌∷◌, [], length, get_or, Some, None, is_some, arith}
+use Rattle.std.specs.Prelude.{Ok, nat_le, refl}
 use Rattle.std.specs.List.{All}
 use Rattle.std.proofs.lemmas.Bool.Decides.{nat_tests}
 use Rattle.std.proofs.lemmas.Grind.{common_steps}
@@ -10,7 +11,7 @@ use Rattle.std.proofs.lemmas.List.Elements.{All-append}
 use Rattle.auc_edge.specs.Identity.{Identity}
 use Rattle.auc_subs.specs.declared.row.Row.{Row}
 use Rattle.auc_subs.specs.declared.subscribers.TheConstants.{MAX_SUBSCRIBERS}
-use Rattle.auc_subs.specs.Subscriber.{HasIdentity, is_identity, place_of, IsRow, AreSubscribers}
+use Rattle.auc_subs.specs.Subscriber.{HasIdentity, is_identity, place_of, rows_with, IsRow, AreSubscribers}
 
 -- an identity is itself
 is_identity_refl : (a : Identity) → is_identity a a ≡ true
@@ -33,6 +34,11 @@ one_more rows row before is_row none room = record {
   differ = all_pairs_push (λ a b. a.imsi ≢ b.imsi) rows row before.differ (λ k d within. differs _ _ (others rows row.imsi none k d within));
   each = All-append IsRow rows (row ∷ []) before.each (λ k d within. search (arith));
 }
+
+-- a row of a new identity is put behind the last where there is room
+pub rows_with_new : (rows : List Row) (row : Row) → is_some (place_of rows row.imsi) ≡ false → length rows < MAX_SUBSCRIBERS
+    → rows_with rows row ≡ Ok (rows ++ row ∷ [])
+rows_with_new rows row none room = let fits : nat_le MAX_SUBSCRIBERS (length rows) ≡ false = grind (arith, nat_tests) in rw (none, fits) refl
 
 -- identities of one number of digits and one number are one
 one_identity : (digits number d n : ℕ) → digits ≡ d → number ≡ n

@@ -1,2 +1,4 @@
 pub mod Field
+pub mod File
+pub mod Lookup
 pub mod Subscriber

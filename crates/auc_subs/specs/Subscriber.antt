@@ -13,11 +13,11 @@
 use Rattle.std.specs.Prelude.{ℕ, ◌≡◌, ◌≢◌, ◌==◌, ◌&&◌, ◌≤◌, ◌++◌, nat_eq, nat_le, Bool, List, [], ◌∷◌, length, codes, Option, Some, is_some, Result, Ok, Err, if◌then◌else◌, All, AllPairs, position, slice_get, slice_index_or}
 use Rattle.std.specs.Cmp.Lexicographic.{pointwise}
 use Rattle.std.specs.Option.{ok_or}
+use Rattle.auc_aes.specs.Bytes.{IsBytes, IsBlock}
 use Rattle.auc_edge.specs.Identity.{Identity, IsIdentity, identity_of}
+use Rattle.auc_milenage.specs.Milenage.{opc_of}
 use Rattle.auc_sqn.specs.declared.number.TheConstants.{MAX_SEQ}
 use Rattle.auc_subs.specs.declared.row.Row.{Row}
-use Rattle.auc_subs.specs.declared.row.OperatorField.{OperatorField}
-use Rattle.auc_subs.specs.declared.row.OperatorField.TheVariants as operator
 use Rattle.auc_subs.specs.declared.refusal.SubsWhy.{SubsWhy}
 use Rattle.auc_subs.specs.declared.refusal.SubsWhy.TheVariants as why
 use Rattle.auc_subs.specs.declared.subscribers.TheConstants.{MAX_SUBSCRIBERS}
@@ -33,11 +33,11 @@ abbrev pub ◌>>=◌ : {A B : Type 0} → Result A SubsWhy → (A → Result B S
 abbrev pub is_text : List ℕ → List ℕ → Bool
 is_text a b = pointwise nat_eq a b
 
--- the operator's field: the word `op` or `opc`, then 16 bytes
-abbrev pub operator_of : List ℕ → List ℕ → Result OperatorField SubsWhy
-operator_of kind text =
-    if is_text kind (codes "op") then (ok_or (octets_in 16 text) why.Op >>= λ bytes. Ok (operator.Op bytes))
-    else if is_text kind (codes "opc") then (ok_or (octets_in 16 text) why.Op >>= λ bytes. Ok (operator.Opc bytes))
+-- OPc under a key, from the operator's field: the word `op` and OP, or the word `opc` and OPc itself (TS 35.206 §4.1)
+abbrev pub opc_in : List ℕ → List ℕ → List ℕ → Result (List ℕ) SubsWhy
+opc_in k kind text =
+    if is_text kind (codes "op") then (ok_or (octets_in 16 text) why.Op >>= λ op. Ok (opc_of k op))
+    else if is_text kind (codes "opc") then ok_or (octets_in 16 text) why.Op
     else Err why.Kind
 
 -- the subscriber that seven fields are, each tested in its turn
@@ -45,21 +45,21 @@ abbrev pub row_in : List ℕ → List ℕ → List ℕ → List ℕ → List ℕ
 row_in imsi k kind op amf seq usim = do
   identity ← ok_or (identity_of imsi) why.Imsi
   key ← ok_or (octets_in 16 k) why.Key
-  operator ← operator_of kind op
+  opc ← opc_in key kind op
   management ← ok_or (octets_in 2 amf) why.Amf
   drawn ← ok_or (number_in 13 MAX_SEQ seq) why.Seq
   accepted ← ok_or (number_in 13 MAX_SEQ usim) why.Usim
-  Ok (record { imsi = identity; k = key; operator = operator; amf = management; seq = drawn; usim = accepted })
+  Ok (record { imsi = identity; secret = record { k = key; opc = opc }; amf = management; seq = drawn; usim = accepted })
 
--- a field of a line, from 0
-abbrev pub field : List ℕ → ℕ → List ℕ
-field line place = slice_index_or (fields_of line) place []
+-- a field, from 0
+abbrev pub field : List (List ℕ) → ℕ → List ℕ
+field fields place = slice_index_or fields place []
 
--- the subscriber that a line is, or the line's first fault by itself
-abbrev pub row_of : List ℕ → Result Row SubsWhy
-row_of line =
-    if length (fields_of line) == 7
-    then row_in (field line 0) (field line 1) (field line 2) (field line 3) (field line 4) (field line 5) (field line 6)
+-- the subscriber that fields are, or their first fault by itself
+abbrev pub row_of : List (List ℕ) → Result Row SubsWhy
+row_of fields =
+    if length fields == 7
+    then row_in (field fields 0) (field fields 1) (field fields 2) (field fields 3) (field fields 4) (field fields 5) (field fields 6)
     else Err why.FieldCount
 
 -- whether two identities are one
@@ -81,15 +81,23 @@ rows_with rows row =
     else if nat_le MAX_SUBSCRIBERS (length rows) then Err why.TooMany
     else Ok (rows ++ row ∷ [])
 
--- the rows with the subscriber that a line is, or the line's first fault
-abbrev pub rows_after : List Row → List ℕ → Result (List Row) SubsWhy
-rows_after rows line = do
-  row ← row_of line
+-- the rows with the subscriber that fields are, or the first fault
+abbrev pub rows_with_fields : List Row → List (List ℕ) → Result (List Row) SubsWhy
+rows_with_fields rows fields = do
+  row ← row_of fields
   rows_with rows row
 
--- a row of an identity, whose numbers are such
+-- the rows with the subscriber that a line is, or the line's first fault
+abbrev pub rows_after : List Row → List ℕ → Result (List Row) SubsWhy
+rows_after rows line = rows_with_fields rows (fields_of line)
+
+-- a row of an identity, whose byte strings and numbers are such
 pub record IsRow (row : Row) : Type 0 where
   pub identity : IsIdentity row.imsi.digits row.imsi.number
+  pub key : IsBlock row.secret.k
+  pub operator : IsBlock row.secret.opc
+  pub management : length row.amf ≡ 2
+  pub management_bytes : IsBytes row.amf
   pub drawn : row.seq ≤ MAX_SEQ
   pub accepted : row.usim ≤ MAX_SEQ
 

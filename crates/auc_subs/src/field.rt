@@ -1,8 +1,9 @@
 //! The fields of a line: decimal numbers, byte strings, and the parts between spaces.
 
-ghost use Rattle.std.specs.Prelude.{◌≡◌, ◌≤◌, ◌==◌, length, map, count_by, IfOk, IsTrue};
+ghost use Rattle.std.specs.Prelude.{◌≡◌, ◌≤◌, ◌==◌, length, map, count_by, IfOk, IfSome, IsTrue};
 ghost use Rattle.std.specs.List.{AllPass, list_all};
 ghost use Rattle.std.specs.Char.{is_ascii_digit};
+ghost use Rattle.auc_aes.specs.Bytes.{IsBytes};
 ghost use Rattle.auc_edge.specs.Identity.{number_of};
 ghost use Rattle.auc_subs.specs.Field.{number_in, octets_in, fields_of};
 
@@ -47,18 +48,12 @@ fn value(text: &[u8]) -> u128
     number
 }
 
-/// The 16 bytes that 32 hexadecimal digits of either case are, or `None` for any other text.
-pub fn read_octets16(text: &[u8]) -> Option<[u8; 16]>
-    ensures { result ≡ octets_in 16 text.now }
+/// The bytes that twice as many hexadecimal digits of either case are, or `None` for any other text.
+pub fn read_octets<const N: usize>(text: &[u8]) -> Option<[u8; N]>
+    ensures value { result ≡ octets_in N text.now }
+    ensures octets { IfSome result (λ octets. length octets ≡ N × IsBytes octets) }
 {
-    <[u8; 16] as FromHex>::from_hex(text).ok()
-}
-
-/// The 2 bytes that 4 hexadecimal digits of either case are, or `None` for any other text.
-pub fn read_octets2(text: &[u8]) -> Option<[u8; 2]>
-    ensures { result ≡ octets_in 2 text.now }
-{
-    <[u8; 2] as FromHex>::from_hex(text).ok()
+    <[u8; N] as FromHex>::from_hex(text).ok()
 }
 
 /// Whether a line has seven fields, which one space each separates.

@@ -1,16 +1,18 @@
 //! The subscribers of an authentication centre.
 //!
 //! A [`Row`] is what the centre keeps of one subscriber: the identity (TS 23.003 §2.2), the key K and
-//! the operator's field (TS 35.206 §2.3), the AMF (TS 33.102 §6.3.2), and the numbers up to which its
-//! vectors were drawn and its USIM has accepted them. [`Subscribers`] are rows with different
-//! identities; contracts see them as the list of their rows, which is [`Subscribers::add`]'s to extend
-//! by a line of seven fields. A line that isn't such is refused with the first fault of its fields, a
-//! [`SubsWhy`].
+//! OPc (TS 35.206 §4.1), the AMF (TS 33.102 §6.3.2), and the numbers up to which its vectors were drawn
+//! and its USIM has accepted them. [`Subscribers`] are rows with different identities; contracts see
+//! them as the list of their rows. [`Subscribers::read`] reads a file of comma-separated records and
+//! tells the first wrong one, [`Subscribers::add`] a line of seven fields, each by its first fault, a
+//! [`SubsWhy`]. Where OP is given, OPc is computed of it.
 //!
-//! [`read_decimal`] is the reading of numbers that lines above this crate share.
+//! [`read_decimal`] and [`read_octets`] are the reading of numbers and of hexadecimal digits that the
+//! layers above share.
 #![tactic(auto)]
 
 mod field;
+mod file;
 mod refusal;
 mod row;
 mod row_reading;
@@ -18,7 +20,7 @@ mod subscribers;
 #[cfg(test)]
 mod tests;
 
-pub use field::read_decimal;
-pub use refusal::{AddRefusal, SubsWhy};
-pub use row::{OperatorField, Row};
+pub use field::{read_decimal, read_octets};
+pub use refusal::{AddRefusal, SubsRefusal, SubsWhy};
+pub use row::Row;
 pub use subscribers::{MAX_SUBSCRIBERS, Subscribers};

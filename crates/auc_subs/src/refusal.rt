@@ -2,13 +2,17 @@
 
 ghost use Rattle.std.specs.Prelude.{◌≡◌};
 ghost use Rattle.auc_subs.specs.declared.refusal.AddRefusal.TheVariants as refusal;
+ghost use Rattle.auc_subs.specs.declared.refusal.SubsRefusal.TheVariants as file_refusal;
 
+use auc_edge::NoMemory;
 use std::alloc::{AllocError, AllocFailed};
 
 /// The first fault of a subscriber's line, in the order of the tests.
 #[derive(Clone, Copy, Debug, PartialEq, Eq)]
 pub enum SubsWhy {
-    /// The line hasn't seven fields.
+    /// The first record of a file isn't `imsi,k,kind,op,amf,seq,usim`, or there is none.
+    Header,
+    /// There aren't seven fields.
     FieldCount,
     /// The IMSI isn't 6 to 15 decimal digits.
     Imsi,
@@ -30,6 +34,15 @@ pub enum SubsWhy {
     TooMany,
 }
 
+/// Why a file of subscribers isn't read.
+#[derive(Clone, Copy, Debug, PartialEq, Eq)]
+pub enum SubsRefusal {
+    /// The first wrong record of the file, the header being 0, and its first fault.
+    Row(u32, SubsWhy),
+    /// There was no memory for the subscribers.
+    NoMemory,
+}
+
 /// Why a line isn't added.
 #[derive(Clone, Copy, Debug, PartialEq, Eq)]
 pub enum AddRefusal {
@@ -37,6 +50,14 @@ pub enum AddRefusal {
     Why(SubsWhy),
     /// There was no memory for the row.
     NoMemory,
+}
+
+impl From<NoMemory> for SubsRefusal {
+    ghost from_gives = { λ _ e. e ≡ file_refusal.NoMemory };
+
+    fn from(_: NoMemory) -> SubsRefusal {
+        SubsRefusal::NoMemory
+    }
 }
 
 impl From<SubsWhy> for AddRefusal {

@@ -2,23 +2,26 @@
 
 ghost use Rattle.std.specs.Prelude.{◌≡◌, IfOk};
 ghost use Rattle.std.specs.Option.{ok_or};
+ghost use Rattle.auc_aes.specs.Bytes.{IsBlock};
 ghost use Rattle.auc_edge.specs.Identity.{IsIdentity, identity_of};
-ghost use Rattle.auc_subs.specs.Subscriber.{IsRow, operator_of, row_in};
+ghost use Rattle.auc_subs.specs.Subscriber.{IsRow, opc_in, row_in};
 
-use crate::field::{read_decimal, read_octets2, read_octets16};
+use crate::field::{read_decimal, read_octets};
 use crate::refusal::SubsWhy;
-use crate::row::{OperatorField, Row};
+use crate::row::Row;
 use auc_edge::Imsi;
+use auc_milenage::{Secret, opc_of};
 use auc_sqn::MAX_SEQ;
 
-/// The operator's field that the word of its kind and its digits are.
-fn read_operator(kind: &[u8], text: &[u8]) -> Result<OperatorField, SubsWhy>
-    ensures { result ≡ operator_of kind.now text.now }
+/// OPc under a key, from the word of the field's kind and its digits.
+fn read_opc(k: [u8; 16], kind: &[u8], text: &[u8]) -> Result<[u8; 16], SubsWhy>
+    ensures value { result ≡ opc_in k kind.now text.now }
+    ensures block { IfOk result IsBlock }
 {
     if kind == b"op".as_slice() {
-        Ok(OperatorField::Op(read_octets16(text).ok_or(SubsWhy::Op)?))
+        Ok(opc_of(k, read_octets(text).ok_or(SubsWhy::Op)?))
     } else if kind == b"opc".as_slice() {
-        Ok(OperatorField::Opc(read_octets16(text).ok_or(SubsWhy::Op)?))
+        Ok(read_octets(text).ok_or(SubsWhy::Op)?)
     } else {
         Err(SubsWhy::Kind)
     }
@@ -45,11 +48,13 @@ pub fn read_row(
     ensures value { result ≡ row_in imsi.now k.now kind.now op.now amf.now seq.now usim.now }
     ensures row { IfOk result IsRow }
 {
+    let imsi = read_imsi(imsi)?;
+    let k = read_octets(k).ok_or(SubsWhy::Key)?;
+    let opc = read_opc(k, kind, op)?;
     Ok(Row {
-        imsi: read_imsi(imsi)?,
-        k: read_octets16(k).ok_or(SubsWhy::Key)?,
-        operator: read_operator(kind, op)?,
-        amf: read_octets2(amf).ok_or(SubsWhy::Amf)?,
+        imsi,
+        secret: Secret { k, opc },
+        amf: read_octets(amf).ok_or(SubsWhy::Amf)?,
         seq: read_decimal(seq, 13, MAX_SEQ).ok_or(SubsWhy::Seq)?,
         usim: read_decimal(usim, 13, MAX_SEQ).ok_or(SubsWhy::Usim)?,
     })

@@ -1,36 +1,45 @@
 //! The list of subscribers.
 
-ghost use Rattle.std.specs.Prelude.{◌≡◌, ◌≢◌, ◌<◌, ◌↔◌, [], length, All, IsTrue, OnOk, OnErr, IfOk, IfSome, IfNone, slice_get, position};
-ghost use Rattle.auc_subs.specs.Subscriber.{is_identity};
+ghost use Rattle.std.specs.Prelude.{◌≡◌, ◌≢◌, ◌<◌, ◌↔◌, [], length, All, IsTrue, OnOk, OnErr, IfOk, IfSome, IfNone, slice_get};
+ghost use Rattle.auc_subs.specs.Lookup.{key_of};
 
 use crate::field::{fields, has_seven_fields};
 use crate::refusal::{AddRefusal, SubsWhy};
 use crate::row::Row;
 use crate::row_reading::read_row;
 use auc_edge::Imsi;
+use indexmap::IndexMap;
 use std::alloc::Global;
 use std::marker::Model;
 
 /// How many subscribers there may be.
 pub const MAX_SUBSCRIBERS: usize = 65536;
 
+/// An identity, as rows are looked up by it.
+#[derive(Clone, Copy, Debug, PartialEq, Eq, Hash)]
+struct IdentityKey {
+    digits: u8,
+    number: u64,
+}
+
 /// Subscribers with different identities, each at a place from 0. Contracts see the list of rows.
 #[derive(Drop)]
 pub struct Subscribers {
-    rows: Vec<Row>,
+    rows: IndexMap<IdentityKey, Row>,
 }
 
 impl Model for Subscribers {
     ghost use Rattle.std.specs.Prelude.{List};
+    ghost use Rattle.indexmap.specs.IndexMap.{keys, values};
     ghost use Rattle.auc_subs.specs.declared.row.Row.{Row};
 
     ghost Value = { List Row };
 
-    ghost use Rattle.auc_subs.specs.Subscriber.{AreSubscribers};
+    ghost use Rattle.auc_subs.specs.Lookup.{IsLookup};
 
-    ghost view = { λ s. s.rows.items };
+    ghost view = { λ s. values s.rows };
 
-    ghost invariant = { λ s. AreSubscribers s.rows.items };
+    ghost invariant = { λ s. IsLookup (keys s.rows) (values s.rows) };
 }
 
 impl Subscribers {
@@ -42,7 +51,7 @@ impl Subscribers {
         ensures { result ≡ [] }
     {
         Subscribers {
-            rows: Vec::new(alloc),
+            rows: IndexMap::new(alloc),
         }
     }
 
@@ -76,7 +85,7 @@ impl Subscribers {
         ensures found { IfSome result (λ sub. HasIdentity self.now sub imsi) }
         ensures none { IfNone result (All (λ row. row.imsi ≢ imsi) self.now) }
     {
-        match place(&self.rows, imsi) {
+        match self.rows.get_index_of(&key(imsi)) {
             Some(sub) => Some(sub as u32),
             None => None,
         }
@@ -101,7 +110,7 @@ impl Subscribers {
     }
 
     /// Puts a row behind the last.
-    fn admit(&mut self, row: Row) -> Result<u32, AddRefusal>
+    pub(crate) fn admit(&mut self, row: Row) -> Result<u32, AddRefusal>
         requires { IsRow row }
 
         ensures added { OnOk result (rows_with self.old row ≡ Ok self.new) }
@@ -116,15 +125,17 @@ impl Subscribers {
         if sub >= MAX_SUBSCRIBERS {
             return Err(AddRefusal::Why(SubsWhy::TooMany));
         }
-        self.rows.push(row)?;
+        self.rows.insert(key(row.imsi), row)?;
         Ok(sub as u32)
     }
 }
 
-/// The place of the first row with an identity.
-fn place(rows: &[Row], imsi: Imsi) -> Option<usize>
-    ensures value { result ≡ position (λ row. is_identity row.imsi imsi) rows.now }
-    ensures within { IfSome result (λ place. place < length rows.now) }
+/// The key of an identity.
+fn key(imsi: Imsi) -> IdentityKey
+    ensures { result ≡ key_of imsi }
 {
-    rows.iter().position(|row| row.imsi == imsi)
+    IdentityKey {
+        digits: imsi.digits(),
+        number: imsi.number(),
+    }
 }

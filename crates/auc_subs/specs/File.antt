@@ -1,0 +1,63 @@
+-- Files of subscribers, as `csv` reads them: records of fields between commas; a field may stand between
+-- double quotes, doubled inside; CR, LF or both end a record, and so does the file's end; an empty line is
+-- no record; a byte order mark at the start is dropped. Record 0 is the header, and each further record is
+-- one subscriber.
+use Rattle.std.specs.Prelude.{◌≡◌, ℕ, ◌+◌, ◌<◌, ◌==◌, ◌&&◌, Bool, false, List, [], ◌∷◌, length, codes, fold, Some, Result, Ok, Err, if◌then◌else◌}
+use Rattle.std.specs.Borrow.{Bor}
+use Rattle.csv.specs.Machine.{ends_at_end}
+use Rattle.csv.specs.Reading.{Ready, default_config, reader_config, reader_state, reader_trim, records, records_from, source_of, strip_bom}
+use Rattle.csv.specs.declared.reader.Reader.{Reader}
+use Rattle.csv.specs.declared.reader.Trim.TheVariants as trim
+use Rattle.auc_subs.specs.declared.row.Row.{Row}
+use Rattle.auc_subs.specs.declared.refusal.SubsRefusal.{SubsRefusal}
+use Rattle.auc_subs.specs.declared.refusal.SubsRefusal.TheVariants as refusal
+use Rattle.auc_subs.specs.declared.refusal.SubsWhy.{SubsWhy}
+use Rattle.auc_subs.specs.declared.refusal.SubsWhy.TheVariants as why
+use Rattle.auc_subs.specs.Subscriber.{field, is_text, rows_with_fields}
+
+-- the records of a file, each a list of its fields
+abbrev pub records_of : List ℕ → List (List (List ℕ))
+records_of bytes = records default_config (strip_bom bytes)
+
+-- whether a record is the header
+abbrev pub is_header : List (List ℕ) → Bool
+is_header fields =
+    (length fields == 7) && is_text (field fields 0) (codes "imsi") && is_text (field fields 1) (codes "k")
+    && is_text (field fields 2) (codes "kind") && is_text (field fields 3) (codes "op") && is_text (field fields 4) (codes "amf")
+    && is_text (field fields 5) (codes "seq") && is_text (field fields 6) (codes "usim")
+
+-- a fault, told with the number of its record
+abbrev pub told_at : ℕ → Result (List Row) SubsWhy → Result (List Row) SubsRefusal
+told_at number (Ok rows) = Ok rows
+told_at number (Err fault) = Err (refusal.Row number fault)
+
+-- the rows with the subscriber that the next record is: after so many rows, it is the record of the next
+-- number. The first refusal stays
+abbrev pub with_record : Result (List Row) SubsRefusal → List (List ℕ) → Result (List Row) SubsRefusal
+with_record (Ok rows) fields = told_at (length rows + 1) (rows_with_fields rows fields)
+with_record (Err refused) fields = Err refused
+
+-- the rows that records are, the header first, or the first wrong record with its first fault
+abbrev pub rows_of : List (List (List ℕ)) → Result (List Row) SubsRefusal
+rows_of [] = Err (refusal.Row 0 why.Header)
+rows_of (first ∷ rest) = if is_header first then fold with_record (Ok []) rest else Err (refusal.Row 0 why.Header)
+
+-- the subscribers that a file tells, or its first wrong record with its first fault
+abbrev pub subscribers_in : List ℕ → Result (List Row) SubsRefusal
+subscribers_in bytes = rows_of (records_of bytes)
+
+-- a reader of a file stands between two records, before these
+pub record IsBefore (reader : Reader (Bor (List ℕ))) (left : List (List (List ℕ))) : Type 0 where
+  pub untrimmed : reader_trim reader ≡ trim.None
+  pub ready : Ready reader
+  pub config : reader_config reader ≡ default_config
+  pub between : ends_at_end (reader_state reader) ≡ false
+  pub bytes : List ℕ
+  pub source : source_of (λ s. Some s.now) reader ≡ Some bytes
+  pub count : ℕ
+  pub enough : length bytes < count
+  pub told : left ≡ records_from default_config count (reader_state reader) bytes
+
+-- the reader went on by one record with these fields
+abbrev pub WentOn : Reader (Bor (List ℕ)) → List (List (List ℕ)) → List (List ℕ) → Type 0
+WentOn reader left fields = (rest : List (List (List ℕ))) × (left ≡ fields ∷ rest) × IsBefore reader rest
