@@ -1,9 +1,12 @@
 -- The lines of rounds determine the rounds: a job's records end at a line of another kind, and so do the jobs and the closings.
 use Rattle.std.proofs.Common.{ℕ, ◌+◌, ◌≤◌, ◌≡◌, ◌∙◌, refl, sym, ap, subst, List, [], ◌∷◌, ◌++◌, map, flat_map, append_assoc, arith}
+use Rattle.std.proofs.lemmas.List.{map-append}
 use Rattle.auc_world.specs.declared.record.LineRecord.{LineRecord}
 use Rattle.auc_world.specs.declared.record.Closing.{Closing}
 use Rattle.auc_world.specs.declared.record.RoundRecord.{RoundRecord}
 use Rattle.auc_print.specs.Text.{Line, RoundLine, JobLine, RecordLine, ClosedLine, jobs_lines, lines_of}
+use Rattle.auc_print.specs.OneText.{told, heard}
+use Rattle.auc_print.proofs.LineLemmas.{line_told}
 
 -- how far out a kind of line stands: a record in its job, jobs and then closings in their round
 abbrev rank : Line → ℕ
@@ -76,13 +79,13 @@ closings_begin [] (line ∷ r) b = omega arith
 closings_begin (closing ∷ closings) r b = omega arith
 
 -- rounds with the same fields are one
-round_is : (a b : RoundRecord) → a.number ≡ b.number → a.jobs ≡ b.jobs → a.closings ≡ b.closings → a ≡ b
+pub round_is : (a b : RoundRecord) → a.number ≡ b.number → a.jobs ≡ b.jobs → a.closings ≡ b.closings → a ≡ b
 round_is a b number jobs closings =
     let make : ℕ → List (List LineRecord) → List Closing → RoundRecord = λ n js cs. record { number = n; jobs = js; closings = cs } in
     ap (λ n. make n a.jobs a.closings) number ∙ ap (λ js. make b.number js a.closings) jobs ∙ ap (λ cs. make b.number b.jobs cs) closings
 
 -- rounds with the same lines are one
-pub rounds_injective : (rounds others : List RoundRecord) → flat_map lines_of rounds ≡ flat_map lines_of others → rounds ≡ others
+rounds_injective : (rounds others : List RoundRecord) → flat_map lines_of rounds ≡ flat_map lines_of others → rounds ≡ others
 rounds_injective [] [] e = refl
 rounds_injective [] (b ∷ others) e = cc
 rounds_injective (a ∷ rounds) [] e = cc
@@ -100,3 +103,39 @@ rounds_injective (a ∷ rounds) (b ∷ others) e =
     let round : a ≡ b = round_is a b number jobs.0 closings.0 in
     let rest : rounds ≡ others = rounds_injective rounds others closings.1 in
     (cc)
+
+-- what the records of a job tell is what their lines tell
+records_told : (job : List LineRecord) → map line_told (map RecordLine job) ≡ map RecordLine (map told job)
+records_told [] = refl
+records_told (answer ∷ job) = ap (λ rest. RecordLine (told answer) ∷ rest) (records_told job)
+
+-- so for the jobs
+jobs_told : (number : ℕ) (jobs : List (List LineRecord)) → map line_told (jobs_lines number jobs) ≡ jobs_lines number (map (map told) jobs)
+jobs_told number [] = refl
+jobs_told number (job ∷ jobs) =
+    ap (λ rest. JobLine number ∷ rest)
+    (map-append line_told (map RecordLine job) (jobs_lines (number + 1) jobs)
+    ∙ ap (λ own. own ++ map line_told (jobs_lines (number + 1) jobs)) (records_told job)
+    ∙ ap (λ rest. map RecordLine (map told job) ++ rest) (jobs_told (number + 1) jobs))
+
+-- for the closings
+closings_told : (closings : List Closing) → map line_told (map ClosedLine closings) ≡ map ClosedLine closings
+closings_told [] = refl
+closings_told (closing ∷ closings) = ap (λ rest. ClosedLine closing ∷ rest) (closings_told closings)
+
+-- and for the rounds
+rounds_told : (rounds : List RoundRecord) → map line_told (flat_map lines_of rounds) ≡ flat_map lines_of (map heard rounds)
+rounds_told [] = refl
+rounds_told (round ∷ rounds) =
+    map-append line_told (lines_of round) (flat_map lines_of rounds)
+    ∙ ap (λ own. (RoundLine round.number ∷ own) ++ map line_told (flat_map lines_of rounds))
+    (map-append line_told (jobs_lines 1 round.jobs) (map ClosedLine round.closings)
+    ∙ ap (λ jobs. jobs ++ map line_told (map ClosedLine round.closings)) (jobs_told 1 round.jobs)
+    ∙ ap (λ closings. jobs_lines 1 (map (map told) round.jobs) ++ closings) (closings_told round.closings))
+    ∙ ap (λ rest. lines_of (heard round) ++ rest) (rounds_told rounds)
+
+-- rounds whose lines tell the same tell the same
+pub rounds_tell : (rounds others : List RoundRecord) → map line_told (flat_map lines_of rounds) ≡ map line_told (flat_map lines_of others)
+    → map heard rounds ≡ map heard others
+rounds_tell rounds others e =
+    rounds_injective (map heard rounds) (map heard others) (sym (rounds_told rounds) ∙ e ∙ rounds_told others)

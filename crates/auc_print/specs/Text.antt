@@ -1,10 +1,18 @@
 -- The text of rounds: lines of words, with one space between two words and a line feed at the end.
 -- The first word says which kind of line it is.
-use Rattle.std.specs.Prelude.{ℕ, ◌≡◌, ◌+◌, List, [], ◌∷◌, ◌++◌, map, slice_index_or, flat_map, codes, decimal}
+use Rattle.std.specs.Prelude.{ℕ, ◌≡◌, ◌+◌, Bool, if◌then◌else◌, List, [], ◌∷◌, ◌++◌, map, slice_index_or, flat_map, codes, decimal}
+use Rattle.hex.specs.Hex.{encode_lower}
 use Rattle.auc_edge.specs.Identity.{Identity, digits_of}
+use Rattle.auc_edge.specs.declared.stop.Stop.{Stop}
+use Rattle.auc_edge.specs.declared.stop.Stop.TheVariants.{Fault, Full}
 use Rattle.auc_subs.specs.declared.row.Row.{Row}
+use Rattle.auc_vector.specs.declared.parts.Vector.{Vector as AuthenticationVector}
 use Rattle.auc_world.specs.declared.record.LineRecord.{LineRecord}
-use Rattle.auc_world.specs.declared.record.LineRecord.TheVariants.{Vector, Exhausted}
+use Rattle.auc_world.specs.declared.record.LineRecord.TheVariants.{Vector, Withheld, Exhausted, Sync, Give}
+use Rattle.auc_world.specs.declared.record.SyncVerdict.{SyncVerdict}
+use Rattle.auc_world.specs.declared.record.SyncVerdict.TheVariants.{Moved, InRange, Beyond, WrongMac}
+use Rattle.auc_world.specs.declared.record.GiveVerdict.{GiveVerdict}
+use Rattle.auc_world.specs.declared.record.GiveVerdict.TheVariants.{Accepted, Sync as SyncFailure, Absent}
 use Rattle.auc_world.specs.declared.record.Closing.{Closing}
 use Rattle.auc_world.specs.declared.record.RoundRecord.{RoundRecord}
 
@@ -36,10 +44,31 @@ identities_of rows = map (λ row. row.imsi) rows
 abbrev pub imsi_of : List Identity → ℕ → List ℕ
 imsi_of identities sub = digits_of (slice_index_or identities sub (record { digits = 0; number = 0 }))
 
+-- the word that says why a number was withheld
+abbrev pub stop_word : Stop → List ℕ
+stop_word Fault = codes "fault"
+stop_word Full = codes "full"
+
+-- the words of what the home network made of an AUTS
+abbrev pub sync_words : SyncVerdict → List (List ℕ)
+sync_words (Moved seen seq_ms) = codes "moved" ∷ decimal seen ∷ decimal seq_ms ∷ []
+sync_words (InRange seen seq_ms) = codes "inrange" ∷ decimal seen ∷ decimal seq_ms ∷ []
+sync_words (Beyond seen seq_ms) = codes "beyond" ∷ decimal seen ∷ decimal seq_ms ∷ []
+sync_words WrongMac = codes "wrongmac" ∷ []
+
+-- the words of what a USIM answered to a vector
+abbrev pub give_words : GiveVerdict → List (List ℕ)
+give_words Accepted = codes "accepted" ∷ []
+give_words (SyncFailure sqn_ms) = codes "sync" ∷ encode_lower sqn_ms ∷ []
+give_words Absent = codes "absent" ∷ []
+
 -- the words of a job's record
 abbrev pub record_words : List Identity → LineRecord → List (List ℕ)
-record_words identities (Vector sub n) = codes "vector" ∷ imsi_of identities sub ∷ decimal n ∷ []
+record_words identities (Vector sub vector) = codes "vector" ∷ imsi_of identities sub ∷ decimal vector.n ∷ []
+record_words identities (Withheld sub n stop) = codes "withheld" ∷ imsi_of identities sub ∷ decimal n ∷ stop_word stop ∷ []
 record_words identities (Exhausted sub word) = codes "exhausted" ∷ imsi_of identities sub ∷ decimal word ∷ []
+record_words identities (Sync sub verdict) = codes "sync" ∷ imsi_of identities sub ∷ sync_words verdict
+record_words identities (Give sub n verdict) = codes "give" ∷ imsi_of identities sub ∷ decimal n ∷ give_words verdict
 
 -- the words of a closing
 abbrev pub closing_words : List Identity → Closing → List (List ℕ)
@@ -54,23 +83,33 @@ words_of identities (JobLine number) = codes "job" ∷ decimal number ∷ []
 words_of identities (RecordLine answer) = record_words identities answer
 words_of identities (ClosedLine closing) = closing_words identities closing
 
+-- the words of a vector's bytes
+abbrev pub bytes_words : AuthenticationVector → List (List ℕ)
+bytes_words vector =
+    codes "bytes" ∷ encode_lower vector.rand ∷ encode_lower vector.autn ∷ encode_lower vector.xres
+    ∷ encode_lower vector.ck ∷ encode_lower vector.ik ∷ []
+
 -- words with a space between each two, and a line feed at the end
 abbrev pub spaced : List (List ℕ) → List ℕ
 spaced [] = codes "\n"
-spaced (word ∷ []) = word ++ codes "\n"
-spaced (word ∷ next ∷ words) = word ++ 32 ∷ spaced (next ∷ words)
+spaced (word ∷ words) = word ++ flat_map (λ next. 32 ∷ next) words ++ codes "\n"
+
+-- what a full print adds behind a line: the bytes of a vector that was released
+abbrev pub full_text : Bool → Line → List ℕ
+full_text full (RecordLine (Vector sub vector)) = if full then spaced (bytes_words vector) else []
+full_text full line = []
 
 -- the text of a line
-abbrev pub line_text : List Identity → Line → List ℕ
-line_text identities line = spaced (words_of identities line)
+abbrev pub line_text : List Identity → Bool → Line → List ℕ
+line_text identities full line = spaced (words_of identities line) ++ full_text full line
 
 -- the text of a round
-abbrev pub round_text : List Identity → RoundRecord → List ℕ
-round_text identities round = flat_map (line_text identities) (lines_of round)
+abbrev pub round_text : List Identity → Bool → RoundRecord → List ℕ
+round_text identities full round = flat_map (line_text identities full) (lines_of round)
 
 -- the text of a transcript, which is a list of rounds
-abbrev pub transcript_text : List Identity → List RoundRecord → List ℕ
-transcript_text identities rounds = flat_map (round_text identities) rounds
+abbrev pub transcript_text : List Identity → Bool → List RoundRecord → List ℕ
+transcript_text identities full rounds = flat_map (round_text identities full) rounds
 
 -- a text begins with a front
 pub record BeginsWith (front text : List ℕ) : Type 0 where

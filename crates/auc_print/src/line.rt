@@ -1,12 +1,17 @@
 //! The lines of a round.
 
 ghost use Rattle.std.specs.Prelude.{◌≡◌, ◌++◌, ◌∷◌, [], ◌<◌, length, decimal, flat_map, OnOk};
+ghost use Rattle.hex.specs.Hex.{encode_lower};
 ghost use Rattle.auc_world.specs.Record.{subscriber_of};
-ghost use Rattle.auc_print.specs.Text.{BeginsWith, RecordLine, ClosedLine, identities_of, imsi_of, line_text, spaced};
+ghost use Rattle.auc_print.specs.Text.{BeginsWith, RecordLine, bytes_words, closing_words, give_words, identities_of, imsi_of, line_text, record_words, spaced, stop_word, sync_words};
 
-use auc_edge::{NoMemory, Octets};
+use crate::word::{
+    print_bytes, print_number, print_numbered, print_numbers, print_subject, print_word,
+};
+use auc_edge::{NoMemory, Octets, Stop};
 use auc_subs::Subscribers;
-use auc_world::{Closing, LineRecord};
+use auc_vector::Vector;
+use auc_world::{Closing, GiveVerdict, LineRecord, SyncVerdict};
 
 /// Appends a line of a word and a number.
 pub fn print_heading(word: &[u8], number: u64, out: &mut Octets) -> Result<(), NoMemory>
@@ -18,21 +23,25 @@ pub fn print_heading(word: &[u8], number: u64, out: &mut Octets) -> Result<(), N
     out.append(b"\n")
 }
 
-/// Appends the line of a job's record.
+/// Appends the line of a job's record, and in full the bytes of its vector.
 pub fn print_answer(
     answer: &LineRecord,
     subs: &Subscribers,
+    full: bool,
     out: &mut Octets,
 ) -> Result<(), NoMemory>
     requires { subscriber_of answer.now < length subs.now }
 
     ensures printed { OnOk result
-        (out.new ≡ out.old ++ line_text (identities_of subs.now) (RecordLine answer.now)) }
+        (out.new ≡ out.old ++ line_text (identities_of subs.now) full (RecordLine answer.now)) }
     ensures grows { BeginsWith out.old out.new }
 {
     match *answer {
-        LineRecord::Vector { sub, n } => print_request(b"vector", sub, n, subs, out),
+        LineRecord::Vector { sub, vector } => print_vector(sub, &vector, subs, full, out),
+        LineRecord::Withheld { sub, n, stop } => print_withheld(sub, n, stop, subs, out),
         LineRecord::Exhausted { sub, word } => print_request(b"exhausted", sub, word, subs, out),
+        LineRecord::Sync { sub, verdict } => print_sync(sub, verdict, subs, out),
+        LineRecord::Give { sub, n, verdict } => print_give(sub, n, verdict, subs, out),
     }
 }
 
@@ -45,7 +54,7 @@ pub fn print_closing(
     requires { closing.now.sub < length subs.now }
 
     ensures printed { OnOk result
-        (out.new ≡ out.old ++ line_text (identities_of subs.now) (ClosedLine closing.now)) }
+        (out.new ≡ out.old ++ spaced (closing_words (identities_of subs.now) closing.now)) }
     ensures grows { BeginsWith out.old out.new }
 {
     let Closing {
@@ -57,10 +66,178 @@ pub fn print_closing(
         released,
         withheld,
     } = *closing;
-    out.append(b"closed")?;
-    print_imsi(sub, subs, out)?;
+    print_subject(b"closed", sub, subs, out)?;
     print_numbers(&[first, last, drawn, skipped, released, withheld], out)?;
     out.append(b"\n")
+}
+
+/// Appends the line of a vector that was released, and in full that of its bytes.
+fn print_vector(
+    sub: u32,
+    vector: &Vector,
+    subs: &Subscribers,
+    full: bool,
+    out: &mut Octets,
+) -> Result<(), NoMemory>
+    requires { sub < length subs.now }
+
+    ensures printed { OnOk result (out.new ≡ out.old
+        ++ line_text (identities_of subs.now) full (RecordLine (LineRecord.Vector sub vector.now))) }
+    ensures grows { BeginsWith out.old out.new }
+{
+    print_request(b"vector", sub, vector.n, subs, out)?;
+    if full {
+        print_parts(vector, out)
+    } else {
+        Ok(())
+    }
+}
+
+/// Appends the line of a vector's bytes.
+fn print_parts(vector: &Vector, out: &mut Octets) -> Result<(), NoMemory>
+    ensures printed { OnOk result (out.new ≡ out.old ++ spaced (bytes_words vector.now)) }
+    ensures grows { BeginsWith out.old out.new }
+{
+    out.append(b"bytes")?;
+    print_challenge(vector, out)?;
+    print_response_and_keys(vector, out)?;
+    out.append(b"\n")
+}
+
+/// Appends RAND and AUTN, a space before each.
+fn print_challenge(vector: &Vector, out: &mut Octets) -> Result<(), NoMemory>
+    ensures printed { OnOk result (out.new ≡ out.old ++ flat_map (λ word. 32 ∷ word)
+        (encode_lower vector.now.rand ∷ encode_lower vector.now.autn ∷ [])) }
+    ensures grows { BeginsWith out.old out.new }
+{
+    print_bytes(&vector.rand, out)?;
+    print_bytes(&vector.autn, out)
+}
+
+/// Appends XRES, CK and IK, a space before each.
+fn print_response_and_keys(vector: &Vector, out: &mut Octets) -> Result<(), NoMemory>
+    ensures printed { OnOk result (out.new ≡ out.old ++ flat_map (λ word. 32 ∷ word)
+        (encode_lower vector.now.xres ∷ encode_lower vector.now.ck ∷ encode_lower vector.now.ik
+        ∷ [])) }
+    ensures grows { BeginsWith out.old out.new }
+{
+    print_bytes(&vector.xres, out)?;
+    print_bytes(&vector.ck, out)?;
+    print_bytes(&vector.ik, out)
+}
+
+/// Appends the line of a number that was withheld.
+fn print_withheld(
+    sub: u32,
+    n: u64,
+    stop: Stop,
+    subs: &Subscribers,
+    out: &mut Octets,
+) -> Result<(), NoMemory>
+    requires { sub < length subs.now }
+
+    ensures printed { OnOk result (out.new ≡ out.old
+        ++ spaced (record_words (identities_of subs.now) (LineRecord.Withheld sub n stop))) }
+    ensures grows { BeginsWith out.old out.new }
+{
+    print_numbered(b"withheld", sub, n, subs, out)?;
+    print_word(word_of(stop), out)?;
+    out.append(b"\n")
+}
+
+/// The word that says why a number was withheld.
+fn word_of(stop: Stop) -> &'static [u8]
+    ensures { result.now ≡ stop_word stop }
+{
+    match stop {
+        Stop::Fault => b"fault",
+        Stop::Full => b"full",
+    }
+}
+
+/// Appends the line of a synchronisation failure that was reported.
+fn print_sync(
+    sub: u32,
+    verdict: SyncVerdict,
+    subs: &Subscribers,
+    out: &mut Octets,
+) -> Result<(), NoMemory>
+    requires { sub < length subs.now }
+
+    ensures printed { OnOk result (out.new ≡ out.old
+        ++ spaced (record_words (identities_of subs.now) (LineRecord.Sync sub verdict))) }
+    ensures grows { BeginsWith out.old out.new }
+{
+    print_subject(b"sync", sub, subs, out)?;
+    print_sync_verdict(verdict, out)?;
+    out.append(b"\n")
+}
+
+/// Appends the words of what the home network made of an AUTS, a space before each.
+fn print_sync_verdict(verdict: SyncVerdict, out: &mut Octets) -> Result<(), NoMemory>
+    ensures printed { OnOk result
+        (out.new ≡ out.old ++ flat_map (λ word. 32 ∷ word) (sync_words verdict)) }
+    ensures grows { BeginsWith out.old out.new }
+{
+    match verdict {
+        SyncVerdict::Moved(seen, seq_ms) => print_pair(b"moved", seen, seq_ms, out),
+        SyncVerdict::InRange(seen, seq_ms) => print_pair(b"inrange", seen, seq_ms, out),
+        SyncVerdict::Beyond(seen, seq_ms) => print_pair(b"beyond", seen, seq_ms, out),
+        SyncVerdict::WrongMac => print_word(b"wrongmac", out),
+    }
+}
+
+/// Appends a word and two numbers, a space before each.
+fn print_pair(word: &[u8], first: u64, second: u64, out: &mut Octets) -> Result<(), NoMemory>
+    ensures printed { OnOk result (out.new ≡ out.old
+        ++ flat_map (λ word. 32 ∷ word) (word.now ∷ decimal first ∷ decimal second ∷ [])) }
+    ensures grows { BeginsWith out.old out.new }
+{
+    print_word(word, out)?;
+    print_number(first, out)?;
+    print_number(second, out)
+}
+
+/// Appends the line of a vector that was given to a USIM.
+fn print_give(
+    sub: u32,
+    n: u64,
+    verdict: GiveVerdict,
+    subs: &Subscribers,
+    out: &mut Octets,
+) -> Result<(), NoMemory>
+    requires { sub < length subs.now }
+
+    ensures printed { OnOk result (out.new ≡ out.old
+        ++ spaced (record_words (identities_of subs.now) (LineRecord.Give sub n verdict))) }
+    ensures grows { BeginsWith out.old out.new }
+{
+    print_numbered(b"give", sub, n, subs, out)?;
+    print_give_verdict(verdict, out)?;
+    out.append(b"\n")
+}
+
+/// Appends the words of what a USIM answered to a vector, a space before each.
+fn print_give_verdict(verdict: GiveVerdict, out: &mut Octets) -> Result<(), NoMemory>
+    ensures printed { OnOk result
+        (out.new ≡ out.old ++ flat_map (λ word. 32 ∷ word) (give_words verdict)) }
+    ensures grows { BeginsWith out.old out.new }
+{
+    match verdict {
+        GiveVerdict::Accepted => print_word(b"accepted", out),
+        GiveVerdict::Sync(sqn_ms) => print_sqn_ms(sqn_ms, out),
+        GiveVerdict::Absent => print_word(b"absent", out),
+    }
+}
+
+/// Appends the word of a synchronisation failure and its SQN_MS, a space before each.
+fn print_sqn_ms(sqn_ms: [u8; 6], out: &mut Octets) -> Result<(), NoMemory>
+    ensures printed { OnOk result
+        (out.new ≡ out.old ++ flat_map (λ word. 32 ∷ word) (give_words (GiveVerdict.Sync sqn_ms))) }
+    ensures grows { BeginsWith out.old out.new }
+{
+    print_word(b"sync", out)?;
+    print_bytes(&sqn_ms, out)
 }
 
 /// Appends a line of a word, the IMSI of a subscriber and a number.
@@ -77,40 +254,6 @@ fn print_request(
         ++ spaced (word.now ∷ imsi_of (identities_of subs.now) sub ∷ decimal number ∷ [])) }
     ensures grows { BeginsWith out.old out.new }
 {
-    out.append(word)?;
-    print_imsi(sub, subs, out)?;
-    print_number(number, out)?;
+    print_numbered(word, sub, number, subs, out)?;
     out.append(b"\n")
-}
-
-/// Appends a space and the IMSI of a subscriber.
-fn print_imsi(sub: u32, subs: &Subscribers, out: &mut Octets) -> Result<(), NoMemory>
-    requires { sub < length subs.now }
-
-    ensures printed { OnOk result (out.new ≡ out.old ++ 32 ∷ imsi_of (identities_of subs.now) sub) }
-    ensures grows { BeginsWith out.old out.new }
-{
-    out.append(b" ")?;
-    subs.row(sub).imsi.write_to(out)
-}
-
-/// Appends numbers, a space before each.
-fn print_numbers(numbers: &[u64], out: &mut Octets) -> Result<(), NoMemory>
-    ensures printed { OnOk result
-        (out.new ≡ out.old ++ flat_map (λ number. 32 ∷ decimal number) numbers.now) }
-    ensures grows { BeginsWith out.old out.new }
-{
-    for number in numbers {
-        print_number(*number, out)?;
-    }
-    Ok(())
-}
-
-/// Appends a space and a number.
-fn print_number(number: u64, out: &mut Octets) -> Result<(), NoMemory>
-    ensures printed { OnOk result (out.new ≡ out.old ++ 32 ∷ decimal number) }
-    ensures grows { BeginsWith out.old out.new }
-{
-    out.append(b" ")?;
-    out.append_number(number)
 }

@@ -2,7 +2,7 @@
 
 ghost use Rattle.std.specs.Prelude.{◌≡◌, ◌+◌, ◌++◌, ◌<◌, length, All, OnOk, flat_map};
 ghost use Rattle.auc_world.specs.Record.{subscriber_of, NamesBelow};
-ghost use Rattle.auc_print.specs.Text.{BeginsWith, RecordLine, ClosedLine, identities_of, job_lines, jobs_lines, line_text, round_text};
+ghost use Rattle.auc_print.specs.Text.{BeginsWith, RecordLine, closing_words, identities_of, job_lines, jobs_lines, line_text, round_text, spaced};
 
 use crate::line::{print_answer, print_closing, print_heading};
 use auc_edge::{NoMemory, Octets};
@@ -10,34 +10,41 @@ use auc_subs::Subscribers;
 use auc_world::{Closing, JobRecord, LineRecord, RoundRecord};
 
 /// Appends the text of a round: its own line, the lines of its jobs, numbered from 1, and those of its
-/// closings. Each subscriber that it names is a row. Where there is no memory for all of it, `out` begins
-/// with what it had, and a part of the text may stand behind that.
+/// closings. In full the line of a vector is followed by that of its bytes. Each subscriber that the round
+/// names is a row. Where there is no memory for all of the text, `out` begins with what it had, and a part of
+/// the text may stand behind that.
 pub fn print_round(
     round: &RoundRecord,
     subs: &Subscribers,
+    full: bool,
     out: &mut Octets,
 ) -> Result<(), NoMemory>
     requires { NamesBelow (length subs.now) round.now }
 
     ensures printed { OnOk result
-        (out.new ≡ out.old ++ round_text (identities_of subs.now) round.now) }
+        (out.new ≡ out.old ++ round_text (identities_of subs.now) full round.now) }
     ensures grows { BeginsWith out.old out.new }
 {
     print_heading(b"round", round.number as u64, out)?;
-    print_jobs(round.jobs.as_slice(), subs, out)?;
+    print_jobs(round.jobs.as_slice(), subs, full, out)?;
     print_closings(round.closings.as_slice(), subs, out)
 }
 
 /// Appends the lines of a round's jobs.
-fn print_jobs(jobs: &[JobRecord], subs: &Subscribers, out: &mut Octets) -> Result<(), NoMemory>
+fn print_jobs(
+    jobs: &[JobRecord],
+    subs: &Subscribers,
+    full: bool,
+    out: &mut Octets,
+) -> Result<(), NoMemory>
     requires { All (All (λ answer. subscriber_of answer < length subs.now)) jobs.now }
 
     ensures printed { OnOk result (out.new ≡ out.old
-        ++ flat_map (line_text (identities_of subs.now)) (jobs_lines 1 jobs.now)) }
+        ++ flat_map (line_text (identities_of subs.now) full) (jobs_lines 1 jobs.now)) }
     ensures grows { BeginsWith out.old out.new }
 {
     for (place, job) in jobs.iter().enumerate() {
-        print_job(place as u64 + 1, job.as_slice(), subs, out)?;
+        print_job(place as u64 + 1, job.as_slice(), subs, full, out)?;
     }
     Ok(())
 }
@@ -47,28 +54,35 @@ fn print_job(
     number: u64,
     job: &[LineRecord],
     subs: &Subscribers,
+    full: bool,
     out: &mut Octets,
 ) -> Result<(), NoMemory>
     requires { All (λ answer. subscriber_of answer < length subs.now) job.now }
 
     ensures printed { OnOk result (out.new ≡ out.old
-        ++ flat_map (line_text (identities_of subs.now)) (job_lines number job.now)) }
+        ++ flat_map (line_text (identities_of subs.now) full) (job_lines number job.now)) }
     ensures grows { BeginsWith out.old out.new }
 {
     print_heading(b"job", number, out)?;
-    print_answers(job, subs, out)
+    print_answers(job, subs, full, out)
 }
 
 /// Appends the lines of a job's records.
-fn print_answers(job: &[LineRecord], subs: &Subscribers, out: &mut Octets) -> Result<(), NoMemory>
+fn print_answers(
+    job: &[LineRecord],
+    subs: &Subscribers,
+    full: bool,
+    out: &mut Octets,
+) -> Result<(), NoMemory>
     requires { All (λ answer. subscriber_of answer < length subs.now) job.now }
 
     ensures printed { OnOk result (out.new ≡ out.old
-        ++ flat_map (λ answer. line_text (identities_of subs.now) (RecordLine answer)) job.now) }
+        ++ flat_map (λ answer. line_text (identities_of subs.now) full (RecordLine answer))
+        job.now) }
     ensures grows { BeginsWith out.old out.new }
 {
     for answer in job {
-        print_answer(answer, subs, out)?;
+        print_answer(answer, subs, full, out)?;
     }
     Ok(())
 }
@@ -82,7 +96,7 @@ fn print_closings(
     requires { All (λ closing. closing.sub < length subs.now) closings.now }
 
     ensures printed { OnOk result (out.new ≡ out.old
-        ++ flat_map (λ closing. line_text (identities_of subs.now) (ClosedLine closing))
+        ++ flat_map (λ closing. spaced (closing_words (identities_of subs.now) closing))
         closings.now) }
     ensures grows { BeginsWith out.old out.new }
 {

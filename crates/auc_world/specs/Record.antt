@@ -1,13 +1,16 @@
 -- What the records of a round name and count.
 use Rattle.std.specs.Prelude.{ℕ, ◌<◌, All}
 use Rattle.auc_world.specs.declared.record.LineRecord.{LineRecord}
-use Rattle.auc_world.specs.declared.record.LineRecord.TheVariants.{Vector, Exhausted}
+use Rattle.auc_world.specs.declared.record.LineRecord.TheVariants.{Vector, Withheld, Exhausted, Sync, Give}
 use Rattle.auc_world.specs.declared.record.RoundRecord.{RoundRecord}
 
 -- the subscriber that a record of a job's line names
 abbrev pub subscriber_of : LineRecord → ℕ
-subscriber_of (Vector sub n) = sub
+subscriber_of (Vector sub vector) = sub
+subscriber_of (Withheld sub n stop) = sub
 subscriber_of (Exhausted sub word) = sub
+subscriber_of (Sync sub verdict) = sub
+subscriber_of (Give sub n verdict) = sub
 
 -- each subscriber that a round's record names is one of the first `count`
 pub record NamesBelow (count : ℕ) (round : RoundRecord) : Type 0 where

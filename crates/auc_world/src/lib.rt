@@ -3,4 +3,4 @@
 
 mod record;
 
-pub use record::{Closing, JobRecord, LineRecord, RoundRecord};
+pub use record::{Closing, GiveVerdict, JobRecord, LineRecord, RoundRecord, SyncVerdict};

@@ -1,15 +1,66 @@
 //! The records.
 
-use auc_edge::Items;
+use auc_edge::{Items, Stop};
+use auc_vector::Vector;
 
 /// What one line of the output says of a job.
 #[derive(Clone, Copy, Debug, PartialEq, Eq)]
 pub enum LineRecord {
-    /// The authentication vector with this number was released for the subscriber.
-    Vector { sub: u32, n: u64 },
+    /// The authentication vector was released for the subscriber.
+    Vector {
+        sub: u32,
+        vector: Vector,
+    },
+    /// The number was drawn for the subscriber, and its vector withheld.
+    Withheld {
+        sub: u32,
+        n: u64,
+        stop: Stop,
+    },
     /// A request for a vector ended because the subscriber's numbers are spent. The word is what was
     /// read in place of a number, and is at least the greatest number.
-    Exhausted { sub: u32, word: u64 },
+    Exhausted {
+        sub: u32,
+        word: u64,
+    },
+    /// A synchronisation failure was reported for the subscriber, with the verdict on its AUTS.
+    Sync {
+        sub: u32,
+        verdict: SyncVerdict,
+    },
+    /// The vector of the number was given to the subscriber's USIM, with what the USIM answered.
+    Give {
+        sub: u32,
+        n: u64,
+        verdict: GiveVerdict,
+    },
+}
+
+/// What the home network makes of an AUTS (TS 33.102 §6.3.5).
+#[derive(Clone, Copy, Debug, PartialEq, Eq)]
+pub enum SyncVerdict {
+    /// The word of the subscriber's numbers moved up from the first value to the second, which is SEQ_MS.
+    Moved(u64, u64),
+    /// The word, the first value, is at least SEQ_MS, the second, and a next number is in the USIM's
+    /// range: the word stands.
+    InRange(u64, u64),
+    /// The word, the first value, is so far above SEQ_MS, the second, that a next number is out of the
+    /// USIM's range: the word stands.
+    Beyond(u64, u64),
+    /// The AUTS has a wrong MAC-S: the word was not looked at.
+    WrongMac,
+}
+
+/// What a USIM answers to a vector (TS 33.102 §6.3.3).
+#[derive(Clone, Copy, Debug, PartialEq, Eq)]
+pub enum GiveVerdict {
+    /// The USIM accepted the vector.
+    Accepted,
+    /// The USIM answered a synchronisation failure: the 6 bytes are SQN_MS, the SQN of the greatest entry
+    /// of its index array.
+    Sync([u8; 6]),
+    /// No vector of the number was released for the subscriber, so the USIM was not asked.
+    Absent,
 }
 
 /// The records of a job's lines, in their order.

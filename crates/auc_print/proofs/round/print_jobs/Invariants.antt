@@ -5,7 +5,7 @@ use Rattle.auc_print.proofs.round.print_jobs.Given as goal
 
 abbrev pub invariant-loop-place : goal.invariant-loop-place
 invariant-loop-place l = record {
-  printed : l.out ++ flat_map (line_text (identities_of l.subs)) (jobs_lines (l.place + 1) (drop l.place l.jobs))
-      ≡ l.initial.out ++ flat_map (line_text (identities_of l.subs)) (jobs_lines 1 l.jobs);
+  printed : l.out ++ flat_map (line_text (identities_of l.subs) l.full) (jobs_lines (l.place + 1) (drop l.place l.jobs))
+      ≡ l.initial.out ++ flat_map (line_text (identities_of l.subs) l.full) (jobs_lines 1 l.jobs);
   grows : BeginsWith l.initial.out l.out;
 }

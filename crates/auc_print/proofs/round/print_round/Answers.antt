@@ -7,6 +7,6 @@ use Rattle.auc_print.proofs.round.print_round.Goals as goal
 pub returns-clause-printed : goal.returns-clause-printed
 returns-clause-printed c =
     on_ok_weaker c.print_closings.result
-    (λ closings. round_printed (identities_of c.args.subs.now) c.args.round.now _ _ _ _ _ _ c.as_slice.ensures c.as_slice-2.ensures
+    (λ closings. round_printed (identities_of c.args.subs.now) c.args.full c.args.round.now _ _ _ _ _ _ c.as_slice.ensures c.as_slice-2.ensures
     c.in_ok-print_heading.ensures.printed c.in_ok-print_jobs.ensures.printed closings)
     c.print_closings.ensures.printed

@@ -1,0 +1,95 @@
+//! The words of a line.
+
+ghost use Rattle.std.specs.Prelude.{◌≡◌, ◌*◌, ◌++◌, ◌∷◌, ◌<◌, ◌≤◌, length, decimal, flat_map, OnOk};
+ghost use Rattle.hex.specs.Hex.{encode_lower};
+ghost use Rattle.auc_print.specs.Text.{BeginsWith, identities_of, imsi_of};
+
+use auc_edge::{NoMemory, Octets};
+use auc_subs::Subscribers;
+
+/// Appends a line's first word and the IMSI of a subscriber.
+pub fn print_subject(
+    word: &[u8],
+    sub: u32,
+    subs: &Subscribers,
+    out: &mut Octets,
+) -> Result<(), NoMemory>
+    requires { sub < length subs.now }
+
+    ensures printed { OnOk result
+        (out.new ≡ out.old ++ (word.now ++ 32 ∷ imsi_of (identities_of subs.now) sub)) }
+    ensures grows { BeginsWith out.old out.new }
+{
+    out.append(word)?;
+    out.append(b" ")?;
+    subs.row(sub).imsi.write_to(out)
+}
+
+/// Appends a line's first word, the IMSI of a subscriber and a number.
+pub fn print_numbered(
+    word: &[u8],
+    sub: u32,
+    number: u64,
+    subs: &Subscribers,
+    out: &mut Octets,
+) -> Result<(), NoMemory>
+    requires { sub < length subs.now }
+
+    ensures printed { OnOk result (out.new ≡ out.old
+        ++ (word.now ++ 32 ∷ imsi_of (identities_of subs.now) sub ++ 32 ∷ decimal number)) }
+    ensures grows { BeginsWith out.old out.new }
+{
+    print_subject(word, sub, subs, out)?;
+    print_number(number, out)
+}
+
+/// Appends a space and a word.
+pub fn print_word(word: &[u8], out: &mut Octets) -> Result<(), NoMemory>
+    ensures printed { OnOk result (out.new ≡ out.old ++ 32 ∷ word.now) }
+    ensures grows { BeginsWith out.old out.new }
+{
+    out.append(b" ")?;
+    out.append(word)
+}
+
+/// Appends numbers, a space before each.
+pub fn print_numbers(numbers: &[u64], out: &mut Octets) -> Result<(), NoMemory>
+    ensures printed { OnOk result
+        (out.new ≡ out.old ++ flat_map (λ number. 32 ∷ decimal number) numbers.now) }
+    ensures grows { BeginsWith out.old out.new }
+{
+    for number in numbers {
+        print_number(*number, out)?;
+    }
+    Ok(())
+}
+
+/// Appends a space and a number.
+pub fn print_number(number: u64, out: &mut Octets) -> Result<(), NoMemory>
+    ensures printed { OnOk result (out.new ≡ out.old ++ 32 ∷ decimal number) }
+    ensures grows { BeginsWith out.old out.new }
+{
+    out.append(b" ")?;
+    out.append_number(number)
+}
+
+/// Appends a space and up to 16 bytes in lower-case hexadecimal digits.
+pub fn print_bytes(bytes: &[u8], out: &mut Octets) -> Result<(), NoMemory>
+    requires { length bytes.now ≤ 16 }
+
+    ensures printed { OnOk result (out.new ≡ out.old ++ 32 ∷ encode_lower bytes.now) }
+    ensures grows { BeginsWith out.old out.new }
+{
+    let mut room = [0; 32];
+    let digits = &mut room[..2 * bytes.len()];
+    write_digits(bytes, digits);
+    print_word(digits, out)
+}
+
+/// Writes bytes as their lower-case hexadecimal digits, two for each.
+fn write_digits(bytes: &[u8], digits: &mut [u8])
+    requires { length digits.old ≡ 2 * length bytes.now }
+    ensures { digits.new ≡ encode_lower bytes.now }
+{
+    hex::encode_to_slice(bytes, digits).unwrap();
+}
