@@ -1,4 +1,4 @@
-mod TextLemmas
-mod JobLemmas
-mod ReadingLemmas
 mod LawLemmas
+mod ReadingLemmas
+mod SoFarLemmas
+mod TextLemmas

@@ -1,42 +1,57 @@
 -- What the reading of a scenario says of its lines, one by one.
-use Rattle.std.specs.Prelude.{ℕ, ◌≡◌, ◌≢◌, ◌+◌, ◌++◌, List, [], ◌∷◌, length, All, None, Ok, Err}
+use Rattle.std.specs.Prelude.{ℕ, ◌≡◌, ◌≢◌, ◌+◌, ◌-◌, ◌++◌, Bool, false, List, [], ◌∷◌, length, map, All, Ok, Err, if◌then◌else◌, slice_index_or}
 use Rattle.std.specs.List.{flat_map}
 use Rattle.auc_subs.specs.declared.row.Row.{Row}
 use Rattle.auc_script.specs.declared.script.Script.{Script}
 use Rattle.auc_script.specs.declared.refusal.ScriptRefusal.TheVariants as refusal
 use Rattle.auc_script.specs.declared.refusal.ScriptWhy.{ScriptWhy}
-use Rattle.auc_script.specs.declared.refusal.ScriptWhy.TheVariants.{NotYet}
-use Rattle.auc_script.specs.Scenario.{Scenario, after_line, parts_of}
-use Rattle.auc_script.specs.Reading.{AreRight, beginning, lines_of, script_of}
+use Rattle.auc_script.specs.Text.{lines_of}
+use Rattle.auc_script.specs.Scenario.{Scenario, after_line}
+use Rattle.auc_script.specs.Reading.{AreRight, beginning, script_from, script_of}
 
--- the text of some lines, each with its LF
-abbrev pub text_of : List (List ℕ) → List ℕ
-text_of lines = flat_map (λ line. line ++ 10 ∷ []) lines
+-- a line and how it ends: with CRLF, or with LF alone
+pub record Ended : Type 0 where
+  pub line : List ℕ
+  pub crlf : Bool
 
--- no line has an LF within
-abbrev pub AreLines : List (List ℕ) → Type 0
-AreLines lines = All (λ line. All (λ byte. byte ≢ 10) line) lines
+-- no byte of a line is an LF
+abbrev pub IsLine : List ℕ → Type 0
+IsLine line = All (λ byte. byte ≢ 10) line
+
+-- a line, of which a CR at the end doesn't belong to how it ends
+pub record IsEnded (e : Ended) : Type 0 where
+  pub line : IsLine e.line
+  pub cr : e.crlf ≡ false → slice_index_or e.line (length e.line - 1) 0 ≢ 13
+
+-- the text of a line with its end, and of lines and what stands behind them
+abbrev pub ended_text : Ended → List ℕ
+ended_text e = e.line ++ (if e.crlf then 13 ∷ 10 ∷ [] else 10 ∷ [])
+
+abbrev pub text_of : List Ended → List ℕ → List ℕ
+text_of lines last = flat_map ended_text lines ++ last
+
+-- all lines of such a text, the one that the text's end ends as the last
+abbrev pub all_lines : List Ended → List ℕ → List (List ℕ)
+all_lines lines last = map (λ e. e.line) lines ++ last ∷ []
 
 abbrev pub EachRightTextIsReadWhole : Type 0
-EachRightTextIsReadWhole = (rows : List Row) (lines : List (List ℕ)) (s : Scenario) → AreLines lines → AreRight (beginning rows) lines s
-    → script_of rows (text_of lines) ≡ Ok (record { parts = parts_of s.round }, s.rows)
+EachRightTextIsReadWhole = (rows : List Row) (lines : List Ended) (last : List ℕ) (s : Scenario) → All IsEnded lines → IsLine last
+    → AreRight (beginning rows) (all_lines lines last) s → script_of rows (text_of lines last) ≡ Ok (script_from s, s.rows)
 
 -- a text of right lines, which lead to a scenario
 pub record IsRightText (rows : List Row) (text : List ℕ) (s : Scenario) : Type 0 where
-  pub lines : List (List ℕ)
-  pub text_is : text ≡ text_of lines
-  pub right : AreRight (beginning rows) lines s
+  pub lines : List Ended
+  pub last : List ℕ
+  pub ended : All IsEnded lines
+  pub rest : IsLine last
+  pub text_is : text ≡ text_of lines last
+  pub right : AreRight (beginning rows) (all_lines lines last) s
 
 abbrev pub EachTextThatIsReadIsRight : Type 0
 EachTextThatIsReadIsRight = (rows : List Row) (text : List ℕ) (script : Script) (after : List Row) → script_of rows text ≡ Ok (script, after)
-    → (s : Scenario) × IsRightText rows text s × (script.parts ≡ parts_of s.round) × (after ≡ s.rows)
+    → (s : Scenario) × IsRightText rows text s × (script ≡ script_from s) × (after ≡ s.rows)
 
--- a line that is wrong, by the table or since it doesn't end with LF, as the last part of a text
-abbrev pub IsWrong : Scenario → List ℕ → List (List ℕ) → Type 0
-IsWrong before line [] = line ≢ []
-IsWrong before line (next ∷ more) = after_line before line ≡ None
-
--- the line of a number is wrong, for a cause, and each line before it is right
+-- the line of a number is wrong, for this cause first, and each line before it is right
 pub record IsFirstWrong (s : Scenario) (lines : List (List ℕ)) (first number : ℕ) (why : ScriptWhy) : Type 0 where
   pub front : List (List ℕ)
   pub line : List ℕ
@@ -45,8 +60,7 @@ pub record IsFirstWrong (s : Scenario) (lines : List (List ℕ)) (first number :
   pub split : lines ≡ front ++ line ∷ behind
   pub place : first + length front ≡ number
   pub right : AreRight s front before
-  pub wrong : IsWrong before line behind
-  pub cause : why ≡ NotYet
+  pub wrong : after_line before line ≡ Err why
 
 abbrev pub EachRefusedLineIsTheFirstWrong : Type 0
 EachRefusedLineIsTheFirstWrong = (rows : List Row) (text : List ℕ) (number : ℕ) (why : ScriptWhy) → script_of rows text ≡ Err (refusal.Line number why)

@@ -1,5 +1,9 @@
+pub mod Field
 pub mod Law
 pub mod Limits
 pub mod Reading
 pub mod Refusal
 pub mod Scenario
+pub mod SoFar
+pub mod Text
+pub mod Word

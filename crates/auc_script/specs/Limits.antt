@@ -1,43 +1,58 @@
--- What holds of every scenario that is read: its limits, and that its lines speak of subscribers that
--- there are.
-use Rattle.std.specs.Prelude.{ℕ, ◌≡◌, ◌<◌, ◌≤◌, ◌++◌, List, [], ◌∷◌, length, All, Option, Some, None}
+-- What holds of every scenario that is read: its limits, that its lines speak of subscribers that there
+-- are, and that no two jobs of a round give to one USIM.
+use Rattle.std.specs.Prelude.{ℕ, ◌≡◌, ◌<◌, ◌≤◌, true, false, List, length, All, AllPairs, Option, Some, None, IfSome}
+use Rattle.auc_sqn.specs.declared.number.TheConstants.{MAX_SEQ}
 use Rattle.auc_subs.specs.declared.row.Row.{Row}
 use Rattle.auc_subs.specs.Subscriber.{AreSubscribers}
+use Rattle.auc_script.specs.declared.header.Header.{Header}
 use Rattle.auc_script.specs.declared.part.Line.{Line}
-use Rattle.auc_script.specs.declared.part.Line.TheVariants.{Draw}
+use Rattle.auc_script.specs.declared.part.Line.TheVariants.{Draw, Give, Sync}
 use Rattle.auc_script.specs.declared.part.Part.{Part}
 use Rattle.auc_script.specs.declared.part.Part.TheVariants.{Round}
 use Rattle.auc_script.specs.declared.script.Script.{Script}
-use Rattle.auc_script.specs.declared.part.TheConstants.{MAX_COUNT, MAX_JOBS, MAX_VECTORS}
-use Rattle.auc_script.specs.Scenario.{asked}
+use Rattle.auc_script.specs.declared.part.TheConstants.{MAX_COUNT, MAX_JOBS, MAX_REALM, MAX_ROUNDS, MAX_VECTORS, MAX_WORKERS}
+use Rattle.auc_script.specs.Scenario.{asked, gives_to, jobs_of}
 
--- a line of a subscriber that there is, which asks for as many vectors as one line may
+-- a bit of an AUTS, from 0 for the first byte's top bit, or none
+abbrev pub IsBit : Option ℕ → Type 0
+IsBit None = Unit {0}
+IsBit (Some bit) = bit ≤ 111
+
+-- a line of a subscriber that there is, whose numbers are within their ranges
 abbrev pub IsLine : List Row → Line → Type 0
 IsLine rows (Draw sub count) = (sub < length rows) × (1 ≤ count) × (count ≤ MAX_COUNT)
+IsLine rows (Sync sub seq bit count) = (sub < length rows) × (seq ≤ MAX_SEQ) × IsBit bit × (count ≤ MAX_COUNT)
+IsLine rows (Give sub number) = (sub < length rows) × (1 ≤ number) × (number ≤ MAX_SEQ)
 
--- jobs of such lines, which are not too many and don't ask for too many vectors together
+-- no two jobs give to one USIM
+abbrev pub AreApart : List Line → List Line → Type 0
+AreApart a b = (sub : ℕ) → gives_to sub a ≡ true → gives_to sub b ≡ false
+
+-- the jobs of a round: of such lines, and no two give to one USIM
 pub record AreJobs (rows : List Row) (jobs : List (List Line)) : Type 0 where
   pub lines : All (λ job. All (IsLine rows) job) jobs
-  pub limit : length jobs ≤ MAX_JOBS
-  pub vectors : asked jobs ≤ MAX_VECTORS
-
--- what is kept while lines are read: the number of vectors that the jobs ask for
-abbrev pub IsSoFar : List Row → Option (List (List Line)) → ℕ → Type 0
-IsSoFar rows None number = number ≡ 0
-IsSoFar rows (Some jobs) number = (number ≡ asked jobs) × AreJobs rows jobs
-
--- the jobs of all parts
-abbrev pub jobs_of : List Part → List (List Line)
-jobs_of [] = []
-jobs_of (Round jobs ∷ more) = jobs ++ jobs_of more
+  pub apart : AllPairs AreApart jobs
 
 -- a part of such jobs
 abbrev pub IsPart : List Row → Part → Type 0
 IsPart rows (Round jobs) = AreJobs rows jobs
 
--- what subscribers and a script that were read are: the subscribers such, the jobs of each part and
--- those of all parts together within the limits
+-- parts that are not too many, have not too many jobs and ask for not too many vectors
+pub record AreWithin (rows : List Row) (parts : List Part) : Type 0 where
+  pub each : All (IsPart rows) parts
+  pub rounds : length parts ≤ MAX_ROUNDS
+  pub jobs : length (jobs_of parts) ≤ MAX_JOBS
+  pub vectors : asked (jobs_of parts) ≤ MAX_VECTORS
+
+-- what subscribers and a script that were read are
 pub record IsWithin (rows : List Row) (script : Script) : Type 0 where
   pub subscribers : AreSubscribers rows
-  pub parts : All (IsPart rows) script.parts
-  pub together : AreJobs rows (jobs_of script.parts)
+  pub parts : AreWithin rows script.parts
+  pub one_worker : 1 ≤ script.workers
+  pub workers : script.workers ≤ MAX_WORKERS
+  pub realm : length script.realm ≤ MAX_REALM
+
+-- a header within its limits
+pub record IsHeader (header : Header) : Type 0 where
+  pub workers : IfSome header.workers (λ workers. (1 ≤ workers) × (workers ≤ MAX_WORKERS))
+  pub realm : IfSome header.realm (λ realm. length realm ≤ MAX_REALM)

@@ -1,35 +1,42 @@
 -- The reading of a scenario's text: the scenario that its lines say, or the first wrong line.
-use Rattle.std.specs.Prelude.{ℕ, ◌≡◌, ◌+◌, ◌-◌, ◌==◌, List, [], ◌∷◌, length, take, Option, Some, None, Result, Ok, Err, if◌then◌else◌}
-use Rattle.std.specs.List.{slice_split}
+use Rattle.std.specs.Prelude.{ℕ, ◌≡◌, ◌+◌, ◌-◌, List, [], ◌∷◌, take, false, replicate, None, Result, Ok, Err}
+use Rattle.std.specs.Option.{unwrap_or}
 use Rattle.auc_subs.specs.declared.row.Row.{Row}
 use Rattle.auc_script.specs.declared.script.Script.{Script}
 use Rattle.auc_script.specs.declared.refusal.ScriptRefusal.{ScriptRefusal}
 use Rattle.auc_script.specs.declared.refusal.ScriptRefusal.TheVariants as refusal
-use Rattle.auc_script.specs.declared.refusal.ScriptWhy.TheVariants.{NotYet}
+use Rattle.auc_script.specs.declared.refusal.ScriptWhy.{ScriptWhy}
+use Rattle.auc_script.specs.Text.{lines_of}
 use Rattle.auc_script.specs.Scenario.{Scenario, after_line, parts_of}
 
--- the parts of a text between its LFs: its lines, and what stands behind the last LF
-abbrev pub lines_of : List ℕ → List (List ℕ)
-lines_of text = slice_split (λ byte. byte == 10) text
-
 -- what is read on where a line is right; else it is refused
-abbrev pub after : ℕ → Option Scenario → (Scenario → Result Scenario ScriptRefusal) → Result Scenario ScriptRefusal
-after number (Some s) next = next s
-after number None next = Err (refusal.Line number NotYet)
+abbrev pub after : ℕ → Result Scenario ScriptWhy → (Scenario → Result Scenario ScriptRefusal) → Result Scenario ScriptRefusal
+after number (Ok s) next = next s
+after number (Err why) next = Err (refusal.Line number why)
 
--- the scenario that lines from a number on say, each by the table; behind the last LF nothing stands
+-- the scenario that lines from a number on say, each by the table
 abbrev pub read_lines : ℕ → Scenario → List (List ℕ) → Result Scenario ScriptRefusal
 read_lines number s [] = Ok s
-read_lines number s (last ∷ []) = if length last == 0 then Ok s else Err (refusal.Line number NotYet)
-read_lines number s (line ∷ next ∷ more) = after number (after_line s line) (λ t. read_lines (number + 1) t (next ∷ more))
+read_lines number s (line ∷ more) = after number (after_line s line) (λ t. read_lines (number + 1) t more)
 
 -- the scenario without lines, over the subscribers that there are
 abbrev pub beginning : List Row → Scenario
-beginning rows = record { rows = rows; round = None }
+beginning rows = record { rows = rows; header = record { key = None; workers = None; full = None; realm = None }; ended = []; round = None }
+
+-- the script of a scenario: where a word didn't come, a key of zeros, one worker, the brief
+-- print, and no realm
+abbrev pub script_from : Scenario → Script
+script_from s = record {
+  key = unwrap_or s.header.key (replicate 32 0);
+  workers = unwrap_or s.header.workers 1;
+  full = unwrap_or s.header.full false;
+  realm = unwrap_or s.header.realm [];
+  parts = parts_of s;
+}
 
 -- the script that a scenario is, and its subscribers
 abbrev pub script_in : Result Scenario ScriptRefusal → Result (Script × List Row) ScriptRefusal
-script_in (Ok s) = Ok (record { parts = parts_of s.round }, s.rows)
+script_in (Ok s) = Ok (script_from s, s.rows)
 script_in (Err refused) = Err refused
 
 -- the script that a text is and its subscribers after those that there are, or the first wrong line
@@ -39,7 +46,7 @@ script_of rows text = script_in (read_lines 1 (beginning rows) (lines_of text))
 -- some lines are right, one after another, and lead from one scenario to another
 abbrev pub AreRight : Scenario → List (List ℕ) → Scenario → Type 0
 AreRight s [] t = s ≡ t
-AreRight s (line ∷ more) t = (next : Scenario) × (after_line s line ≡ Some next) × AreRight next more t
+AreRight s (line ∷ more) t = (next : Scenario) × (after_line s line ≡ Ok next) × AreRight next more t
 
 -- the rows after so many lines of a text, which are right
 abbrev pub AreAfter : List Row → List ℕ → ℕ → List Row → Type 0

@@ -1,98 +1,251 @@
--- The text of a scenario: lines that each end with LF (10), of words with one space (32) between each
--- two. The table of lines, by what each demands of the lines before it and what it adds:
+-- The table of a scenario's lines, by what each demands of the lines before it, in the order of the
+-- tests, and what it adds:
 --
---   subscriber IMSI K KIND OP AMF SEQ USIM   before the round; a new subscriber
---   round                                    once
---   job                                      in the round; 200000 at most
---   draw IMSI COUNT                          in a job; a subscriber's IMSI, 1 to 1000 vectors, and
---                                            1000000 with those of all lines before
-use Rattle.std.specs.Prelude.{ℕ, ◌+◌, ◌-◌, ◌==◌, ◌++◌, nat_le, nat_lt, Bool, List, [], ◌∷◌, length, take, drop, codes, sum_by, Option, Some, None, is_some, if◌then◌else◌, slice_index_or, slice_get}
-use Rattle.std.specs.Result.{result_ok}
-use Rattle.auc_edge.specs.Identity.{identity_of}
+--   randkey H                                before the first round; 64 hexadecimal digits; once
+--   workers N                                before the first round; a number from 1 to 64; once
+--   print brief|full                         before the first round; once
+--   realm TEXT                               before the first round; once; 255 bytes at most
+--   subscriber IMSI K KIND OP AMF SEQ USIM   before the first round; a new subscriber
+--   round                                    1000 at most
+--   job                                      in a round; 200000 in all at most
+--   draw IMSI COUNT                          in a job; 1 to 1000 vectors; a subscriber's IMSI
+--   sync IMSI SEQ BIT COUNT                  in a job; SEQ to MAX_SEQ, BIT 0 to 111 or -, 0 to 1000
+--                                            vectors; a subscriber's IMSI
+--   give IMSI N                              in a job; N from 1 to MAX_SEQ; a subscriber's IMSI, to
+--                                            whose USIM no earlier job of the round gives
+--
+-- All lines together ask for 1000000 vectors at most. A line without a word and a comment say nothing.
+-- What isn't served so far is told before all else: the lines of other words, and more than one worker.
+use Rattle.std.specs.Prelude.{ℕ, ◌+◌, ◌==◌, ◌++◌, ◌&&◌, ◌||◌, not, nat_le, nat_lt, Bool, false, List, [], ◌∷◌, length, codes, sum_by, Option, Some, None, is_some, Result, Ok, Err, if◌then◌else◌}
+use Rattle.std.specs.List.{join_with_byte, list_any}
+use Rattle.std.specs.Option.{ok_or, option_to_list}
+use Rattle.auc_edge.specs.Identity.{identity_of, number_of}
+use Rattle.auc_sqn.specs.declared.number.TheConstants.{MAX_SEQ}
 use Rattle.auc_subs.specs.declared.row.Row.{Row}
-use Rattle.auc_subs.specs.Field.{fields_of, number_in}
+use Rattle.auc_subs.specs.declared.refusal.SubsWhy.{SubsWhy}
+use Rattle.auc_subs.specs.Field.{octets_in}
 use Rattle.auc_subs.specs.Subscriber.{is_text, place_of, rows_after}
 use Rattle.auc_script.specs.declared.part.Line.{Line}
-use Rattle.auc_script.specs.declared.part.Line.TheVariants.{Draw}
+use Rattle.auc_script.specs.declared.part.Line.TheVariants.{Draw, Give, Sync}
 use Rattle.auc_script.specs.declared.part.Part.{Part}
 use Rattle.auc_script.specs.declared.part.Part.TheVariants.{Round}
-use Rattle.auc_script.specs.declared.part.TheConstants.{MAX_COUNT, MAX_JOBS, MAX_VECTORS}
+use Rattle.auc_script.specs.declared.part.TheConstants.{MAX_COUNT, MAX_JOBS, MAX_REALM, MAX_ROUNDS, MAX_VECTORS, MAX_WORKERS}
+use Rattle.auc_script.specs.declared.refusal.ScriptWhy.{ScriptWhy}
+use Rattle.auc_script.specs.declared.refusal.ScriptWhy.TheVariants as why
+use Rattle.auc_script.specs.declared.header.Header.{Header}
+use Rattle.auc_script.specs.declared.round_so_far.RoundSoFar.{RoundSoFar}
+use Rattle.auc_script.specs.declared.word.HeaderWord.{HeaderWord}
+use Rattle.auc_script.specs.declared.word.HeaderWord.TheVariants as header
+use Rattle.auc_script.specs.declared.word.JobWord.{JobWord}
+use Rattle.auc_script.specs.declared.word.JobWord.TheVariants as job
+use Rattle.auc_script.specs.declared.word.Word.{Word}
+use Rattle.auc_script.specs.declared.word.Word.TheVariants as word
+use Rattle.auc_script.specs.Field.{◌>>=◌, bit_in, four_fields, full_in, is_number, no_field, number_in, one_field, require, two_fields}
+use Rattle.auc_script.specs.Text.{is_comment, words_of}
+use Rattle.auc_script.specs.Word.{is_later, word_of}
 
--- what some lines say: the subscribers, and once the word `round` was read its jobs
+-- what some lines say: the subscribers, the words of the header, the rounds before the present one, and
+-- the present one
 pub record Scenario : Type 0 where
   pub rows : List Row
-  pub round : Option (List (List Line))
+  pub header : Header
+  pub ended : List Part
+  pub round : Option RoundSoFar
 
 -- how many vectors a line asks for, and all lines of some jobs
 abbrev pub count_of : Line → ℕ
 count_of (Draw sub count) = count
+count_of (Sync sub seq bit count) = count
+count_of (Give sub number) = 0
 
 abbrev pub asked : List (List Line) → ℕ
 asked jobs = sum_by (λ job. sum_by count_of job) jobs
 
--- one demand after another: the first that isn't met ends it
-infixl 10 ◌>>=◌
-abbrev pub ◌>>=◌ : {A B : Type 0} → Option A → (A → Option B) → Option B
-(Some x) >>= next = next x
-None >>= next = None
+-- the jobs of some parts
+abbrev pub jobs_of : List Part → List (List Line)
+jobs_of [] = []
+jobs_of (Round jobs ∷ more) = jobs ++ jobs_of more
 
--- `subscriber` and the fields of a subscriber
-abbrev pub subscriber_line : Scenario → List ℕ → Option Scenario
-subscriber_line s fields =
-    if is_some s.round then None
-    else (result_ok (rows_after s.rows fields) >>= λ rows. Some (record { rows = rows; round = None }))
+-- the jobs of the present round
+abbrev pub jobs_in : RoundSoFar → List (List Line)
+jobs_in round = round.jobs ++ option_to_list round.job
 
--- `round`
-abbrev pub round_line : Scenario → Option Scenario
-round_line s = if is_some s.round then None else Some (record { rows = s.rows; round = Some [] })
-
--- the jobs with one more, which has no lines yet
-abbrev pub with_job : List (List Line) → Option (List (List Line))
-with_job jobs = if nat_lt (length jobs) MAX_JOBS then Some (jobs ++ [] ∷ []) else None
-
--- `job`
-abbrev pub job_line : Scenario → Option Scenario
-job_line s = s.round >>= λ jobs. with_job jobs >>= λ more. Some (record { rows = s.rows; round = Some more })
-
--- what the fields IMSI and COUNT say: a subscriber's identity, and a number that isn't 0
-abbrev pub draw_in : List Row → List ℕ → List ℕ → Option Line
-draw_in rows imsi count = identity_of imsi >>= λ identity. place_of rows identity >>= λ sub.
-    number_in 20 MAX_COUNT count >>= λ number. if number == 0 then None else Some (Draw sub number)
-
--- what the fields of a draw say, of which there are two
-abbrev pub draw_of : List Row → List (List ℕ) → Option Line
-draw_of rows fields =
-    if length fields == 2 then draw_in rows (slice_index_or fields 0 []) (slice_index_or fields 1 []) else None
-
--- the jobs with one more line in the last of them
-abbrev pub in_last_job : List (List Line) → Line → Option (List (List Line))
-in_last_job jobs line = slice_get jobs (length jobs - 1) >>= λ job.
-    Some (take (length jobs - 1) jobs ++ (job ++ line ∷ []) ∷ [])
-
--- the same, where the lines of all jobs don't ask for too many vectors then
-abbrev pub with_line : List (List Line) → Line → Option (List (List Line))
-with_line jobs line = if nat_le (asked jobs + count_of line) MAX_VECTORS then in_last_job jobs line else None
-
--- `draw` and its fields
-abbrev pub draw_line : Scenario → List (List ℕ) → Option Scenario
-draw_line s fields = s.round >>= λ jobs. draw_of s.rows fields >>= λ line. with_line jobs line >>= λ more.
-    Some (record { rows = s.rows; round = Some more })
-
--- whether a line begins with a text
-abbrev pub begins : List ℕ → List ℕ → Bool
-begins text line = is_text (take (length text) line) text
-
--- what the scenario is after a line, if the line is right: by its first word, which one space follows
--- where there are fields
-abbrev pub after_line : Scenario → List ℕ → Option Scenario
-after_line s line =
-    if begins (codes "subscriber ") line then subscriber_line s (drop 11 line)
-    else if is_text line (codes "round") then round_line s
-    else if is_text line (codes "job") then job_line s
-    else if begins (codes "draw ") line then draw_line s (fields_of (drop 5 line))
-    else None
+-- the rounds with the present one, if there is one
+abbrev pub with_round : List Part → Option RoundSoFar → List Part
+with_round ended None = ended
+with_round ended (Some round) = ended ++ Round (jobs_in round) ∷ []
 
 -- the parts of a scenario
-abbrev pub parts_of : Option (List (List Line)) → List Part
-parts_of None = []
-parts_of (Some jobs) = Round jobs ∷ []
+abbrev pub parts_of : Scenario → List Part
+parts_of s = with_round s.ended s.round
+
+-- a line gives to the USIM of a subscriber, a job has such a line
+abbrev pub is_give_to : ℕ → Line → Bool
+is_give_to sub (Draw other count) = false
+is_give_to sub (Sync other seq bit count) = false
+is_give_to sub (Give other number) = other == sub
+
+abbrev pub gives_to : ℕ → List Line → Bool
+gives_to sub job = list_any (is_give_to sub) job
+
+-- an earlier job of the round gives to the USIM to which a line is to give
+abbrev pub is_busy : RoundSoFar → Line → Bool
+is_busy round (Draw sub count) = false
+is_busy round (Sync sub seq bit count) = false
+is_busy round (Give sub number) = list_any (gives_to sub) round.jobs
+
+-- what a word that came before says again
+abbrev pub once : {A : Type 0} → Option A → Result (Unit {0}) ScriptWhy
+once said = require (not (is_some said)) why.Twice
+
+-- the header's lines
+abbrev pub key_line : Header → List (List ℕ) → Result Header ScriptWhy
+key_line h fields = do
+  text ← one_field fields
+  key ← ok_or (octets_in 32 text) why.Hex
+  new ← once h.key
+  Ok (record h { key = Some key })
+
+abbrev pub workers_line : Header → List (List ℕ) → Result Header ScriptWhy
+workers_line h fields = do
+  text ← one_field fields
+  number ← number_in 1 MAX_WORKERS text
+  new ← once h.workers
+  Ok (record h { workers = Some number })
+
+abbrev pub print_line : Header → List (List ℕ) → Result Header ScriptWhy
+print_line h fields = do
+  text ← one_field fields
+  full ← full_in text
+  new ← once h.full
+  Ok (record h { full = Some full })
+
+abbrev pub realm_line : Header → List (List ℕ) → Result Header ScriptWhy
+realm_line h fields = do
+  text ← one_field fields
+  new ← once h.realm
+  within ← require (nat_le (length text) MAX_REALM) why.Limit
+  Ok (record h { realm = Some text })
+
+abbrev pub header_with : Header → HeaderWord → List (List ℕ) → Result Header ScriptWhy
+header_with h header.Randkey fields = key_line h fields
+header_with h header.Workers fields = workers_line h fields
+header_with h header.Print fields = print_line h fields
+header_with h header.Realm fields = realm_line h fields
+
+-- before the first round
+abbrev pub in_header : Scenario → Result (Unit {0}) ScriptWhy
+in_header s = require (not (is_some s.round)) why.OutOfOrder
+
+abbrev pub header_line : Scenario → HeaderWord → List (List ℕ) → Result Scenario ScriptWhy
+header_line s which fields = do
+  place ← in_header s
+  header ← header_with s.header which fields
+  Ok (record s { header = header })
+
+-- what the fields of a subscriber, with one space between each two, make of the rows
+abbrev pub by_subs : Result (List Row) SubsWhy → Result (List Row) ScriptWhy
+by_subs (Ok rows) = Ok rows
+by_subs (Err cause) = Err (why.Subscriber cause)
+
+-- `subscriber` and its seven fields
+abbrev pub subscriber_line : Scenario → List (List ℕ) → Result Scenario ScriptWhy
+subscriber_line s fields = do
+  place ← in_header s
+  seven ← require (length fields == 7) why.Fields
+  rows ← by_subs (rows_after s.rows (join_with_byte 32 fields))
+  Ok (record s { rows = rows })
+
+-- a round without jobs so far
+abbrev pub no_jobs : RoundSoFar
+no_jobs = record { jobs = []; job = None }
+
+-- `round`
+abbrev pub round_line : Scenario → List (List ℕ) → Result Scenario ScriptWhy
+round_line s fields = do
+  none ← no_field fields
+  within ← require (nat_lt (length (parts_of s)) MAX_ROUNDS) why.Limit
+  Ok (record s { ended = parts_of s; round = Some no_jobs })
+
+-- `job`
+abbrev pub job_line : Scenario → List (List ℕ) → Result Scenario ScriptWhy
+job_line s fields = do
+  round ← ok_or s.round why.OutOfOrder
+  none ← no_field fields
+  within ← require (nat_lt (length (jobs_of (parts_of s))) MAX_JOBS) why.Limit
+  Ok (record s { round = Some (record { jobs = jobs_in round; job = Some [] }) })
+
+-- what a job's line says: the forms of the fields from left to right, then whose they are
+abbrev pub draw_of : List Row → List (List ℕ) → Result Line ScriptWhy
+draw_of rows fields = do
+  two ← two_fields fields
+  identity ← ok_or (identity_of two.0) why.Fields
+  count ← number_in 1 MAX_COUNT two.1
+  sub ← ok_or (place_of rows identity) why.UnknownSubscriber
+  Ok (Draw sub count)
+
+abbrev pub sync_of : List Row → List (List ℕ) → Result Line ScriptWhy
+sync_of rows fields = do
+  four ← four_fields fields
+  identity ← ok_or (identity_of four.0) why.Fields
+  seq ← number_in 0 MAX_SEQ four.1
+  bit ← bit_in four.2
+  count ← number_in 0 MAX_COUNT four.3
+  sub ← ok_or (place_of rows identity) why.UnknownSubscriber
+  Ok (Sync sub seq bit count)
+
+abbrev pub give_of : List Row → List (List ℕ) → Result Line ScriptWhy
+give_of rows fields = do
+  two ← two_fields fields
+  identity ← ok_or (identity_of two.0) why.Fields
+  number ← number_in 1 MAX_SEQ two.1
+  sub ← ok_or (place_of rows identity) why.UnknownSubscriber
+  Ok (Give sub number)
+
+abbrev pub line_of : List Row → JobWord → List (List ℕ) → Result Line ScriptWhy
+line_of rows job.Draw fields = draw_of rows fields
+line_of rows job.Sync fields = sync_of rows fields
+line_of rows job.Give fields = give_of rows fields
+
+-- a line of a job
+abbrev pub of_job_line : Scenario → JobWord → List (List ℕ) → Result Scenario ScriptWhy
+of_job_line s which fields = do
+  round ← ok_or s.round why.OutOfOrder
+  job ← ok_or round.job why.OutOfOrder
+  line ← line_of s.rows which fields
+  free ← require (not (is_busy round line)) why.UsimBusy
+  within ← require (nat_le (asked (jobs_of (parts_of s)) + count_of line) MAX_VECTORS) why.Limit
+  Ok (record s { round = Some (record { jobs = round.jobs; job = Some (job ++ line ∷ []) }) })
+
+-- a line of a known word
+abbrev pub word_line : Scenario → Word → List (List ℕ) → Result Scenario ScriptWhy
+word_line s (word.Header which) fields = header_line s which fields
+word_line s word.Subscriber fields = subscriber_line s fields
+word_line s word.Round fields = round_line s fields
+word_line s word.Job fields = job_line s fields
+word_line s (word.OfJob which) fields = of_job_line s which fields
+
+-- one field that is a number above 1
+abbrev pub is_above_1 : List (List ℕ) → Bool
+is_above_1 (number ∷ []) = is_number number && nat_lt 1 (number_of number)
+is_above_1 other = false
+
+-- what isn't served so far
+abbrev pub is_not_yet : List ℕ → List (List ℕ) → Bool
+is_not_yet text fields = is_later text || (is_text text (codes "workers") && is_above_1 fields)
+
+-- a line that begins with a word
+abbrev pub served_line : Scenario → List ℕ → List (List ℕ) → Result Scenario ScriptWhy
+served_line s text fields = do
+  served ← require (not (is_not_yet text fields)) why.NotYet
+  which ← ok_or (word_of text) why.UnknownWord
+  word_line s which fields
+
+-- a line of some words
+abbrev pub line_of_words : Scenario → List (List ℕ) → Result Scenario ScriptWhy
+line_of_words s [] = Ok s
+line_of_words s (text ∷ fields) = served_line s text fields
+
+-- what the scenario is after a line, or the first cause why the line is wrong
+abbrev pub after_line : Scenario → List ℕ → Result Scenario ScriptWhy
+after_line s line = if is_comment line then Ok s else line_of_words s (words_of line)

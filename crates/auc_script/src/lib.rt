@@ -1,25 +1,35 @@
 //! The scenario of a run: what the centre is asked for, round by round and job by job.
 //!
-//! [`Script::read`] reads a scenario's text. The text is lines that each end with LF, of words with one
-//! space between each two: `subscriber IMSI K KIND OP AMF SEQ USIM` any number of times, then `round`
-//! at most once, in it `job`, and in a job `draw IMSI COUNT`. The first line that is none of these, or
-//! stands in a wrong place, or passes a limit, is refused by its number.
+//! [`Script::read`] reads a scenario's text: lines of words, each line with the first word that says what
+//! it is. Before the first `round` stand `randkey`, `workers`, `print`, `realm` and the scenario's own
+//! `subscriber`s; in a round stand `job`s, and in a job `draw`, `sync` and `give`. The first line that is
+//! none of these, or stands in a wrong place, or has a wrong field, or passes a limit, is refused by its
+//! number and its first cause, a [`ScriptWhy`].
 //!
 //! Contracts see the lists of a [`Script`] as lists; its subscribers go to `auc_subs`.
 #![tactic(auto)]
 
+mod field;
+mod givers;
+mod header;
+mod job_line;
 mod law;
 mod part;
 mod refusal;
+mod round_so_far;
 mod script;
 mod so_far;
 #[cfg(test)]
 mod tests;
 mod text;
+mod word;
 
 pub use law::{
     refused_line_is_the_first_wrong, right_text_is_read_whole, text_that_is_read_is_right,
 };
-pub use part::{JobPart, Line, MAX_COUNT, MAX_JOBS, MAX_VECTORS, Part, RoundPart};
+pub use part::{
+    JobPart, Line, MAX_COUNT, MAX_JOBS, MAX_REALM, MAX_ROUNDS, MAX_VECTORS, MAX_WORKERS, Part,
+    RoundPart,
+};
 pub use refusal::{ScriptRefusal, ScriptWhy};
 pub use script::Script;

@@ -6,26 +6,51 @@ use auc_edge::Items;
 pub const MAX_COUNT: u64 = 1000;
 /// How many vectors the lines of a scenario may ask for together.
 pub const MAX_VECTORS: u32 = 1000000;
+/// How many rounds a scenario may have.
+pub const MAX_ROUNDS: usize = 1000;
 /// How many jobs a scenario may have.
 pub const MAX_JOBS: usize = 200000;
+/// How many threads may serve a round.
+pub const MAX_WORKERS: u64 = 64;
+/// How many bytes a realm may have.
+pub const MAX_REALM: usize = 255;
 
-/// A line of a job.
+/// A line of a job, for the subscriber at the place `sub`.
 #[derive(Clone, Copy, Debug, PartialEq, Eq)]
 pub enum Line {
-    /// Asks for `count` vectors, 1 to 1000, of the subscriber at the place `sub`.
-    Draw { sub: u32, count: u32 },
+    /// Asks for `count` vectors, 1 to 1000.
+    Draw {
+        sub: u32,
+        count: u32,
+    },
+    /// Hands the centre the AUTS that a USIM whose SQN_MS is that of the number `seq`, at most `MAX_SEQ`,
+    /// gives for the RAND of number 0 (TS 33.102 §6.3.3), with the bit `bit` turned over, from 0 for the
+    /// first byte's top bit to 111, or with none. Then asks for `count` vectors, at most 1000, where the
+    /// centre's number was moved or was in range.
+    Sync {
+        sub: u32,
+        seq: u64,
+        bit: Option<u8>,
+        count: u32,
+    },
+    /// Presents the vector of the number `n`, 1 to `MAX_SEQ`, to the USIM.
+    Give {
+        sub: u32,
+        n: u64,
+    },
 }
 
 impl Line {
     ghost use Rattle.std.specs.Prelude.{◌≡◌};
     ghost use Rattle.auc_script.specs.Scenario.{count_of};
 
-    /// How many vectors it asks for.
+    /// How many vectors it asks for at most.
     pub fn count(self) -> u32
         ensures { result ≡ count_of self }
     {
         match self {
-            Line::Draw { count, .. } => count,
+            Line::Draw { count, .. } | Line::Sync { count, .. } => count,
+            Line::Give { .. } => 0,
         }
     }
 }

@@ -6,11 +6,32 @@ ghost use Rattle.auc_script.specs.declared.refusal.LineRefusal.TheVariants as li
 ghost use Rattle.auc_script.specs.Refusal.{refusal_at};
 
 use auc_edge::NoMemory;
+use auc_subs::SubsWhy;
 
-/// What is wrong with a line.
+/// What is wrong with a line, in the order of the tests but for the last.
 #[derive(Clone, Copy, Debug, PartialEq, Eq)]
 pub enum ScriptWhy {
-    /// The line isn't one that is read so far.
+    /// Its first word begins no line.
+    UnknownWord,
+    /// Its first word may not stand in this place.
+    OutOfOrder,
+    /// It has another number of fields, or a field of another form.
+    Fields,
+    /// A number is out of its range.
+    Number,
+    /// A hexadecimal field isn't its stated number of hexadecimal digits.
+    Hex,
+    /// The fields of a subscriber are wrong, by this fault first.
+    Subscriber(SubsWhy),
+    /// No subscriber has the IMSI.
+    UnknownSubscriber,
+    /// The same word stood in the header before.
+    Twice,
+    /// An earlier job of the round gives to this USIM.
+    UsimBusy,
+    /// A limit of the scenario is passed.
+    Limit,
+    /// The line is known, but isn't served so far. This is tested before all else.
     NotYet,
 }
 

@@ -1,22 +1,28 @@
 //! A scenario as it was read.
 
-ghost use Rattle.std.specs.Prelude.{ℕ, ◌≡◌, ◌≤◌, List, length, IfOk, IfErr};
-ghost use Rattle.auc_subs.specs.declared.row.Row.{Row};
+ghost use Rattle.std.specs.Prelude.{ℕ, ◌≡◌, ◌≤◌, length, IfOk, IfErr};
 ghost use Rattle.auc_subs.specs.Subscriber.{AreSubscribers};
-ghost use Rattle.auc_script.specs.Scenario.{parts_of};
-ghost use Rattle.auc_script.specs.Limits.{IsSoFar, IsWithin};
+ghost use Rattle.auc_script.specs.Limits.{IsWithin};
 
-use crate::part::{Part, RoundPart};
+use crate::part::Part;
 use crate::refusal::{ScriptRefusal, ScriptWhy};
 use crate::so_far::SoFar;
-use crate::text::cut;
-use auc_edge::Items;
+use crate::text::next_line;
+use auc_edge::{Items, NoMemory, Octets};
 use auc_subs::Subscribers;
 use std::alloc::Global;
 
 /// What a scenario asks for. Its subscribers are not part of it.
 #[derive(Drop)]
 pub struct Script {
+    /// The key of the random bytes.
+    pub key: [u8; 32],
+    /// How many threads serve a round, 1 to 64.
+    pub workers: u32,
+    /// Whether each vector is printed in full.
+    pub full: bool,
+    /// The realm of the identities, at most 255 bytes, or none where it is empty (RFC 4187 §4.1.1.2).
+    pub realm: Octets,
     /// The parts in their order.
     pub parts: Items<Part>,
 }
@@ -26,8 +32,9 @@ impl Script {
     ghost use Rattle.auc_script.specs.Reading.{Keeps, script_of};
 
     /// Reads a scenario, which is at most 64 MiB long, and adds its subscribers to those that there are.
-    /// The first wrong line is told by its number, from 1. A refusal leaves the subscribers that the lines
-    /// before the wrong one added; where memory was wanted, those of some first lines.
+    /// The first wrong line is told by its number, from 1, and its first cause. A refusal leaves the
+    /// subscribers that the lines before the wrong one added; where memory was wanted, those of some first
+    /// lines.
     pub fn read(
         alloc: Global,
         bytes: &[u8],
@@ -41,13 +48,11 @@ impl Script {
             → script_of subs.old bytes.now ≡ Err (refusal.Line line why) }
         ensures kept { IfErr result (λ refusal. Keeps subs.old bytes.now refusal subs.new) }
     {
-        let mut so_far = SoFar {
-            round: None,
-            asked: 0,
-        };
-        let mut rest = bytes;
+        let mut so_far = SoFar::new(alloc);
+        let mut rest = Some(bytes);
         let mut number = 1;
-        while let Some((line, behind)) = cut(rest, b'\n') {
+        while let Some(text) = rest {
+            let (line, behind) = next_line(text);
             match so_far.put(alloc, subs, line) {
                 Ok(()) => {
                     rest = behind;
@@ -57,25 +62,11 @@ impl Script {
             }
         }
         attest(subs);
-        if !rest.is_empty() {
-            return Err(ScriptRefusal::Line(number, ScriptWhy::NotYet));
+        match so_far.script(alloc) {
+            Ok(script) => Ok(script),
+            Err(NoMemory) => Err(ScriptRefusal::NoMemory),
         }
-        script_with(alloc, so_far.round)
     }
-}
-
-/// The script of the jobs of a round, if there is one.
-fn script_with(alloc: Global, round: Option<RoundPart>) -> Result<Script, ScriptRefusal>
-    ensures script { IfOk result (λ script. script.parts ≡ parts_of round) }
-    ensures within { (rows : List Row) (number : ℕ) → AreSubscribers rows → IsSoFar rows round number
-        → IfOk result (IsWithin rows) }
-    ensures refused { IfErr result (λ e. e ≡ ScriptRefusal.NoMemory) }
-{
-    let mut parts = Items::new(alloc);
-    if let Some(jobs) = round {
-        parts.push(Part::Round(jobs))?;
-    }
-    Ok(Script { parts })
 }
 
 /// Tells what holds of all lists of subscribers.

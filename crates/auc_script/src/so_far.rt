@@ -1,170 +1,327 @@
 //! What the lines so far say.
 
-ghost use Rattle.std.specs.Prelude.{◌≡◌, ◌+◌, ◌≤◌, List, length, All, OnOk, IfSome};
+ghost use Rattle.std.specs.Prelude.{◌≡◌, ◌≤◌, [], List, length, IfOk, OnErr, OnOk};
+ghost use Rattle.std.specs.Option.{unwrap_or};
 ghost use Rattle.auc_subs.specs.declared.row.Row.{Row};
-ghost use Rattle.auc_script.specs.declared.refusal.LineRefusal.TheVariants as refusal;
-ghost use Rattle.auc_script.specs.declared.refusal.ScriptWhy.TheVariants.{NotYet};
-ghost use Rattle.auc_subs.specs.Field.{fields_of};
-ghost use Rattle.auc_script.specs.Scenario.{asked, after_line, count_of, draw_in, draw_line, draw_of, in_last_job, job_line, round_line, subscriber_line};
-ghost use Rattle.auc_script.specs.Limits.{IsLine, IsSoFar};
-ghost use Rattle.auc_script.specs.Refusal.{Takes, scenario};
+ghost use Rattle.auc_subs.specs.Subscriber.{AreSubscribers};
+ghost use Rattle.auc_script.specs.Text.{words_of};
+ghost use Rattle.auc_script.specs.Limits.{IsHeader, IsWithin};
+ghost use Rattle.auc_script.specs.Reading.{beginning, script_from};
+ghost use Rattle.auc_script.specs.Refusal.{Becomes};
+ghost use Rattle.auc_script.specs.Scenario.{after_line, header_line, is_above_1, is_not_yet, job_line, of_job_line, round_line, subscriber_line, with_round, word_line};
+ghost use Rattle.auc_script.specs.SoFar.{IsBetween, IsSoFar, scenario, with_line};
 
-use crate::part::{Line, MAX_COUNT, MAX_JOBS, MAX_VECTORS, RoundPart};
+use crate::field::{is_number, no_field, one_field};
+use crate::givers::Givers;
+use crate::header::Header;
+use crate::job_line::read_line;
+use crate::part::{Line, MAX_JOBS, MAX_ROUNDS, MAX_VECTORS, Part};
 use crate::refusal::{LineRefusal, ScriptWhy};
-use crate::text::{cut, rest_after};
-use auc_edge::{Imsi, Items};
+use crate::round_so_far::RoundSoFar;
+use crate::script::Script;
+use crate::text::{is_comment, joined, next_word, word_count};
+use crate::word::{HeaderWord, JobWord, Word, is_later, read_word};
+use auc_edge::{Items, NoMemory, Octets};
 use auc_subs::{AddRefusal, Subscribers, read_decimal};
 use std::alloc::Global;
 
 /// What the lines so far say but for the subscribers.
 #[derive(Drop)]
 pub struct SoFar {
-    /// The jobs, once the round has begun.
-    pub round: Option<RoundPart>,
+    /// The words of the header.
+    pub header: Header,
+    /// The rounds before the present one.
+    pub ended: Items<Part>,
+    /// The present round, once one has begun.
+    pub round: Option<RoundSoFar>,
+    /// How many jobs there are.
+    pub jobs: usize,
     /// How many vectors their lines ask for.
     pub asked: u32,
+    /// Which jobs of the present round give to each USIM.
+    pub givers: Givers,
 }
 
 impl SoFar {
-    /// Takes a line, without its LF.
+    /// What no lines say.
+    pub fn new(alloc: Global) -> SoFar
+        ensures beginning { (rows : List Row) → scenario rows result ≡ beginning rows }
+        ensures kept { (rows : List Row) → IsSoFar rows result }
+    {
+        let header = Header {
+            key: None,
+            workers: None,
+            full: None,
+            realm: None,
+        };
+        SoFar {
+            header,
+            ended: Items::new(alloc),
+            round: None,
+            jobs: 0,
+            asked: 0,
+            givers: Givers::none(alloc),
+        }
+    }
+
+    /// Takes a line, without its end.
     pub fn put(
         &mut self,
         alloc: Global,
         subs: &mut Subscribers,
         line: &[u8],
     ) -> Result<(), LineRefusal>
-        requires { IsSoFar subs.old self.old.round self.old.asked }
-        ensures takes { Takes (after_line (scenario subs.old self.old.round) line.now) result
-            (scenario subs.old self.old.round) (scenario subs.new self.new.round) }
-        ensures kept { OnOk result (IsSoFar subs.new self.new.round self.new.asked) }
+        requires { IsSoFar subs.old self.old }
+        ensures becomes { Becomes (after_line (scenario subs.old self.old) line.now) result
+            (scenario subs.new self.new) }
+        ensures kept { OnOk result (IsSoFar subs.new self.new) }
+        ensures rows { OnErr result (subs.new ≡ subs.old) }
     {
-        if let Some(fields) = rest_after(line, b"subscriber ".as_slice()) {
-            return self.put_subscriber(subs, fields);
+        if is_comment(line) {
+            return Ok(());
         }
-        if line == b"round".as_slice() {
-            return self.put_round(alloc);
+        let Some((text, fields)) = next_word(line) else {
+            return Ok(());
+        };
+        if is_not_yet(text, fields) {
+            return Err(LineRefusal::Why(ScriptWhy::NotYet));
         }
-        if line == b"job".as_slice() {
-            return self.put_job(alloc);
-        }
-        match rest_after(line, b"draw ".as_slice()) {
-            Some(fields) => self.put_draw(subs, fields),
-            None => Err(LineRefusal::Why(ScriptWhy::NotYet)),
+        match read_word(text) {
+            Some(word) => self.put_word(alloc, subs, word, fields),
+            None => Err(LineRefusal::Why(ScriptWhy::UnknownWord)),
         }
     }
 
-    /// Takes the fields of a subscriber.
-    fn put_subscriber(&mut self, subs: &mut Subscribers, fields: &[u8]) -> Result<(), LineRefusal>
-        requires { IsSoFar subs.old self.old.round self.old.asked }
-        ensures takes { Takes (subscriber_line (scenario subs.old self.old.round) fields.now) result
-            (scenario subs.old self.old.round) (scenario subs.new self.new.round) }
-        ensures kept { OnOk result (IsSoFar subs.new self.new.round self.new.asked) }
+    /// Takes the fields of a word.
+    fn put_word(
+        &mut self,
+        alloc: Global,
+        subs: &mut Subscribers,
+        word: Word,
+        fields: &[u8],
+    ) -> Result<(), LineRefusal>
+        requires { IsSoFar subs.old self.old }
+        ensures becomes { Becomes (word_line (scenario subs.old self.old) word (words_of fields.now)) result
+            (scenario subs.new self.new) }
+        ensures kept { OnOk result (IsSoFar subs.new self.new) }
+        ensures rows { OnErr result (subs.new ≡ subs.old) }
+    {
+        match word {
+            Word::Header(which) => self.put_header(alloc, which, fields),
+            Word::Subscriber => self.put_subscriber(alloc, subs, fields),
+            Word::Round => self.put_round(alloc, subs, fields),
+            Word::Job => self.put_job(alloc, fields),
+            Word::OfJob(which) => self.put_line(subs, which, fields),
+        }
+    }
+
+    /// Takes the fields of a word of the header.
+    fn put_header(
+        &mut self,
+        alloc: Global,
+        word: HeaderWord,
+        fields: &[u8],
+    ) -> Result<(), LineRefusal>
+        requires { IsHeader self.old.header }
+        ensures becomes { (rows : List Row) → Becomes (header_line (scenario rows self.old) word (words_of fields.now)) result
+            (scenario rows self.new) }
+        ensures kept { (rows : List Row) → IsSoFar rows self.old → OnOk result (IsSoFar rows self.new) }
     {
         if self.round.is_some() {
-            return Err(LineRefusal::Why(ScriptWhy::NotYet));
+            return Err(LineRefusal::Why(ScriptWhy::OutOfOrder));
         }
-        match subs.add(fields) {
+        self.header.put(alloc, word, fields)
+    }
+
+    /// Takes the fields of a subscriber.
+    fn put_subscriber(
+        &mut self,
+        alloc: Global,
+        subs: &mut Subscribers,
+        fields: &[u8],
+    ) -> Result<(), LineRefusal>
+        requires { IsSoFar subs.old self.old }
+        ensures becomes { Becomes (subscriber_line (scenario subs.old self.old) (words_of fields.now)) result
+            (scenario subs.new self.new) }
+        ensures kept { OnOk result (IsSoFar subs.new self.new) }
+        ensures rows { OnErr result (subs.new ≡ subs.old) }
+    {
+        if self.round.is_some() {
+            return Err(LineRefusal::Why(ScriptWhy::OutOfOrder));
+        }
+        if word_count(fields) != 7 {
+            return Err(LineRefusal::Why(ScriptWhy::Fields));
+        }
+        let line = joined(alloc, fields)?;
+        match subs.add(line.as_slice()) {
             Ok(_) => Ok(()),
-            Err(AddRefusal::Why(_)) => Err(LineRefusal::Why(ScriptWhy::NotYet)),
+            Err(AddRefusal::Why(why)) => Err(LineRefusal::Why(ScriptWhy::Subscriber(why))),
             Err(AddRefusal::NoMemory) => Err(LineRefusal::NoMemory),
         }
     }
 
-    /// Begins the round.
-    fn put_round(&mut self, alloc: Global) -> Result<(), LineRefusal>
-        ensures takes { (rows : List Row) → Takes (round_line (scenario rows self.old.round)) result
-            (scenario rows self.old.round) (scenario rows self.new.round) }
-        ensures kept { (rows : List Row) → IsSoFar rows self.old.round self.old.asked
-            → OnOk result (IsSoFar rows self.new.round self.new.asked) }
+    /// Begins a round.
+    fn put_round(
+        &mut self,
+        alloc: Global,
+        subs: &Subscribers,
+        fields: &[u8],
+    ) -> Result<(), LineRefusal>
+        requires { IsSoFar subs.now self.old }
+        ensures becomes { Becomes (round_line (scenario subs.now self.old) (words_of fields.now)) result
+            (scenario subs.now self.new) }
+        ensures kept { OnOk result (IsSoFar subs.now self.new) }
     {
-        if self.round.is_some() {
-            return Err(LineRefusal::Why(ScriptWhy::NotYet));
+        no_field(fields)?;
+        if self.rounds() >= MAX_ROUNDS {
+            return Err(LineRefusal::Why(ScriptWhy::Limit));
         }
-        self.round = Some(Items::new(alloc));
+        self.end_round(alloc, subs)?;
+        self.round = Some(RoundSoFar {
+            jobs: Items::new(alloc),
+            job: None,
+        });
         Ok(())
     }
 
     /// Begins a job.
-    fn put_job(&mut self, alloc: Global) -> Result<(), LineRefusal>
-        ensures takes { (rows : List Row) → Takes (job_line (scenario rows self.old.round)) result
-            (scenario rows self.old.round) (scenario rows self.new.round) }
-        ensures kept { (rows : List Row) → IsSoFar rows self.old.round self.old.asked
-            → OnOk result (IsSoFar rows self.new.round self.new.asked) }
+    fn put_job(&mut self, alloc: Global, fields: &[u8]) -> Result<(), LineRefusal>
+        ensures becomes { (rows : List Row) → IsSoFar rows self.old
+            → Becomes (job_line (scenario rows self.old) (words_of fields.now)) result (scenario rows self.new) }
+        ensures kept { (rows : List Row) → IsSoFar rows self.old → OnOk result (IsSoFar rows self.new) }
     {
-        let Some(jobs) = &mut self.round else {
-            return Err(LineRefusal::Why(ScriptWhy::NotYet));
+        let Some(round) = &mut self.round else {
+            return Err(LineRefusal::Why(ScriptWhy::OutOfOrder));
         };
-        if jobs.len() >= MAX_JOBS {
-            return Err(LineRefusal::Why(ScriptWhy::NotYet));
+        no_field(fields)?;
+        if self.jobs >= MAX_JOBS {
+            return Err(LineRefusal::Why(ScriptWhy::Limit));
         }
-        jobs.push(Items::new(alloc))?;
+        round.begin_job(alloc)?;
+        self.jobs += 1;
         Ok(())
     }
 
-    /// Takes the fields of a draw.
-    fn put_draw(&mut self, subs: &Subscribers, fields: &[u8]) -> Result<(), LineRefusal>
-        requires { IsSoFar subs.now self.old.round self.old.asked }
-        ensures takes { Takes (draw_line (scenario subs.now self.old.round) (fields_of fields.now)) result
-            (scenario subs.now self.old.round) (scenario subs.now self.new.round) }
-        ensures kept { OnOk result (IsSoFar subs.now self.new.round self.new.asked) }
+    /// Takes the fields of a job's line.
+    fn put_line(
+        &mut self,
+        subs: &Subscribers,
+        word: JobWord,
+        fields: &[u8],
+    ) -> Result<(), LineRefusal>
+        requires { IsSoFar subs.now self.old }
+        ensures becomes { Becomes (of_job_line (scenario subs.now self.old) word (words_of fields.now)) result
+            (scenario subs.now self.new) }
+        ensures kept { OnOk result (IsSoFar subs.now self.new) }
     {
-        let Some(jobs) = &mut self.round else {
-            return Err(LineRefusal::Why(ScriptWhy::NotYet));
+        let Some(round) = &self.round else {
+            return Err(LineRefusal::Why(ScriptWhy::OutOfOrder));
         };
-        let Some(line) = read_draw(subs, fields) else {
-            return Err(LineRefusal::Why(ScriptWhy::NotYet));
+        let Some(_) = &round.job else {
+            return Err(LineRefusal::Why(ScriptWhy::OutOfOrder));
         };
+        let line = read_line(subs, word, fields)?;
+        if self.givers.is_busy(round, line) {
+            return Err(LineRefusal::Why(ScriptWhy::UsimBusy));
+        }
         let asked = self.asked + line.count();
         if asked > MAX_VECTORS {
-            return Err(LineRefusal::Why(ScriptWhy::NotYet));
+            return Err(LineRefusal::Why(ScriptWhy::Limit));
         }
-        put_in_last(jobs, line)?;
+        self.givers.note(round, line);
+        put_in_round(&mut self.round, line)?;
         self.asked = asked;
         Ok(())
     }
-}
 
-/// Puts a line behind the last of the last job.
-fn put_in_last(jobs: &mut RoundPart, line: Line) -> Result<(), LineRefusal>
-    ensures put { OnOk result (in_last_job jobs.old line ≡ Some jobs.new) }
-    ensures asked { OnOk result (asked jobs.new ≡ asked jobs.old + count_of line) }
-    ensures lines { (rows : List Row) → All (λ job. All (IsLine rows) job) jobs.old → IsLine rows line
-        → OnOk result (All (λ job. All (IsLine rows) job) jobs.new) }
-    ensures count { OnOk result (length jobs.new ≡ length jobs.old) }
-    ensures none { (why : ScriptWhy) → result ≡ Err (refusal.Why why) → (in_last_job jobs.old line ≡ None) × (why ≡ NotYet) }
-{
-    let Some(mut job) = jobs.pop() else {
-        return Err(LineRefusal::Why(ScriptWhy::NotYet));
-    };
-    job.push(line)?;
-    jobs.push(job)?;
-    Ok(())
-}
+    /// How many rounds there are.
+    fn rounds(&self) -> usize
+        requires { length (with_round self.now.ended self.now.round) ≤ MAX_ROUNDS }
+        ensures { result ≡ length (with_round self.now.ended self.now.round) }
+    {
+        match &self.round {
+            Some(_) => self.ended.len() + 1,
+            None => self.ended.len(),
+        }
+    }
 
-/// What the fields `IMSI COUNT` say.
-fn read_draw(subs: &Subscribers, fields: &[u8]) -> Option<Line>
-    ensures value { result ≡ draw_of subs.now (fields_of fields.now) }
-    ensures line { IfSome result (IsLine subs.now) }
-{
-    let (imsi, count) = cut(fields, b' ')?;
-    match cut(count, b' ') {
-        Some(_) => None,
-        None => draw(subs, imsi, count),
+    /// Puts the present round behind those before it, or where there is none makes a mark for each
+    /// subscriber.
+    fn end_round(&mut self, alloc: Global, subs: &Subscribers) -> Result<(), NoMemory>
+        requires { IsSoFar subs.now self.old }
+        ensures { OnOk result (IsBetween subs.now self.old self.new) }
+    {
+        match self.round.take() {
+            Some(round) => {
+                self.ended.push(Part::Round(round.end()?))?;
+                self.givers.before = self.jobs as u32;
+            }
+            None => self.givers = Givers::over(alloc, subs.len())?,
+        }
+        Ok(())
+    }
+
+    /// The script that the lines say.
+    pub fn script(self, alloc: Global) -> Result<Script, NoMemory>
+        ensures script { IfOk result (λ script. (rows : List Row) → script ≡ script_from (scenario rows self)) }
+        ensures within { (rows : List Row) → AreSubscribers rows → IsSoFar rows self → IfOk result (IsWithin rows) }
+    {
+        let parts = with_round(self.ended, self.round)?;
+        let header = self.header;
+        Ok(Script {
+            key: header.key.unwrap_or([0; 32]),
+            workers: header.workers.unwrap_or(1),
+            full: header.full.unwrap_or(false),
+            realm: realm_in(alloc, header.realm),
+            parts,
+        })
     }
 }
 
-/// What the fields IMSI and COUNT say.
-fn draw(subs: &Subscribers, imsi: &[u8], count: &[u8]) -> Option<Line>
-    ensures value { result ≡ draw_in subs.now imsi.now count.now }
-    ensures line { IfSome result (IsLine subs.now) }
+/// The realm, which is empty where none was said.
+fn realm_in(alloc: Global, realm: Option<Octets>) -> Octets
+    ensures { result ≡ unwrap_or realm [] }
 {
-    let sub = subs.find(Imsi::read(imsi)?)?;
-    let count = read_decimal(count, 20, MAX_COUNT)?;
-    if count == 0 {
-        return None;
+    match realm {
+        Some(realm) => realm,
+        None => Octets::new(alloc),
     }
-    Some(Line::Draw {
-        sub,
-        count: count as u32,
-    })
+}
+
+/// Parts with the present round behind the last, if there is one.
+fn with_round(ended: Items<Part>, round: Option<RoundSoFar>) -> Result<Items<Part>, NoMemory>
+    ensures { IfOk result (λ parts. parts ≡ with_round ended round) }
+{
+    let mut parts = ended;
+    if let Some(round) = round {
+        parts.push(Part::Round(round.end()?))?;
+    }
+    Ok(parts)
+}
+
+/// Puts a line behind the last of the present job.
+fn put_in_round(round: &mut Option<RoundSoFar>, line: Line) -> Result<(), NoMemory>
+    ensures { OnOk result (round.new ≡ with_line round.old line) }
+{
+    match round {
+        Some(round) => round.put(line),
+        None => Ok(()),
+    }
+}
+
+/// Whether a line isn't served so far, by its first word and its fields.
+fn is_not_yet(text: &[u8], fields: &[u8]) -> bool
+    ensures { result ≡ is_not_yet text.now (words_of fields.now) }
+{
+    is_later(text) || text == b"workers".as_slice() && is_above_1(fields)
+}
+
+/// Whether there is one field, a number above 1.
+fn is_above_1(fields: &[u8]) -> bool
+    ensures { result ≡ is_above_1 (words_of fields.now) }
+{
+    match one_field(fields) {
+        Ok(number) => is_number(number) && read_decimal(number, 20, 1).is_none(),
+        Err(_) => false,
+    }
 }

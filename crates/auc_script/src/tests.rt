@@ -1,8 +1,8 @@
-//! Scenarios, and the lines at which they are refused.
+//! Scenarios, and the lines at which they are refused with their causes.
 
 use crate::{Line, Part, Script, ScriptRefusal, ScriptWhy};
 use auc_edge::Octets;
-use auc_subs::Subscribers;
+use auc_subs::{SubsWhy, Subscribers};
 use std::alloc::Global;
 use std::test::Fail;
 
@@ -11,184 +11,319 @@ const FIRST: &[u8] =
     b"subscriber 001010000000001 465b5ce8b199b49faa5f0a2ee238a6bc op cdc202d5123e20f62b6d676ac72cb318 b9b9 0 0\n";
 
 const SECOND: &[u8] =
-    b"subscriber 001010000000002 465B5CE8B199B49FAA5F0A2EE238A6BC opc CD63CB71954A9F4E48A5994E37A02BAF B9B9 0000000000007 8796093022207\n";
+    b"subscriber\t001010000000002  465B5CE8B199B49FAA5F0A2EE238A6BC opc CD63CB71954A9F4E48A5994E37A02BAF B9B9 0000000000007 8796093022207 \r\n";
 
-const DRAW: &[u8] = b"draw 001010000000001 1000\n";
-
-/// The line at which a text of these pieces is refused, or `None` where it is read.
-fn refused_line(alloc: Global, pieces: &[&[u8]]) -> Result<Option<u32>, Fail> {
+/// What a text of these pieces is refused with, or `None` where it is read.
+fn refusal_of(alloc: Global, pieces: &[&[u8]]) -> Result<Option<(u32, ScriptWhy)>, Fail> {
     let mut text = Octets::new(alloc);
     for piece in pieces {
         text.append(piece).ok().ok_or("no memory")?;
     }
-    refusal_of(alloc, &text)
+    refusal(alloc, &text)
 }
 
-/// The line at which a text is refused, or `None` where it is read.
-fn refusal_of(alloc: Global, text: &Octets) -> Result<Option<u32>, Fail> {
+/// What a text is refused with, or `None` where it is read.
+fn refusal(alloc: Global, text: &Octets) -> Result<Option<(u32, ScriptWhy)>, Fail> {
     if text.len() > 67108864 {
         return Err(Fail::from("too long"));
     }
     let mut subs = Subscribers::new(alloc);
     match Script::read(alloc, text.as_slice(), &mut subs) {
         Ok(_) => Ok(None),
-        Err(ScriptRefusal::Line(line, ScriptWhy::NotYet)) => Ok(Some(line)),
+        Err(ScriptRefusal::Line(line, why)) => Ok(Some((line, why))),
         Err(ScriptRefusal::NoMemory) => Err(Fail::from("no memory")),
     }
 }
 
+/// The script that a text of these pieces is.
+fn script_of(alloc: Global, pieces: &[&[u8]]) -> Result<Script, Fail> {
+    let mut text = Octets::new(alloc);
+    for piece in pieces {
+        text.append(piece).ok().ok_or("no memory")?;
+    }
+    if text.len() > 67108864 {
+        return Err(Fail::from("too long"));
+    }
+    let mut subs = Subscribers::new(alloc);
+    match Script::read(alloc, text.as_slice(), &mut subs) {
+        Ok(script) => Ok(script),
+        Err(_) => Err(Fail::from("refused")),
+    }
+}
+
 #[test]
-fn jobs_draw_from_the_subscribers_in_order(rt: HostRuntime) -> Result<(), Fail> {
-    let mut text = Octets::new(rt.alloc());
-    text.append(FIRST).ok().ok_or("no memory")?;
-    text.append(SECOND).ok().ok_or("no memory")?;
-    text.append(
-        b"round\njob\ndraw 001010000000002 2\ndraw 001010000000001 00000000000000001000\njob\n",
-    ).ok()
-        .ok_or("no memory")?;
-    assert!(rt; text.len() <= 67108864);
-    let mut subs = Subscribers::new(rt.alloc());
-    let script = Script::read(rt.alloc(), text.as_slice(), &mut subs)
-        .ok()
-        .ok_or("a scenario")?;
-    assert_eq!(rt; subs.len(), 2);
-    assert_eq!(rt; script.parts.len(), 1);
-    let Part::Round(jobs) = script.parts.get(0).ok_or("a round")?;
-    assert_eq!(rt; jobs.len(), 2);
-    let lines = jobs.get(0).ok_or("a job")?;
-    assert_eq!(rt; lines.len(), 2);
-    assert_eq!(rt;
-        *lines.get(0).ok_or("a line")?,
-        Line::Draw { sub: 1, count: 2 }
-    );
-    assert_eq!(rt;
-        *lines.get(1).ok_or("a line")?,
-        Line::Draw {
-            sub: 0,
-            count: 1000
-        }
-    );
-    assert_eq!(rt; jobs.get(1).ok_or("a job")?.len(), 0);
+fn each_word_of_the_header_is_read(rt: HostRuntime) -> Result<(), Fail> {
+    let text =
+        b"workers 01\nprint full\r\nrandkey 000102030405060708090a0b0c0d0e0f101112131415161718191A1B1C1D1E1F\nrealm example.org";
+    let script = script_of(rt.alloc(), &[text.as_slice()])?;
+    assert_eq!(rt; script.key[31], 31);
+    assert_eq!(rt; script.workers, 1);
+    assert!(rt; script.full);
+    assert_eq!(rt; script.realm.as_slice(), b"example.org".as_slice());
+    assert!(rt; script.parts.is_empty());
     Ok(())
 }
 
 #[test]
-fn the_first_wrong_line_of_a_few_is_told(rt: HostRuntime) -> Result<(), Fail> {
+fn each_line_of_a_job_is_read(rt: HostRuntime) -> Result<(), Fail> {
     let cases = [
-        (b"".as_slice(), None),
-        (b"round\n".as_slice(), None),
-        (b"round\njob\njob\n".as_slice(), None),
-        (b"\n".as_slice(), Some(1)),
-        (b"# a comment\nround\n".as_slice(), Some(1)),
-        (b"hello\n".as_slice(), Some(1)),
-        (b"round".as_slice(), Some(1)),
-        (b"round\njob\njob".as_slice(), Some(3)),
-        (b"round\njob\n\0".as_slice(), Some(3)),
-        (b"round\n\xff\n".as_slice(), Some(2)),
-        (b"round\r\n".as_slice(), Some(1)),
-        (b"round\n job\n".as_slice(), Some(2)),
-        (b"round\njob \n".as_slice(), Some(2)),
-        (b"Round\n".as_slice(), Some(1)),
-        (b"job\n".as_slice(), Some(1)),
-        (b"round\nround\n".as_slice(), Some(2)),
-        (b"round\njob\nround\n".as_slice(), Some(3)),
-        (b"round\njob\n\njob".as_slice(), Some(3)),
-        (b"subscriber\n".as_slice(), Some(1)),
-        (b"subscriber \n".as_slice(), Some(1)),
-        (b"workers 1\n".as_slice(), Some(1)),
+        (
+            b"\tdraw  001010000000002 00000000000000001000".as_slice(),
+            Line::Draw {
+                sub: 1,
+                count: 1000,
+            },
+        ),
+        (
+            b"sync 001010000000001 5 111 0\r\n".as_slice(),
+            Line::Sync {
+                sub: 0,
+                seq: 5,
+                bit: Some(111),
+                count: 0,
+            },
+        ),
+        (
+            b"give 001010000000002 8796093022207".as_slice(),
+            Line::Give {
+                sub: 1,
+                n: 8796093022207,
+            },
+        ),
     ];
     for (text, line) in cases {
-        assert_eq!(rt; refused_line(rt.alloc(), &[text])?, line, "at {text:?}");
+        let script = script_of(
+            rt.alloc(),
+            &[FIRST, SECOND, b"round\nround\njob\n".as_slice(), text],
+        )?;
+        let Part::Round(jobs) = script.parts.get(1).ok_or("a round")?;
+        let job = jobs.get(0).ok_or("a job")?;
+        assert_eq!(rt; *job.get(0).ok_or("a line")?, line, "at {text:?}");
     }
     Ok(())
 }
 
+// The first causes of the first lines, by the table of lines and the order of its tests, by hand.
 #[test]
-fn the_first_wrong_line_behind_a_subscriber_is_told(rt: HostRuntime) -> Result<(), Fail> {
+fn a_wrong_line_before_a_job_is_told_by_its_first_cause(rt: HostRuntime) -> Result<(), Fail> {
     let cases = [
-        (FIRST, Some(2)),
-        (SECOND, None),
-        (b"round\ndraw 001010000000001 1\n".as_slice(), Some(3)),
-        (b"round\njob\ndraw 001010000000001 1\n".as_slice(), None),
-        (b"round\njob\ndraw 001010000000001 1000\n".as_slice(), None),
+        (b" # no comment\n".as_slice(), ScriptWhy::UnknownWord),
+        (b"round\r".as_slice(), ScriptWhy::UnknownWord),
+        (b"\0\n".as_slice(), ScriptWhy::UnknownWord),
+        (b"job x\n".as_slice(), ScriptWhy::OutOfOrder),
+        (b"print all\n".as_slice(), ScriptWhy::Fields),
         (
-            b"round\njob\ndraw 001010000000001 00000000000000000001\n".as_slice(),
-            None,
+            b"workers 000000000000000000002\n".as_slice(),
+            ScriptWhy::Fields,
         ),
-        (b"round\njob\ndraw 001010000000001 1".as_slice(), Some(4)),
-        (b"round\njob\ndraw 001010000000002 1\n".as_slice(), Some(4)),
-        (b"round\njob\ndraw 01010000000001 1\n".as_slice(), Some(4)),
-        (b"round\njob\ndraw 001010000000001 0\n".as_slice(), Some(4)),
+        (b"subscriber a b c d e f\n".as_slice(), ScriptWhy::Fields),
+        (b"workers 0\n".as_slice(), ScriptWhy::Number),
+        (b"randkey 00\n".as_slice(), ScriptWhy::Hex),
         (
-            b"round\njob\ndraw 001010000000001 1001\n".as_slice(),
-            Some(4),
-        ),
-        (
-            b"round\njob\ndraw 001010000000001 000000000000000000001\n".as_slice(),
-            Some(4),
-        ),
-        // 2^64 + 1
-        (
-            b"round\njob\ndraw 001010000000001 18446744073709551617\n".as_slice(),
-            Some(4),
-        ),
-        (b"round\njob\ndraw 001010000000001  1\n".as_slice(), Some(4)),
-        (b"round\njob\ndraw 001010000000001\t1\n".as_slice(), Some(4)),
-        (b"round\njob\ndraw 001010000000001 1 \n".as_slice(), Some(4)),
-        (
-            b"round\njob\ndraw 001010000000001 1\r\n".as_slice(),
-            Some(4),
+            b"subscriber a b c d e f g\n".as_slice(),
+            ScriptWhy::Subscriber(SubsWhy::Imsi),
         ),
         (
-            b"round\njob\ndraw 001010000000001 1 1\n".as_slice(),
-            Some(4),
+            b"workers 99999999999999999999\n".as_slice(),
+            ScriptWhy::NotYet,
         ),
-        (b"round\njob\ndraw 001010000000001\n".as_slice(), Some(4)),
-        (b"round\njob\ndraw 001010000000001 -1\n".as_slice(), Some(4)),
-        (
-            b"round\njob\ndraw 001010000000001 1\ndraw 001010000000001 x\n".as_slice(),
-            Some(5),
-        ),
+        (b"restart x\n".as_slice(), ScriptWhy::NotYet),
     ];
-    for (text, line) in cases {
+    for (text, why) in cases {
         assert_eq!(rt;
-            refused_line(rt.alloc(), &[FIRST, text])?,
-            line,
+            refusal_of(rt.alloc(), &[text])?,
+            Some((1, why)),
             "at {text:?}"
         );
     }
+    Ok(())
+}
+
+// The same of the second lines.
+#[test]
+fn a_wrong_line_behind_another_is_told_by_its_first_cause(rt: HostRuntime) -> Result<(), Fail> {
+    let cases = [
+        (b"\nRound\n".as_slice(), ScriptWhy::UnknownWord),
+        (b"round\n\xff\n".as_slice(), ScriptWhy::UnknownWord),
+        (b"round\ndraw 0 1\n".as_slice(), ScriptWhy::OutOfOrder),
+        (b"round\nprint all\n".as_slice(), ScriptWhy::OutOfOrder),
+        (b"print full\nprint full\n".as_slice(), ScriptWhy::Twice),
+        (b"print full\nprint all\n".as_slice(), ScriptWhy::Fields),
+        (b"round\nworkers 65\n".as_slice(), ScriptWhy::NotYet),
+    ];
+    for (text, why) in cases {
+        assert_eq!(rt;
+            refusal_of(rt.alloc(), &[text])?,
+            Some((2, why)),
+            "at {text:?}"
+        );
+    }
+    Ok(())
+}
+
+#[test]
+fn what_says_nothing_is_passed_over(rt: HostRuntime) -> Result<(), Fail> {
+    let cases = [
+        b"".as_slice(),
+        b" \t\n\n\r\nround".as_slice(),
+        b"#\xff\n# \r\r\nround \t\r\n\tjob".as_slice(),
+    ];
+    for text in cases {
+        assert_eq!(rt; refusal_of(rt.alloc(), &[text])?, None, "at {text:?}");
+    }
+    Ok(())
+}
+
+// The first causes of the fifth lines, by the table of lines and the order of its tests, by hand.
+#[test]
+fn a_wrong_line_of_a_job_is_told_by_its_first_cause(rt: HostRuntime) -> Result<(), Fail> {
+    let cases = [
+        (b"draw 00101 0".as_slice(), ScriptWhy::Fields),
+        (b"draw 001010000000003 x".as_slice(), ScriptWhy::Fields),
+        (b"draw 001010000000003 0".as_slice(), ScriptWhy::Number),
+        // 2^64 + 1
+        (
+            b"draw 001010000000001 18446744073709551617".as_slice(),
+            ScriptWhy::Number,
+        ),
+        (
+            b"draw 01010000000001 1".as_slice(),
+            ScriptWhy::UnknownSubscriber,
+        ),
+        (
+            b"sync 001010000000001 0 112 0".as_slice(),
+            ScriptWhy::Number,
+        ),
+        (
+            b"sync 001010000000001 8796093022208 x 0".as_slice(),
+            ScriptWhy::Number,
+        ),
+        (
+            b"sync 001010000000001 0 x 1001".as_slice(),
+            ScriptWhy::Fields,
+        ),
+        (b"give 001010000000001 0".as_slice(), ScriptWhy::Number),
+        (
+            b"give 001010000000001 8796093022208".as_slice(),
+            ScriptWhy::Number,
+        ),
+    ];
+    for (text, why) in cases {
+        assert_eq!(rt;
+            refusal_of(
+                rt.alloc(),
+                &[FIRST, SECOND, b"round\njob\n".as_slice(), text]
+            )?,
+            Some((5, why)),
+            "at {text:?}"
+        );
+    }
+    Ok(())
+}
+
+// The lines by hand.
+#[test]
+fn a_usim_is_given_to_by_one_job_of_a_round(rt: HostRuntime) -> Result<(), Fail> {
+    let cases = [
+        (
+            b"give 001010000000001 1\njob\ngive 001010000000002 1\ngive 001010000000001 1".as_slice(),
+            Some((8, ScriptWhy::UsimBusy)),
+        ),
+        (
+            b"give 001010000000001 1\ngive 001010000000001 1\nround\njob\ngive 001010000000001 1".as_slice(),
+            None,
+        ),
+    ];
+    for (text, refused) in cases {
+        assert_eq!(rt;
+            refusal_of(
+                rt.alloc(),
+                &[FIRST, SECOND, b"round\njob\n".as_slice(), text]
+            )?,
+            refused,
+            "at {text:?}"
+        );
+    }
+    Ok(())
+}
+
+/// A text and so many times another.
+fn repeated(alloc: Global, first: &[u8], text: &[u8], count: u32) -> Result<Octets, Fail> {
+    let mut all = Octets::new(alloc);
+    all.append(first).ok().ok_or("no memory")?;
+    for _ in 0..count {
+        all.append(text).ok().ok_or("no memory")?;
+    }
+    Ok(all)
+}
+
+// The numbers of the lines by hand.
+#[test]
+fn what_passes_a_limit_is_refused(rt: HostRuntime) -> Result<(), Fail> {
+    let cases = [
+        (
+            b"\n".as_slice(),
+            b"round\n".as_slice(),
+            1000,
+            b"round\n".as_slice(),
+            1002,
+        ),
+        (
+            b"round\n".as_slice(),
+            b"job\n".as_slice(),
+            200000,
+            b"round\njob\n".as_slice(),
+            200003,
+        ),
+        (
+            b"realm ".as_slice(),
+            b"x".as_slice(),
+            255,
+            b"x".as_slice(),
+            1,
+        ),
+    ];
+    for (first, text, count, more, line) in cases {
+        let mut all = repeated(rt.alloc(), first, text, count)?;
+        assert_eq!(rt; refusal(rt.alloc(), &all)?, None, "at {text:?}");
+        all.append(more).ok().ok_or("no memory")?;
+        assert_eq!(rt;
+            refusal(rt.alloc(), &all)?,
+            Some((line, ScriptWhy::Limit)),
+            "at {text:?}"
+        );
+    }
+    let draws = repeated(
+        rt.alloc(),
+        b"round\njob\n",
+        b"draw 001010000000001 1000\n",
+        1000,
+    )?;
+    assert_eq!(rt; refusal_of(rt.alloc(), &[FIRST, draws.as_slice()])?, None);
     assert_eq!(rt;
-        refused_line(rt.alloc(), &[b"round\n".as_slice(), FIRST])?,
-        Some(2)
+        refusal_of(
+            rt.alloc(),
+            &[
+                FIRST,
+                draws.as_slice(),
+                b"job\nsync 001010000000001 1 - 0\nsync 001010000000001 1 - 1\n".as_slice()
+            ]
+        )?,
+        Some((1006, ScriptWhy::Limit))
     );
     Ok(())
 }
 
 #[test]
-fn vectors_past_the_limit_are_refused(rt: HostRuntime) -> Result<(), Fail> {
-    let mut text = Octets::new(rt.alloc());
-    text.append(FIRST).ok().ok_or("no memory")?;
-    text.append(b"round\njob\n").ok().ok_or("no memory")?;
-    for _ in 0..1000 {
-        text.append(DRAW).ok().ok_or("no memory")?;
-    }
-    assert_eq!(rt; refusal_of(rt.alloc(), &text)?, None);
-    text.append(b"job\ndraw 001010000000001 1\n")
-        .ok()
-        .ok_or("no memory")?;
-    assert_eq!(rt; refusal_of(rt.alloc(), &text)?, Some(1005));
-    Ok(())
-}
-
-#[test]
-fn jobs_past_the_limit_are_refused(rt: HostRuntime) -> Result<(), Fail> {
-    let mut text = Octets::new(rt.alloc());
-    text.append(b"round\n").ok().ok_or("no memory")?;
-    for _ in 0..200000 {
-        text.append(b"job\n").ok().ok_or("no memory")?;
-    }
-    assert_eq!(rt; refusal_of(rt.alloc(), &text)?, None);
-    text.append(b"job\n").ok().ok_or("no memory")?;
-    assert_eq!(rt; refusal_of(rt.alloc(), &text)?, Some(200002));
+fn long_lines_are_read_like_short_ones(rt: HostRuntime) -> Result<(), Fail> {
+    let long = repeated(rt.alloc(), b"round\n", b"job ", 250000)?;
+    assert_eq!(rt; refusal(rt.alloc(), &long)?, Some((2, ScriptWhy::Fields)));
+    let word = repeated(rt.alloc(), b"round\n", b"jobs", 250000)?;
+    assert_eq!(rt;
+        refusal(rt.alloc(), &word)?,
+        Some((2, ScriptWhy::UnknownWord))
+    );
+    let blanks = repeated(rt.alloc(), b"round\n", b" \t \t", 250000)?;
+    assert_eq!(rt; refusal(rt.alloc(), &blanks)?, None);
     Ok(())
 }

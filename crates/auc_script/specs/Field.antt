@@ -1,0 +1,61 @@
+-- The forms of a line's fields, each with the cause that a field of another form gives.
+use Rattle.std.specs.Prelude.{ℕ, ◌&&◌, nat_le, Bool, true, false, List, [], ◌∷◌, length, codes, Option, Some, None, Result, Ok, Err, if◌then◌else◌}
+use Rattle.std.specs.List.{list_all}
+use Rattle.std.specs.Char.{is_ascii_digit}
+use Rattle.auc_edge.specs.Identity.{number_of}
+use Rattle.auc_subs.specs.Subscriber.{is_text}
+use Rattle.auc_script.specs.declared.refusal.ScriptWhy.{ScriptWhy}
+use Rattle.auc_script.specs.declared.refusal.ScriptWhy.TheVariants as why
+
+-- one test after another: the first that fails gives its cause
+infixl 10 ◌>>=◌
+abbrev pub ◌>>=◌ : {A B : Type 0} → Result A ScriptWhy → (A → Result B ScriptWhy) → Result B ScriptWhy
+(Ok x) >>= next = next x
+(Err cause) >>= next = Err cause
+
+-- what passes where a test holds
+abbrev pub require : Bool → ScriptWhy → Result (Unit {0}) ScriptWhy
+require holds cause = if holds then Ok tt else Err cause
+
+-- so many fields: none, one, two or four
+abbrev pub no_field : List (List ℕ) → Result (Unit {0}) ScriptWhy
+no_field [] = Ok tt
+no_field (a ∷ more) = Err why.Fields
+
+abbrev pub one_field : List (List ℕ) → Result (List ℕ) ScriptWhy
+one_field (a ∷ []) = Ok a
+one_field other = Err why.Fields
+
+abbrev pub two_fields : List (List ℕ) → Result (List ℕ × List ℕ) ScriptWhy
+two_fields (a ∷ b ∷ []) = Ok (a, b)
+two_fields other = Err why.Fields
+
+abbrev pub four_fields : List (List ℕ) → Result (List ℕ × List ℕ × List ℕ × List ℕ) ScriptWhy
+four_fields (a ∷ b ∷ c ∷ d ∷ []) = Ok (a, b, c, d)
+four_fields other = Err why.Fields
+
+-- 1 to 20 decimal digits
+abbrev pub is_number : List ℕ → Bool
+is_number text = nat_le 1 (length text) && nat_le (length text) 20 && list_all is_ascii_digit text
+
+-- a number of a range
+abbrev pub number_in : ℕ → ℕ → List ℕ → Result ℕ ScriptWhy
+number_in least greatest text =
+    if is_number text
+    then (if nat_le least (number_of text) && nat_le (number_of text) greatest then Ok (number_of text) else Err why.Number)
+    else Err why.Fields
+
+abbrev pub some_bit : Result ℕ ScriptWhy → Result (Option ℕ) ScriptWhy
+some_bit (Ok bit) = Ok (Some bit)
+some_bit (Err cause) = Err cause
+
+-- a bit of the 112 of an AUTS, or - for none
+abbrev pub bit_in : List ℕ → Result (Option ℕ) ScriptWhy
+bit_in text = if is_text text (codes "-") then Ok None else some_bit (number_in 0 111 text)
+
+-- whether vectors are printed in full
+abbrev pub full_in : List ℕ → Result Bool ScriptWhy
+full_in text =
+    if is_text text (codes "brief") then Ok false
+    else if is_text text (codes "full") then Ok true
+    else Err why.Fields

@@ -1,0 +1,49 @@
+-- The words that begin a line.
+use Rattle.std.specs.Prelude.{ℕ, ◌||◌, Bool, List, codes, Option, Some, None, if◌then◌else◌}
+use Rattle.auc_subs.specs.Subscriber.{is_text}
+use Rattle.auc_script.specs.declared.word.HeaderWord.{HeaderWord}
+use Rattle.auc_script.specs.declared.word.HeaderWord.TheVariants as header
+use Rattle.auc_script.specs.declared.word.JobWord.{JobWord}
+use Rattle.auc_script.specs.declared.word.JobWord.TheVariants as job
+use Rattle.auc_script.specs.declared.word.Word.{Word}
+use Rattle.auc_script.specs.declared.word.Word.TheVariants as word
+
+-- the word of the header that a text is
+abbrev pub header_word_of : List ℕ → Option HeaderWord
+header_word_of text =
+    if is_text text (codes "randkey") then Some header.Randkey
+    else if is_text text (codes "workers") then Some header.Workers
+    else if is_text text (codes "print") then Some header.Print
+    else if is_text text (codes "realm") then Some header.Realm
+    else None
+
+-- the word of a job's line that a text is
+abbrev pub job_word_of : List ℕ → Option JobWord
+job_word_of text =
+    if is_text text (codes "draw") then Some job.Draw
+    else if is_text text (codes "sync") then Some job.Sync
+    else if is_text text (codes "give") then Some job.Give
+    else None
+
+abbrev pub of_header : Option HeaderWord → Option Word
+of_header (Some which) = Some (word.Header which)
+of_header None = None
+
+abbrev pub of_job : Option JobWord → Option Word → Option Word
+of_job (Some which) else_word = Some (word.OfJob which)
+of_job None else_word = else_word
+
+-- the word that a text is
+abbrev pub word_of : List ℕ → Option Word
+word_of text =
+    if is_text text (codes "subscriber") then Some word.Subscriber
+    else if is_text text (codes "round") then Some word.Round
+    else if is_text text (codes "job") then Some word.Job
+    else of_job (job_word_of text) (of_header (header_word_of text))
+
+-- whether a text is a word of lines that aren't served so far
+abbrev pub is_later : List ℕ → Bool
+is_later text =
+    is_text text (codes "restart") || is_text text (codes "session") || is_text text (codes "start")
+    || is_text text (codes "repeat") || is_text text (codes "deliver") || is_text text (codes "giveup")
+    || is_text text (codes "plain") || is_text text (codes "tamper") || is_text text (codes "cut")

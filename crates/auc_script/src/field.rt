@@ -1,0 +1,134 @@
+//! The fields of a line.
+
+ghost use Rattle.std.specs.Prelude.{◌≡◌, ◌≤◌, ◌<◌, nat_le, MatchResult, IfOk, IfSome};
+ghost use Rattle.std.specs.List.{list_all};
+ghost use Rattle.std.specs.Char.{is_ascii_digit};
+ghost use Rattle.auc_edge.specs.Identity.{number_of};
+ghost use Rattle.auc_script.specs.Text.{words_of};
+ghost use Rattle.auc_script.specs.Field.{bit_in, four_fields, full_in, is_number, no_field, number_in, one_field, two_fields};
+ghost use Rattle.auc_script.specs.Limits.{IsBit};
+
+use crate::refusal::ScriptWhy;
+use crate::text::next_word;
+use auc_subs::read_decimal;
+
+/// Whether a line has no field, else the cause.
+pub fn no_field(fields: &[u8]) -> Result<(), ScriptWhy>
+    ensures { result ≡ no_field (words_of fields.now) }
+{
+    match next_word(fields) {
+        None => Ok(()),
+        Some(_) => Err(ScriptWhy::Fields),
+    }
+}
+
+/// The one field of a line.
+pub fn one_field(fields: &[u8]) -> Result<&[u8], ScriptWhy>
+    ensures { MatchResult result
+        (λ field. one_field (words_of fields.now) ≡ Ok field.now)
+        (λ why. one_field (words_of fields.now) ≡ Err why) }
+{
+    let Some((first, rest)) = next_word(fields) else {
+        return Err(ScriptWhy::Fields);
+    };
+    match next_word(rest) {
+        None => Ok(first),
+        Some(_) => Err(ScriptWhy::Fields),
+    }
+}
+
+/// The two fields of a line.
+pub fn two_fields(fields: &[u8]) -> Result<(&[u8], &[u8]), ScriptWhy>
+    ensures { MatchResult result
+        (λ f. two_fields (words_of fields.now) ≡ Ok (f.0.now, f.1.now))
+        (λ why. two_fields (words_of fields.now) ≡ Err why) }
+{
+    let Some((first, rest)) = next_word(fields) else {
+        return Err(ScriptWhy::Fields);
+    };
+    let Some((second, rest)) = next_word(rest) else {
+        return Err(ScriptWhy::Fields);
+    };
+    match next_word(rest) {
+        None => Ok((first, second)),
+        Some(_) => Err(ScriptWhy::Fields),
+    }
+}
+
+/// The four fields of a line.
+pub fn four_fields(fields: &[u8]) -> Result<(&[u8], &[u8], &[u8], &[u8]), ScriptWhy>
+    ensures { MatchResult result
+        (λ f. four_fields (words_of fields.now) ≡ Ok (f.0.now, f.1.now, f.2.now, f.3.now))
+        (λ why. four_fields (words_of fields.now) ≡ Err why) }
+{
+    let Some((first, rest)) = next_word(fields) else {
+        return Err(ScriptWhy::Fields);
+    };
+    let Some((second, rest)) = next_word(rest) else {
+        return Err(ScriptWhy::Fields);
+    };
+    let Some((third, rest)) = next_word(rest) else {
+        return Err(ScriptWhy::Fields);
+    };
+    let Some((fourth, rest)) = next_word(rest) else {
+        return Err(ScriptWhy::Fields);
+    };
+    match next_word(rest) {
+        None => Ok((first, second, third, fourth)),
+        Some(_) => Err(ScriptWhy::Fields),
+    }
+}
+
+/// Whether a field is 1 to 20 decimal digits.
+pub fn is_number(text: &[u8]) -> bool
+    ensures { result ≡ is_number text.now }
+{
+    !text.is_empty() && text.len() <= 20 && are_digits(text)
+}
+
+/// Whether each byte is a decimal digit.
+fn are_digits(text: &[u8]) -> bool
+    ensures { result ≡ list_all is_ascii_digit text.now }
+{
+    text.iter().all(|byte| byte.is_ascii_digit())
+}
+
+/// The number of a range that a field is.
+pub fn read_number(text: &[u8], least: u64, greatest: u64) -> Result<u64, ScriptWhy>
+    ensures value { result ≡ number_in least greatest text.now }
+    ensures least { IfOk result (λ number. least ≤ number) }
+    ensures greatest { IfOk result (λ number. number ≤ greatest) }
+{
+    if !is_number(text) {
+        return Err(ScriptWhy::Fields);
+    }
+    match read_decimal(text, 20, greatest) {
+        Some(number) if number >= least => Ok(number),
+        _ => Err(ScriptWhy::Number),
+    }
+}
+
+/// The bit of an AUTS that a field is, or none.
+pub fn read_bit(text: &[u8]) -> Result<Option<u8>, ScriptWhy>
+    ensures value { result ≡ bit_in text.now }
+    ensures bit { IfOk result IsBit }
+{
+    if text == b"-".as_slice() {
+        return Ok(None);
+    }
+    let bit = read_number(text, 0, 111)?;
+    Ok(Some(bit as u8))
+}
+
+/// Whether a field says that vectors are printed in full.
+pub fn read_full(text: &[u8]) -> Result<bool, ScriptWhy>
+    ensures { result ≡ full_in text.now }
+{
+    if text == b"brief".as_slice() {
+        Ok(false)
+    } else if text == b"full".as_slice() {
+        Ok(true)
+    } else {
+        Err(ScriptWhy::Fields)
+    }
+}

@@ -1,0 +1,68 @@
+//! Which jobs of a round give to a USIM.
+
+ghost use Rattle.std.specs.Prelude.{◌≡◌, ◌<◌, ◌+◌, ◌^◌, [], length, replicate, IfOk};
+ghost use Rattle.auc_script.specs.Scenario.{is_busy};
+ghost use Rattle.auc_script.specs.SoFar.{AreMarks, marked, subscriber_of};
+
+use crate::part::Line;
+use crate::round_so_far::RoundSoFar;
+use auc_edge::NoMemory;
+use std::alloc::Global;
+
+/// For each USIM the job that gave to it last, by its number from 1 over all rounds.
+#[derive(Drop)]
+pub struct Givers {
+    /// How many jobs stand before the present round.
+    pub before: u32,
+    /// The numbers, by subscribers' places, each 0 where no job gave.
+    pub marks: Vec<u32>,
+}
+
+impl Givers {
+    /// No job, over no subscribers.
+    pub fn none(alloc: Global) -> Givers
+        ensures { result.marks.items ≡ [] }
+    {
+        Givers {
+            before: 0,
+            marks: Vec::new(alloc),
+        }
+    }
+
+    /// No job, over so many subscribers.
+    pub fn over(alloc: Global, subs: u32) -> Result<Givers, NoMemory>
+        ensures before { IfOk result (λ givers. givers.before ≡ 0) }
+        ensures marks { IfOk result (λ givers. givers.marks.items ≡ replicate subs 0) }
+    {
+        let marks = vec![in alloc; 0; subs as usize]?;
+        Ok(Givers { before: 0, marks })
+    }
+
+    /// Whether an earlier job of the round gives to the USIM to which a line is to give.
+    pub fn is_busy(&self, round: &RoundSoFar, line: Line) -> bool
+        requires known { subscriber_of line < length self.now.marks.items }
+        requires marks { AreMarks self.now.before self.now.marks.items round.now }
+        requires room { self.now.before + length round.now.jobs < 2 ^ 32 }
+        ensures { result ≡ is_busy round.now line }
+    {
+        let Line::Give { sub, .. } = line else {
+            return false;
+        };
+        let mark = self.marks[sub as usize];
+        mark > self.before && mark <= self.before + round.jobs.len() as u32
+    }
+
+    /// Notes a line of the present job.
+    pub fn note(&mut self, round: &RoundSoFar, line: Line)
+        requires known { subscriber_of line < length self.old.marks.items }
+        requires room { self.old.before + length round.now.jobs + 1 < 2 ^ 32 }
+        ensures before { self.new.before ≡ self.old.before }
+        ensures marks { self.new.marks.items
+            ≡ marked self.old.marks.items (self.old.before + length round.now.jobs + 1) line }
+    {
+        let Line::Give { sub, .. } = line else {
+            return;
+        };
+        self.marks[sub as usize] = self.before + round.jobs.len() as u32 + 1;
+    }
+}

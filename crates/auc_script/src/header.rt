@@ -1,0 +1,115 @@
+//! The lines before the first round but for the subscribers.
+
+ghost use Rattle.std.specs.Prelude.{◌≡◌, IfOk, OnOk};
+ghost use Rattle.auc_script.specs.Text.{words_of};
+ghost use Rattle.auc_script.specs.Limits.{IsHeader};
+ghost use Rattle.auc_script.specs.Refusal.{Becomes};
+ghost use Rattle.auc_script.specs.Scenario.{header_with, key_line, print_line, realm_line, workers_line};
+
+use crate::field::{one_field, read_full, read_number};
+use crate::part::{MAX_REALM, MAX_WORKERS};
+use crate::refusal::{LineRefusal, ScriptWhy};
+use crate::word::HeaderWord;
+use auc_edge::{NoMemory, Octets};
+use auc_subs::read_octets;
+use std::alloc::Global;
+
+/// What the words of the header said so far, each once.
+#[derive(Drop)]
+pub struct Header {
+    /// The key of the random bytes.
+    pub key: Option<[u8; 32]>,
+    /// How many threads serve a round.
+    pub workers: Option<u32>,
+    /// Whether vectors are printed in full.
+    pub full: Option<bool>,
+    /// The realm of the identities.
+    pub realm: Option<Octets>,
+}
+
+impl Header {
+    /// Takes the fields of a word.
+    pub fn put(&mut self, alloc: Global, word: HeaderWord, fields: &[u8]) -> Result<(), LineRefusal>
+        requires { IsHeader self.old }
+        ensures becomes { Becomes (header_with self.old word (words_of fields.now)) result self.new }
+        ensures kept { OnOk result (IsHeader self.new) }
+    {
+        match word {
+            HeaderWord::Randkey => self.put_key(fields),
+            HeaderWord::Workers => self.put_workers(fields),
+            HeaderWord::Print => self.put_print(fields),
+            HeaderWord::Realm => self.put_realm(alloc, fields),
+        }
+    }
+
+    /// Takes the field of `randkey`.
+    fn put_key(&mut self, fields: &[u8]) -> Result<(), LineRefusal>
+        requires { IsHeader self.old }
+        ensures becomes { Becomes (key_line self.old (words_of fields.now)) result self.new }
+        ensures kept { OnOk result (IsHeader self.new) }
+    {
+        let text = one_field(fields)?;
+        let key = read_octets::<32>(text).ok_or(ScriptWhy::Hex)?;
+        if self.key.is_some() {
+            return Err(LineRefusal::Why(ScriptWhy::Twice));
+        }
+        self.key = Some(key);
+        Ok(())
+    }
+
+    /// Takes the field of `workers`.
+    fn put_workers(&mut self, fields: &[u8]) -> Result<(), LineRefusal>
+        requires { IsHeader self.old }
+        ensures becomes { Becomes (workers_line self.old (words_of fields.now)) result self.new }
+        ensures kept { OnOk result (IsHeader self.new) }
+    {
+        let text = one_field(fields)?;
+        let workers = read_number(text, 1, MAX_WORKERS)?;
+        if self.workers.is_some() {
+            return Err(LineRefusal::Why(ScriptWhy::Twice));
+        }
+        self.workers = Some(workers as u32);
+        Ok(())
+    }
+
+    /// Takes the field of `print`.
+    fn put_print(&mut self, fields: &[u8]) -> Result<(), LineRefusal>
+        requires { IsHeader self.old }
+        ensures becomes { Becomes (print_line self.old (words_of fields.now)) result self.new }
+        ensures kept { OnOk result (IsHeader self.new) }
+    {
+        let text = one_field(fields)?;
+        let full = read_full(text)?;
+        if self.full.is_some() {
+            return Err(LineRefusal::Why(ScriptWhy::Twice));
+        }
+        self.full = Some(full);
+        Ok(())
+    }
+
+    /// Takes the field of `realm`.
+    fn put_realm(&mut self, alloc: Global, fields: &[u8]) -> Result<(), LineRefusal>
+        requires { IsHeader self.old }
+        ensures becomes { Becomes (realm_line self.old (words_of fields.now)) result self.new }
+        ensures kept { OnOk result (IsHeader self.new) }
+    {
+        let text = one_field(fields)?;
+        if self.realm.is_some() {
+            return Err(LineRefusal::Why(ScriptWhy::Twice));
+        }
+        if text.len() > MAX_REALM {
+            return Err(LineRefusal::Why(ScriptWhy::Limit));
+        }
+        self.realm = Some(copy_of(alloc, text)?);
+        Ok(())
+    }
+}
+
+/// A string of these bytes.
+fn copy_of(alloc: Global, bytes: &[u8]) -> Result<Octets, NoMemory>
+    ensures { IfOk result (λ octets. octets ≡ bytes.now) }
+{
+    let mut octets = Octets::new(alloc);
+    octets.append(bytes)?;
+    Ok(octets)
+}

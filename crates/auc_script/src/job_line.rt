@@ -1,0 +1,72 @@
+//! The lines of a job.
+
+ghost use Rattle.std.specs.Prelude.{◌≡◌, IfOk};
+ghost use Rattle.auc_script.specs.Text.{words_of};
+ghost use Rattle.auc_script.specs.Limits.{IsLine};
+ghost use Rattle.auc_script.specs.Scenario.{draw_of, give_of, line_of, sync_of};
+
+use crate::field::{four_fields, read_bit, read_number, two_fields};
+use crate::part::{Line, MAX_COUNT};
+use crate::refusal::ScriptWhy;
+use crate::word::JobWord;
+use auc_edge::Imsi;
+use auc_sqn::MAX_SEQ;
+use auc_subs::Subscribers;
+
+/// What the fields of a word say.
+pub fn read_line(subs: &Subscribers, word: JobWord, fields: &[u8]) -> Result<Line, ScriptWhy>
+    ensures value { result ≡ line_of subs.now word (words_of fields.now) }
+    ensures line { IfOk result (IsLine subs.now) }
+{
+    match word {
+        JobWord::Draw => read_draw(subs, fields),
+        JobWord::Sync => read_sync(subs, fields),
+        JobWord::Give => read_give(subs, fields),
+    }
+}
+
+/// What the fields `IMSI COUNT` say.
+fn read_draw(subs: &Subscribers, fields: &[u8]) -> Result<Line, ScriptWhy>
+    ensures value { result ≡ draw_of subs.now (words_of fields.now) }
+    ensures line { IfOk result (IsLine subs.now) }
+{
+    let (imsi, count) = two_fields(fields)?;
+    let imsi = Imsi::read(imsi).ok_or(ScriptWhy::Fields)?;
+    let count = read_number(count, 1, MAX_COUNT)?;
+    let sub = subs.find(imsi).ok_or(ScriptWhy::UnknownSubscriber)?;
+    Ok(Line::Draw {
+        sub,
+        count: count as u32,
+    })
+}
+
+/// What the fields `IMSI SEQ BIT COUNT` say.
+fn read_sync(subs: &Subscribers, fields: &[u8]) -> Result<Line, ScriptWhy>
+    ensures value { result ≡ sync_of subs.now (words_of fields.now) }
+    ensures line { IfOk result (IsLine subs.now) }
+{
+    let (imsi, seq, bit, count) = four_fields(fields)?;
+    let imsi = Imsi::read(imsi).ok_or(ScriptWhy::Fields)?;
+    let seq = read_number(seq, 0, MAX_SEQ)?;
+    let bit = read_bit(bit)?;
+    let count = read_number(count, 0, MAX_COUNT)?;
+    let sub = subs.find(imsi).ok_or(ScriptWhy::UnknownSubscriber)?;
+    Ok(Line::Sync {
+        sub,
+        seq,
+        bit,
+        count: count as u32,
+    })
+}
+
+/// What the fields `IMSI N` say.
+fn read_give(subs: &Subscribers, fields: &[u8]) -> Result<Line, ScriptWhy>
+    ensures value { result ≡ give_of subs.now (words_of fields.now) }
+    ensures line { IfOk result (IsLine subs.now) }
+{
+    let (imsi, n) = two_fields(fields)?;
+    let imsi = Imsi::read(imsi).ok_or(ScriptWhy::Fields)?;
+    let n = read_number(n, 1, MAX_SEQ)?;
+    let sub = subs.find(imsi).ok_or(ScriptWhy::UnknownSubscriber)?;
+    Ok(Line::Give { sub, n })
+}

@@ -1,0 +1,112 @@
+//! The words that begin a line.
+
+ghost use Rattle.std.specs.Prelude.{◌≡◌};
+ghost use Rattle.auc_script.specs.Word.{header_word_of, job_word_of, is_later, word_of};
+
+/// A word of a line before the first round, which stands there at most once.
+#[derive(Clone, Copy)]
+pub enum HeaderWord {
+    /// `randkey H`
+    Randkey,
+    /// `workers N`
+    Workers,
+    /// `print brief` or `print full`
+    Print,
+    /// `realm TEXT`
+    Realm,
+}
+
+/// A word of a line of a job.
+#[derive(Clone, Copy)]
+pub enum JobWord {
+    /// `draw IMSI COUNT`
+    Draw,
+    /// `sync IMSI SEQ BIT COUNT`
+    Sync,
+    /// `give IMSI N`
+    Give,
+}
+
+/// The first word of a line.
+#[derive(Clone, Copy)]
+pub enum Word {
+    /// One of the header.
+    Header(HeaderWord),
+    /// `subscriber IMSI K KIND OP AMF SEQ USIM`
+    Subscriber,
+    /// `round`
+    Round,
+    /// `job`
+    Job,
+    /// One of a job's lines.
+    OfJob(JobWord),
+}
+
+/// The word that a text is, or `None` where it is none.
+pub fn read_word(text: &[u8]) -> Option<Word>
+    ensures { result ≡ word_of text.now }
+{
+    if text == b"subscriber".as_slice() {
+        return Some(Word::Subscriber);
+    }
+    if text == b"round".as_slice() {
+        return Some(Word::Round);
+    }
+    if text == b"job".as_slice() {
+        return Some(Word::Job);
+    }
+    if let Some(word) = read_job_word(text) {
+        return Some(Word::OfJob(word));
+    }
+    match read_header_word(text) {
+        Some(word) => Some(Word::Header(word)),
+        None => None,
+    }
+}
+
+/// The word of a job's line that a text is.
+fn read_job_word(text: &[u8]) -> Option<JobWord>
+    ensures { result ≡ job_word_of text.now }
+{
+    if text == b"draw".as_slice() {
+        Some(JobWord::Draw)
+    } else if text == b"sync".as_slice() {
+        Some(JobWord::Sync)
+    } else if text == b"give".as_slice() {
+        Some(JobWord::Give)
+    } else {
+        None
+    }
+}
+
+/// The word of the header that a text is.
+fn read_header_word(text: &[u8]) -> Option<HeaderWord>
+    ensures { result ≡ header_word_of text.now }
+{
+    if text == b"randkey".as_slice() {
+        Some(HeaderWord::Randkey)
+    } else if text == b"workers".as_slice() {
+        Some(HeaderWord::Workers)
+    } else if text == b"print".as_slice() {
+        Some(HeaderWord::Print)
+    } else if text == b"realm".as_slice() {
+        Some(HeaderWord::Realm)
+    } else {
+        None
+    }
+}
+
+/// Whether a text is a word of lines that aren't served so far.
+pub fn is_later(text: &[u8]) -> bool
+    ensures { result ≡ is_later text.now }
+{
+    text == b"restart".as_slice()
+        || text == b"session".as_slice()
+        || text == b"start".as_slice()
+        || text == b"repeat".as_slice()
+        || text == b"deliver".as_slice()
+        || text == b"giveup".as_slice()
+        || text == b"plain".as_slice()
+        || text == b"tamper".as_slice()
+        || text == b"cut".as_slice()
+}
