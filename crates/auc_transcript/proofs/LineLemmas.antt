@@ -1,0 +1,95 @@
+-- For the laws: the numbers of a subscriber that lines tell, counted.
+use Rattle.std.proofs.Common.{◌≡◌, ℕ, zero, suc, ◌+◌, ◌≤◌, ◌==◌, ◌||◌, Bool, true, false, cond, List, [], ◌∷◌, ◌++◌, All, Contains, ◌∙◌, ap, subst, arith, inl, inr}
+use Rattle.std.specs.Prelude.{if◌then◌else◌}
+use Rattle.std.proofs.lemmas.Bool.{cases_eq}
+use Rattle.std.proofs.lemmas.Bool.Decides.{nat_tests}
+use Rattle.std.proofs.lemmas.List.Concat.{flat_map-append}
+use Rattle.std.proofs.lemmas.List.Elements.{All-contains}
+use Rattle.auc_history.specs.declared.entry.Entry.{Entry}
+use Rattle.auc_history.specs.declared.entry.Entry.TheVariants.{Drawn}
+use Rattle.auc_history.specs.History.{drawn, drawn_by}
+use Rattle.auc_history.specs.Split.{times}
+use Rattle.auc_history.proofs.ListLemmas.{times-cons, times-append, times_at}
+use Rattle.auc_world.specs.declared.record.LineRecord.{LineRecord}
+use Rattle.auc_world.specs.declared.record.LineRecord.TheVariants.{Vector, Withheld, Exhausted, Sync, Give}
+use Rattle.auc_transcript.specs.Lines.{released_by, numbers_of, accepted_by, accepted}
+use Rattle.auc_transcript.specs.Entries.{entries_of_line, entries_of_lines}
+use Rattle.auc_transcript.specs.Given.{is_in}
+
+-- ---- how often a number stands in a list
+
+-- a number that stands in a list is one of its elements
+pub Contains-from_times : (n : ℕ) (xs : List ℕ) → 1 ≤ times n xs → Contains xs n
+Contains-from_times n [] there = absurd (omega arith)
+Contains-from_times n (x ∷ xs) there =
+    elim (cases_eq x n) [
+      | inl same ↦ (zero, omega arith, same)
+      | inr other ↦ later (Contains-from_times n xs (let cut = times-cons n x xs in grind (arith, nat_tests)))
+    ]
+  where
+    later : Contains xs n → Contains (x ∷ xs) n
+    later (k, k<n, at) = (suc k, omega arith, at)
+
+-- and the other way round
+pub times-from_contains : (n : ℕ) (xs : List ℕ) → Contains xs n → 1 ≤ times n xs
+times-from_contains n xs (k, k<n, at) = subst (λ (m : ℕ). 1 ≤ times m xs) at (times_at xs k n k<n)
+
+-- what holds of each element holds of a number that stands there
+pub All-times : (P : ℕ → Type 0) (n : ℕ) (xs : List ℕ) → All P xs → 1 ≤ times n xs → P n
+All-times P n xs all there = All-contains P xs n all (Contains-from_times n xs there)
+
+-- a number that is found stands there
+pub times-from_is_in : (n : ℕ) (xs : List ℕ) → is_in n xs ≡ true → 1 ≤ times n xs
+times-from_is_in n [] found = absurd (let no : ⊥ = cc in no)
+times-from_is_in n (x ∷ xs) found =
+    let cut = times-cons n x xs in
+    let rest = times-from_is_in n xs in
+    step (x == n) (is_in n xs) (times n xs) (times n (x ∷ xs)) cut found rest
+  where
+    step : (here later : Bool) (few all : ℕ) → all ≡ cond here 1 0 + few → (here || later) ≡ true → (later ≡ true → 1 ≤ few) → 1 ≤ all
+    step true later few all cut found rest = omega arith
+    step false later few all cut found rest = let some = rest found in omega arith
+
+-- ---- released numbers are drawn
+
+-- a number that stands at most as often before as after a further one
+times-further : (n m : ℕ) (xs ys : List ℕ) → times n xs ≤ times n ys → times n (m ∷ xs) ≤ times n (m ∷ ys)
+times-further n m xs ys rest = let these = times-cons n m xs in let those = times-cons n m ys in omega (arith, these, those)
+
+-- further entries draw no less
+drawn-further : (n : ℕ) (numbers : List ℕ) (xs ys : List Entry) → times n numbers ≤ times n (drawn ys) → times n numbers ≤ times n (drawn (xs ++ ys))
+drawn-further n numbers xs ys rest =
+    let cut = ap (times n) (flat_map-append drawn_by xs ys) ∙ times-append n (drawn xs) (drawn ys) in omega (arith, cut, rest)
+
+-- a vector's number is drawn
+drawn-vector : (there : Bool) (n m : ℕ) (numbers : List ℕ) (entries : List Entry) → times n numbers ≤ times n (drawn entries)
+    → times n ((if there then m ∷ [] else []) ++ numbers) ≤ times n (drawn ((if there then Drawn m ∷ [] else []) ++ entries))
+drawn-vector true n m numbers entries rest = times-further n m numbers (drawn entries) rest
+drawn-vector false n m numbers entries rest = rest
+
+-- the numbers of the vectors of some lines are drawn by their entries
+pub times-numbers : (n sub : ℕ) (before lines : List LineRecord) → times n (numbers_of sub lines) ≤ times n (drawn (entries_of_lines sub before lines))
+times-numbers n sub before [] = omega arith
+times-numbers n sub before (Vector s vector ∷ lines) =
+    drawn-vector (s == sub) n vector.n (numbers_of sub lines) (entries_of_lines sub (before ++ Vector s vector ∷ []) lines)
+    (times-numbers n sub (before ++ Vector s vector ∷ []) lines)
+times-numbers n sub before (Withheld s m stop ∷ lines) =
+    drawn-further n (numbers_of sub lines) (entries_of_line sub before (Withheld s m stop)) (entries_of_lines sub (before ++ Withheld s m stop ∷ []) lines)
+    (times-numbers n sub (before ++ Withheld s m stop ∷ []) lines)
+times-numbers n sub before (Exhausted s word ∷ lines) =
+    drawn-further n (numbers_of sub lines) (entries_of_line sub before (Exhausted s word)) (entries_of_lines sub (before ++ Exhausted s word ∷ []) lines)
+    (times-numbers n sub (before ++ Exhausted s word ∷ []) lines)
+times-numbers n sub before (Sync s answer ∷ lines) =
+    drawn-further n (numbers_of sub lines) (entries_of_line sub before (Sync s answer)) (entries_of_lines sub (before ++ Sync s answer ∷ []) lines)
+    (times-numbers n sub (before ++ Sync s answer ∷ []) lines)
+times-numbers n sub before (Give s m answer ∷ lines) = times-numbers n sub (before ++ Give s m answer ∷ []) lines
+
+-- ---- lines and further lines
+
+-- how often a number is released by lines and further ones
+pub times-numbers-append : (n sub : ℕ) (xs ys : List LineRecord) → times n (numbers_of sub (xs ++ ys)) ≡ times n (numbers_of sub xs) + times n (numbers_of sub ys)
+times-numbers-append n sub xs ys = ap (times n) (flat_map-append (released_by sub) xs ys) ∙ times-append n (numbers_of sub xs) (numbers_of sub ys)
+
+-- and accepted
+pub times-accepted-append : (n sub : ℕ) (xs ys : List LineRecord) → times n (accepted sub (xs ++ ys)) ≡ times n (accepted sub xs) + times n (accepted sub ys)
+times-accepted-append n sub xs ys = ap (times n) (flat_map-append (accepted_by sub) xs ys) ∙ times-append n (accepted sub xs) (accepted sub ys)

@@ -1,0 +1,142 @@
+-- For the laws: what each line of a lawful transcript is, by all lines before it.
+use Rattle.std.proofs.Common.{◌≡◌, ◌≢◌, ℕ, zero, suc, ◌+◌, ◌%◌, ◌≤◌, Bool, true, false, List, [], ◌∷◌, ◌++◌, Some, refl, sym, subst, arith, inl, inr, append_assoc, append-nil}
+use Rattle.std.specs.Prelude.{slice_get}
+use Rattle.std.proofs.lemmas.Bool.{or_cases}
+use Rattle.auc_history.specs.Split.{times}
+use Rattle.auc_script.specs.declared.part.Line.{Line}
+use Rattle.auc_script.specs.declared.part.Line.TheVariants as line
+use Rattle.auc_script.specs.declared.part.Part.{Part}
+use Rattle.auc_script.specs.declared.part.Part.TheVariants.{Round}
+use Rattle.auc_sqn.specs.Past.{verdict_of}
+use Rattle.auc_sqn.specs.declared.number.TheConstants.{MAX_SEQ}
+use Rattle.auc_subs.specs.declared.row.Row.{Row}
+use Rattle.auc_world.specs.declared.record.GiveVerdict.{GiveVerdict}
+use Rattle.auc_world.specs.declared.record.GiveVerdict.TheVariants as given
+use Rattle.auc_world.specs.declared.record.LineRecord.{LineRecord}
+use Rattle.auc_world.specs.declared.record.LineRecord.TheVariants.{Vector, Withheld, Exhausted, Sync, Give}
+use Rattle.auc_world.specs.declared.record.RoundRecord.{RoundRecord}
+use Rattle.auc_world.specs.declared.record.SyncVerdict.{SyncVerdict}
+use Rattle.auc_world.specs.declared.record.SyncVerdict.TheVariants as verdict
+use Rattle.auc_transcript.specs.Lines.{numbers_of, accepted, all_lines}
+use Rattle.auc_transcript.specs.Given.{Setting, Before, DrawGives, FollowsVerdict, is_released, past_of, past_before, Answers, IsGiven, LineGives, behind, JobGives, JobsGive}
+use Rattle.auc_transcript.specs.Transcript.{AreLawful, lines_of}
+use Rattle.auc_transcript.proofs.LineLemmas.{times-from_is_in, times-numbers-append}
+
+-- a presented vector was released, and its USIM answered by all that it had accepted
+pub record IsAnswered (set : Setting) (before : List LineRecord) (sub n : ℕ) (answer : GiveVerdict) : Type 0 where
+  pub row : Row
+  pub there : slice_get set.rows sub ≡ Some row
+  pub released : 1 ≤ times n (numbers_of sub before)
+  pub answers : Answers (verdict_of (past_of row.usim (accepted sub before)) n (n % 32)) (past_of row.usim (accepted sub before)) answer
+
+-- what a line is, behind the lines before it: a vector has a number, and a presented vector was answered
+abbrev pub IsServed : Setting → List LineRecord → LineRecord → Type 0
+IsServed set before (Vector s vector) = vector.n ≤ MAX_SEQ
+IsServed set before (Withheld s n stop) = Unit {0}
+IsServed set before (Exhausted s word) = Unit {0}
+IsServed set before (Sync s answer) = Unit {0}
+IsServed set before (Give s n answer) = answer ≢ given.Absent → IsAnswered set before s n answer
+
+-- and what further lines are, one after the other
+abbrev pub AreServed : Setting → List LineRecord → List LineRecord → Type 0
+AreServed set before [] = Unit {0}
+AreServed set before (line ∷ lines) = IsServed set before line × AreServed set (before ++ line ∷ []) lines
+
+-- lines and further lines
+AreServed-append : (set : Setting) (before xs ys : List LineRecord) → AreServed set before xs → AreServed set (before ++ xs) ys → AreServed set before (xs ++ ys)
+AreServed-append set before [] ys these those = subst (λ (ls : List LineRecord). AreServed set ls ys) (append-nil before) those
+AreServed-append set before (x ∷ xs) ys (first, these) those = (
+  first,
+  AreServed-append set (before ++ x ∷ []) xs ys these
+      (subst (λ (ls : List LineRecord). AreServed set ls ys) (sym (append_assoc before (x ∷ []) xs)) those),
+)
+
+-- one line of many
+pub served_at : (set : Setting) (start before after : List LineRecord) (line : LineRecord) → AreServed set start (before ++ line ∷ after) → IsServed set (start ++ before) line
+served_at set start [] after line (here, rest) = subst (λ (ls : List LineRecord). IsServed set ls line) (sym (append-nil start)) here
+served_at set start (x ∷ before) after line (first, rest) =
+    subst (λ (ls : List LineRecord). IsServed set ls line) (append_assoc start (x ∷ []) before) (served_at set (start ++ x ∷ []) before after line rest)
+
+-- ---- the lines of a job
+
+-- the lines of a request
+draw_served : (set : Setting) (before : List LineRecord) (sub count : ℕ) (lines : List LineRecord) → DrawGives set sub count lines → AreServed set before lines
+draw_served set before sub zero lines gives = subst (λ (ls : List LineRecord). AreServed set before ls) (sym gives) tt
+draw_served set before sub (suc count) [] gives = absurd gives
+draw_served set before sub (suc count) (Vector s vector ∷ lines) (same, is, more) =
+    (is.last, draw_served set (before ++ Vector s vector ∷ []) sub count lines more)
+draw_served set before sub (suc count) (Withheld s n stop ∷ lines) (same, first, last, none) =
+    (tt, subst (λ (ls : List LineRecord). AreServed set (before ++ Withheld s n stop ∷ []) ls) (sym none) tt)
+draw_served set before sub (suc count) (Exhausted s word ∷ lines) (same, spent, none) =
+    (tt, subst (λ (ls : List LineRecord). AreServed set (before ++ Exhausted s word ∷ []) ls) (sym none) tt)
+draw_served set before sub (suc count) (Sync s answer ∷ lines) gives = absurd gives
+draw_served set before sub (suc count) (Give s n answer ∷ lines) gives = absurd gives
+
+-- what follows a verdict
+follows_served : (set : Setting) (before : List LineRecord) (sub count : ℕ) (answer : SyncVerdict) (lines : List LineRecord)
+    → FollowsVerdict set sub count answer lines → AreServed set before lines
+follows_served set before sub count (verdict.Moved seen seq_ms) lines follows = draw_served set before sub count lines follows
+follows_served set before sub count (verdict.InRange seen seq_ms) lines follows = draw_served set before sub count lines follows
+follows_served set before sub count (verdict.Beyond seen seq_ms) lines follows = subst (λ (ls : List LineRecord). AreServed set before ls) (sym follows) tt
+follows_served set before sub count verdict.WrongMac lines follows = subst (λ (ls : List LineRecord). AreServed set before ls) (sym follows) tt
+
+-- all lines before
+abbrev all_before : Before → List LineRecord
+all_before place = place.early ++ place.beside ++ place.own
+
+-- a released number stands among the numbers of all lines before
+released_before : (place : Before) (sub n : ℕ) → is_released place sub n ≡ true → 1 ≤ times n (numbers_of sub (all_before place))
+released_before place sub n released =
+    let outer = times-numbers-append n sub (place.early ++ place.beside) place.own in
+    let inner = times-numbers-append n sub place.early place.beside in
+    elim (or_cases _ _ released) [
+      | inl early ↦ let some = times-from_is_in n (numbers_of sub place.early) early in omega (arith, outer, inner, some)
+      | inr own ↦ let some = times-from_is_in n (numbers_of sub place.own) own in omega (arith, outer, inner, some)
+    ]
+
+-- what a presented vector is
+given_answered : (set : Setting) (place : Before) (sub n : ℕ) (row : Row) (answer : GiveVerdict) (b : Bool) → is_released place sub n ≡ b
+    → slice_get set.rows sub ≡ Some row → IsGiven b (past_before place row sub) n answer → answer ≢ given.Absent → IsAnswered set (all_before place) sub n answer
+given_answered set place sub n row answer false is there given present = absurd (present given)
+given_answered set place sub n row answer true is there given present =
+    record { row = row; there = there; released = released_before place sub n is; answers = given }
+
+-- what a line of a job gives
+line_served : (set : Setting) (place : Before) (l : Line) (lines : List LineRecord) → LineGives set place l lines → AreServed set (all_before place) lines
+line_served set place (line.Draw sub count) lines gives = draw_served set (all_before place) sub count lines gives
+line_served set place (line.Sync sub seq bit count) lines gives =
+    subst (λ (ls : List LineRecord). AreServed set (all_before place) ls) (sym gives.lines_are)
+    (tt, follows_served set (all_before place ++ Sync sub gives.answer ∷ []) sub count gives.answer gives.more gives.follows)
+line_served set place (line.Give sub n) lines gives =
+    subst (λ (ls : List LineRecord). AreServed set (all_before place) ls) (sym gives.lines_are)
+    (given_answered set place sub n gives.row gives.answer (is_released place sub n) refl gives.there gives.given, tt)
+
+-- what a job gives
+job_served : (set : Setting) (place : Before) (job : List Line) (records : List LineRecord) → JobGives set place job records → AreServed set (all_before place) records
+job_served set place [] records gives = subst (λ (ls : List LineRecord). AreServed set (all_before place) ls) (sym gives) tt
+job_served set place (l ∷ job) records (front, rest, cut, gives, more) =
+    subst (λ (ls : List LineRecord). AreServed set (all_before place) ls) (sym cut)
+    (AreServed-append set (all_before place) front rest (line_served set place l front gives)
+    (subst (λ (ls : List LineRecord). AreServed set ls rest) (sym (append_assoc (place.early ++ place.beside) place.own front)) (job_served set (behind place front) job rest more)))
+
+-- what the jobs of a round give
+jobs_served : (set : Setting) (early beside : List LineRecord) (jobs : List (List Line)) (records : List (List LineRecord))
+    → JobsGive set early beside jobs records → AreServed set (early ++ beside) (all_lines records)
+jobs_served set early beside [] records gives = subst (λ (rs : List (List LineRecord)). AreServed set (early ++ beside) (all_lines rs)) (sym gives) tt
+jobs_served set early beside (job ∷ jobs) [] gives = absurd gives
+jobs_served set early beside (job ∷ jobs) (lines ∷ records) (gives, more) =
+    let first = job_served set (record { early = early; beside = beside; own = [] }) job lines gives in
+    AreServed-append set (early ++ beside) lines (all_lines records)
+    (subst (λ (ls : List LineRecord). AreServed set ls lines) (append-nil (early ++ beside)) first)
+    (subst (λ (ls : List LineRecord). AreServed set ls (all_lines records)) (sym (append_assoc early beside lines)) (jobs_served set early (beside ++ lines) jobs records more))
+
+-- what the rounds of a lawful transcript have
+pub rounds_served : (set : Setting) (number : ℕ) (early : List LineRecord) (openings : List ℕ) (parts : List Part) (rounds : List RoundRecord)
+    → AreLawful set number early openings parts rounds → AreServed set early (lines_of rounds)
+rounds_served set number early openings [] rounds lawful = subst (λ (rs : List RoundRecord). AreServed set early (lines_of rs)) (sym lawful) tt
+rounds_served set number early openings (part ∷ parts) [] lawful = absurd lawful
+rounds_served set number early openings (Round jobs ∷ parts) (round ∷ rounds) (next, (is_number, words, lawful, is_next), rest) =
+    let first = jobs_served set early [] jobs round.jobs lawful.given in
+    AreServed-append set early (all_lines round.jobs) (lines_of rounds)
+    (subst (λ (ls : List LineRecord). AreServed set ls (all_lines round.jobs)) (append-nil early) first)
+    (rounds_served set (number + 1) (early ++ all_lines round.jobs) next parts rounds rest)

@@ -1,0 +1,6 @@
+pub mod Lines
+pub mod Entries
+pub mod Given
+pub mod Round
+pub mod Transcript
+pub mod Headline

@@ -1,0 +1,47 @@
+-- A lawful round: what its jobs demand of the records, and what they say of each subscriber's history.
+-- Nothing here speaks of an order between the jobs' steps.
+use Rattle.std.specs.Prelude.{◌≡◌, ℕ, ◌+◌, ◌^◌, ◌<◌, ◌==◌, List, [], ◌∷◌, ◌++◌, length, slice_index, if◌then◌else◌}
+use Rattle.auc_sqn.specs.declared.number.TheConstants.{MAX_SEQ}
+use Rattle.auc_history.specs.History.{drawn, skipped}
+use Rattle.auc_history.specs.Split.{Splits, all_entries}
+use Rattle.auc_script.specs.declared.part.Line.{Line}
+use Rattle.auc_world.specs.declared.record.LineRecord.{LineRecord}
+use Rattle.auc_world.specs.declared.record.Closing.{Closing}
+use Rattle.auc_world.specs.declared.record.RoundRecord.{RoundRecord}
+use Rattle.auc_transcript.specs.Lines.{numbers_of, withheld_of, all_lines}
+use Rattle.auc_transcript.specs.Entries.{entries_of_jobs}
+use Rattle.auc_transcript.specs.Given.{Setting, JobsGive}
+
+-- the closing of a subscriber whose word moved from an opening to a closing, with the counts of its
+-- entries and of its vectors; none where the word stood
+abbrev pub closing_of : ℕ → ℕ → ℕ → List (List LineRecord) → List Closing
+closing_of sub opening closing jobs =
+    if opening == closing then [] else record {
+      sub = sub;
+      first = opening;
+      last = closing;
+      drawn = length (drawn (all_entries (entries_of_jobs sub [] jobs)));
+      skipped = skipped (all_entries (entries_of_jobs sub [] jobs));
+      released = length (numbers_of sub (all_lines jobs));
+      withheld = length (withheld_of sub (all_lines jobs));
+    } ∷ []
+
+-- the closings of the subscribers from one on, in their order
+abbrev pub closings_from : ℕ → List ℕ → List ℕ → List (List LineRecord) → List Closing
+closings_from sub [] words jobs = []
+closings_from sub (opening ∷ openings) [] jobs = []
+closings_from sub (opening ∷ openings) (word ∷ words) jobs =
+    closing_of sub opening word jobs ++ closings_from (sub + 1) openings words jobs
+
+-- a round that opens each subscriber at a word and closes it at a word, behind the lines of earlier rounds:
+-- its records are what its jobs give, and the jobs' entries of each subscriber split a legal history from
+-- the one word to the other
+pub record IsLawfulRound (set : Setting) (early : List LineRecord) (openings : List ℕ) (jobs : List (List Line)) (round : RoundRecord) (words : List ℕ) : Type 0 where
+  pub sizes : length words ≡ length openings
+  pub fits : (sub : ℕ) → sub < length words → slice_index words sub < 2 ^ 64
+  pub given : JobsGive set early [] jobs round.jobs
+  pub split : (sub : ℕ) → sub < length openings
+      → Splits MAX_SEQ (slice_index openings sub) (slice_index words sub) (entries_of_jobs sub [] round.jobs)
+  pub closings : round.closings ≡ closings_from 0 openings words round.jobs
+  -- a drawn number that is no mark was released
+  pub released : (sub : ℕ) → withheld_of sub (all_lines round.jobs) ≡ []
