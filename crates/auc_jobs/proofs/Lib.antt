@@ -1,0 +1,9 @@
+pub mod LineLemmas
+pub mod SayingLemmas
+pub mod DrawingLemmas
+pub mod UsimLemmas
+pub mod SyncLemmas
+pub mod JobLemmas
+pub mod CountLemmas
+pub mod StateLemmas
+pub mod RoundLemmas

@@ -1,0 +1,326 @@
+-- For the USIMs: lists of which one element changes, and what a USIM answers to the vector of a number.
+use Rattle.std.proofs.Common.{◌≡◌, ◌≢◌, ℕ, zero, suc, ◌%◌, ◌<◌, ◌≤◌, ◌⊎◌, eqb, true, false, List, [], ◌∷◌, ◌++◌, length, get_or, refl, sym, ◌∙◌, ap, subst, arith, inl, inr, Contains, append-nil}
+use Rattle.std.specs.Prelude.{Some, slice_get, slice_set, if◌then◌else◌}
+use Rattle.std.proofs.lemmas.Bool.Decides.{eqb_tells}
+use Rattle.std.proofs.lemmas.List.{length-set}
+use Rattle.std.proofs.lemmas.List.Sums.{fold_push}
+use Rattle.auc_aes.specs.Bytes.{IsBlock}
+use Rattle.auc_milenage.specs.declared.secret.Secret.{Secret}
+use Rattle.auc_sqn.specs.Number.{seq_of, ind_of, sqn_bytes}
+use Rattle.auc_sqn.specs.Past.{Past, Remembers, verdict_of, opening_past}
+use Rattle.auc_sqn.specs.declared.number.TheConstants.{MAX_SEQ}
+use Rattle.auc_sqn.specs.declared.verdict.Verdict.{Verdict}
+use Rattle.auc_sqn.specs.declared.verdict.Verdict.TheVariants.{Fresh, Old, Far}
+use Rattle.auc_sqn.proofs.NumberLemmas.{seq_of-sqn_bytes, ind_of-sqn_bytes}
+use Rattle.auc_subs.specs.declared.row.Row.{Row}
+use Rattle.auc_transcript.specs.Given.{Answers, past_of}
+use Rattle.auc_transcript.specs.Lines.{accepted, accepted_by}
+use Rattle.auc_usim.specs.Usim.{Memory, sqn_in, mac_in, xmac, acceptance, verdict_on, FollowsVerdict, IsAnswer, past_after_answer}
+use Rattle.auc_usim.specs.declared.answer.Answer.{Answer}
+use Rattle.auc_usim.specs.declared.answer.Answer.TheVariants.{Accepted, WrongMac, SyncFailure}
+use Rattle.auc_subs.specs.Subscriber.{IsRow}
+use Rattle.auc_vector.specs.Vector.{autn_of, vector_of, sqn_in as sqn_found}
+use Rattle.auc_vector.specs.declared.parts.Vector.{Vector}
+use Rattle.auc_vector.proofs.AutnLemmas.{autn_carries, autn_has_its_mac}
+use Rattle.auc_world.specs.declared.record.GiveVerdict.{GiveVerdict}
+use Rattle.auc_world.specs.declared.record.GiveVerdict.TheVariants as given
+use Rattle.auc_world.specs.declared.record.LineRecord.{LineRecord}
+use Rattle.auc_world.specs.declared.record.LineRecord.TheVariants.{Give}
+use Rattle.auc_jobs.specs.Usims.{AreOfRows, AreBehind, Challenges, Presents}
+use Rattle.auc_jobs.proofs.LineLemmas.{accepted-append}
+
+-- ---- lists of which one element changes or is added
+
+-- an element of a list with one more is one of the list's, or the one behind
+pub pushed_cases : {X : Type 0} (xs : List X) (x y : X) (k : ℕ) → slice_get (xs ++ x ∷ []) k ≡ Some y
+    → (slice_get xs k ≡ Some y) ⊎ ((k ≡ length xs) × (x ≡ y))
+pushed_cases [] x y zero there = inr (refl, cc)
+pushed_cases [] x y (suc k) there = absurd (cc)
+pushed_cases (z ∷ xs) x y zero there = inl there
+pushed_cases (z ∷ xs) x y (suc k) there =
+    elim (pushed_cases xs x y k there) [ inl old ↦ inl old | inr (at, is) ↦ inr (omega arith, is) ]
+
+-- an element of a list of which one was set is that one, or another as it was
+pub set_cases : {X : Type 0} (xs : List X) (x y : X) (i k : ℕ) → slice_get (slice_set xs i x) k ≡ Some y
+    → ((i ≡ k) × (x ≡ y)) ⊎ ((i ≢ k) × (slice_get xs k ≡ Some y))
+set_cases [] x y i k there = absurd (nothing k there)
+  where
+    nothing : (k : ℕ) → slice_get (slice_set [] i x) k ≡ Some y → ⊥
+    nothing k there = cc
+set_cases (z ∷ xs) x y zero zero there = inl (refl, cc)
+set_cases (z ∷ xs) x y zero (suc k) there = inr (λ e. absurd (omega arith), there)
+set_cases (z ∷ xs) x y (suc i) zero there = inr (λ e. absurd (omega arith), there)
+set_cases (z ∷ xs) x y (suc i) (suc k) there =
+    elim (set_cases xs x y i k there) [ inl (at, is) ↦ inl (omega arith, is) | inr (other, old) ↦ inr (λ e. other (omega arith), old) ]
+
+-- ---- each array remembers some past
+
+-- the first entries of an array, each with its IND
+entries_to : List ℕ → ℕ → Past
+entries_to entries zero = []
+entries_to entries (suc n) = (get_or entries n 0, n) ∷ entries_to entries n
+
+there_to : (entries : List ℕ) (n ind : ℕ) → ind < n → Contains (entries_to entries n) (get_or entries ind 0, ind)
+unfolding entries_to
+there_to entries zero ind lt = absurd (omega arith)
+there_to entries (suc n) ind lt =
+    elim (eqb_tells n ind) [
+      | inl (e, same) ↦ (0, omega arith, ap (λ (i : ℕ). let pair : ℕ × ℕ = (get_or entries i 0, i) in pair) same)
+      | inr (e, other) ↦ (let rest = there_to entries n ind (omega arith) in (suc rest.0, omega arith, rest.2))
+    ]
+
+above_to : (entries : List ℕ) (n seq ind : ℕ) → Contains (entries_to entries n) (seq, ind) → (ind < n) × (seq ≤ get_or entries ind 0)
+unfolding entries_to
+above_to entries zero seq ind (k, k<n, at) = absurd (omega arith)
+above_to entries (suc n) seq ind (zero, k<n, at) =
+    let is : n ≡ ind = ap (λ (p : ℕ × ℕ). p.1) at in let from : get_or entries n 0 ≡ seq = ap (λ (p : ℕ × ℕ). p.0) at in
+    let same : get_or entries n 0 ≡ get_or entries ind 0 = ap (λ (i : ℕ). get_or entries i 0) is in
+    (omega arith, omega arith)
+above_to entries (suc n) seq ind (suc k, k<n, at) = let rest = above_to entries n seq ind (k, omega arith, at) in (omega arith, rest.1)
+
+pub some_past : (entries : List ℕ) → (past : Past) × Remembers entries past
+some_past entries = (entries_to entries 32, record { there = λ ind lt. there_to entries 32 ind lt; above = λ seq ind in_past. above_to entries 32 seq ind in_past })
+
+-- ---- the answer to the vector of a number
+
+-- the SQN that the USIM finds in the AUTN of a number
+found_sqn : (s : Secret) (rand amf : List ℕ) (n : ℕ) → IsBlock s.k → IsBlock s.opc → sqn_in s rand (autn_of s.k s.opc rand amf n) ≡ sqn_bytes n
+unfolding sqn_in sqn_found
+found_sqn s rand amf n hk ho = autn_carries s.k s.opc rand amf n hk ho
+
+-- the MAC of such an AUTN is right
+right_mac : (s : Secret) (rand amf : List ℕ) (n : ℕ) → IsBlock s.k → IsBlock s.opc → length amf ≡ 2
+    → mac_in (autn_of s.k s.opc rand amf n) ≡ xmac s rand (autn_of s.k s.opc rand amf n)
+unfolding sqn_in sqn_found xmac
+right_mac s rand amf n hk ho two = autn_has_its_mac s.k s.opc rand amf n hk ho two
+
+-- so the verdict of the past on the number decides
+pub verdict_decides : (s : Secret) (past : Past) (rand amf : List ℕ) (n : ℕ) (answer : Answer) → IsBlock s.k → IsBlock s.opc → length amf ≡ 2 → n ≤ MAX_SEQ
+    → IsAnswer s past rand (autn_of s.k s.opc rand amf n) answer
+    → FollowsVerdict s past rand (autn_of s.k s.opc rand amf n) (verdict_of past n (n % 32)) answer
+verdict_decides s past rand amf n answer hk ho two last is =
+    let found = found_sqn s rand amf n hk ho in
+    let seq : seq_of (sqn_in s rand (autn_of s.k s.opc rand amf n)) ≡ n = ap seq_of found ∙ seq_of-sqn_bytes n last in
+    let ind : ind_of (sqn_in s rand (autn_of s.k s.opc rand amf n)) ≡ n % 32 = ap ind_of found ∙ ind_of-sqn_bytes n last in
+    let same : verdict_on s past rand (autn_of s.k s.opc rand amf n) ≡ verdict_of past n (n % 32) =
+    ap (λ (q : ℕ). verdict_of past q (ind_of (sqn_in s rand (autn_of s.k s.opc rand amf n)))) seq ∙ ap (verdict_of past n) ind in
+    subst (λ (v : Verdict). FollowsVerdict s past rand (autn_of s.k s.opc rand amf n) v answer) same (is.right_mac (right_mac s rand amf n hk ho two))
+
+-- it isn't that the MAC is wrong
+pub never_wrong : (s : Secret) (past : Past) (rand autn : List ℕ) (verdict : Verdict) → FollowsVerdict s past rand autn verdict WrongMac → ⊥
+unfolding acceptance
+never_wrong s past rand autn Fresh is = cc
+never_wrong s past rand autn (Old entry) (sqn_ms, is, e) = cc
+never_wrong s past rand autn (Far greatest) (sqn_ms, is, e) = cc
+
+-- an acceptance comes where the verdict is Fresh, and names the SQN that was found
+pub accepts : (s : Secret) (past : Past) (rand autn : List ℕ) (verdict : Verdict) (res ck ik ak amf sqn : List ℕ)
+    → FollowsVerdict s past rand autn verdict (Accepted res ck ik ak amf sqn) → Answers verdict past given.Accepted × (sqn ≡ sqn_in s rand autn)
+unfolding acceptance
+accepts s past rand autn Fresh res ck ik ak amf sqn is = (refl, cc)
+accepts s past rand autn (Old entry) res ck ik ak amf sqn (sqn_ms, is, e) = absurd (cc)
+accepts s past rand autn (Far greatest) res ck ik ak amf sqn (sqn_ms, is, e) = absurd (cc)
+
+-- a synchronisation failure comes where it isn't, and tells SQN_MS
+pub fails : (s : Secret) (past : Past) (rand autn : List ℕ) (verdict : Verdict) (auts sqn : List ℕ)
+    → FollowsVerdict s past rand autn verdict (SyncFailure auts sqn) → Answers verdict past (given.Sync sqn)
+unfolding acceptance
+fails s past rand autn Fresh auts sqn is = absurd (cc)
+fails s past rand autn (Old entry) auts sqn (sqn_ms, is, e) = (sqn_ms, is, cc)
+fails s past rand autn (Far greatest) auts sqn (sqn_ms, is, e) = (sqn_ms, is, cc)
+
+-- ---- the USIMs behind a challenge
+
+-- there is still one for each row, with its secret
+pub challenged_rows : (rows : List Row) (old new : List Memory) (sub : ℕ) (rand autn : List ℕ) (answer : Answer)
+    → Challenges old sub rand autn answer new → AreOfRows rows old → AreOfRows rows new
+challenged_rows rows old new sub rand autn answer c are = record {
+  sizes = rw c.set (length-set old sub c.after ∙ are.sizes);
+  secrets = λ i row usim at there. secret i row usim at (set_cases old c.after usim sub i (subst (λ (usims : List Memory). slice_get usims i ≡ Some usim) c.set there));
+}
+  where
+    secret : (i : ℕ) (row : Row) (usim : Memory) → slice_get rows i ≡ Some row
+        → ((sub ≡ i) × (c.after ≡ usim)) ⊎ ((sub ≢ i) × (slice_get old i ≡ Some usim)) → usim.secret ≡ row.secret
+    secret i row usim at (inl (same, is)) =
+        let before : c.before.secret ≡ row.secret =
+        are.secrets sub row c.before (subst (λ (k : ℕ). slice_get rows k ≡ Some row) (sym same) at) c.there in
+        ap (λ (m : Memory). m.secret) (sym is) ∙ c.secret ∙ before
+    secret i row usim at (inr (other, is)) = are.secrets i row usim at is
+
+-- the numbers that a USIM accepted, behind the line of another one's or its own
+accepted_here : (sub n : ℕ) (lines : List LineRecord) → accepted sub (lines ++ Give sub n given.Accepted ∷ []) ≡ accepted sub lines ++ n ∷ []
+accepted_here sub n lines = accepted-append sub lines (Give sub n given.Accepted ∷ []) ∙ step (eqb_tells sub sub)
+  where
+    step : ((eqb sub sub ≡ true) × (sub ≡ sub)) ⊎ ((eqb sub sub ≡ false) × (sub ≢ sub))
+        → accepted sub lines ++ ((if eqb sub sub then n ∷ [] else []) ++ []) ≡ accepted sub lines ++ n ∷ []
+    step (inl (e, same)) = rw e refl
+    step (inr (e, not)) = absurd (not refl)
+
+accepted_quiet : (i : ℕ) (lines : List LineRecord) (line : LineRecord) → accepted_by i line ≡ [] → accepted i (lines ++ line ∷ []) ≡ accepted i lines
+accepted_quiet i lines line quiet = accepted-append i lines (line ∷ []) ∙ rw quiet (append-nil (accepted i lines))
+
+-- a USIM whose line tells no acceptance remembers what it did
+sync_quiet : (i sub n : ℕ) (sqn : List ℕ) → accepted_by i (Give sub n (given.Sync sqn)) ≡ []
+sync_quiet i sub n sqn = step (eqb_tells sub i)
+  where
+    step : ((eqb sub i ≡ true) × (sub ≡ i)) ⊎ ((eqb sub i ≡ false) × (sub ≢ i)) → accepted_by i (Give sub n (given.Sync sqn)) ≡ []
+    step (inl (e, same)) = rw e refl
+    step (inr (e, not)) = rw e refl
+
+other_quiet : (i sub n : ℕ) (answer : GiveVerdict) → sub ≢ i → accepted_by i (Give sub n answer) ≡ []
+other_quiet i sub n answer other = step (eqb_tells sub i)
+  where
+    step : ((eqb sub i ≡ true) × (sub ≡ i)) ⊎ ((eqb sub i ≡ false) × (sub ≢ i)) → accepted_by i (Give sub n answer) ≡ []
+    step (inl (e, same)) = absurd (other same)
+    step (inr (e, not)) = rw e refl
+
+-- what stands of a challenged USIM and the others: the challenged one remembers what it answered
+pub record Challenged (rows : List Row) (lines : List LineRecord) (old : List Memory) (sub n : ℕ) (rand amf : List ℕ) (answer : Answer) (new : List Memory) (row : Row) : Type 0 where
+  pub challenge : Challenges old sub rand (autn_of row.secret.k row.secret.opc rand amf n) answer new
+  pub at : slice_get rows sub ≡ Some row
+  pub k : IsBlock row.secret.k
+  pub opc : IsBlock row.secret.opc
+  pub amf_size : length amf ≡ 2
+  pub last : n ≤ MAX_SEQ
+  pub rows_are : AreOfRows rows old
+  pub behind : AreBehind rows lines old
+
+-- it stands so where the vector was made of the row
+pub challenged : (rows : List Row) (lines : List LineRecord) (old : List Memory) (sub n : ℕ) (rand : List ℕ) (made : Vector) (answer : Answer) (new : List Memory) (row : Row)
+    → slice_get rows sub ≡ Some row → IsRow row → made ≡ vector_of row.secret row.amf n rand → n ≤ MAX_SEQ
+    → Challenges old sub made.rand made.autn answer new → AreOfRows rows old → AreBehind rows lines old
+    → Challenged rows lines old sub n rand row.amf answer new row
+challenged rows lines old sub n rand made answer new row at is e last c rows_are behind = record {
+  challenge = subst (λ (v : Vector). Challenges old sub v.rand v.autn answer new) e c;
+  at = at;
+  k = is.key;
+  opc = is.operator;
+  amf_size = is.management;
+  last = last;
+  rows_are = rows_are;
+  behind = behind;
+}
+
+-- and the answer isn't that the MAC is wrong
+pub never_wrong_of : (rows : List Row) (old : List Memory) (sub n : ℕ) (rand : List ℕ) (made : Vector) (answer : Answer) (new : List Memory) (row : Row)
+    → slice_get rows sub ≡ Some row → IsRow row → made ≡ vector_of row.secret row.amf n rand → n ≤ MAX_SEQ
+    → Challenges old sub made.rand made.autn answer new → AreOfRows rows old → answer ≡ WrongMac → ⊥
+never_wrong_of rows old sub n rand made answer new row at is e last c rows_are wrong =
+    let d : Challenges old sub rand (autn_of row.secret.k row.secret.opc rand row.amf n) answer new =
+    subst (λ (v : Vector). Challenges old sub v.rand v.autn answer new) e c in
+    let past = some_past d.before.array in
+    let secret : d.before.secret ≡ row.secret = rows_are.secrets sub row d.before at d.there in
+    let answers : IsAnswer row.secret past.0 rand (autn_of row.secret.k row.secret.opc rand row.amf n) WrongMac =
+    subst (λ (a : Answer). IsAnswer row.secret past.0 rand (autn_of row.secret.k row.secret.opc rand row.amf n) a) wrong
+    (subst (λ (s : Secret). IsAnswer s past.0 rand (autn_of row.secret.k row.secret.opc rand row.amf n) answer) secret (d.answers past.0 past.1)) in
+    never_wrong row.secret past.0 rand (autn_of row.secret.k row.secret.opc rand row.amf n) (verdict_of past.0 n (n % 32))
+    (verdict_decides row.secret past.0 rand row.amf n WrongMac is.key is.operator is.management last answers)
+
+-- the past of the challenged USIM
+abbrev past_at : List LineRecord → ℕ → Row → Past
+past_at lines sub row = past_of row.usim (accepted sub lines)
+
+-- the verdict decides its answer
+answer_follows : (rows : List Row) (lines : List LineRecord) (old : List Memory) (sub n : ℕ) (rand amf : List ℕ) (answer : Answer) (new : List Memory) (row : Row)
+    → Challenged rows lines old sub n rand amf answer new row
+    → FollowsVerdict row.secret (past_at lines sub row) rand (autn_of row.secret.k row.secret.opc rand amf n) (verdict_of (past_at lines sub row) n (n % 32)) answer
+answer_follows rows lines old sub n rand amf answer new row d =
+    let remembers = d.behind sub row d.challenge.before d.at d.challenge.there in
+    let secret : d.challenge.before.secret ≡ row.secret = d.rows_are.secrets sub row d.challenge.before d.at d.challenge.there in
+    verdict_decides row.secret (past_at lines sub row) rand amf n answer d.k d.opc d.amf_size d.last
+    (subst (λ (s : Secret). IsAnswer s (past_at lines sub row) rand (autn_of row.secret.k row.secret.opc rand amf n) answer) secret
+    (d.challenge.answers (past_at lines sub row) remembers))
+
+-- the USIMs behind the line, where the challenged one remembers the past that the line tells
+behind_line : (rows : List Row) (lines : List LineRecord) (old : List Memory) (sub n : ℕ) (rand amf : List ℕ) (answer : Answer) (new : List Memory) (row : Row) (verdict : GiveVerdict)
+    → Challenged rows lines old sub n rand amf answer new row
+    → past_after_answer (past_at lines sub row) answer ≡ past_of row.usim (accepted sub (lines ++ Give sub n verdict ∷ []))
+    → AreBehind rows (lines ++ Give sub n verdict ∷ []) new
+behind_line rows lines old sub n rand amf answer new row verdict d past i other usim at there =
+    elim (set_cases old d.challenge.after usim sub i (subst (λ (usims : List Memory). slice_get usims i ≡ Some usim) d.challenge.set there)) [
+      | inl (same, is) ↦
+          let one : row ≡ other = some_is row other (sym d.at ∙ subst (λ (k : ℕ). slice_get rows k ≡ Some other) (sym same) at) in
+          let now : Remembers d.challenge.after.array (past_of row.usim (accepted sub (lines ++ Give sub n verdict ∷ []))) =
+          subst (Remembers d.challenge.after.array) past (d.challenge.past (past_at lines sub row) (d.behind sub row d.challenge.before d.at d.challenge.there)) in
+          subst (λ (m : Memory). Remembers m.array (past_of other.usim (accepted i (lines ++ Give sub n verdict ∷ [])))) is
+          (subst (λ (k : ℕ). Remembers d.challenge.after.array (past_of other.usim (accepted k (lines ++ Give sub n verdict ∷ [])))) same
+          (subst (λ (r : Row). Remembers d.challenge.after.array (past_of r.usim (accepted sub (lines ++ Give sub n verdict ∷ [])))) one now))
+      | inr (not, is) ↦
+          subst (λ (numbers : List ℕ). Remembers usim.array (past_of other.usim numbers))
+          (sym (accepted_quiet i lines (Give sub n verdict) (other_quiet i sub n verdict not))) (d.behind i other usim at is)
+    ]
+  where
+    some_is : (a b : Row) → Some a ≡ Some b → a ≡ b
+    some_is a b e = cc
+
+-- the USIM accepted the vector
+pub presents_accepted : (rows : List Row) (lines : List LineRecord) (old : List Memory) (sub n : ℕ) (rand amf : List ℕ) (res ck ik ak management sqn : List ℕ) (new : List Memory) (row : Row)
+    → Challenged rows lines old sub n rand amf (Accepted res ck ik ak management sqn) new row → Presents rows lines sub n given.Accepted new
+presents_accepted rows lines old sub n rand amf res ck ik ak management sqn new row d = record {
+  answered = λ other at. subst (λ (r : Row). Answers (verdict_of (past_at lines sub r) n (n % 32)) (past_at lines sub r) given.Accepted) (some_is row other (sym d.at ∙ at)) took.0;
+  behind = behind_line rows lines old sub n rand amf (Accepted res ck ik ak management sqn) new row given.Accepted d past;
+}
+  where
+    some_is : (a b : Row) → Some a ≡ Some b → a ≡ b
+    some_is a b e = cc
+
+    took : Answers (verdict_of (past_at lines sub row) n (n % 32)) (past_at lines sub row) given.Accepted × (sqn ≡ sqn_in row.secret rand (autn_of row.secret.k row.secret.opc rand amf n))
+    took = accepts row.secret (past_at lines sub row) rand (autn_of row.secret.k row.secret.opc rand amf n) (verdict_of (past_at lines sub row) n (n % 32)) res ck ik ak management sqn
+        (answer_follows rows lines old sub n rand amf (Accepted res ck ik ak management sqn) new row d)
+
+    number : sqn ≡ sqn_bytes n
+    number = took.1 ∙ found_sqn row.secret rand amf n d.k d.opc
+
+    past : past_after_answer (past_at lines sub row) (Accepted res ck ik ak management sqn) ≡ past_of row.usim (accepted sub (lines ++ Give sub n given.Accepted ∷ []))
+    past =
+        let seq : seq_of sqn ≡ n = ap seq_of number ∙ seq_of-sqn_bytes n d.last in
+        let ind : ind_of sqn ≡ n % 32 = ap ind_of number ∙ ind_of-sqn_bytes n d.last in
+        let e : past_of row.usim (accepted sub (lines ++ Give sub n given.Accepted ∷ [])) ≡ (n, n % 32) ∷ past_at lines sub row =
+        ap (past_of row.usim) (accepted_here sub n lines) ∙ fold_push (λ past m. (m, m % 32) ∷ past) (opening_past row.usim) (accepted sub lines) n in
+        ap (λ (q : ℕ). (q, ind_of sqn) ∷ past_at lines sub row) seq ∙ ap (λ (q : ℕ). (n, q) ∷ past_at lines sub row) ind ∙ sym e
+
+-- the USIM answered a synchronisation failure
+pub presents_failure : (rows : List Row) (lines : List LineRecord) (old : List Memory) (sub n : ℕ) (rand amf : List ℕ) (auts sqn : List ℕ) (new : List Memory) (row : Row)
+    → Challenged rows lines old sub n rand amf (SyncFailure auts sqn) new row → Presents rows lines sub n (given.Sync sqn) new
+presents_failure rows lines old sub n rand amf auts sqn new row d = record {
+  answered = λ other at. subst (λ (r : Row). Answers (verdict_of (past_at lines sub r) n (n % 32)) (past_at lines sub r) (given.Sync sqn)) (some_is row other (sym d.at ∙ at))
+      (fails row.secret (past_at lines sub row) rand (autn_of row.secret.k row.secret.opc rand amf n) (verdict_of (past_at lines sub row) n (n % 32)) auts sqn
+      (answer_follows rows lines old sub n rand amf (SyncFailure auts sqn) new row d));
+  behind = behind_line rows lines old sub n rand amf (SyncFailure auts sqn) new row (given.Sync sqn) d
+      (ap (past_of row.usim) (sym (accepted_quiet sub lines (Give sub n (given.Sync sqn)) (sync_quiet sub sub n sqn))));
+}
+  where
+    some_is : (a b : Row) → Some a ≡ Some b → a ≡ b
+    some_is a b e = cc
+
+-- ---- the USIMs of the rows
+
+-- the USIMs of the first rows, each opened at its row
+pub record AreOpened (rows : List Row) (usims : List Memory) : Type 0 where
+  pub opened : (k : ℕ) (row : Row) (usim : Memory) → slice_get rows k ≡ Some row → slice_get usims k ≡ Some usim
+      → (usim.secret ≡ row.secret) × Remembers usim.array (opening_past row.usim)
+
+pub opened_none : (rows : List Row) → AreOpened rows []
+opened_none rows = record { opened = λ k row usim at there. absurd (cc) }
+
+-- one more
+pub opened_push : (rows : List Row) (usims : List Memory) (usim : Memory) (row : Row) → slice_get rows (length usims) ≡ Some row
+    → usim.secret ≡ row.secret → Remembers usim.array (opening_past row.usim) → AreOpened rows usims → AreOpened rows (usims ++ usim ∷ [])
+opened_push rows usims usim row here secret past are = record { opened = λ k other found at there. step k other found at (pushed_cases usims usim found k there) }
+  where
+    some_is : (a b : Row) → Some a ≡ Some b → a ≡ b
+    some_is a b e = cc
+
+    step : (k : ℕ) (other : Row) (found : Memory) → slice_get rows k ≡ Some other → (slice_get usims k ≡ Some found) ⊎ ((k ≡ length usims) × (usim ≡ found))
+        → (found.secret ≡ other.secret) × Remembers found.array (opening_past other.usim)
+    step k other found at (inl old) = are.opened k other found at old
+    step k other found at (inr (is, same)) =
+        let one : row ≡ other = some_is row other (sym here ∙ subst (λ (i : ℕ). slice_get rows i ≡ Some other) is at) in
+        subst (λ (m : Memory). (m.secret ≡ other.secret) × Remembers m.array (opening_past other.usim)) same
+        (subst (λ (r : Row). (usim.secret ≡ r.secret) × Remembers usim.array (opening_past r.usim)) one (secret, past))
+
+pub opened_rows : (rows : List Row) (usims : List Memory) → length usims ≡ length rows → AreOpened rows usims → AreOfRows rows usims
+opened_rows rows usims size are = record { sizes = size; secrets = λ sub row usim at there. (are.opened sub row usim at there).0 }
+
+pub opened_behind : (rows : List Row) (usims : List Memory) → AreOpened rows usims → AreBehind rows [] usims
+opened_behind rows usims are sub row usim at there = (are.opened sub row usim at there).1

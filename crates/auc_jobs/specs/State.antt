@@ -1,0 +1,28 @@
+-- What passes from round to round.
+use Rattle.std.specs.Prelude.{◌≡◌, ℕ, ◌≤◌, List, All, length}
+use Rattle.auc_sqn.specs.declared.number.TheConstants.{MAX_SEQ}
+use Rattle.auc_subs.specs.declared.row.Row.{Row}
+use Rattle.auc_transcript.specs.Given.{Setting}
+use Rattle.auc_usim.specs.Usim.{Memory}
+use Rattle.auc_world.specs.declared.record.LineRecord.{LineRecord}
+use Rattle.auc_jobs.specs.Numbers.{AreReleased}
+use Rattle.auc_jobs.specs.Usims.{AreOfRows, AreBehind}
+
+-- the words at which the next round opens the subscribers, the subscribers' USIMs, and the numbers whose
+-- vectors were released
+pub record Standing : Type 0 where
+  pub words : List ℕ
+  pub usims : List Memory
+  pub released : List (ℕ × ℕ)
+
+-- a state is one of the subscribers of some rows
+pub record IsStateOf (rows : List Row) (state : Standing) : Type 0 where
+  pub size : length state.words ≡ length rows
+  pub numbers : All (λ word. word ≤ MAX_SEQ) state.words
+  pub secrets : AreOfRows rows state.usims
+
+-- a state is the one behind the lines of all rounds so far
+pub record StandsAt (set : Setting) (early : List LineRecord) (state : Standing) : Type 0 where
+  pub subscribers : IsStateOf set.rows state
+  pub pasts : AreBehind set.rows early state.usims
+  pub earlier : AreReleased state.released early

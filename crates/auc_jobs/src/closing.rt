@@ -1,0 +1,82 @@
+//! How the subscribers' numbers stand at the end of a round.
+
+ghost use Rattle.std.specs.Prelude.{◌≡◌, ◌+◌, ◌≤◌, ◌<◌, ◌^◌, ℕ, All, Some, map, min, length, IfOk, slice_get, slice_index};
+ghost use Rattle.std.specs.Option.{option_to_list};
+ghost use Rattle.auc_sqn.specs.declared.number.TheConstants.{MAX_SEQ};
+ghost use Rattle.auc_transcript.specs.Transcript.{reopened as reopened_by};
+ghost use Rattle.auc_jobs.specs.declared.counting.Count.{Count};
+ghost use Rattle.auc_jobs.specs.Closings.{counted_closing, counted_closings};
+
+use crate::counting::Count;
+use auc_edge::{Items, NoMemory};
+use auc_sqn::MAX_SEQ;
+use auc_vector::CoreCentre;
+use auc_world::Closing;
+use std::alloc::Global;
+
+/// The word of each subscriber of a centre.
+pub(crate) fn words(alloc: Global, centre: &CoreCentre, subs: u32) -> Result<Items<u64>, NoMemory>
+    requires { length centre.now ≡ subs }
+    ensures value { IfOk result (λ words. words ≡ centre.now) }
+    ensures bound { IfOk result (λ words. All (λ word. word ≤ MAX_SEQ + 1) words) }
+{
+    let mut words = Items::new(alloc);
+    for sub in 0..subs {
+        words.push(centre.word(sub))?;
+    }
+    Ok(words)
+}
+
+/// The words at which the next round opens the subscribers: no higher than their greatest number.
+pub(crate) fn reopened(alloc: Global, words: &[u64]) -> Result<Items<u64>, NoMemory>
+    ensures value { IfOk result (λ openings. openings ≡ reopened_by words.now) }
+    ensures bound { IfOk result (λ openings. All (λ word. word ≤ MAX_SEQ) openings) }
+{
+    let mut openings = Items::new(alloc);
+    for word in words {
+        openings.push((*word).min(MAX_SEQ))?;
+    }
+    Ok(openings)
+}
+
+/// The closing of a subscriber, or `None` where its word stood.
+fn closing(sub: u32, first: u64, last: u64, count: Count) -> Option<Closing>
+    requires { first + count.skipped ≤ last }
+    ensures { option_to_list result ≡ counted_closing sub first last count }
+{
+    if first == last {
+        return None;
+    }
+    Some(Closing {
+        sub,
+        first,
+        last,
+        drawn: last - first - count.skipped,
+        skipped: count.skipped,
+        released: count.released,
+        withheld: count.withheld,
+    })
+}
+
+/// The closings of all subscribers whose words rose, in the subscribers' order.
+pub(crate) fn closings(
+    alloc: Global,
+    openings: &[u64],
+    words: &[u64],
+    counts: &[Count],
+) -> Result<Items<Closing>, NoMemory>
+    requires words { length words.now ≡ length openings.now }
+    requires counts { length counts.now ≡ length openings.now }
+    requires limit { length openings.now < 2 ^ 32 }
+    requires forward { (k : ℕ) (count : Count) → slice_get counts.now k ≡ Some count
+        → slice_index openings.now k + count.skipped ≤ slice_index words.now k }
+    ensures { IfOk result (λ all. all ≡ counted_closings 0 openings.now words.now counts.now) }
+{
+    let mut all = Items::new(alloc);
+    for sub in 0..openings.len() {
+        if let Some(closing) = closing(sub as u32, openings[sub], words[sub], counts[sub]) {
+            all.push(closing)?;
+        }
+    }
+    Ok(all)
+}

@@ -1,0 +1,98 @@
+//! Presenting vectors to USIMs.
+
+ghost use Rattle.std.specs.Prelude.{◌≡◌, ◌≤◌, ◌<◌, ◌||◌, ◌++◌, List, length, OnOk};
+ghost use Rattle.auc_sqn.specs.declared.number.TheConstants.{MAX_SEQ};
+ghost use Rattle.auc_world.specs.declared.record.LineRecord.{LineRecord};
+ghost use Rattle.auc_transcript.specs.Given.{is_in};
+ghost use Rattle.auc_transcript.specs.Lines.{numbers_of};
+ghost use Rattle.auc_jobs.specs.Numbers.{has, AreReleased};
+ghost use Rattle.auc_jobs.specs.Serving.{setting, before_at, IsAnswered, AddsGive};
+ghost use Rattle.auc_jobs.specs.Usims.{AreOfRows, AreBehind, Presents};
+
+use crate::drawing::vector_at;
+use crate::job_lines::JobLines;
+use crate::numbers::Numbers;
+use crate::usims::Usims;
+use auc_edge::NoMemory;
+use auc_sqn::MAX_SEQ;
+use auc_subs::Subscribers;
+use auc_usim::Answer;
+use auc_vector::Rands;
+use auc_world::{GiveVerdict, LineRecord};
+
+/// Presents the vector of a subscriber's number, made again, to the subscriber's USIM.
+fn present(subs: &Subscribers, rands: &Rands, usims: &mut Usims, sub: u32, n: u64) -> GiveVerdict
+    requires usims { AreOfRows subs.now usims.old }
+    requires known { sub < length subs.now }
+    requires first { 1 ≤ n }
+    requires last { n ≤ MAX_SEQ }
+
+    ensures presented { (lines : List LineRecord) → AreBehind subs.now lines usims.old
+        → Presents subs.now lines sub n result usims.new }
+    ensures usims { AreOfRows subs.now usims.new }
+{
+    let made = vector_at(subs, rands, sub, n);
+    match usims.challenge(sub, made.rand, made.autn) {
+        Answer::Accepted { .. } => GiveVerdict::Accepted,
+        Answer::SyncFailure { sqn, .. } => GiveVerdict::Sync(sqn),
+        Answer::WrongMac => unreachable!(),
+    }
+}
+
+/// Whether a subscriber's number was released, in an earlier round or by the job's lines.
+fn is_released(released: &Numbers, lines: &JobLines, sub: u32, n: u64) -> bool
+    ensures { result ≡ (has released.now sub n || is_in n (numbers_of sub lines.now)) }
+{
+    released.has(sub, n) || lines.releases(sub, n)
+}
+
+/// What the subscriber's USIM answers to the vector of a number, if it was released.
+fn answered(
+    subs: &Subscribers,
+    rands: &Rands,
+    released: &Numbers,
+    usims: &mut Usims,
+    sub: u32,
+    n: u64,
+    lines: &JobLines,
+) -> GiveVerdict
+    requires usims { AreOfRows subs.now usims.old }
+    requires known { sub < length subs.now }
+    requires first { 1 ≤ n }
+    requires last { n ≤ MAX_SEQ }
+
+    ensures answered { (early : List LineRecord) (beside : List LineRecord) → AreReleased released.now early
+        → AreBehind subs.now (early ++ beside ++ lines.now) usims.old
+        → IsAnswered subs.now (before_at early beside lines.now) sub n result usims.new }
+    ensures usims { AreOfRows subs.now usims.new }
+{
+    if is_released(released, lines, sub, n) {
+        present(subs, rands, usims, sub, n)
+    } else {
+        GiveVerdict::Absent
+    }
+}
+
+/// Presents the vector of a number to the subscriber's USIM, if it was released in an earlier round or by the job.
+pub(crate) fn give(
+    subs: &Subscribers,
+    rands: &Rands,
+    released: &Numbers,
+    usims: &mut Usims,
+    sub: u32,
+    n: u64,
+    lines: &mut JobLines,
+) -> Result<(), NoMemory>
+    requires usims { AreOfRows subs.now usims.old }
+    requires known { sub < length subs.now }
+    requires first { 1 ≤ n }
+    requires last { n ≤ MAX_SEQ }
+
+    ensures given { OnOk result ((early : List LineRecord) (beside : List LineRecord) → AreReleased released.now early
+        → AreBehind subs.now (early ++ beside ++ lines.old) usims.old
+        → AddsGive (setting rands.now subs.now) (before_at early beside lines.old) sub n usims.new lines.new) }
+    ensures usims { AreOfRows subs.now usims.new }
+{
+    let verdict = answered(subs, rands, released, usims, sub, n, lines);
+    lines.push(LineRecord::Give { sub, n, verdict })
+}

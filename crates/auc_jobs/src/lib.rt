@@ -1,0 +1,28 @@
+//! Serving a round: what its jobs ask for, line by line and one job after the other, by one authentication centre.
+//!
+//! [`serve`] opens each subscriber's numbers at its word of a [`State`], draws vectors (TS 33.102 §6.3.2),
+//! resynchronises with a USIM's AUTS (§6.3.5), presents vectors to USIMs (§6.3.3), and closes the subscribers. It
+//! answers the record of the round and the state behind it. Its contract is that the round is lawful, by the
+//! definitions of `auc_transcript`.
+//!
+//! Contracts see a [`State`] as the record of its words, of what its USIMs keep, and of the numbers whose vectors were
+//! released (`specs/State`). The functions below `serve` work over any centre; they speak of the entries that its calls
+//! make of each subscriber's history. Want of memory is the only refusal.
+#![tactic(auto)]
+
+mod closing;
+mod counting;
+mod drawing;
+mod giving;
+mod job_lines;
+mod jobs;
+mod numbers;
+mod round;
+mod state;
+mod syncing;
+#[cfg(test)]
+mod tests;
+mod usims;
+
+pub use round::{Served, serve};
+pub use state::State;
