@@ -1,8 +1,7 @@
-pub mod ServingLemmas
-pub mod LegalLemmas
-pub mod RoundLemmas
-pub mod ClosingLemmas
-pub mod DifferLemmas
+pub mod SizeLemmas
+pub mod MadeLemmas
+pub mod EntryLemmas
 pub mod PrintableLemmas
 pub mod OutputLemmas
+pub mod KnownLemmas
 pub mod OutcomeLemmas

@@ -1,12 +1,11 @@
 //! The form `vector K OPC RAND SQN AMF`: the seven functions of Milenage at these values.
 
 ghost use Rattle.std.specs.Prelude.{◌≡◌, ◌++◌, OnOk, IfOk};
-ghost use Rattle.auc_subs.specs.Field.{octets_in};
 ghost use Rattle.auc_run.specs.Algorithm.{values_in, values_named, value_line, algorithm_text};
 
 use auc_edge::{NoMemory, Octets};
 use auc_milenage::{Secret, f1_star, f5_star, f12345};
-use hex::FromHex;
+use auc_subs::read_octets;
 use std::alloc::Global;
 
 /// The values at which the functions are printed, byte strings with their most significant byte first.
@@ -44,33 +43,12 @@ fn read_values(k: &[u8], opc: &[u8], rand: &[u8], sqn: &[u8], amf: &[u8]) -> Opt
     ensures { result ≡ values_in k.now opc.now rand.now sqn.now amf.now }
 {
     Some(AlgorithmWords {
-        k: read_block(k)?,
-        opc: read_block(opc)?,
-        rand: read_block(rand)?,
-        sqn: read_sqn(sqn)?,
-        amf: read_amf(amf)?,
+        k: read_octets(k)?,
+        opc: read_octets(opc)?,
+        rand: read_octets(rand)?,
+        sqn: read_octets(sqn)?,
+        amf: read_octets(amf)?,
     })
-}
-
-/// The 16 bytes that 32 hexadecimal digits are.
-fn read_block(text: &[u8]) -> Option<[u8; 16]>
-    ensures { result ≡ octets_in 16 text.now }
-{
-    <[u8; 16] as FromHex>::from_hex(text).ok()
-}
-
-/// The 6 bytes that 12 hexadecimal digits are.
-fn read_sqn(text: &[u8]) -> Option<[u8; 6]>
-    ensures { result ≡ octets_in 6 text.now }
-{
-    <[u8; 6] as FromHex>::from_hex(text).ok()
-}
-
-/// The 2 bytes that 4 hexadecimal digits are.
-fn read_amf(text: &[u8]) -> Option<[u8; 2]>
-    ensures { result ≡ octets_in 2 text.now }
-{
-    <[u8; 2] as FromHex>::from_hex(text).ok()
 }
 
 /// The seven lines of the functions f1 to f5* at these values.

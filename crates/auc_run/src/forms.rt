@@ -1,19 +1,41 @@
 //! The forms of the program's words.
 
 ghost use Rattle.std.specs.Prelude.{◌≡◌};
-ghost use Rattle.std.specs.Option.{option_copied};
-ghost use Rattle.auc_run.specs.Words.{scenario_named};
+ghost use Rattle.std.specs.Option.{option_map};
+ghost use Rattle.auc_run.specs.Words.{files_named, files_seen};
 
 use auc_edge::Octets;
 
-/// The file that the words `run SCENARIO` name, of at least 1 byte, or `None` where the words have no such form.
-pub fn scenario_name(words: &[Octets]) -> Option<&[u8]>
-    ensures { option_copied result ≡ scenario_named words.now }
+/// The names of the files of a run, each of at least 1 byte.
+#[derive(Clone, Copy)]
+pub struct InputFiles<'a> {
+    /// The file of the scenario.
+    pub scenario: &'a [u8],
+    /// The file of the subscribers that there are before the scenario's own, where one is named.
+    pub subscribers: Option<&'a [u8]>,
+}
+
+/// The files that the words `run SCENARIO` or `run SCENARIO SUBSCRIBERS` name, or `None` where the words
+/// have no such form.
+pub fn input_files(words: &[Octets]) -> Option<InputFiles<'_>>
+    ensures { option_map files_seen result ≡ files_named words.now }
 {
     match words {
-        [word, name] if word.as_slice() == b"run".as_slice() && !name.is_empty() => Some(
-            name.as_slice(),
-        ),
+        [word, scenario] if word.as_slice() == b"run".as_slice() && !scenario.is_empty() => {
+            Some(InputFiles {
+                scenario: scenario.as_slice(),
+                subscribers: None,
+            })
+        }
+        [word, scenario, subscribers]
+            if word.as_slice() == b"run".as_slice()
+                && !scenario.is_empty()
+                && !subscribers.is_empty() => {
+            Some(InputFiles {
+                scenario: scenario.as_slice(),
+                subscribers: Some(subscribers.as_slice()),
+            })
+        }
         _ => None,
     }
 }

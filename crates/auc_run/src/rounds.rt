@@ -1,140 +1,144 @@
 //! The rounds of a scenario, each written when it has ended.
 
-ghost use Rattle.std.specs.Prelude.{◌≡◌, ◌≤◌, ◌<◌, ◌^◌, ℕ, All, length, map, OnOk, IfOk, IsErrOf};
+ghost use Rattle.std.specs.Prelude.{◌≡◌, ◌≤◌, ◌<◌, ◌^◌, List, All, length, OnOk, IfOk, IsErrOf};
 ghost use Rattle.auc_edge.specs.Faults.{Rose};
 ghost use Rattle.auc_edge.specs.Sink.{Appends};
-ghost use Rattle.auc_sqn.specs.declared.number.TheConstants.{MAX_SEQ};
-ghost use Rattle.auc_subs.specs.Subscriber.{AreSubscribers};
+ghost use Rattle.auc_jobs.specs.State.{StandsAt};
 ghost use Rattle.auc_print.specs.Text.{identities_of, round_text};
+ghost use Rattle.auc_script.specs.declared.part.Part.TheVariants as part;
+ghost use Rattle.auc_subs.specs.Subscriber.{AreSubscribers};
 ghost use Rattle.auc_world.specs.Record.{NamesBelow};
-ghost use Rattle.auc_run.specs.Lawful.{reopened};
-ghost use Rattle.auc_run.specs.Serving.{IsKnownPart};
-ghost use Rattle.auc_run.specs.Output.{WritesPart, WritesParts};
+ghost use Rattle.auc_world.specs.declared.record.LineRecord.{LineRecord};
+ghost use Rattle.auc_run.specs.Output.{Continues, IsKnownPart, WritesScript, setting_in};
 
 use crate::refusal::RoundRefusal;
-use crate::round::serve_round;
-use auc_core::Core;
-use auc_edge::{NoMemory, Octets, Sink, write_whole};
+use auc_edge::{Octets, Sink, write_whole};
+use auc_jobs::{State, serve};
 use auc_print::print_round;
-use auc_script::{Part, RoundPart};
-use auc_sqn::MAX_SEQ;
+use auc_script::{Part, RoundPart, Script};
 use auc_subs::Subscribers;
+use auc_vector::Rands;
 use auc_world::RoundRecord;
 use std::alloc::Global;
+use std::sync::Wait;
 
-/// The numbers at which the first round opens the subscribers.
-fn first_openings(alloc: Global, subs: &Subscribers) -> Result<Vec<u64>, NoMemory>
-    requires { AreSubscribers subs.now }
-    ensures { IfOk result (λ openings. openings.items ≡ map (λ row. row.seq) subs.now) }
-{
-    let mut openings = Vec::new(alloc);
-    for sub in 0..subs.len() {
-        openings.push(subs.row(sub).seq)?;
-    }
-    Ok(openings)
-}
-
-/// The numbers at which the next round opens the subscribers: where the last one closed them, and no
-/// higher than the greatest.
-fn next_openings(alloc: Global, core: &Core, count: u32) -> Result<Vec<u64>, NoMemory>
-    requires { length core.now ≡ count }
-    ensures { IfOk result (λ openings. openings.items ≡ reopened core.now) }
-{
-    let mut openings = Vec::new(alloc);
-    for sub in 0..count {
-        openings.push(core.word(sub).min(MAX_SEQ))?;
-    }
-    Ok(openings)
+/// What every round of a scenario is served and printed with.
+#[derive(Clone, Copy)]
+pub(crate) struct Settings<'a> {
+    pub(crate) subs: &'a Subscribers,
+    pub(crate) rands: Rands,
+    pub(crate) full: bool,
 }
 
 /// Writes the text of a round.
 fn write_round<K: Sink>(
     alloc: Global,
+    settings: &Settings,
     round: &RoundRecord,
-    subs: &Subscribers,
     out: &mut K,
 ) -> Result<(), RoundRefusal>
-    requires { NamesBelow (length subs.now) round.now }
+    requires { NamesBelow (length settings.now.subs.now) round.now }
+
     ensures written { OnOk result (Appends (K.written out.old) (K.written out.new)
-        (round_text (identities_of subs.now) round.now)) }
+        (round_text (identities_of settings.now.subs.now) settings.now.full round.now)) }
     ensures quiet { OnOk result (K.faults out.new ≡ K.faults out.old) }
     ensures fault { IsErrOf result RoundRefusal.WriteFault → Rose (K.faults out.old) (K.faults out.new) }
     ensures later { K.faults out.old ≤ K.faults out.new }
 {
     let mut text = Octets::new(alloc);
-    print_round(round, subs, &mut text)?;
+    print_round(round, settings.subs, settings.full, &mut text)?;
     write_whole(out, text.as_slice())?;
     Ok(())
 }
 
-/// Serves the jobs of a round and writes its text. It answers the numbers at which the next round opens.
-fn serve_and_write<K: Sink>(
+/// Serves the jobs of a round from the state in which the round before left the subscribers, and writes
+/// its text. It answers the state for the next round.
+fn serve_and_write<R: Wait, K: Sink>(
+    rt: &R,
     alloc: Global,
+    settings: &Settings,
     number: u32,
     jobs: &RoundPart,
-    subs: &Subscribers,
-    openings: &[u64],
+    state: State,
     out: &mut K,
-) -> Result<Vec<u64>, RoundRefusal>
-    requires known { IsKnownPart (length openings.now) (Part.Round jobs.now) }
-    requires count { length openings.now ≡ length subs.now }
-    requires limit { length openings.now ≤ 65536 }
-    requires numbers { All (λ number. number ≤ MAX_SEQ) openings.now }
-    ensures written { IfOk result (λ next. WritesPart (identities_of subs.now) number openings.now (Part.Round jobs.now)
-        next.items (K.written out.old) (K.written out.new)) }
+) -> Result<State, RoundRefusal>
+    requires subscribers { AreSubscribers settings.now.subs.now }
+    requires known { IsKnownPart (length settings.now.subs.now) (part.Round jobs.now) }
+    requires stands { (early : List LineRecord) × StandsAt (setting_in settings.now) early state }
+
+    ensures written { IfOk result (λ next. Continues (setting_in settings.now) settings.now.full number state
+        (part.Round jobs.now) next (K.written out.old) (K.written out.new)) }
     ensures quiet { OnOk result (K.faults out.new ≡ K.faults out.old) }
     ensures fault { IsErrOf result RoundRefusal.WriteFault → Rose (K.faults out.old) (K.faults out.new) }
     ensures later { K.faults out.old ≤ K.faults out.new }
 {
-    let served = serve_round(alloc, number, jobs.as_slice(), openings)?;
-    write_round(alloc, &served.round, subs, out)?;
-    Ok(next_openings(alloc, &served.core, subs.len())?)
+    let served = serve(
+        rt,
+        alloc,
+        number,
+        jobs.as_slice(),
+        settings.subs,
+        &settings.rands,
+        state,
+    )?;
+    write_round(alloc, settings, &served.round, out)?;
+    Ok(served.state)
 }
 
-/// Serves a part of a scenario and writes it. It answers the numbers at which the next round opens.
-fn serve_part<K: Sink>(
+/// Serves a part of a scenario and writes it. It answers the state for the next part.
+fn serve_part<R: Wait, K: Sink>(
+    rt: &R,
     alloc: Global,
+    settings: &Settings,
     number: u32,
     part: &Part,
-    subs: &Subscribers,
-    openings: &[u64],
+    state: State,
     out: &mut K,
-) -> Result<Vec<u64>, RoundRefusal>
-    requires known { IsKnownPart (length openings.now) part.now }
-    requires count { length openings.now ≡ length subs.now }
-    requires limit { length openings.now ≤ 65536 }
-    requires numbers { All (λ number. number ≤ MAX_SEQ) openings.now }
-    ensures written { IfOk result (λ next. WritesPart (identities_of subs.now) number openings.now part.now next.items
-        (K.written out.old) (K.written out.new)) }
+) -> Result<State, RoundRefusal>
+    requires subscribers { AreSubscribers settings.now.subs.now }
+    requires known { IsKnownPart (length settings.now.subs.now) part.now }
+    requires stands { (early : List LineRecord) × StandsAt (setting_in settings.now) early state }
+
+    ensures written { IfOk result (λ next. Continues (setting_in settings.now) settings.now.full number state
+        part.now next (K.written out.old) (K.written out.new)) }
     ensures quiet { OnOk result (K.faults out.new ≡ K.faults out.old) }
     ensures fault { IsErrOf result RoundRefusal.WriteFault → Rose (K.faults out.old) (K.faults out.new) }
     ensures later { K.faults out.old ≤ K.faults out.new }
 {
     match part {
-        Part::Round(jobs) => serve_and_write(alloc, number, jobs, subs, openings, out),
+        Part::Round(jobs) => serve_and_write(rt, alloc, settings, number, jobs, state, out),
     }
 }
 
 /// Serves the parts of a scenario and writes each when it has ended.
-pub(crate) fn serve_parts<K: Sink>(
+pub(crate) fn serve_parts<R: Wait, K: Sink>(
+    rt: &R,
     alloc: Global,
-    parts: &[Part],
+    script: &Script,
     subs: &Subscribers,
     out: &mut K,
 ) -> Result<(), RoundRefusal>
-    requires known { All (IsKnownPart (length subs.now)) parts.now }
-    requires count { length parts.now < 2 ^ 32 }
     requires subscribers { AreSubscribers subs.now }
-    ensures written { OnOk result (WritesParts subs.now parts.now (K.written out.old) (K.written out.new)) }
+    requires known { All (IsKnownPart (length subs.now)) script.now.parts }
+    requires count { length script.now.parts < 2 ^ 32 }
+
+    ensures written { OnOk result
+        (WritesScript subs.now script.now (K.written out.old) (K.written out.new)) }
     ensures quiet { OnOk result (K.faults out.new ≡ K.faults out.old) }
     ensures fault { IsErrOf result RoundRefusal.WriteFault → Rose (K.faults out.old) (K.faults out.new) }
     ensures later { K.faults out.old ≤ K.faults out.new }
 {
-    let mut openings = first_openings(alloc, subs)?;
+    let settings = Settings {
+        subs,
+        rands: Rands::new(script.key),
+        full: script.full,
+    };
+    let parts = script.parts.as_slice();
+    let mut state = State::new(alloc, subs)?;
     let mut number = 0;
     for part in parts {
         number += 1;
-        openings = serve_part(alloc, number, part, subs, openings.as_slice(), out)?;
+        state = serve_part(rt, alloc, &settings, number, part, state, out)?;
     }
     Ok(())
 }

@@ -10,6 +10,8 @@ pub enum Status {
     Done,
     /// The words have none of the program's forms.
     Usage,
+    /// A record of the file of subscribers is wrong.
+    SubscribersRefused,
     /// A line of the scenario is wrong.
     ScenarioRefused,
     /// An input file could not be read.
@@ -30,6 +32,7 @@ impl Status {
         match self {
             Status::Done => 0,
             Status::Usage => 1,
+            Status::SubscribersRefused => 2,
             Status::ScenarioRefused => 3,
             Status::ReadFault => 4,
             Status::WriteFault => 5,

@@ -4,6 +4,7 @@ use crate::{Status, run};
 use auc_edge::{Items, MemShelf, MemSink, NoMemory, Octets};
 use std::alloc::Global;
 use std::process::Abort;
+use std::sync::Wait;
 
 // A run's words.
 fn words(alloc: Global, all: &[&[u8]]) -> Result<Items<Octets>, NoMemory> {
@@ -17,7 +18,7 @@ fn words(alloc: Global, all: &[&[u8]]) -> Result<Items<Octets>, NoMemory> {
 }
 
 // Checks the status and the output of `run scenario`, where the file has this text.
-fn check<R: Abort>(
+fn check<R: Abort + Wait>(
     rt: &R,
     alloc: Global,
     text: &[u8],
@@ -29,61 +30,243 @@ fn check<R: Abort>(
     let mut out = MemSink::new(alloc);
     let words = words(alloc, &[b"run".as_slice(), b"scenario".as_slice()])?;
     let ended = run(rt, alloc, words.as_slice(), &mut shelf, &mut out);
-    assert_eq!(rt; ended.status, status);
     assert_eq!(rt; out.as_slice(), output);
+    assert_eq!(rt; ended.status, status);
     Ok(())
 }
 
-// Two subscribers of their own jobs, and a subscriber with one number left; the lines by the user's guide.
+// Checks the same of `run scenario subscribers`.
+fn check_both<R: Abort + Wait>(
+    rt: &R,
+    alloc: Global,
+    subscribers: &[u8],
+    text: &[u8],
+    status: Status,
+    output: &[u8],
+) -> Result<(), NoMemory> {
+    let mut shelf = MemShelf::new(alloc);
+    shelf.add(b"subscribers", subscribers)?;
+    shelf.add(b"scenario", text)?;
+    let mut out = MemSink::new(alloc);
+    let words = words(
+        alloc,
+        &[
+            b"run".as_slice(),
+            b"scenario".as_slice(),
+            b"subscribers".as_slice(),
+        ],
+    )?;
+    let ended = run(rt, alloc, words.as_slice(), &mut shelf, &mut out);
+    assert_eq!(rt; out.as_slice(), output);
+    assert_eq!(rt; ended.status, status);
+    Ok(())
+}
+
+// By hand: numbers rise by one from each subscriber's own; SQN is 32 SEQ + IND, and the index array has
+// 32 entries (TS 33.102 Annex C.1.1 and C.2.1); SEQ may be at most 2^28 above the greatest entry (C.2.1).
 #[test]
 fn each_scenario_has_its_output(rt: HostRuntime) -> Result<(), NoMemory> {
+    let cases: [(&[u8], &[u8]); 9] = [
+        (b"".as_slice(), b"".as_slice()),
+        (b"round\n".as_slice(), b"round 1\n".as_slice()),
+        (
+            b"subscriber 001010000000001 465b5ce8b199b49faa5f0a2ee238a6bc opc cd63cb71954a9f4e48a5994e37a02baf 8000 0 0\nsubscriber 001010000000002 465b5ce8b199b49faa5f0a2ee238a6bc opc cd63cb71954a9f4e48a5994e37a02baf 8000 40 0\nround\njob\ndraw 001010000000001 2\njob\ndraw 001010000000002 1\ndraw 001010000000001 1\n".as_slice(),
+            b"round 1\njob 1\nvector 001010000000001 1\nvector 001010000000001 2\njob 2\nvector 001010000000002 41\nvector 001010000000001 3\nclosed 001010000000001 0 3 3 0 3 0\nclosed 001010000000002 40 41 1 0 1 0\n".as_slice(),
+        ),
+        (
+            b"subscriber 001010000000001 465b5ce8b199b49faa5f0a2ee238a6bc opc cd63cb71954a9f4e48a5994e37a02baf 8000 0 0\nround\njob\ndraw 001010000000001 1\ngive 001010000000001 1\ngive 001010000000001 1\ngive 001010000000001 2\n".as_slice(),
+            b"round 1\njob 1\nvector 001010000000001 1\ngive 001010000000001 1 accepted\ngive 001010000000001 1 sync 000000000021\ngive 001010000000001 2 absent\nclosed 001010000000001 0 1 1 0 1 0\n".as_slice(),
+        ),
+        (
+            b"subscriber 001010000000001 465b5ce8b199b49faa5f0a2ee238a6bc opc cd63cb71954a9f4e48a5994e37a02baf 8000 8796093022206 0\nround\njob\ndraw 001010000000001 3\ndraw 001010000000001 1\n".as_slice(),
+            b"round 1\njob 1\nvector 001010000000001 8796093022207\nexhausted 001010000000001 8796093022207\nexhausted 001010000000001 8796093022207\nclosed 001010000000001 8796093022206 8796093022208 2 0 1 0\n".as_slice(),
+        ),
+        (
+            b"subscriber 001010000000001 465b5ce8b199b49faa5f0a2ee238a6bc opc cd63cb71954a9f4e48a5994e37a02baf 8000 268435455 0\nsubscriber 001010000000002 465b5ce8b199b49faa5f0a2ee238a6bc opc cd63cb71954a9f4e48a5994e37a02baf 8000 268435456 0\nround\njob\ndraw 001010000000001 1\ngive 001010000000001 268435456\ndraw 001010000000002 1\ngive 001010000000002 268435457\nsync 001010000000002 0 - 1\n".as_slice(),
+            b"round 1\njob 1\nvector 001010000000001 268435456\ngive 001010000000001 268435456 accepted\nvector 001010000000002 268435457\ngive 001010000000002 268435457 sync 000000000000\nsync 001010000000002 beyond 268435457 0\nclosed 001010000000001 268435455 268435456 1 0 1 0\nclosed 001010000000002 268435456 268435457 1 0 1 0\n".as_slice(),
+        ),
+        (
+            b"subscriber 001010000000001 465b5ce8b199b49faa5f0a2ee238a6bc opc cd63cb71954a9f4e48a5994e37a02baf 8000 0 0\nround\njob\nsync 001010000000001 700 0 1\n".as_slice(),
+            b"round 1\njob 1\nsync 001010000000001 wrongmac\n".as_slice(),
+        ),
+        (
+            b"subscriber 001010000000001 465b5ce8b199b49faa5f0a2ee238a6bc opc cd63cb71954a9f4e48a5994e37a02baf 8000 0 0\nround\njob\nsync 001010000000001 700 - 1\n".as_slice(),
+            b"round 1\njob 1\nsync 001010000000001 moved 0 700\nvector 001010000000001 701\nclosed 001010000000001 0 701 1 700 1 0\n".as_slice(),
+        ),
+        (
+            b"subscriber 001010000000001 465b5ce8b199b49faa5f0a2ee238a6bc opc cd63cb71954a9f4e48a5994e37a02baf 8000 0 0\nround\njob\ndraw 001010000000001 2\ngive 001010000000001 2\nround\njob\ngive 001010000000001 2\ngive 001010000000001 1\njob\ndraw 001010000000001 1\n".as_slice(),
+            b"round 1\njob 1\nvector 001010000000001 1\nvector 001010000000001 2\ngive 001010000000001 2 accepted\nclosed 001010000000001 0 2 2 0 2 0\nround 2\njob 1\ngive 001010000000001 2 sync 000000000042\ngive 001010000000001 1 accepted\njob 2\nvector 001010000000001 3\nclosed 001010000000001 2 3 1 0 1 0\n".as_slice(),
+        ),
+    ];
+    for (text, output) in cases {
+        check(&rt, rt.alloc(), text, Status::Done, output)?;
+    }
+    Ok(())
+}
+
+// Appends a line of a job, the answer of its USIM behind it where there is one.
+fn append_give(text: &mut Octets, number: u64, answer: &[u8]) -> Result<(), NoMemory> {
+    text.append(b"give 001010000000001 ")?;
+    text.append_number(number)?;
+    text.append(answer)?;
+    text.append(b"\n")
+}
+
+// Appends the vectors' lines of the numbers from 1 to a last one.
+fn append_vectors(text: &mut Octets, last: u64) -> Result<(), NoMemory> {
+    for before in 0..last {
+        text.append(b"vector 001010000000001 ")?;
+        text.append_number(before + 1)?;
+        text.append(b"\n")?;
+    }
+    Ok(())
+}
+
+// By hand: 33 has the IND of 1, so 1 is old once 33 was accepted; the SQN of 33 is 32 * 33 + 1, 0x421
+// (TS 33.102 Annex C.2.1).
+#[test]
+fn vector_fails_where_one_of_32_places_later_was_accepted(rt: HostRuntime) -> Result<(), NoMemory> {
     let alloc = rt.alloc();
+    let mut text = Octets::new(alloc);
+    text.append(
+        b"subscriber 001010000000001 465b5ce8b199b49faa5f0a2ee238a6bc opc cd63cb71954a9f4e48a5994e37a02baf 8000 0 0\nround\njob\ndraw 001010000000001 33\n",
+    )?;
+    let mut output = Octets::new(alloc);
+    output.append(b"round 1\njob 1\n")?;
+    append_vectors(&mut output, 33)?;
+    append_give(&mut text, 33, b"")?;
+    append_give(&mut output, 33, b" accepted")?;
+    for number in 2..33u64 {
+        append_give(&mut text, number, b"")?;
+        append_give(&mut output, number, b" accepted")?;
+    }
+    append_give(&mut text, 1, b"")?;
+    append_give(&mut output, 1, b" sync 000000000421")?;
+    output.append(b"closed 001010000000001 0 33 33 0 33 0\n")?;
+    check(&rt, alloc, text.as_slice(), Status::Done, output.as_slice())
+}
+
+// The same: 32 numbers have 32 INDs, so each is accepted, in whichever order.
+#[test]
+fn vectors_of_32_numbers_are_accepted_in_falling_order(rt: HostRuntime) -> Result<(), NoMemory> {
+    let alloc = rt.alloc();
+    let mut text = Octets::new(alloc);
+    text.append(
+        b"subscriber 001010000000001 465b5ce8b199b49faa5f0a2ee238a6bc opc cd63cb71954a9f4e48a5994e37a02baf 8000 0 0\nround\njob\ndraw 001010000000001 32\n",
+    )?;
+    let mut output = Octets::new(alloc);
+    output.append(b"round 1\njob 1\n")?;
+    append_vectors(&mut output, 32)?;
+    for before in 0..32u64 {
+        append_give(&mut text, 32 - before, b"")?;
+        append_give(&mut output, 32 - before, b" accepted")?;
+    }
+    output.append(b"closed 001010000000001 0 32 32 0 32 0\n")?;
+    check(&rt, alloc, text.as_slice(), Status::Done, output.as_slice())
+}
+
+// Bytes from Python: AES-128 and ChaCha20 of its `cryptography`, Milenage written over them by TS 35.206 and
+// tested with set 1 of TS 35.208. RAND is the 16 bytes from place 16 n of the key's stream whose nonce is the
+// subscriber's place.
+#[test]
+fn full_print_has_the_bytes_of_each_vector(rt: HostRuntime) -> Result<(), NoMemory> {
     check(
         &rt,
-        alloc,
-        b"subscriber 001010000000001 465b5ce8b199b49faa5f0a2ee238a6bc opc cd63cb71954a9f4e48a5994e37a02baf 8000 0 0\nsubscriber 001010000000002 465b5ce8b199b49faa5f0a2ee238a6bc op cd63cb71954a9f4e48a5994e37a02baf 8000 40 0\nround\njob\ndraw 001010000000001 2\njob\ndraw 001010000000002 1\ndraw 001010000000001 1\n",
+        rt.alloc(),
+        b"randkey 000102030405060708090a0b0c0d0e0f101112131415161718191a1b1c1d1e1f\nprint full\nsubscriber 001010000000001 465b5ce8b199b49faa5f0a2ee238a6bc opc cd63cb71954a9f4e48a5994e37a02baf 8000 0 0\nsubscriber 001010000000002 465b5ce8b199b49faa5f0a2ee238a6bc op cdc202d5123e20f62b6d676ac72cb318 8000 6 0\nround\njob\ndraw 001010000000001 2\ndraw 001010000000002 1\n",
         Status::Done,
-        b"round 1\njob 1\nvector 001010000000001 1\nvector 001010000000001 2\njob 2\nvector 001010000000002 41\nvector 001010000000001 3\nclosed 001010000000001 0 3 3 0 3 0\nclosed 001010000000002 40 41 1 0 1 0\n",
-    )?;
-    check(
+        b"round 1\njob 1\nvector 001010000000001 1\nbytes 8a35d86fbcde6accb2cc7d4cd8ea2492 5c932ea779de80001d96bfd35d896e74 59fce589e7b274e7 164ec6b56c3fa5a33c5130b35fbfdc49 1ef5c23ff651ae6846822d2ba9304231\nvector 001010000000001 2\nbytes 2b23cce7a26023ab3f0eef693ac87f64 2444f349ccf88000a32c223efdab10a2 5d452d53fe9d8a1f f01f22bbfa6acbccc6da6093b3fa71a1 88b37d98889e94d85f7fec7ff761ec5c\nvector 001010000000002 7\nbytes 43368566f38c46568514816022846b81 dd4b44f2054380000f468fb331bfdd00 e639875e7f025b71 077910ffede1eb0b88ca420aa5912571 f8494a9566723a67c028ec6cd8336210\nclosed 001010000000001 0 2 2 0 2 0\nclosed 001010000000002 6 7 1 0 1 0\n",
+    )
+}
+
+// The first wrong line or record of each file, by the user's guide.
+#[test]
+fn first_wrong_part_of_the_first_wrong_file_is_told(rt: HostRuntime) -> Result<(), NoMemory> {
+    let alloc = rt.alloc();
+    let scenarios: [(&[u8], &[u8]); 4] = [
+        (
+            b"hello\n".as_slice(),
+            b"refused scenario 1 unknownword\n".as_slice(),
+        ),
+        (
+            b"subscriber 001010000000001 465b5ce8b199b49faa5f0a2ee238a6b opc cd63cb71954a9f4e48a5994e37a02baf 8000 0 0\nhello\n".as_slice(),
+            b"refused scenario 1 key\n".as_slice(),
+        ),
+        (
+            b"subscriber 001010000000001 465b5ce8b199b49faa5f0a2ee238a6bc opc cd63cb71954a9f4e48a5994e37a02baf 8000 0 0\nround\njob\ndraw 001010000000001 1\ngive 001010000000001 1\njob\ngive 001010000000001 1\n".as_slice(),
+            b"refused scenario 7 usimbusy\n".as_slice(),
+        ),
+        (
+            b"round\njob\nstart 1\n".as_slice(),
+            b"refused scenario 3 notyet\n".as_slice(),
+        ),
+    ];
+    for (text, output) in scenarios {
+        check(&rt, alloc, text, Status::ScenarioRefused, output)?;
+    }
+    let files: [(&[u8], &[u8]); 3] = [
+        (b"".as_slice(), b"refused subscribers 0 header\n".as_slice()),
+        (
+            b"imsi,k,kind,op,amf,seq,usim\n001010000000001,465b5ce8b199b49faa5f0a2ee238a6bc,opc,cd63cb71954a9f4e48a5994e37a02baf,8000,0,0\n001010000000002,465b5ce8b199b49faa5f0a2ee238a6bc,opc,cd63cb71954a9f4e48a5994e37a02baf,8000,0,0\n001010000000003,465b5ce8b199b49faa5f0a2ee238a6b,opc,cd63cb71954a9f4e48a5994e37a02baf,8000,0,0\n".as_slice(),
+            b"refused subscribers 3 key\n".as_slice(),
+        ),
+        (
+            b"imsi,k,kind,op,amf,seq,usim\n001010000000001\n".as_slice(),
+            b"refused subscribers 1 fieldcount\n".as_slice(),
+        ),
+    ];
+    for (subscribers, output) in files {
+        check_both(
+            &rt,
+            alloc,
+            subscribers,
+            b"hello\n",
+            Status::SubscribersRefused,
+            output,
+        )?;
+    }
+    Ok(())
+}
+
+// By hand, as above: the scenario's own subscribers stand behind those of the file.
+#[test]
+fn scenario_stands_on_the_file_of_subscribers(rt: HostRuntime) -> Result<(), NoMemory> {
+    let alloc = rt.alloc();
+    let subscribers =
+        b"imsi,k,kind,op,amf,seq,usim\n000000000000007,465b5ce8b199b49faa5f0a2ee238a6bc,opc,cd63cb71954a9f4e48a5994e37a02baf,8000,9,0\n";
+    check_both(
         &rt,
         alloc,
-        b"subscriber 001010000000001 465b5ce8b199b49faa5f0a2ee238a6bc opc cd63cb71954a9f4e48a5994e37a02baf 8000 8796093022206 0\nround\njob\ndraw 001010000000001 3\ndraw 001010000000001 1\n",
+        subscribers,
+        b"subscriber 001010000000001 465b5ce8b199b49faa5f0a2ee238a6bc opc cd63cb71954a9f4e48a5994e37a02baf 8000 0 0\nround\njob\ndraw 001010000000001 1\ndraw 000000000000007 1\n",
         Status::Done,
-        b"round 1\njob 1\nvector 001010000000001 8796093022207\nexhausted 001010000000001 8796093022207\nexhausted 001010000000001 8796093022207\nclosed 001010000000001 8796093022206 8796093022208 2 0 1 0\n",
+        b"round 1\njob 1\nvector 001010000000001 1\nvector 000000000000007 10\nclosed 000000000000007 9 10 1 0 1 0\nclosed 001010000000001 0 1 1 0 1 0\n",
     )?;
-    check(&rt, alloc, b"", Status::Done, b"")?;
-    check(&rt, alloc, b"round\n", Status::Done, b"round 1\n")?;
-    check(
+    check_both(
         &rt,
         alloc,
-        b"hello\n",
+        subscribers,
+        b"subscriber 000000000000007 465b5ce8b199b49faa5f0a2ee238a6bc opc cd63cb71954a9f4e48a5994e37a02baf 8000 0 0\n",
         Status::ScenarioRefused,
-        b"refused scenario 1 notyet\n",
-    )?;
-    check(
-        &rt,
-        alloc,
-        b"round\njob\n\n",
-        Status::ScenarioRefused,
-        b"refused scenario 3 notyet\n",
-    )?;
-    check(
-        &rt,
-        alloc,
-        b"round\njob",
-        Status::ScenarioRefused,
-        b"refused scenario 2 notyet\n",
+        b"refused scenario 1 twice\n",
     )
 }
 
 #[test]
 fn words_of_no_form_are_answered_by_usage(rt: HostRuntime) -> Result<(), NoMemory> {
     let alloc = rt.alloc();
-    let cases: [&[&[u8]]; 7] = [
+    let cases: [&[&[u8]]; 9] = [
         &[],
         &[b"run".as_slice()],
         &[b"run".as_slice(), b"".as_slice()],
+        &[b"run".as_slice(), b"a".as_slice(), b"".as_slice()],
+        &[b"run".as_slice(), b"".as_slice(), b"b".as_slice()],
+        &[
+            b"run".as_slice(),
+            b"a".as_slice(),
+            b"b".as_slice(),
+            b"c".as_slice(),
+        ],
         &[b"--help".as_slice()],
         &[
             b"vector".as_slice(),
@@ -97,7 +280,6 @@ fn words_of_no_form_are_answered_by_usage(rt: HostRuntime) -> Result<(), NoMemor
             b"vector".as_slice(),
             b"465b5ce8b199b49faa5f0a2ee238a6bc".as_slice(),
         ],
-        &[b"run".as_slice(), b"a".as_slice(), b"b".as_slice()],
     ];
     for case in cases {
         let words = words(alloc, case)?;
@@ -137,21 +319,41 @@ fn vector_prints_the_functions_of_milenage(rt: HostRuntime) -> Result<(), NoMemo
 }
 
 #[test]
-fn a_missing_file_is_a_read_fault_and_a_failed_write_a_write_fault(
-    rt: HostRuntime,
-) -> Result<(), NoMemory> {
+fn file_that_cannot_be_read_is_a_read_fault(rt: HostRuntime) -> Result<(), NoMemory> {
+    let alloc = rt.alloc();
+    let words = words(
+        alloc,
+        &[
+            b"run".as_slice(),
+            b"scenario".as_slice(),
+            b"subscribers".as_slice(),
+        ],
+    )?;
+    let mut missing = MemShelf::new(alloc);
+    missing.add(b"scenario", b"hello\n")?;
+    let mut out = MemSink::new(alloc);
+    let ended = run(&rt, alloc, words.as_slice(), &mut missing, &mut out);
+    assert_eq!(rt; ended.status, Status::ReadFault);
+    let mut failing = MemShelf::new(alloc);
+    failing.add(b"subscribers", b"imsi,k,kind,op,amf,seq,usim\n")?;
+    failing.add(b"scenario", b"hello\n")?;
+    failing.fail(3)?;
+    let ended = run(&rt, alloc, words.as_slice(), &mut failing, &mut out);
+    assert_eq!(rt; ended.status, Status::ReadFault);
+    assert_eq!(rt; out.as_slice(), b"".as_slice());
+    Ok(())
+}
+
+#[test]
+fn round_whose_write_fails_is_the_last(rt: HostRuntime) -> Result<(), NoMemory> {
     let alloc = rt.alloc();
     let words = words(alloc, &[b"run".as_slice(), b"scenario".as_slice()])?;
     let mut shelf = MemShelf::new(alloc);
+    shelf.add(b"scenario", b"round\nround\nround\n")?;
     let mut out = MemSink::new(alloc);
+    out.fail(2)?;
     let ended = run(&rt, alloc, words.as_slice(), &mut shelf, &mut out);
-    assert_eq!(rt; ended.status, Status::ReadFault);
-    assert_eq!(rt; out.as_slice(), b"".as_slice());
-    let mut held = MemShelf::new(alloc);
-    held.add(b"scenario", b"round\n")?;
-    out.fail(1)?;
-    let ended = run(&rt, alloc, words.as_slice(), &mut held, &mut out);
     assert_eq!(rt; ended.status, Status::WriteFault);
-    assert_eq!(rt; out.as_slice(), b"".as_slice());
+    assert_eq!(rt; out.as_slice(), b"round 1\n".as_slice());
     Ok(())
 }

@@ -1,15 +1,32 @@
-use Rattle.std.proofs.Common.{ℕ, ◌^◌, ◌<◌, List, subst, arith}
+use Rattle.std.proofs.Common.{◌^◌, ◌<◌, List, subst, arith}
 use Rattle.auc_script.specs.declared.part.Line.{Line}
-use Rattle.auc_world.specs.Record.{NamesBelow}
-use Rattle.auc_run.specs.Lawful.{IsLawfulRound}
-use Rattle.auc_run.proofs.PrintableLemmas.{round_printable}
+use Rattle.auc_transcript.specs.Round.{IsLawfulRound}
+use Rattle.auc_run.specs.Output.{setting_in}
+use Rattle.auc_run.proofs.PrintableLemmas.{round_prints}
 use Rattle.auc_run.proofs.rounds.serve_and_write.Goals as goal
 
 pub write_round-requires : goal.write_round-requires
 write_round-requires g c =
-    let lawful : IsLawfulRound c.args.openings.now c.args.jobs.now c.in_ok-served.served.round c.in_ok-served.served.core =
-    subst (λ (jobs : List (List Line)). IsLawfulRound c.args.openings.now jobs c.in_ok-served.served.round c.in_ok-served.served.core)
-    c.as_slice.ensures c.in_ok-served.ensures.lawful in
-    let number : c.in_ok-served.served.round.number < 2 ^ 64 = omega (arith, c.in_ok-served.ensures.number) in
-    subst (λ (count : ℕ). NamesBelow count c.in_ok-served.served.round) c.requires.count
-    (round_printable c.args.openings.now c.in_ok-served.served.core c.args.jobs.now c.in_ok-served.served.round lawful c.requires.known number).0
+    let set = setting_in c.args.settings.now in
+    let round = c.in_ok-served.served.round in
+    let early = c.requires.stands.0 in
+    let stands = c.requires.stands.1 in
+    let served = c.in_ok-served.ensures.lawful early stands in
+    let lawful : IsLawfulRound set early c.args.state.words c.args.jobs.now round served.0 =
+    subst (λ (jobs : List (List Line)). IsLawfulRound set early c.args.state.words jobs round served.0) c.as_slice.ensures served.1 in
+    let number : round.number < 2 ^ 64 = omega (arith, c.in_ok-served.ensures.number) in
+    (round_prints set early c.args.state.words c.args.jobs.now round served.0 c.requires.subscribers stands.subscribers.size c.requires.known number lawful).named
+
+pub returns-clause-written : goal.returns-clause-written
+returns-clause-written g c = λ early stands.
+    let set = setting_in c.args.settings.now in
+    let round = c.in_ok-served.served.round in
+    let served = c.in_ok-served.ensures.lawful early stands in
+    let lawful : IsLawfulRound set early c.args.state.words c.args.jobs.now round served.0 =
+    subst (λ (jobs : List (List Line)). IsLawfulRound set early c.args.state.words jobs round served.0) c.as_slice.ensures served.1 in
+    record {
+      round = round;
+      served = (c.in_ok-served.ensures.number, served.0, lawful, served.2);
+      stands = c.in_ok-served.ensures.next early stands;
+      written = c.in_ok-write_round.ensures.written;
+    }

@@ -1,38 +1,37 @@
-use Rattle.std.proofs.Common.{ℕ, ◌+◌, ◌≤◌, List, ◌∷◌, drop, ◌∙◌, sym, ap, subst, length, refl}
-use Rattle.std.proofs.lemmas.List.{drop_more, drop_all, length-map}
-use Rattle.std.proofs.lemmas.List.Elements.{All-same}
-use Rattle.auc_subs.specs.declared.row.Row.{Row}
-use Rattle.auc_sqn.specs.declared.number.TheConstants.{MAX_SEQ}
+use Rattle.std.proofs.Common.{ℕ, ◌+◌, List, ◌∷◌, drop, ◌∙◌, sym, ap, subst, refl}
+use Rattle.std.proofs.lemmas.List.{drop_more, drop_all}
 use Rattle.auc_script.specs.declared.part.Part.{Part}
-use Rattle.auc_print.specs.Text.{identities_of}
-use Rattle.auc_run.specs.Lawful.{ServesPart}
-use Rattle.auc_run.proofs.OutputLemmas.{Serving, Serving-none, Serving-part, Serving-all, length-next, next_within, first_within}
+use Rattle.auc_transcript.specs.Transcript.{lines_of}
+use Rattle.auc_run.proofs.OutputLemmas.{Serving, Serving-none, Serving-part, Serving-all}
 use Rattle.auc_run.proofs.rounds.serve_parts.Goals as goal
 
 pub loop-part-init : goal.loop-part-init
 loop-part-init g c = record {
   number = refl;
-  size = ap length c.in_ok-openings.ensures ∙ length-map c.args.subs.now (λ (row : Row). row.seq);
-  within = All-same (λ n. n ≤ MAX_SEQ) _ _ c.in_ok-openings.ensures (first_within c.args.subs.now c.requires.subscribers);
   quiet = refl;
-  serving = subst (λ (first : List ℕ). Serving (identities_of c.args.subs.now) 1 c.in_ok-openings.openings.items c.args.parts.now first c.args.parts.now (g.K.Sink.written c.args.out.now) (g.K.Sink.written c.args.out.now))
-      c.in_ok-openings.ensures (Serving-none (identities_of c.args.subs.now) c.in_ok-openings.openings.items c.args.parts.now (g.K.Sink.written c.args.out.now));
+  serving = Serving-none _ _ _ _ _ c.in_ok-state.ensures.words (c.in_ok-state.ensures.stands (record { key = c.new.result; rows = c.args.subs.now }) refl);
 }
 
 pub loop-part-preserved : goal.loop-part-preserved
 loop-part-preserved g c =
-    let writes = c.in_ok-openings-2.ensures.written in
-    let served = subst (λ (openings : List ℕ). ServesPart (c.loop-part.number + 1) openings c.part-item.result writes.round c.in_ok-openings-2.openings.items)
-    c.as_slice.ensures.value writes.served in
+    let serving = c.loop-part.invariant.serving in
     record {
       number = ap (λ (n : ℕ). n + 1) c.loop-part.invariant.number;
-      size = length-next _ _ _ _ _ served ∙ c.loop-part.invariant.size;
-      within = next_within _ _ _ _ _ served;
-      quiet = c.in_ok-openings-2.ensures.quiet ∙ c.loop-part.invariant.quiet;
+      quiet = c.in_ok-state-2.ensures.quiet ∙ c.loop-part.invariant.quiet;
       serving = Serving-part _ _ _ _ _ _ _ _ _ _ _ _ _
-          (drop_more _ _ c.part-item.result c.loop-part-test.true ∙ ap (λ (part : Part). part ∷ drop (c.loop-part.part-index + 1) c.args.parts.now) (sym c.part-item.is))
-          refl c.loop-part.invariant.serving (record { round = writes.round; served = served; written = writes.written });
+          (drop_more _ _ c.part-item.result c.loop-part-test.true
+          ∙ ap (λ (part : Part). part ∷ drop (c.loop-part.part-index + 1) c.as_slice-parts.result.now) (sym c.part-item.is))
+          refl serving (c.in_ok-state-2.ensures.written (lines_of serving.rounds) serving.stands);
     }
 
 pub returns-clause-written : goal.returns-clause-written
-returns-clause-written g c = Serving-all c.args.subs.now _ _ _ _ _ _ _ (drop_all _ _ c.loop-part-test.false) refl c.loop-part.invariant.serving
+returns-clause-written g c =
+    let left = drop c.loop-part.part-index c.as_slice-parts.result.now in
+    let full = c.args.script.now.full in
+    let number = c.loop-part.number + 1 in
+    let old = g.K.Sink.written c.args.out.now in
+    let new = g.K.Sink.written c.loop-part.out in
+    let of_script = subst (λ (parts : List Part). Serving (record { key = c.new.result; rows = c.args.subs.now }) full number c.loop-part.state left parts old new)
+    c.as_slice-parts.ensures c.loop-part.invariant.serving in
+    Serving-all c.args.subs.now c.args.script.now number c.loop-part.state left old new (drop_all _ _ c.loop-part-test.false)
+    (subst (λ (key : List ℕ). Serving (record { key = key; rows = c.args.subs.now }) full number c.loop-part.state left c.args.script.now.parts old new) c.new.ensures of_script)

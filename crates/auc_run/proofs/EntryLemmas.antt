@@ -1,0 +1,219 @@
+-- For the rounds: the entries for which lines stand, and the words that lines tell of them.
+use Rattle.std.proofs.Common.{◌≡◌, ℕ, zero, suc, ◌+◌, ◌-◌, ◌<◌, ◌≤◌, ◌⊎◌, Bool, true, false, List, [], ◌∷◌, ◌++◌, length, get_or, All, Any, Some, refl, sym, ◌∙◌, ap, append_assoc, append-nil, arith, inl, inr}
+use Rattle.std.specs.Prelude.{◌==◌, ◌||◌, if◌then◌else◌}
+use Rattle.std.specs.List.{list_any}
+use Rattle.std.proofs.lemmas.Bool.Decides.{nat_tests}
+use Rattle.std.proofs.lemmas.Grind.{flat_map-append}
+use Rattle.std.proofs.lemmas.List.{length-append}
+use Rattle.std.proofs.lemmas.List.Elements.{All-nil, All-cons, All-head, All-tail}
+use Rattle.std.proofs.lemmas.List.Folds.{list_any-append}
+use Rattle.auc_history.specs.History.{covers, covered, drawn, drawn_by, last_of, IsMove, IsFound}
+use Rattle.auc_history.specs.Split.{Splits, all_entries, times}
+use Rattle.auc_history.specs.declared.entry.Entry.{Entry}
+use Rattle.auc_history.specs.declared.entry.Entry.TheVariants.{Drawn, Moved, Look}
+use Rattle.auc_history.proofs.ListLemmas.{times-append}
+use Rattle.auc_history.proofs.SplitLemmas.{times-numbers_after}
+use Rattle.auc_transcript.specs.Entries.{reports, entries_of_verdict, entries_of_line, entries_of_lines, entries_of_jobs}
+use Rattle.auc_transcript.specs.Lines.{released_by, numbers_of, all_lines}
+use Rattle.auc_world.specs.Record.{subscriber_of}
+use Rattle.auc_world.specs.declared.record.LineRecord.{LineRecord}
+use Rattle.auc_world.specs.declared.record.LineRecord.TheVariants.{Vector, Withheld, Exhausted, Sync, Give}
+use Rattle.auc_world.specs.declared.record.SyncVerdict.{SyncVerdict}
+use Rattle.auc_world.specs.declared.record.SyncVerdict.TheVariants as verdict
+
+-- the entries of lines and of further ones
+entries_of_lines-append : (sub : ℕ) (before xs ys : List LineRecord)
+    → entries_of_lines sub before (xs ++ ys) ≡ entries_of_lines sub before xs ++ entries_of_lines sub (before ++ xs) ys
+entries_of_lines-append sub before [] ys = ap (λ (b : List LineRecord). entries_of_lines sub b ys) (sym (append-nil before))
+entries_of_lines-append sub before (x ∷ xs) ys =
+    ap (λ (es : List Entry). entries_of_line sub before x ++ es)
+    (entries_of_lines-append sub (before ++ x ∷ []) xs ys
+    ∙ ap (λ (b : List LineRecord). entries_of_lines sub (before ++ x ∷ []) xs ++ entries_of_lines sub b ys) (append_assoc before (x ∷ []) xs))
+    ∙ sym (append_assoc (entries_of_line sub before x) (entries_of_lines sub (before ++ x ∷ []) xs) (entries_of_lines sub (before ++ x ∷ xs) ys))
+
+-- the entries of all jobs are those of all lines
+pub all_entries-of_jobs : (sub : ℕ) (before : List LineRecord) (jobs : List (List LineRecord))
+    → all_entries (entries_of_jobs sub before jobs) ≡ entries_of_lines sub before (all_lines jobs)
+all_entries-of_jobs sub before [] = refl
+all_entries-of_jobs sub before (job ∷ jobs) =
+    ap (λ (es : List Entry). entries_of_lines sub before job ++ es) (all_entries-of_jobs sub (before ++ job) jobs)
+    ∙ sym (entries_of_lines-append sub before job (all_lines jobs))
+
+-- ---- how far entries reach
+
+-- the numbers of an entry are at most a word
+abbrev pub IsWithin : ℕ → Entry → Type 0
+IsWithin word (Drawn n) = n ≤ word
+IsWithin word (Moved from to) = (from ≤ word) × (to ≤ word)
+IsWithin word (Look seen) = seen ≤ word
+
+-- what an entry covers is covered
+covered_at : (n : ℕ) (entries : List Entry) (k : ℕ) (d : Entry) → k < length entries → times n (covers (get_or entries k d)) ≤ times n (covered entries)
+covered_at n [] k d inside = absurd (omega arith)
+covered_at n (e ∷ entries) zero d inside = let cut = times-append n (covers e) (covered entries) in omega (arith, cut)
+covered_at n (e ∷ entries) (suc k) d inside =
+    let cut = times-append n (covers e) (covered entries) in
+    let rest = covered_at n entries k d (omega arith) in
+    omega (arith, cut, rest)
+
+-- the last number of an entry is one that it covers
+last_covered : (top n : ℕ) (e : Entry) → IsMove top e → last_of e ≡ Some n → 1 ≤ times n (covers e)
+last_covered top n (Drawn m) move last = let same : m ≡ n = cc in grind (arith, nat_tests)
+last_covered top n (Moved from to) move last =
+    let same : to ≡ n = cc in
+    let count = times-numbers_after n (to - from) from in
+    let up = move.0 in
+    grind (arith, nat_tests)
+last_covered top n (Look seen) move last = absurd (cc)
+
+-- a number that a split covers is at most its closing
+covered_within : (top n opening closing : ℕ) (lists : List (List Entry)) → Splits top opening closing lists
+    → 1 ≤ times n (covered (all_entries lists)) → n ≤ closing
+covered_within top n opening closing lists splits once = let window = splits.once n in grind (arith, nat_tests)
+
+-- the entries of a split reach no further than its closing
+pub splits_within : (top opening closing : ℕ) (lists : List (List Entry)) → Splits top opening closing lists → All (IsWithin closing) (all_entries lists)
+splits_within top opening closing lists splits k d inside =
+    within (get_or (all_entries lists) k d) (splits.moves k d inside) (splits.looks k d inside)
+    (λ n last. last_within n k d inside last)
+  where
+    last_within : (n k : ℕ) (d : Entry) → k < length (all_entries lists) → last_of (get_or (all_entries lists) k d) ≡ Some n → n ≤ closing
+    last_within n k d inside last =
+        let some = last_covered top n (get_or (all_entries lists) k d) (splits.moves k d inside) last in
+        let part = covered_at n (all_entries lists) k d inside in
+        covered_within top n opening closing lists splits (omega (arith, some, part))
+
+    found : (seen : ℕ) → (seen ≡ opening) ⊎ Any (λ e. last_of e ≡ Some seen) (all_entries lists) → seen ≤ closing
+    found seen (inl same) = let forward = splits.forward in omega (arith, forward)
+    found seen (inr (k, e, inside, is, last)) = last_within seen k e inside (ap last_of is ∙ last)
+
+    within : (e : Entry) → IsMove top e → IsFound opening (all_entries lists) e → ((n : ℕ) → last_of e ≡ Some n → n ≤ closing) → IsWithin closing e
+    within (Drawn n) move is last = last n refl
+    within (Moved from to) move is last = let at = last to refl in let up = move.0 in (omega (arith, at, up), at)
+    within (Look seen) move is last = found seen is
+
+-- ---- the words that lines tell
+
+-- a number that a resynchronisation found is at most a word
+abbrev pub SeenWithin : ℕ → SyncVerdict → Type 0
+SeenWithin closing (verdict.Moved seen seq_ms) = seen ≤ closing
+SeenWithin closing (verdict.InRange seen seq_ms) = seen ≤ closing
+SeenWithin closing (verdict.Beyond seen seq_ms) = seen ≤ closing
+SeenWithin closing verdict.WrongMac = Unit {0}
+
+-- a word that a line tells is at most another
+abbrev pub WordWithin : ℕ → LineRecord → Type 0
+WordWithin closing (Vector s vector) = Unit {0}
+WordWithin closing (Withheld s n stop) = Unit {0}
+WordWithin closing (Exhausted s word) = word ≤ closing
+WordWithin closing (Sync s answer) = SeenWithin closing answer
+WordWithin closing (Give s n answer) = Unit {0}
+
+-- the words that lines reported of a subscriber are at most a word
+abbrev pub ReportsWithin : ℕ → ℕ → List LineRecord → Type 0
+ReportsWithin sub closing before = (word : ℕ) → list_any (reports sub word) before ≡ true → word ≤ closing
+
+-- a look that is there where no line reported its word
+look_within : (told : Bool) (closing word : ℕ) → (told ≡ true → word ≤ closing) → All (IsWithin closing) (if told then [] else Look word ∷ []) → word ≤ closing
+look_within true closing word reported within = reported refl
+look_within false closing word reported within = All-head (IsWithin closing) (Look word) [] within
+
+-- a mark, likewise
+mark_within : (told : Bool) (closing word : ℕ) → (told ≡ true → word ≤ closing) → All (IsWithin closing) (if told then [] else Drawn (word + 1) ∷ []) → word ≤ closing
+mark_within true closing word reported within = reported refl
+mark_within false closing word reported within = let above = All-head (IsWithin closing) (Drawn (word + 1)) [] within in omega (arith, above)
+
+-- the entries of a line that names the subscriber
+named_entries : (there : Bool) (closing : ℕ) (entries : List Entry) → there ≡ true → All (IsWithin closing) (if there then entries else []) → All (IsWithin closing) entries
+named_entries true closing entries is within = within
+named_entries false closing entries is within = absurd (cc)
+
+-- a verdict whose entry reaches no further than a word
+verdict_within : (sub closing : ℕ) (before : List LineRecord) (answer : SyncVerdict) → ReportsWithin sub closing before
+    → All (IsWithin closing) (entries_of_verdict sub before answer) → SeenWithin closing answer
+verdict_within sub closing before (verdict.Moved from to) reported within = (All-head (IsWithin closing) (Moved from to) [] within).0
+verdict_within sub closing before (verdict.InRange seen seq_ms) reported within =
+    look_within (list_any (reports sub seen) before) closing seen (reported seen) within
+verdict_within sub closing before (verdict.Beyond seen seq_ms) reported within =
+    look_within (list_any (reports sub seen) before) closing seen (reported seen) within
+verdict_within sub closing before verdict.WrongMac reported within = tt
+
+-- a line of the subscriber whose entry reaches no further
+line_within : (sub closing : ℕ) (before : List LineRecord) (line : LineRecord) → ReportsWithin sub closing before
+    → All (IsWithin closing) (entries_of_line sub before line) → subscriber_of line ≡ sub → WordWithin closing line
+line_within sub closing before (Vector s vector) reported within named = tt
+line_within sub closing before (Withheld s n stop) reported within named = tt
+line_within sub closing before (Exhausted s word) reported within named =
+    mark_within (list_any (reports sub word) before) closing word (reported word)
+    (named_entries (s == sub) closing (if list_any (reports sub word) before then [] else Drawn (word + 1) ∷ []) (grind (arith, nat_tests)) within)
+line_within sub closing before (Sync s answer) reported within named =
+    verdict_within sub closing before answer reported
+    (named_entries (s == sub) closing (entries_of_verdict sub before answer) (grind (arith, nat_tests)) within)
+line_within sub closing before (Give s n answer) reported within named = tt
+
+-- the words that lines and one more reported
+reports_more : (sub closing : ℕ) (before : List LineRecord) (line : LineRecord) → ReportsWithin sub closing before
+    → (subscriber_of line ≡ sub → WordWithin closing line) → ReportsWithin sub closing (before ++ line ∷ [])
+reports_more sub closing before line reported here word told =
+    either (list_any (reports sub word) before) (reports sub word line) (sym (list_any-append (reports sub word) before (line ∷ [])) ∙ told)
+    (reported word) (λ is. tells line here is)
+  where
+    either : (a b : Bool) → (a || (b || false)) ≡ true → (a ≡ true → word ≤ closing) → (b ≡ true → word ≤ closing) → word ≤ closing
+    either true b is first second = first refl
+    either false true is first second = second refl
+    either false false is first second = absurd (cc)
+
+    tells : (line : LineRecord) → (subscriber_of line ≡ sub → WordWithin closing line) → reports sub word line ≡ true → word ≤ closing
+    tells (Vector s vector) here is = absurd (cc)
+    tells (Withheld s n stop) here is = absurd (cc)
+    tells (Exhausted s read) here is =
+        let same : s ≡ sub = grind (arith, nat_tests) in
+        let at : read ≡ word = grind (arith, nat_tests) in
+        let bound = here same in
+        omega (arith, bound)
+    tells (Sync s answer) here is = absurd (cc)
+    tells (Give s n answer) here is = absurd (cc)
+
+-- the lines of the subscriber tell words that are no higher than where its entries end
+pub lines_within : (sub closing : ℕ) (before lines : List LineRecord) → ReportsWithin sub closing before
+    → All (IsWithin closing) (entries_of_lines sub before lines) → All (λ line. subscriber_of line ≡ sub → WordWithin closing line) lines
+lines_within sub closing before [] reported within = All-nil (λ line. subscriber_of line ≡ sub → WordWithin closing line)
+lines_within sub closing before (line ∷ lines) reported within =
+    let here : subscriber_of line ≡ sub → WordWithin closing line =
+    line_within sub closing before line reported (All-left (IsWithin closing) (entries_of_line sub before line) (entries_of_lines sub (before ++ line ∷ []) lines) within) in
+    All-cons (λ line. subscriber_of line ≡ sub → WordWithin closing line) line lines here
+    (lines_within sub closing (before ++ line ∷ []) lines (reports_more sub closing before line reported here)
+    (All-right (IsWithin closing) (entries_of_line sub before line) (entries_of_lines sub (before ++ line ∷ []) lines) within))
+  where
+    All-left : {X : Type 0} (P : X → Type 0) (xs ys : List X) → All P (xs ++ ys) → All P xs
+    All-left P [] ys all = All-nil P
+    All-left P (x ∷ xs) ys all = All-cons P x xs (All-head P x (xs ++ ys) all) (All-left P xs ys (All-tail P x (xs ++ ys) all))
+
+    All-right : {X : Type 0} (P : X → Type 0) (xs ys : List X) → All P (xs ++ ys) → All P ys
+    All-right P [] ys all = all
+    All-right P (x ∷ xs) ys all = All-right P xs ys (All-tail P x (xs ++ ys) all)
+
+-- ---- counts
+
+-- a line releases no more than it draws
+released_fewer : (sub : ℕ) (before : List LineRecord) (line : LineRecord) → length (released_by sub line) ≤ length (drawn (entries_of_line sub before line))
+released_fewer sub before (Vector s vector) = vector_fewer (s == sub) vector.n
+  where
+    vector_fewer : (there : Bool) (n : ℕ) → length (if there then n ∷ [] else []) ≤ length (drawn (if there then Drawn n ∷ [] else []))
+    vector_fewer true n = omega arith
+    vector_fewer false n = omega arith
+released_fewer sub before (Withheld s n stop) = omega arith
+released_fewer sub before (Exhausted s word) = omega arith
+released_fewer sub before (Sync s answer) = omega arith
+released_fewer sub before (Give s n answer) = omega arith
+
+-- lines release no more vectors than they draw numbers
+pub length-numbers : (sub : ℕ) (before lines : List LineRecord) → length (numbers_of sub lines) ≤ length (drawn (entries_of_lines sub before lines))
+length-numbers sub before [] = omega arith
+length-numbers sub before (line ∷ lines) =
+    let first = released_fewer sub before line in
+    let rest = length-numbers sub (before ++ line ∷ []) lines in
+    let all = length-append (released_by sub line) (numbers_of sub lines) in
+    let cut = ap length (flat_map-append drawn_by (entries_of_line sub before line) (entries_of_lines sub (before ++ line ∷ []) lines)) in
+    let both = length-append (drawn (entries_of_line sub before line)) (drawn (entries_of_lines sub (before ++ line ∷ []) lines)) in
+    omega (arith, first, rest, all, cut, both)
