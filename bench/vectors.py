@@ -1,57 +1,47 @@
 #!/usr/bin/env python3
-"""Draws and prints 10,000, 100,000 and 1,000,000 vectors with the built program, and shows that the time grows
-linearly and that the memory stays within 200 bytes a vector.
+"""Draws and prints 10,000, 100,000 and 1,000,000 vectors with the built program, brief and full, and shows that the
+time grows linearly and that a vector's record and the text of its round stay within 200 bytes a vector in the brief
+print, and within 400 in the full one.
 
     bench/vectors.py [PROGRAM]      PROGRAM: crates/auc_cli/out/auc_cli, unless it is given
 
 Each count is drawn in jobs of 1000 vectors over 100 subscribers. The figures are those of one run: the program's
 own processor time, its greatest resident size, and both as ratios: of the time to the row before, and of the size to
-the count. A run on four shared cores gave 0.003, 0.025 and 0.205 seconds, so ratios of 8.6 and 8.2, and 45.8 MB, 46
-bytes a vector, at a million.
+the count. A run on four cores with other work beside it gave 0.012, 0.113 and 1.184 seconds for the brief print and
+0.014, 0.146 and 1.399 for the full one, so ratios of 9.4 to 10.4; at a million vectors 152 and 307 bytes a vector.
 """
-import os
-import subprocess
 import sys
 import tempfile
 from pathlib import Path
 
-TOP = Path(__file__).resolve().parent.parent
+from measure import KEYS, measured, ratio
+
 SUBSCRIBERS = 100
-KEYS = "465b5ce8b199b49faa5f0a2ee238a6bc opc cd63cb71954a9f4e48a5994e37a02baf 8000 0 0"
+MOST_BYTES = {"brief": 200, "full": 400}
 
 
-def scenario(count):
-    lines = [f"subscriber {i:015} {KEYS}" for i in range(SUBSCRIBERS)] + ["round"]
+def scenario(count, print_):
+    lines = [f"print {print_}"] + [f"subscriber {i:015} {' '.join(KEYS)}" for i in range(SUBSCRIBERS)] + ["round"]
     for job in range(count // 1000):
         lines += ["job", f"draw {job % SUBSCRIBERS:015} 1000"]
     return "".join(line + "\n" for line in lines)
 
 
-def measured(program, count, folder):
-    path = Path(folder) / f"{count}.scenario"
-    path.write_text(scenario(count))
-    child = subprocess.Popen([program, "run", str(path)], stdout=subprocess.PIPE)
-    vectors = sum(line.startswith(b"vector ") for line in child.stdout)
-    _, status, usage = os.wait4(child.pid, 0)
-    seconds = usage.ru_utime + usage.ru_stime
-    if status != 0 or vectors != count:
-        sys.exit(f"at {count}: status {os.waitstatus_to_exitcode(status)}, {vectors} vectors")
-    return seconds, usage.ru_maxrss * 1024
-
-
 def main():
-    program = sys.argv[1] if len(sys.argv) > 1 else str(TOP / "crates/auc_cli/out/auc_cli")
     with tempfile.TemporaryDirectory() as folder:
-        measured(program, 1000, folder)
-        print(f"{'vectors':>9} {'seconds':>8} {'ratio':>6} {'MB':>7} {'bytes a vector':>15}")
-        before = None
-        for count in (10_000, 100_000, 1_000_000):
-            seconds, size = measured(program, count, folder)
-            ratio = f"{seconds / before:.1f}" if before else "-"
-            print(f"{count:>9} {seconds:>8.3f} {ratio:>6} {size / 1e6:>7.1f} {size / count:>15.0f}")
-            before = seconds
-        if size / count > 200:
-            sys.exit("more than 200 bytes a vector")
+        print(f"{'print':>5} {'vectors':>9} {'seconds':>8} {'ratio':>6} {'MB':>7} {'bytes a vector':>15}")
+        for print_ in ("brief", "full"):
+            before = None
+            for count in (10_000, 100_000, 1_000_000):
+                path = Path(folder) / f"{count}.{print_}"
+                path.write_text(scenario(count, print_))
+                seconds, size, status, vectors = measured(["run", str(path)], b"vector ")
+                if status != 0 or vectors != count:
+                    sys.exit(f"at {count}: status {status}, {vectors} vectors")
+                print(f"{print_:>5} {count:>9} {seconds:>8.3f} {ratio(seconds, before):>6} {size / 1e6:>7.1f} {size / count:>15.0f}")
+                before = seconds
+            if size / count > MOST_BYTES[print_]:
+                sys.exit(f"more than {MOST_BYTES[print_]} bytes a vector")
 
 
 main()
