@@ -1,6 +1,9 @@
--- Lists of entries and of numbers: pairs, some element, how often a number stands in a list.
-use Rattle.std.proofs.Common.{◌≡◌, ℕ, zero, suc, ◌+◌, ◌<◌, ◌≤◌, ◌≢◌, ◌⊎◌, ◌==◌, cond, List, [], ◌∷◌, ◌++◌, length, get_or, arith, All, AllPairs, Any, refl, sym, subst, inl, inr, eq-eqb}
+-- Lists of entries and of numbers: pairs, some element, filters, how often a number stands in a list.
+use Rattle.std.proofs.Common.{◌≡◌, ℕ, zero, suc, ◌+◌, ◌<◌, ◌≤◌, ◌≢◌, ◌⊎◌, ◌==◌, Bool, true, false, cond, List, [], ◌∷◌, ◌++◌, length, get_or, arith, All, AllPairs, Any, Contains, filter, sum_by, IsPermutation, refl, sym, ap, ◌∙◌, subst, inl, inr, eq-eqb}
+use Rattle.std.proofs.lemmas.Bool.{cond-true, cond-false}
 use Rattle.std.proofs.lemmas.List.{get_or_append_left, get_or-append-add, length-append}
+use Rattle.std.proofs.lemmas.List.Elements.{All-head, All-tail}
+use Rattle.std.proofs.lemmas.List.Sorted.{IsPermutation-refl, IsPermutation-sym, IsPermutation-cons, IsPermutation-trans, IsPermutation-middle}
 use Rattle.std.proofs.lemmas.List.Sums.{sum_by-cons, sum_by-append, get_or-le-sum_by}
 use Rattle.auc_history.specs.Split.{times}
 
@@ -81,3 +84,58 @@ differ_from_times (x ∷ xs) once =
         let one : ◌≡◌ {A = ℕ} (cond (x == x) 1 0) 1 = rw self refl in
         let there : 1 ≤ times x xs = rw same (times_at xs k d k<n) in
         omega (arith, cut, one, there)
+
+-- a filter that nothing passes
+pub filter_none : {X : Type 0} (p : X → Bool) (xs : List X) → All (λ x. p x ≡ false) xs → filter p xs ≡ []
+filter_none p [] none = refl
+filter_none p (x ∷ xs) none =
+    cond-false (p x) (x ∷ filter p xs) (filter p xs) (All-head (λ y. p y ≡ false) x xs none)
+    ∙ filter_none p xs (All-tail (λ y. p y ≡ false) x xs none)
+
+-- a filter that everything passes
+pub filter_all : {X : Type 0} (p : X → Bool) (xs : List X) → All (λ x. p x ≡ true) xs → filter p xs ≡ xs
+filter_all p [] all = refl
+filter_all {X} p (x ∷ xs) all =
+    cond-true (p x) (x ∷ filter p xs) (filter p xs) (All-head (λ y. p y ≡ true) x xs all)
+    ∙ ap (λ (ys : List X). x ∷ ys) (filter_all p xs (All-tail (λ y. p y ≡ true) x xs all))
+
+-- a head that passes a test passes one of two others
+apart_head : {X : Type 0} (x : X) (us vs ws : List X) (b c d : Bool) → ◌≡◌ {A = ℕ} (cond b 1 0) (cond c 1 0 + cond d 1 0)
+    → IsPermutation us (vs ++ ws) → IsPermutation (cond b (x ∷ us) us) (cond c (x ∷ vs) vs ++ cond d (x ∷ ws) ws)
+apart_head x us vs ws true true true one rest = absurd (omega arith)
+apart_head x us vs ws true true false one rest = IsPermutation-cons x us (vs ++ ws) rest
+apart_head x us vs ws true false true one rest =
+    IsPermutation-trans (x ∷ us) (x ∷ (vs ++ ws)) (vs ++ x ∷ ws) (IsPermutation-cons x us (vs ++ ws) rest)
+    (IsPermutation-sym (vs ++ x ∷ ws) (x ∷ (vs ++ ws)) (IsPermutation-middle vs x ws))
+apart_head x us vs ws true false false one rest = absurd (omega arith)
+apart_head x us vs ws false true true one rest = absurd (omega arith)
+apart_head x us vs ws false true false one rest = absurd (omega arith)
+apart_head x us vs ws false false true one rest = absurd (omega arith)
+apart_head x us vs ws false false false one rest = rest
+
+-- what passes a test is what passes the one and what passes the other of two tests that divide it
+pub filter_apart : {X : Type 0} (p q r : X → Bool) → ((x : X) → ◌≡◌ {A = ℕ} (cond (p x) 1 0) (cond (q x) 1 0 + cond (r x) 1 0))
+    → (xs : List X) → IsPermutation (filter p xs) (filter q xs ++ filter r xs)
+filter_apart p q r apart [] = IsPermutation-refl []
+filter_apart p q r apart (x ∷ xs) =
+    apart_head x (filter p xs) (filter q xs) (filter r xs) (p x) (q x) (r x) (apart x) (filter_apart p q r apart xs)
+
+-- where a sum is at most one, the elements that add to it are one
+pub alone : {X : Type 0} (f : X → ℕ) (xs : List X) (x y : X) → sum_by f xs ≤ 1 → Contains xs x → Contains xs y → 1 ≤ f x → 1 ≤ f y → x ≡ y
+alone f [] x y few (i, i<n, at_i) (j, j<n, at_j) some_x some_y = absurd (omega arith)
+alone f (z ∷ zs) x y few (zero, i<n, at_i) (zero, j<n, at_j) some_x some_y = sym at_i ∙ at_j
+alone f (z ∷ zs) x y few (zero, i<n, at_i) (suc j, j<n, at_j) some_x some_y =
+    let cut = sum_by-cons f z zs in
+    let least = get_or-le-sum_by f zs j y (omega arith) in
+    let first = ap f at_i in
+    let second = ap f at_j in
+    absurd (omega (arith, cut, least, first, second))
+alone f (z ∷ zs) x y few (suc i, i<n, at_i) (zero, j<n, at_j) some_x some_y =
+    let cut = sum_by-cons f z zs in
+    let least = get_or-le-sum_by f zs i x (omega arith) in
+    let first = ap f at_i in
+    let second = ap f at_j in
+    absurd (omega (arith, cut, least, first, second))
+alone f (z ∷ zs) x y few (suc i, i<n, at_i) (suc j, j<n, at_j) some_x some_y =
+    let cut = sum_by-cons f z zs in
+    alone f zs x y (omega (arith, cut)) (i, omega arith, at_i) (j, omega arith, at_j) some_x some_y

@@ -50,11 +50,11 @@ times-drawn n (Moved from to ∷ entries) =
 times-drawn n (Look seen ∷ entries) = times-drawn n entries
 
 -- what is counted at all is between the two
-between : (n opening closing : ℕ) → 1 ≤ (if nat_lt opening n && nat_le n closing then 1 else 0) → (opening < n) × (n ≤ closing)
+pub between : (n opening closing : ℕ) → 1 ≤ (if nat_lt opening n && nat_le n closing then 1 else 0) → (opening < n) × (n ≤ closing)
 between n opening closing = grind (arith, nat_tests)
 
 -- nothing is counted twice
-at_most_once : (n opening closing : ℕ) → (if nat_lt opening n && nat_le n closing then 1 else 0) ≤ 1
+pub at_most_once : (n opening closing : ℕ) → (if nat_lt opening n && nat_le n closing then 1 else 0) ≤ 1
 at_most_once n opening closing = grind (arith, nat_tests)
 
 -- entries cover each number of a range once, and no other

@@ -87,7 +87,7 @@ goes-moves top opening closing (Moved from to ∷ entries) (here, up, within, mo
 goes-moves top opening closing (Look seen ∷ entries) (here, more) = All-cons (IsMove top) (Look seen) entries tt (goes-moves top opening closing entries more)
 
 -- where the rest of a history opens is the opening, or the last number that some entry covers
-abbrev Stands : ℕ → List Entry → ℕ → Type 0
+abbrev pub Stands : ℕ → List Entry → ℕ → Type 0
 Stands opening entries word = (word ≡ opening) ⊎ Any (λ e. last_of e ≡ Some word) entries
 
 -- what the rest of a history finds, the whole finds

@@ -1,10 +1,15 @@
--- The one history that callers' lists split.
-use Rattle.std.specs.Prelude.{ℕ, zero, suc, ◌+◌, ◌-◌, ◌==◌, Bool, false, List, [], ◌∷◌, ◌++◌, Option, Some, None, filter, find}
-use Rattle.std.specs.List.{list_any}
+-- The merge of callers' lists: the history that they split.
+use Rattle.std.specs.Prelude.{◌≡◌, ℕ, ◌-◌, ◌==◌, Bool, false, List, ◌∷◌, ◌++◌, IsPermutation, filter, flat_map}
 use Rattle.auc_history.specs.declared.entry.Entry.{Entry}
 use Rattle.auc_history.specs.declared.entry.Entry.TheVariants.{Drawn, Moved, Look}
-use Rattle.auc_history.specs.History.{covers, reach_of}
-use Rattle.auc_history.specs.Split.{all_entries}
+use Rattle.auc_history.specs.History.{numbers_after, IsLegal}
+use Rattle.auc_history.specs.Split.{all_entries, Splits}
+
+-- whether an entry covers a number as its last
+abbrev pub is_last : ℕ → Entry → Bool
+is_last n (Drawn m) = m == n
+is_last n (Moved from to) = to == n
+is_last n (Look seen) = false
 
 -- whether an entry is a look at a number
 abbrev pub is_look_at : ℕ → Entry → Bool
@@ -12,22 +17,27 @@ is_look_at n (Drawn m) = false
 is_look_at n (Moved from to) = false
 is_look_at n (Look seen) = seen == n
 
--- whether an entry covers a number
-abbrev pub is_covering : ℕ → Entry → Bool
-is_covering n entry = list_any (λ m. m == n) (covers entry)
+-- the entry that covers a number as its last, then the looks at the number
+abbrev pub entries_at : List Entry → ℕ → List Entry
+entries_at entries n = filter (is_last n) entries ++ filter (is_look_at n) entries
 
--- an entry, if there is one, and what follows from how far it got
-abbrev pub onward : Option Entry → (ℕ → List Entry) → List Entry
-onward None rest = []
-onward (Some entry) rest = entry ∷ rest (reach_of entry)
-
--- from a number on, for at most so many covering entries: the looks at it, the entry that covers the
--- next number, and the same again from the last number that this entry covers
-abbrev pub history_from : ℕ → ℕ → List Entry → List Entry
-history_from zero n entries = filter (is_look_at n) entries
-history_from (suc count) n entries =
-    filter (is_look_at n) entries ++ onward (find (is_covering (n + 1)) entries) (λ last. history_from count last entries)
-
--- the history that the callers' lists split
+-- the merge of callers' lists: number by number, from the opening to the closing
 abbrev pub history : ℕ → ℕ → List (List Entry) → List Entry
-history opening closing lists = history_from (closing - opening) opening (all_entries lists)
+history opening closing lists = flat_map (entries_at (all_entries lists)) (opening ∷ numbers_after opening (closing - opening))
+
+-- the merge of callers' lists is a legal history of their entries
+pub record Merges (top opening closing : ℕ) (lists : List (List Entry)) : Type 0 where
+  -- it is legal from the opening to the closing
+  pub legal : IsLegal top opening closing (history opening closing lists)
+  -- each entry stands in it as often as in the lists: nothing is invented, nothing is lost
+  pub same : IsPermutation (all_entries lists) (history opening closing lists)
+
+-- the merge of a split is a legal history of its entries
+abbrev pub SplitIsMerged : Type 0
+SplitIsMerged = (top opening closing : ℕ) (lists : List (List Entry))
+    → Splits top opening closing lists → Merges top opening closing lists
+
+-- a legal history that is cut into lists is their merge
+abbrev pub CutHistoryMergesToItself : Type 0
+CutHistoryMergesToItself = (top opening closing : ℕ) (lists : List (List Entry))
+    → IsLegal top opening closing (all_entries lists) → history opening closing lists ≡ all_entries lists

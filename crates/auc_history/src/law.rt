@@ -1,5 +1,6 @@
 //! Laws of histories and of the lists that split them.
 
+ghost use Rattle.auc_history.specs.Merge.{CutHistoryMergesToItself, SplitIsMerged};
 ghost use Rattle.auc_history.specs.Split.{CutHistoryIsASplit, SplitDrawsNoNumberTwice, SplitCountsItsNumbers};
 
 /// A legal history that is cut into lists, one behind the other, is split by them.
@@ -16,4 +17,14 @@ pub fn split_draws_no_number_twice()
 /// In a split the closing is the opening, the drawn numbers and the skipped ones together.
 pub fn split_counts_its_numbers()
     ensures { SplitCountsItsNumbers }
+{}
+
+/// The merge of a split is a legal history, and has each entry as often as the lists.
+pub fn split_is_merged()
+    ensures { SplitIsMerged }
+{}
+
+/// A legal history that is cut into lists is their merge again.
+pub fn cut_history_merges_to_itself()
+    ensures { CutHistoryMergesToItself }
 {}

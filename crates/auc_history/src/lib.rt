@@ -3,7 +3,9 @@
 //! An [`Entry`] is what one atomic step did to the subscriber's number: a draw, a resynchronisation
 //! that moved it, or one that found it high enough (TS 33.102 §6.3.5). The definitions in `specs/` say
 //! when entries one after the other are a legal history, when the lists of several callers split one,
-//! and which verdict a resynchronisation has. [`is_legal`] tests a history slowly, for tests.
+//! which history such lists merge to, and which verdict a resynchronisation has. The merge of a split
+//! is a legal history of the same entries ([`split_is_merged`]). [`is_legal`] tests a history slowly,
+//! for tests.
 //!
 //! A subscriber's greatest number is a parameter of all definitions. Nothing here takes memory, waits
 //! or fails.
@@ -17,6 +19,9 @@ mod resynchronisation;
 mod tests;
 
 pub use entry::Entry;
-pub use law::{cut_history_is_a_split, split_counts_its_numbers, split_draws_no_number_twice};
+pub use law::{
+    cut_history_is_a_split, cut_history_merges_to_itself, split_counts_its_numbers,
+    split_draws_no_number_twice, split_is_merged,
+};
 pub use legal::is_legal;
 pub use resynchronisation::{Resynchronisation, resynchronise};
