@@ -1,0 +1,25 @@
+-- The lines of a text and the words of a line, as lists of bytes.
+use Rattle.std.specs.Prelude.{ℕ, ◌==◌, ◌-◌, ◌||◌, not, Bool, List, [], ◌∷◌, length, take, slice_index_or, if◌then◌else◌}
+use Rattle.std.specs.List.{filter, slice_split}
+
+-- a line that an LF ended, without the one CR (13) that may stand before the LF
+abbrev pub without_cr : List ℕ → List ℕ
+without_cr line = if slice_index_or line (length line - 1) 0 == 13 then take (length line - 1) line else line
+
+-- the parts of a text between its LFs as lines: behind the last LF no end of a line stands
+abbrev pub ended : List (List ℕ) → List (List ℕ)
+ended [] = []
+ended (last ∷ []) = last ∷ []
+ended (line ∷ next ∷ more) = without_cr line ∷ ended (next ∷ more)
+
+-- the lines of a text, which LF (10) or CRLF ends, the last of them perhaps the text's end
+abbrev pub lines_of : List ℕ → List (List ℕ)
+lines_of text = ended (slice_split (λ byte. byte == 10) text)
+
+-- a space or a tab
+abbrev pub is_blank : ℕ → Bool
+is_blank byte = (byte == 32) || (byte == 9)
+
+-- the words of a line: the parts between its blanks that have a byte
+abbrev pub words_of : List ℕ → List (List ℕ)
+words_of line = filter (λ part. not (length part == 0)) (slice_split is_blank line)
