@@ -4,7 +4,7 @@ use Rattle.std.specs.Option.{option_and_then}
 use Rattle.std.specs.Str.{bytes_eq}
 use Rattle.hex.specs.Hex.{encode_lower}
 use Rattle.auc_milenage.specs.Milenage.{f1, f1_star, f2, f3, f4, f5, f5_star}
-use Rattle.auc_subs.specs.Field.{octets_in}
+use Rattle.auc_text.specs.Field.{octets_in}
 use Rattle.auc_run.specs.declared.algorithm.AlgorithmWords.{AlgorithmWords}
 
 -- the values that five texts are

@@ -5,7 +5,7 @@ ghost use Rattle.auc_run.specs.Algorithm.{values_in, values_named, value_line, a
 
 use auc_edge::{NoMemory, Octets};
 use auc_milenage::{Secret, f1_star, f5_star, f12345};
-use auc_subs::read_octets;
+use auc_text::read_octets;
 use std::alloc::Global;
 
 /// The values at which the functions are printed, byte strings with their most significant byte first.

@@ -1,4 +1,3 @@
 mod LawLemmas
 mod ReadingLemmas
 mod SoFarLemmas
-mod TextLemmas

@@ -5,5 +5,4 @@ pub mod Reading
 pub mod Refusal
 pub mod Scenario
 pub mod SoFar
-pub mod Text
 pub mod Word

@@ -6,7 +6,7 @@ use Rattle.auc_script.specs.declared.script.Script.{Script}
 use Rattle.auc_script.specs.declared.refusal.ScriptRefusal.{ScriptRefusal}
 use Rattle.auc_script.specs.declared.refusal.ScriptRefusal.TheVariants as refusal
 use Rattle.auc_script.specs.declared.refusal.ScriptWhy.{ScriptWhy}
-use Rattle.auc_script.specs.Text.{lines_of}
+use Rattle.auc_text.specs.Text.{lines_of}
 use Rattle.auc_script.specs.Scenario.{Scenario, after_line, parts_of}
 
 -- what is read on where a line is right; else it is refused

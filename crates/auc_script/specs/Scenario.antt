@@ -23,7 +23,8 @@ use Rattle.auc_edge.specs.Identity.{identity_of, number_of}
 use Rattle.auc_sqn.specs.declared.number.TheConstants.{MAX_SEQ}
 use Rattle.auc_subs.specs.declared.row.Row.{Row}
 use Rattle.auc_subs.specs.declared.refusal.SubsWhy.{SubsWhy}
-use Rattle.auc_subs.specs.Field.{octets_in}
+use Rattle.auc_text.specs.Field.{octets_in}
+use Rattle.auc_text.specs.Text.{words_of}
 use Rattle.auc_subs.specs.Subscriber.{is_text, place_of, rows_after}
 use Rattle.auc_script.specs.declared.part.Line.{Line}
 use Rattle.auc_script.specs.declared.part.Line.TheVariants.{Draw, Give, Sync}
@@ -41,8 +42,7 @@ use Rattle.auc_script.specs.declared.word.JobWord.TheVariants as job
 use Rattle.auc_script.specs.declared.word.Word.{Word}
 use Rattle.auc_script.specs.declared.word.Word.TheVariants as word
 use Rattle.auc_script.specs.Field.{◌>>=◌, bit_in, four_fields, full_in, is_number, no_field, number_in, one_field, require, two_fields}
-use Rattle.auc_script.specs.Text.{is_comment, words_of}
-use Rattle.auc_script.specs.Word.{is_later, word_of}
+use Rattle.auc_script.specs.Word.{is_comment, is_later, word_of}
 
 -- what some lines say: the subscribers, the words of the header, the rounds before the present one, and
 -- the present one

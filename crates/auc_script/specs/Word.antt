@@ -1,5 +1,5 @@
--- The words that begin a line.
-use Rattle.std.specs.Prelude.{ℕ, ◌||◌, Bool, List, codes, Option, Some, None, if◌then◌else◌}
+-- How a line begins: with the # of a comment, or with a word.
+use Rattle.std.specs.Prelude.{ℕ, ◌==◌, ◌||◌, Bool, List, codes, Option, Some, None, if◌then◌else◌, slice_index_or}
 use Rattle.auc_subs.specs.Subscriber.{is_text}
 use Rattle.auc_script.specs.declared.word.HeaderWord.{HeaderWord}
 use Rattle.auc_script.specs.declared.word.HeaderWord.TheVariants as header
@@ -7,6 +7,10 @@ use Rattle.auc_script.specs.declared.word.JobWord.{JobWord}
 use Rattle.auc_script.specs.declared.word.JobWord.TheVariants as job
 use Rattle.auc_script.specs.declared.word.Word.{Word}
 use Rattle.auc_script.specs.declared.word.Word.TheVariants as word
+
+-- a comment begins with # (35)
+abbrev pub is_comment : List ℕ → Bool
+is_comment line = slice_index_or line 0 0 == 35
 
 -- the word of the header that a text is
 abbrev pub header_word_of : List ℕ → Option HeaderWord

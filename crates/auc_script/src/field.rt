@@ -1,16 +1,13 @@
 //! The fields of a line.
 
 ghost use Rattle.std.specs.Prelude.{◌≡◌, ◌≤◌, ◌<◌, nat_le, MatchResult, IfOk, IfSome};
-ghost use Rattle.std.specs.List.{list_all};
-ghost use Rattle.std.specs.Char.{is_ascii_digit};
 ghost use Rattle.auc_edge.specs.Identity.{number_of};
-ghost use Rattle.auc_script.specs.Text.{words_of};
+ghost use Rattle.auc_text.specs.Text.{words_of};
 ghost use Rattle.auc_script.specs.Field.{bit_in, four_fields, full_in, is_number, no_field, number_in, one_field, two_fields};
 ghost use Rattle.auc_script.specs.Limits.{IsBit};
 
 use crate::refusal::ScriptWhy;
-use crate::text::next_word;
-use auc_subs::read_decimal;
+use auc_text::{are_digits, next_word, read_decimal};
 
 /// Whether a line has no field, else the cause.
 pub fn no_field(fields: &[u8]) -> Result<(), ScriptWhy>
@@ -84,13 +81,6 @@ pub fn is_number(text: &[u8]) -> bool
     ensures { result ≡ is_number text.now }
 {
     !text.is_empty() && text.len() <= 20 && are_digits(text)
-}
-
-/// Whether each byte is a decimal digit.
-fn are_digits(text: &[u8]) -> bool
-    ensures { result ≡ list_all is_ascii_digit text.now }
-{
-    text.iter().all(|byte| byte.is_ascii_digit())
 }
 
 /// The number of a range that a field is.

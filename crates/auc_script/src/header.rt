@@ -1,7 +1,7 @@
 //! The lines before the first round but for the subscribers.
 
 ghost use Rattle.std.specs.Prelude.{◌≡◌, IfOk, OnOk};
-ghost use Rattle.auc_script.specs.Text.{words_of};
+ghost use Rattle.auc_text.specs.Text.{words_of};
 ghost use Rattle.auc_script.specs.Limits.{IsHeader};
 ghost use Rattle.auc_script.specs.Refusal.{Becomes};
 ghost use Rattle.auc_script.specs.Scenario.{header_with, key_line, print_line, realm_line, workers_line};
@@ -11,7 +11,7 @@ use crate::part::{MAX_REALM, MAX_WORKERS};
 use crate::refusal::{LineRefusal, ScriptWhy};
 use crate::word::HeaderWord;
 use auc_edge::{NoMemory, Octets};
-use auc_subs::read_octets;
+use auc_text::read_octets;
 use std::alloc::Global;
 
 /// What the words of the header said so far, each once.

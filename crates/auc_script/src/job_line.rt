@@ -1,7 +1,7 @@
 //! The lines of a job.
 
 ghost use Rattle.std.specs.Prelude.{◌≡◌, IfOk};
-ghost use Rattle.auc_script.specs.Text.{words_of};
+ghost use Rattle.auc_text.specs.Text.{words_of};
 ghost use Rattle.auc_script.specs.Limits.{IsLine};
 ghost use Rattle.auc_script.specs.Scenario.{draw_of, give_of, line_of, sync_of};
 

@@ -21,7 +21,6 @@ mod script;
 mod so_far;
 #[cfg(test)]
 mod tests;
-mod text;
 mod word;
 
 pub use law::{

@@ -7,9 +7,9 @@ ghost use Rattle.auc_script.specs.Limits.{IsWithin};
 use crate::part::Part;
 use crate::refusal::{ScriptRefusal, ScriptWhy};
 use crate::so_far::SoFar;
-use crate::text::next_line;
 use auc_edge::{Items, NoMemory, Octets};
 use auc_subs::Subscribers;
+use auc_text::next_line;
 use std::alloc::Global;
 
 /// What a scenario asks for. Its subscribers are not part of it.

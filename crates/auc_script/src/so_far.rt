@@ -4,7 +4,7 @@ ghost use Rattle.std.specs.Prelude.{◌≡◌, ◌≤◌, [], List, length, IfOk
 ghost use Rattle.std.specs.Option.{unwrap_or};
 ghost use Rattle.auc_subs.specs.declared.row.Row.{Row};
 ghost use Rattle.auc_subs.specs.Subscriber.{AreSubscribers};
-ghost use Rattle.auc_script.specs.Text.{words_of};
+ghost use Rattle.auc_text.specs.Text.{words_of};
 ghost use Rattle.auc_script.specs.Limits.{IsHeader, IsWithin};
 ghost use Rattle.auc_script.specs.Reading.{beginning, script_from};
 ghost use Rattle.auc_script.specs.Refusal.{Becomes};
@@ -19,10 +19,10 @@ use crate::part::{Line, MAX_JOBS, MAX_ROUNDS, MAX_VECTORS, Part};
 use crate::refusal::{LineRefusal, ScriptWhy};
 use crate::round_so_far::RoundSoFar;
 use crate::script::Script;
-use crate::text::{is_comment, joined, next_word, word_count};
-use crate::word::{HeaderWord, JobWord, Word, is_later, read_word};
+use crate::word::{HeaderWord, JobWord, Word, is_comment, is_later, read_word};
 use auc_edge::{Items, NoMemory, Octets};
-use auc_subs::{AddRefusal, Subscribers, read_decimal};
+use auc_subs::{AddRefusal, Subscribers};
+use auc_text::{joined, next_word, read_decimal, word_count};
 use std::alloc::Global;
 
 /// What the lines so far say but for the subscribers.

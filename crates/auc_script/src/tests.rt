@@ -13,22 +13,22 @@ const FIRST: &[u8] =
 const SECOND: &[u8] =
     b"subscriber\t001010000000002  465B5CE8B199B49FAA5F0A2EE238A6BC opc CD63CB71954A9F4E48A5994E37A02BAF B9B9 0000000000007 8796093022207 \r\n";
 
-/// What a text of these pieces is refused with, or `None` where it is read.
-fn refusal_of(alloc: Global, pieces: &[&[u8]]) -> Result<Option<(u32, ScriptWhy)>, Fail> {
+/// What a text of these pieces is read as.
+fn read(alloc: Global, pieces: &[&[u8]]) -> Result<Result<Script, ScriptRefusal>, Fail> {
     let mut text = Octets::new(alloc);
     for piece in pieces {
         text.append(piece).ok().ok_or("no memory")?;
     }
-    refusal(alloc, &text)
-}
-
-/// What a text is refused with, or `None` where it is read.
-fn refusal(alloc: Global, text: &Octets) -> Result<Option<(u32, ScriptWhy)>, Fail> {
     if text.len() > 67108864 {
         return Err(Fail::from("too long"));
     }
     let mut subs = Subscribers::new(alloc);
-    match Script::read(alloc, text.as_slice(), &mut subs) {
+    Ok(Script::read(alloc, text.as_slice(), &mut subs))
+}
+
+/// What a text of these pieces is refused with, or `None` where it is read.
+fn refusal_of(alloc: Global, pieces: &[&[u8]]) -> Result<Option<(u32, ScriptWhy)>, Fail> {
+    match read(alloc, pieces)? {
         Ok(_) => Ok(None),
         Err(ScriptRefusal::Line(line, why)) => Ok(Some((line, why))),
         Err(ScriptRefusal::NoMemory) => Err(Fail::from("no memory")),
@@ -37,15 +37,7 @@ fn refusal(alloc: Global, text: &Octets) -> Result<Option<(u32, ScriptWhy)>, Fai
 
 /// The script that a text of these pieces is.
 fn script_of(alloc: Global, pieces: &[&[u8]]) -> Result<Script, Fail> {
-    let mut text = Octets::new(alloc);
-    for piece in pieces {
-        text.append(piece).ok().ok_or("no memory")?;
-    }
-    if text.len() > 67108864 {
-        return Err(Fail::from("too long"));
-    }
-    let mut subs = Subscribers::new(alloc);
-    match Script::read(alloc, text.as_slice(), &mut subs) {
+    match read(alloc, pieces)? {
         Ok(script) => Ok(script),
         Err(_) => Err(Fail::from("refused")),
     }
@@ -128,6 +120,14 @@ fn a_wrong_line_before_a_job_is_told_by_its_first_cause(rt: HostRuntime) -> Resu
             ScriptWhy::NotYet,
         ),
         (b"restart x\n".as_slice(), ScriptWhy::NotYet),
+        (b"session 1\n".as_slice(), ScriptWhy::NotYet),
+        (b"start\n".as_slice(), ScriptWhy::NotYet),
+        (b"repeat 1\n".as_slice(), ScriptWhy::NotYet),
+        (b"deliver\n".as_slice(), ScriptWhy::NotYet),
+        (b"giveup\n".as_slice(), ScriptWhy::NotYet),
+        (b"plain\n".as_slice(), ScriptWhy::NotYet),
+        (b"tamper\n".as_slice(), ScriptWhy::NotYet),
+        (b"cut\n".as_slice(), ScriptWhy::NotYet),
     ];
     for (text, why) in cases {
         assert_eq!(rt;
@@ -268,27 +268,19 @@ fn what_passes_a_limit_is_refused(rt: HostRuntime) -> Result<(), Fail> {
             b"round\n".as_slice(),
             1002,
         ),
-        (
-            b"round\n".as_slice(),
-            b"job\n".as_slice(),
-            200000,
-            b"round\njob\n".as_slice(),
-            200003,
-        ),
-        (
-            b"realm ".as_slice(),
-            b"x".as_slice(),
-            255,
-            b"x".as_slice(),
-            1,
-        ),
+        (b"round\n", b"job\n", 200000, b"round\njob\n", 200003),
+        (b"realm ", b"x", 255, b"x", 1),
     ];
     for (first, text, count, more, line) in cases {
         let mut all = repeated(rt.alloc(), first, text, count)?;
-        assert_eq!(rt; refusal(rt.alloc(), &all)?, None, "at {text:?}");
+        assert_eq!(rt;
+            refusal_of(rt.alloc(), &[all.as_slice()])?,
+            None,
+            "at {text:?}"
+        );
         all.append(more).ok().ok_or("no memory")?;
         assert_eq!(rt;
-            refusal(rt.alloc(), &all)?,
+            refusal_of(rt.alloc(), &[all.as_slice()])?,
             Some((line, ScriptWhy::Limit)),
             "at {text:?}"
         );
@@ -317,13 +309,16 @@ fn what_passes_a_limit_is_refused(rt: HostRuntime) -> Result<(), Fail> {
 #[test]
 fn long_lines_are_read_like_short_ones(rt: HostRuntime) -> Result<(), Fail> {
     let long = repeated(rt.alloc(), b"round\n", b"job ", 250000)?;
-    assert_eq!(rt; refusal(rt.alloc(), &long)?, Some((2, ScriptWhy::Fields)));
+    assert_eq!(rt;
+        refusal_of(rt.alloc(), &[long.as_slice()])?,
+        Some((2, ScriptWhy::Fields))
+    );
     let word = repeated(rt.alloc(), b"round\n", b"jobs", 250000)?;
     assert_eq!(rt;
-        refusal(rt.alloc(), &word)?,
+        refusal_of(rt.alloc(), &[word.as_slice()])?,
         Some((2, ScriptWhy::UnknownWord))
     );
     let blanks = repeated(rt.alloc(), b"round\n", b" \t \t", 250000)?;
-    assert_eq!(rt; refusal(rt.alloc(), &blanks)?, None);
+    assert_eq!(rt; refusal_of(rt.alloc(), &[blanks.as_slice()])?, None);
     Ok(())
 }

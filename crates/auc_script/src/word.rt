@@ -1,7 +1,7 @@
-//! The words that begin a line.
+//! How a line begins: with the `#` of a comment, or with a word.
 
 ghost use Rattle.std.specs.Prelude.{◌≡◌};
-ghost use Rattle.auc_script.specs.Word.{header_word_of, job_word_of, is_later, word_of};
+ghost use Rattle.auc_script.specs.Word.{header_word_of, is_comment, is_later, job_word_of, word_of};
 
 /// A word of a line before the first round, which stands there at most once.
 #[derive(Clone, Copy)]
@@ -40,6 +40,13 @@ pub enum Word {
     Job,
     /// One of a job's lines.
     OfJob(JobWord),
+}
+
+/// Whether a line begins with `#`.
+pub fn is_comment(line: &[u8]) -> bool
+    ensures { result ≡ is_comment line.now }
+{
+    !line.is_empty() && line[0] == b'#'
 }
 
 /// The word that a text is, or `None` where it is none.

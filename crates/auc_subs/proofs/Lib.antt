@@ -1,4 +1,3 @@
 mod FileLemmas
 mod LookupLemmas
-mod NumberLemmas
 mod RowLemmas

@@ -1,22 +1,7 @@
--- The fields of a line, as lists of bytes: ASCII, each field separated from the next by one space.
-use Rattle.std.specs.Prelude.{ℕ, ◌&&◌, ◌==◌, nat_le, List, length, Option, Some, None, if◌then◌else◌}
-use Rattle.std.specs.List.{list_all, slice_split}
-use Rattle.std.specs.Char.{is_ascii_digit}
-use Rattle.std.specs.Result.{result_ok}
-use Rattle.auc_edge.specs.Identity.{number_of}
-use Rattle.hex.specs.Hex.{decode_sized}
+-- The fields of a line, as lists of bytes: each separated from the next by one space.
+use Rattle.std.specs.Prelude.{ℕ, ◌==◌, List}
+use Rattle.std.specs.List.{slice_split}
 
 -- the parts of a line between its spaces, which may be empty
 abbrev pub fields_of : List ℕ → List (List ℕ)
 fields_of line = slice_split (λ byte. byte == 32) line
-
--- the number that 1 to so many decimal digits are, where it is at most the greatest
-abbrev pub number_in : ℕ → ℕ → List ℕ → Option ℕ
-number_in digits greatest text =
-    if nat_le 1 (length text) && nat_le (length text) digits && list_all is_ascii_digit text
-    && nat_le (number_of text) greatest
-    then Some (number_of text) else None
-
--- the bytes that twice as many hexadecimal digits of either case are
-abbrev pub octets_in : ℕ → List ℕ → Option (List ℕ)
-octets_in count text = result_ok (decode_sized text count)

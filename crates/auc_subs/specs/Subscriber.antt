@@ -21,7 +21,8 @@ use Rattle.auc_subs.specs.declared.row.Row.{Row}
 use Rattle.auc_subs.specs.declared.refusal.SubsWhy.{SubsWhy}
 use Rattle.auc_subs.specs.declared.refusal.SubsWhy.TheVariants as why
 use Rattle.auc_subs.specs.declared.subscribers.TheConstants.{MAX_SUBSCRIBERS}
-use Rattle.auc_subs.specs.Field.{fields_of, number_in, octets_in}
+use Rattle.auc_text.specs.Field.{number_in, octets_in}
+use Rattle.auc_subs.specs.Field.{fields_of}
 
 -- one test after another: the first that fails gives its fault
 infixl 10 ◌>>=◌

@@ -6,9 +6,6 @@
 //! them as the list of their rows. [`Subscribers::read`] reads a file of comma-separated records and
 //! tells the first wrong one, [`Subscribers::add`] a line of seven fields, each by its first fault, a
 //! [`SubsWhy`]. Where OP is given, OPc is computed of it.
-//!
-//! [`read_decimal`] and [`read_octets`] are the reading of numbers and of hexadecimal digits that the
-//! layers above share.
 #![tactic(auto)]
 
 mod field;
@@ -20,7 +17,6 @@ mod subscribers;
 #[cfg(test)]
 mod tests;
 
-pub use field::{read_decimal, read_octets};
 pub use refusal::{AddRefusal, SubsRefusal, SubsWhy};
 pub use row::Row;
 pub use subscribers::{MAX_SUBSCRIBERS, Subscribers};

@@ -6,12 +6,12 @@ ghost use Rattle.auc_aes.specs.Bytes.{IsBlock};
 ghost use Rattle.auc_edge.specs.Identity.{IsIdentity, identity_of};
 ghost use Rattle.auc_subs.specs.Subscriber.{IsRow, opc_in, row_in};
 
-use crate::field::{read_decimal, read_octets};
 use crate::refusal::SubsWhy;
 use crate::row::Row;
 use auc_edge::Imsi;
 use auc_milenage::{Secret, opc_of};
 use auc_sqn::MAX_SEQ;
+use auc_text::{read_decimal, read_octets};
 
 /// OPc under a key, from the word of the field's kind and its digits.
 fn read_opc(k: [u8; 16], kind: &[u8], text: &[u8]) -> Result<[u8; 16], SubsWhy>

@@ -1,6 +1,6 @@
 //! Tables of lines and what they are answered.
 
-use crate::{AddRefusal, Row, SubsRefusal, SubsWhy, Subscribers, read_decimal, read_octets};
+use crate::{AddRefusal, Row, SubsRefusal, SubsWhy, Subscribers};
 use auc_edge::Imsi;
 use auc_milenage::Secret;
 use std::alloc::{AllocError, Global};
@@ -120,26 +120,6 @@ fn the_first_fault_of_a_line_is_told(rt: HostRuntime) {
     for (line, why) in cases {
         assert_eq!(rt; subs.add(line), Err(AddRefusal::Why(why)), "at {line:?}");
         assert_eq!(rt; subs.len(), 1, "at {line:?}");
-    }
-}
-
-#[test]
-fn a_number_has_so_many_digits_and_is_not_too_great(rt: HostRuntime) {
-    let cases = [
-        (b"".as_slice(), None),
-        (b"0".as_slice(), Some(0)),
-        (b"1000".as_slice(), Some(1000)),
-        (b"1001".as_slice(), None),
-        (b"00000000000000001000".as_slice(), Some(1000)),
-        (b"000000000000000001000".as_slice(), None),
-        // 2^64 + 1 and the greatest number of 20 digits.
-        (b"18446744073709551617".as_slice(), None),
-        (b"99999999999999999999".as_slice(), None),
-        (b"1 ".as_slice(), None),
-        (b"-1".as_slice(), None),
-    ];
-    for (text, number) in cases {
-        assert_eq!(rt; read_decimal(text, 20, 1000), number, "at {text:?}");
     }
 }
 
@@ -461,27 +441,4 @@ fn a_field_of_a_million_digits_is_no_identity(rt: HostRuntime) -> Result<(), Fai
         Err(SubsRefusal::Row(1, SubsWhy::Imsi))
     );
     Ok(())
-}
-
-// By hand.
-#[test]
-fn octets_are_twice_as_many_digits(rt: HostRuntime) {
-    let cases = [
-        (b"00fF".as_slice(), Some([0x00, 0xff])),
-        (b"B9b9", Some([0xb9, 0xb9])),
-        (b"", None),
-        (b"00f", None),
-        (b"00ff0", None),
-        (b"00ff00", None),
-        (b"0x00", None),
-        (b"00 f", None),
-    ];
-    for (text, octets) in cases {
-        assert_eq!(rt; read_octets::<2>(text), octets, "at {text:?}");
-    }
-    assert_eq!(rt;
-        read_octets::<6>(b"ff9bb4d0b607"),
-        Some([0xff, 0x9b, 0xb4, 0xd0, 0xb6, 0x07])
-    );
-    assert_eq!(rt; read_octets::<0>(b""), Some([]));
 }

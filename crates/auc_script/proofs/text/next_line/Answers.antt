@@ -1,5 +1,0 @@
-use Rattle.auc_script.proofs.TextLemmas.{line_first}
-use Rattle.auc_script.proofs.text.next_line.Goals as goal
-
-pub returns-in-Some-clause-line : goal.returns-in-Some-clause-line
-returns-in-Some-clause-line c = rw c.without_cr.ensures (line_first c.args.text.now c.in-Some.line.now c.in-Some.behind.now c.in-Some.ensures.cut)

@@ -1,6 +1,0 @@
-use Rattle.std.proofs.Common.{◌≡◌, ◌<◌, ◌^◌, take}
-use Rattle.auc_edge.specs.Identity.{number_of}
-use Rattle.auc_subs.proofs.field.value.Given as goal
-
-abbrev pub invariant-loop-byte : goal.invariant-loop-byte
-invariant-loop-byte l = record { value : l.number ≡ number_of (take l.byte-index l.text); below : l.number < 10 ^ l.byte-index }
