@@ -23,10 +23,6 @@ use Rattle.auc_world.specs.declared.record.LineRecord.TheVariants.{Vector, Withh
 use Rattle.auc_jobs.specs.Numbers.{AreReleased}
 use Rattle.auc_jobs.specs.Usims.{AreBehind}
 
--- the setting of a key and rows
-abbrev pub setting : List ℕ → List Row → Setting
-setting key rows = record { key = key; rows = rows }
-
 -- a centre has so many subscribers, whose greatest number is MAX_SEQ
 pub record IsCentreOf (count subs : ℕ) (top : ℕ → ℕ) : Type 0 where
   pub size : subs ≡ count

@@ -6,32 +6,31 @@ ghost use Rattle.auc_world.specs.declared.record.LineRecord.{LineRecord};
 ghost use Rattle.auc_transcript.specs.Given.{is_in};
 ghost use Rattle.auc_transcript.specs.Lines.{numbers_of};
 ghost use Rattle.auc_jobs.specs.Numbers.{has, AreReleased};
-ghost use Rattle.auc_jobs.specs.Serving.{setting, before_at, IsAnswered, AddsGive};
+ghost use Rattle.auc_jobs.specs.Serving.{before_at, IsAnswered, AddsGive};
 ghost use Rattle.auc_jobs.specs.Usims.{AreOfRows, AreBehind, Presents};
 
 use crate::drawing::vector_at;
 use crate::job_lines::JobLines;
 use crate::numbers::Numbers;
+use crate::setting::Setting;
 use crate::usims::Usims;
 use auc_edge::NoMemory;
 use auc_sqn::MAX_SEQ;
-use auc_subs::Subscribers;
 use auc_usim::Answer;
-use auc_vector::Rands;
 use auc_world::{GiveVerdict, LineRecord};
 
 /// Presents the vector of a subscriber's number, made again, to the subscriber's USIM.
-fn present(subs: &Subscribers, rands: &Rands, usims: &mut Usims, sub: u32, n: u64) -> GiveVerdict
-    requires usims { AreOfRows subs.now usims.old }
-    requires known { sub < length subs.now }
+fn present(set: &Setting, usims: &mut Usims, sub: u32, n: u64) -> GiveVerdict
+    requires usims { AreOfRows set.now.rows usims.old }
+    requires known { sub < length set.now.rows }
     requires first { 1 ≤ n }
     requires last { n ≤ MAX_SEQ }
 
-    ensures presented { (lines : List LineRecord) → AreBehind subs.now lines usims.old
-        → Presents subs.now lines sub n result usims.new }
-    ensures usims { AreOfRows subs.now usims.new }
+    ensures presented { (lines : List LineRecord) → AreBehind set.now.rows lines usims.old
+        → Presents set.now.rows lines sub n result usims.new }
+    ensures usims { AreOfRows set.now.rows usims.new }
 {
-    let made = vector_at(subs, rands, sub, n);
+    let made = vector_at(set, sub, n);
     match usims.challenge(sub, made.rand, made.autn) {
         Answer::Accepted { .. } => GiveVerdict::Accepted,
         Answer::SyncFailure { sqn, .. } => GiveVerdict::Sync(sqn),
@@ -48,26 +47,25 @@ fn is_released(released: &Numbers, lines: &JobLines, sub: u32, n: u64) -> bool
 
 /// What the subscriber's USIM answers to the vector of a number, if it was released.
 fn answered(
-    subs: &Subscribers,
-    rands: &Rands,
+    set: &Setting,
     released: &Numbers,
     usims: &mut Usims,
     sub: u32,
     n: u64,
     lines: &JobLines,
 ) -> GiveVerdict
-    requires usims { AreOfRows subs.now usims.old }
-    requires known { sub < length subs.now }
+    requires usims { AreOfRows set.now.rows usims.old }
+    requires known { sub < length set.now.rows }
     requires first { 1 ≤ n }
     requires last { n ≤ MAX_SEQ }
 
     ensures answered { (early : List LineRecord) (beside : List LineRecord) → AreReleased released.now early
-        → AreBehind subs.now (early ++ beside ++ lines.now) usims.old
-        → IsAnswered subs.now (before_at early beside lines.now) sub n result usims.new }
-    ensures usims { AreOfRows subs.now usims.new }
+        → AreBehind set.now.rows (early ++ beside ++ lines.now) usims.old
+        → IsAnswered set.now.rows (before_at early beside lines.now) sub n result usims.new }
+    ensures usims { AreOfRows set.now.rows usims.new }
 {
     if is_released(released, lines, sub, n) {
-        present(subs, rands, usims, sub, n)
+        present(set, usims, sub, n)
     } else {
         GiveVerdict::Absent
     }
@@ -75,24 +73,23 @@ fn answered(
 
 /// Presents the vector of a number to the subscriber's USIM, if it was released in an earlier round or by the job.
 pub(crate) fn give(
-    subs: &Subscribers,
-    rands: &Rands,
+    set: &Setting,
     released: &Numbers,
     usims: &mut Usims,
     sub: u32,
     n: u64,
     lines: &mut JobLines,
 ) -> Result<(), NoMemory>
-    requires usims { AreOfRows subs.now usims.old }
-    requires known { sub < length subs.now }
+    requires usims { AreOfRows set.now.rows usims.old }
+    requires known { sub < length set.now.rows }
     requires first { 1 ≤ n }
     requires last { n ≤ MAX_SEQ }
 
     ensures given { OnOk result ((early : List LineRecord) (beside : List LineRecord) → AreReleased released.now early
-        → AreBehind subs.now (early ++ beside ++ lines.old) usims.old
-        → AddsGive (setting rands.now subs.now) (before_at early beside lines.old) sub n usims.new lines.new) }
-    ensures usims { AreOfRows subs.now usims.new }
+        → AreBehind set.now.rows (early ++ beside ++ lines.old) usims.old
+        → AddsGive set.now (before_at early beside lines.old) sub n usims.new lines.new) }
+    ensures usims { AreOfRows set.now.rows usims.new }
 {
-    let verdict = answered(subs, rands, released, usims, sub, n, lines);
+    let verdict = answered(set, released, usims, sub, n, lines);
     lines.push(LineRecord::Give { sub, n, verdict })
 }

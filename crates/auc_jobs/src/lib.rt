@@ -5,9 +5,10 @@
 //! answers the record of the round and the state behind it. Its contract is that the round is lawful, by the
 //! definitions of `auc_transcript`.
 //!
-//! Contracts see a [`State`] as the record of its words, of what its USIMs keep, and of the numbers whose vectors were
-//! released (`specs/State`). The functions below `serve` work over any centre; they speak of the entries that its calls
-//! make of each subscriber's history. Want of memory is the only refusal.
+//! A [`Setting`] is what every line of a round is served with. Contracts see it as the setting of `auc_transcript`, and a
+//! [`State`] as the record of its words, of what its USIMs keep, and of the numbers whose vectors were released
+//! (`specs/State`). The functions below `serve` work over any centre; they speak of the entries that its calls make of
+//! each subscriber's history. Want of memory is the only refusal.
 #![tactic(auto)]
 
 mod closing;
@@ -18,6 +19,7 @@ mod job_lines;
 mod jobs;
 mod numbers;
 mod round;
+mod setting;
 mod state;
 mod syncing;
 #[cfg(test)]
@@ -25,4 +27,5 @@ mod tests;
 mod usims;
 
 pub use round::{Served, serve};
+pub use setting::Setting;
 pub use state::State;

@@ -5,18 +5,18 @@ ghost use Rattle.auc_transcript.specs.Lines.{all_lines};
 ghost use Rattle.auc_transcript.specs.Round.{IsLawfulRound};
 ghost use Rattle.auc_transcript.specs.Transcript.{reopened};
 ghost use Rattle.auc_world.specs.declared.record.LineRecord.{LineRecord};
-ghost use Rattle.auc_jobs.specs.Serving.{setting, AreAllKnown};
+ghost use Rattle.auc_jobs.specs.Serving.{AreAllKnown};
 ghost use Rattle.auc_jobs.specs.State.{StandsAt};
 
 use crate::closing::{closings, reopened, words};
 use crate::counting::counts;
 use crate::jobs::serve_jobs;
+use crate::setting::Setting;
 use crate::state::State;
 use auc_core::Core;
 use auc_edge::NoMemory;
 use auc_script::JobPart;
-use auc_subs::Subscribers;
-use auc_vector::{CoreCentre, Rands};
+use auc_vector::CoreCentre;
 use auc_world::RoundRecord;
 use std::alloc::Global;
 use std::sync::Wait;
@@ -37,20 +37,19 @@ pub fn serve<R: Wait>(
     alloc: Global,
     number: u32,
     jobs: &[JobPart],
-    subs: &Subscribers,
-    rands: &Rands,
+    set: &Setting,
     state: State,
 ) -> Result<Served, NoMemory>
-    requires state { (early : List LineRecord) × StandsAt (setting rands.now subs.now) early state }
-    requires known { AreAllKnown (length subs.now) jobs.now }
+    requires state { (early : List LineRecord) × StandsAt set.now early state }
+    requires known { AreAllKnown (length set.now.rows) jobs.now }
 
     ensures lawful { IfOk result (λ served. (early : List LineRecord)
-        → StandsAt (setting rands.now subs.now) early state → (words : List ℕ)
-        × IsLawfulRound (setting rands.now subs.now) early state.words jobs.now served.round words
+        → StandsAt set.now early state → (words : List ℕ)
+        × IsLawfulRound set.now early state.words jobs.now served.round words
         × (served.state.words ≡ reopened words)) }
     ensures next { IfOk result (λ served. (early : List LineRecord)
-        → StandsAt (setting rands.now subs.now) early state
-        → StandsAt (setting rands.now subs.now) (early ++ all_lines served.round.jobs) served.state) }
+        → StandsAt set.now early state
+        → StandsAt set.now (early ++ all_lines served.round.jobs) served.state) }
     ensures number { IfOk result (λ served. served.round.number ≡ number) }
 {
     let State {
@@ -58,18 +57,9 @@ pub fn serve<R: Wait>(
         mut usims,
         mut released,
     } = state;
-    let count = subs.len();
+    let count = set.subs.len();
     let mut centre = CoreCentre::new(Core::new(alloc, openings.as_slice())?);
-    let jobs = serve_jobs(
-        rt,
-        alloc,
-        &mut centre,
-        subs,
-        rands,
-        &released,
-        &mut usims,
-        jobs,
-    )?;
+    let jobs = serve_jobs(rt, alloc, &mut centre, set, &released, &mut usims, jobs)?;
     let words = words(alloc, &centre, count)?;
     let counts = counts(alloc, openings.len(), jobs.as_slice())?;
     let closings = closings(alloc, openings.as_slice(), words.as_slice(), &counts)?;

@@ -3,7 +3,7 @@
 ghost use Rattle.std.specs.Prelude.{All, IsTrue, IfOk, length};
 ghost use Rattle.auc_jobs.specs.Serving.{IsKnownLine, AreKnown, AreAllKnown};
 
-use crate::{Served, State, serve};
+use crate::{Served, Setting, State, serve};
 use auc_edge::{Items, NoMemory};
 use auc_script::{JobPart, Line, RoundPart};
 use auc_sqn::{MAX_SEQ, sqn_of};
@@ -63,8 +63,12 @@ fn serve_rounds<R: Wait>(
 {
     let rands = Rands::new([0; 32]);
     let state = State::new(alloc, subs)?;
-    let Served { state, round } = serve(rt, alloc, 1, first, subs, &rands, state)?;
-    let next = serve(rt, alloc, 2, second, subs, &rands, state)?;
+    let set = Setting {
+        subs,
+        rands: &rands,
+    };
+    let Served { state, round } = serve(rt, alloc, 1, first, &set, state)?;
+    let next = serve(rt, alloc, 2, second, &set, state)?;
     Ok((round, next.round))
 }
 

@@ -14,7 +14,6 @@ use Rattle.auc_transcript.specs.Lines.{all_lines}
 use Rattle.auc_transcript.specs.Transcript.{IsLawful, ServesPart}
 use Rattle.auc_world.specs.declared.record.LineRecord.{LineRecord}
 use Rattle.auc_world.specs.declared.record.RoundRecord.{RoundRecord}
-use Rattle.auc_run.specs.declared.rounds.Settings.{Settings}
 
 -- what the lines of a script are served with
 abbrev pub setting_of : List Row → Script → Setting
@@ -43,10 +42,6 @@ pub record WritesScript (rows : List Row) (script : Script) (old new : Option (L
   pub written : Appends old new (text_of rows script rounds)
 
 -- ---- the rounds, one after the other
-
--- the setting of a transcript, as the rounds are served with it
-abbrev pub setting_in : Settings → Setting
-setting_in settings = record { key = settings.rands; rows = settings.subs.now }
 
 -- a part of which each line is one of known subscribers, and whose jobs can be counted
 abbrev pub IsKnownPart : ℕ → Part → Type 0

@@ -9,11 +9,11 @@ ghost use Rattle.auc_script.specs.declared.part.Part.TheVariants as part;
 ghost use Rattle.auc_subs.specs.Subscriber.{AreSubscribers};
 ghost use Rattle.auc_world.specs.Record.{NamesBelow};
 ghost use Rattle.auc_world.specs.declared.record.LineRecord.{LineRecord};
-ghost use Rattle.auc_run.specs.Output.{Continues, IsKnownPart, WritesScript, setting_in};
+ghost use Rattle.auc_run.specs.Output.{Continues, IsKnownPart, WritesScript};
 
 use crate::refusal::RoundRefusal;
 use auc_edge::{Octets, Sink, write_whole};
-use auc_jobs::{State, serve};
+use auc_jobs::{Setting, State, serve};
 use auc_print::print_round;
 use auc_script::{Part, RoundPart, Script};
 use auc_subs::Subscribers;
@@ -23,10 +23,9 @@ use std::alloc::Global;
 use std::sync::Wait;
 
 /// What every round of a scenario is served and printed with.
-#[derive(Clone, Copy)]
+#[derive(Drop)]
 pub(crate) struct Settings<'a> {
-    pub(crate) subs: &'a Subscribers,
-    pub(crate) rands: Rands,
+    pub(crate) set: Setting<'a>,
     pub(crate) full: bool,
 }
 
@@ -37,16 +36,17 @@ fn write_round<K: Sink>(
     round: &RoundRecord,
     out: &mut K,
 ) -> Result<(), RoundRefusal>
-    requires { NamesBelow (length settings.now.subs.now) round.now }
+    requires { NamesBelow (length settings.now.set.rows) round.now }
 
     ensures written { OnOk result (Appends (K.written out.old) (K.written out.new)
-        (round_text (identities_of settings.now.subs.now) settings.now.full round.now)) }
+        (round_text (identities_of settings.now.set.rows) settings.now.full round.now)) }
     ensures quiet { OnOk result (K.faults out.new ≡ K.faults out.old) }
     ensures fault { IsErrOf result RoundRefusal.WriteFault → Rose (K.faults out.old) (K.faults out.new) }
     ensures later { K.faults out.old ≤ K.faults out.new }
 {
     let mut text = Octets::new(alloc);
-    print_round(round, settings.subs, settings.full, &mut text)?;
+    let set = &settings.set;
+    print_round(round, set.subs, settings.full, &mut text)?;
     write_whole(out, text.as_slice())?;
     Ok(())
 }
@@ -62,25 +62,17 @@ fn serve_and_write<R: Wait, K: Sink>(
     state: State,
     out: &mut K,
 ) -> Result<State, RoundRefusal>
-    requires subscribers { AreSubscribers settings.now.subs.now }
-    requires known { IsKnownPart (length settings.now.subs.now) (part.Round jobs.now) }
-    requires stands { (early : List LineRecord) × StandsAt (setting_in settings.now) early state }
+    requires subscribers { AreSubscribers settings.now.set.rows }
+    requires known { IsKnownPart (length settings.now.set.rows) (part.Round jobs.now) }
+    requires stands { (early : List LineRecord) × StandsAt settings.now.set early state }
 
-    ensures written { IfOk result (λ next. Continues (setting_in settings.now) settings.now.full number state
+    ensures written { IfOk result (λ next. Continues settings.now.set settings.now.full number state
         (part.Round jobs.now) next (K.written out.old) (K.written out.new)) }
     ensures quiet { OnOk result (K.faults out.new ≡ K.faults out.old) }
     ensures fault { IsErrOf result RoundRefusal.WriteFault → Rose (K.faults out.old) (K.faults out.new) }
     ensures later { K.faults out.old ≤ K.faults out.new }
 {
-    let served = serve(
-        rt,
-        alloc,
-        number,
-        jobs.as_slice(),
-        settings.subs,
-        &settings.rands,
-        state,
-    )?;
+    let served = serve(rt, alloc, number, jobs.as_slice(), &settings.set, state)?;
     write_round(alloc, settings, &served.round, out)?;
     Ok(served.state)
 }
@@ -95,11 +87,11 @@ fn serve_part<R: Wait, K: Sink>(
     state: State,
     out: &mut K,
 ) -> Result<State, RoundRefusal>
-    requires subscribers { AreSubscribers settings.now.subs.now }
-    requires known { IsKnownPart (length settings.now.subs.now) part.now }
-    requires stands { (early : List LineRecord) × StandsAt (setting_in settings.now) early state }
+    requires subscribers { AreSubscribers settings.now.set.rows }
+    requires known { IsKnownPart (length settings.now.set.rows) part.now }
+    requires stands { (early : List LineRecord) × StandsAt settings.now.set early state }
 
-    ensures written { IfOk result (λ next. Continues (setting_in settings.now) settings.now.full number state
+    ensures written { IfOk result (λ next. Continues settings.now.set settings.now.full number state
         part.now next (K.written out.old) (K.written out.new)) }
     ensures quiet { OnOk result (K.faults out.new ≡ K.faults out.old) }
     ensures fault { IsErrOf result RoundRefusal.WriteFault → Rose (K.faults out.old) (K.faults out.new) }
@@ -128,9 +120,12 @@ pub(crate) fn serve_parts<R: Wait, K: Sink>(
     ensures fault { IsErrOf result RoundRefusal.WriteFault → Rose (K.faults out.old) (K.faults out.new) }
     ensures later { K.faults out.old ≤ K.faults out.new }
 {
+    let rands = Rands::new(script.key);
     let settings = Settings {
-        subs,
-        rands: Rands::new(script.key),
+        set: Setting {
+            subs,
+            rands: &rands,
+        },
         full: script.full,
     };
     let parts = script.parts.as_slice();

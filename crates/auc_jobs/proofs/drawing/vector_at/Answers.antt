@@ -1,11 +1,18 @@
+use Rattle.std.proofs.Common.{◌≡◌, List, ap, subst}
+use Rattle.std.specs.Prelude.{slice_get, Some}
 use Rattle.auc_subs.specs.Subscriber.{IsRow}
+use Rattle.auc_subs.specs.declared.row.Row.{Row}
+use Rattle.auc_transcript.specs.Given.{Setting}
 use Rattle.auc_jobs.proofs.LineLemmas.{all_at}
 use Rattle.auc_jobs.proofs.drawing.vector_at.Goals as goal
 
 pub returns-clause-row : goal.returns-clause-row
-returns-clause-row c = let h = c.len in record {
-  row = c.row-row.result.now;
-  there = c.row-row.ensures;
-  is_row = all_at IsRow c.args.subs.now c.args.sub c.row-row.result.now c.len.ensures.subscribers.each c.row-row.ensures;
-  made = rw (← c.rand_of.ensures) c.vector.ensures;
-}
+returns-clause-row c =
+    let rows : c.set.inside.subs.now ≡ c.args.set.now.rows = ap (λ (set : Setting). set.rows) c.set.view_is in
+    let key : c.set.inside.rands.now ≡ c.args.set.now.key = ap (λ (set : Setting). set.key) c.set.view_is in
+    record {
+      row = c.row-row.result.now;
+      there = subst (λ (rows : List Row). slice_get rows c.args.sub ≡ Some c.row-row.result.now) rows c.row-row.ensures;
+      is_row = all_at IsRow c.set.inside.subs.now c.args.sub c.row-row.result.now c.len.ensures.subscribers.each c.row-row.ensures;
+      made = rw (← key, ← c.rand_of.ensures) c.vector.ensures;
+    }

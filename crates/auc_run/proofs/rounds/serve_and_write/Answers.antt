@@ -1,13 +1,12 @@
 use Rattle.std.proofs.Common.{◌^◌, ◌<◌, List, subst, arith}
 use Rattle.auc_script.specs.declared.part.Line.{Line}
 use Rattle.auc_transcript.specs.Round.{IsLawfulRound}
-use Rattle.auc_run.specs.Output.{setting_in}
 use Rattle.auc_run.proofs.PrintableLemmas.{round_prints}
 use Rattle.auc_run.proofs.rounds.serve_and_write.Goals as goal
 
 pub write_round-requires : goal.write_round-requires
 write_round-requires g c =
-    let set = setting_in c.args.settings.now in
+    let set = c.args.settings.now.set in
     let round = c.in_ok-served.served.round in
     let early = c.requires.stands.0 in
     let stands = c.requires.stands.1 in
@@ -19,7 +18,7 @@ write_round-requires g c =
 
 pub returns-clause-written : goal.returns-clause-written
 returns-clause-written g c = λ early stands.
-    let set = setting_in c.args.settings.now in
+    let set = c.args.settings.now.set in
     let round = c.in_ok-served.served.round in
     let served = c.in_ok-served.ensures.lawful early stands in
     let lawful : IsLawfulRound set early c.args.state.words c.args.jobs.now round served.0 =

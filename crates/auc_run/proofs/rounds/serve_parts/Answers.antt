@@ -9,7 +9,7 @@ pub loop-part-init : goal.loop-part-init
 loop-part-init g c = record {
   number = refl;
   quiet = refl;
-  serving = Serving-none _ _ _ _ _ c.in_ok-state.ensures.words (c.in_ok-state.ensures.stands (record { key = c.new.result; rows = c.args.subs.now }) refl);
+  serving = Serving-none _ _ _ _ _ c.in_ok-state.ensures.words (c.in_ok-state.ensures.stands (record { key = c.new-rands.result; rows = c.args.subs.now }) refl);
 }
 
 pub loop-part-preserved : goal.loop-part-preserved
@@ -31,7 +31,7 @@ returns-clause-written g c =
     let number = c.loop-part.number + 1 in
     let old = g.K.Sink.written c.args.out.now in
     let new = g.K.Sink.written c.loop-part.out in
-    let of_script = subst (λ (parts : List Part). Serving (record { key = c.new.result; rows = c.args.subs.now }) full number c.loop-part.state left parts old new)
+    let of_script = subst (λ (parts : List Part). Serving (record { key = c.new-rands.result; rows = c.args.subs.now }) full number c.loop-part.state left parts old new)
     c.as_slice-parts.ensures c.loop-part.invariant.serving in
     Serving-all c.args.subs.now c.args.script.now number c.loop-part.state left old new (drop_all _ _ c.loop-part-test.false)
-    (subst (λ (key : List ℕ). Serving (record { key = key; rows = c.args.subs.now }) full number c.loop-part.state left c.args.script.now.parts old new) c.new.ensures of_script)
+    (subst (λ (key : List ℕ). Serving (record { key = key; rows = c.args.subs.now }) full number c.loop-part.state left c.args.script.now.parts old new) c.new-rands.ensures of_script)
