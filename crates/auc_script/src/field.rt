@@ -114,11 +114,9 @@ pub fn read_bit(text: &[u8]) -> Result<Option<u8>, ScriptWhy>
 pub fn read_full(text: &[u8]) -> Result<bool, ScriptWhy>
     ensures { result ≡ full_in text.now }
 {
-    if text == b"brief".as_slice() {
-        Ok(false)
-    } else if text == b"full".as_slice() {
-        Ok(true)
-    } else {
-        Err(ScriptWhy::Fields)
+    match text {
+        b"brief" => Ok(false),
+        b"full" => Ok(true),
+        _ => Err(ScriptWhy::Fields),
     }
 }

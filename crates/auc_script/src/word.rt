@@ -53,21 +53,17 @@ pub fn is_comment(line: &[u8]) -> bool
 pub fn read_word(text: &[u8]) -> Option<Word>
     ensures { result ≡ word_of text.now }
 {
-    if text == b"subscriber".as_slice() {
-        return Some(Word::Subscriber);
-    }
-    if text == b"round".as_slice() {
-        return Some(Word::Round);
-    }
-    if text == b"job".as_slice() {
-        return Some(Word::Job);
-    }
-    if let Some(word) = read_job_word(text) {
-        return Some(Word::OfJob(word));
-    }
-    match read_header_word(text) {
-        Some(word) => Some(Word::Header(word)),
-        None => None,
+    match text {
+        b"subscriber" => Some(Word::Subscriber),
+        b"round" => Some(Word::Round),
+        b"job" => Some(Word::Job),
+        _ => match read_job_word(text) {
+            Some(word) => Some(Word::OfJob(word)),
+            None => match read_header_word(text) {
+                Some(word) => Some(Word::Header(word)),
+                None => None,
+            },
+        },
     }
 }
 
@@ -75,14 +71,11 @@ pub fn read_word(text: &[u8]) -> Option<Word>
 fn read_job_word(text: &[u8]) -> Option<JobWord>
     ensures { result ≡ job_word_of text.now }
 {
-    if text == b"draw".as_slice() {
-        Some(JobWord::Draw)
-    } else if text == b"sync".as_slice() {
-        Some(JobWord::Sync)
-    } else if text == b"give".as_slice() {
-        Some(JobWord::Give)
-    } else {
-        None
+    match text {
+        b"draw" => Some(JobWord::Draw),
+        b"sync" => Some(JobWord::Sync),
+        b"give" => Some(JobWord::Give),
+        _ => None,
     }
 }
 
@@ -90,16 +83,12 @@ fn read_job_word(text: &[u8]) -> Option<JobWord>
 fn read_header_word(text: &[u8]) -> Option<HeaderWord>
     ensures { result ≡ header_word_of text.now }
 {
-    if text == b"randkey".as_slice() {
-        Some(HeaderWord::Randkey)
-    } else if text == b"workers".as_slice() {
-        Some(HeaderWord::Workers)
-    } else if text == b"print".as_slice() {
-        Some(HeaderWord::Print)
-    } else if text == b"realm".as_slice() {
-        Some(HeaderWord::Realm)
-    } else {
-        None
+    match text {
+        b"randkey" => Some(HeaderWord::Randkey),
+        b"workers" => Some(HeaderWord::Workers),
+        b"print" => Some(HeaderWord::Print),
+        b"realm" => Some(HeaderWord::Realm),
+        _ => None,
     }
 }
 

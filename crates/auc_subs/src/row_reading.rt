@@ -18,12 +18,10 @@ fn read_opc(k: [u8; 16], kind: &[u8], text: &[u8]) -> Result<[u8; 16], SubsWhy>
     ensures value { result ≡ opc_in k kind.now text.now }
     ensures block { IfOk result IsBlock }
 {
-    if kind == b"op".as_slice() {
-        Ok(opc_of(k, read_octets(text).ok_or(SubsWhy::Op)?))
-    } else if kind == b"opc".as_slice() {
-        Ok(read_octets(text).ok_or(SubsWhy::Op)?)
-    } else {
-        Err(SubsWhy::Kind)
+    match kind {
+        b"op" => Ok(opc_of(k, read_octets(text).ok_or(SubsWhy::Op)?)),
+        b"opc" => Ok(read_octets(text).ok_or(SubsWhy::Op)?),
+        _ => Err(SubsWhy::Kind),
     }
 }
 
