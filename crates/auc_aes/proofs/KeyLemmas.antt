@@ -45,22 +45,16 @@ unfolding state_after
 state_first key block first result e f = e ∙ ap (xor block) f
 
 -- the state after one more round
-pub state_more : (key block state rk result : List ℕ) (i : ℕ) → 1 ≤ i → state ≡ state_after key block (i - 1)
-    → rk ≡ round_key key i → result ≡ full_round state rk → result ≡ state_after key block (i + 1 - 1)
+pub state_next : (key block state rk result : List ℕ) (n : ℕ) → state ≡ state_after key block n → rk ≡ round_key key (suc n)
+    → result ≡ full_round state rk → result ≡ state_after key block (suc n)
 unfolding state_after
-state_more key block state rk result zero l s k e = absurd (omega arith)
-state_more key block state rk result (suc n) l s k e =
-    let same : suc n - 1 ≡ n = omega arith in
-    let next : suc n + 1 - 1 ≡ suc n = omega arith in
-    e ∙ ap (λ t. full_round t rk) (s ∙ ap (state_after key block) same) ∙ ap (full_round (state_after key block n)) k
-    ∙ sym (ap (state_after key block) next)
+state_next key block state rk result n s k e = e ∙ ap (λ t. full_round t rk) s ∙ ap (full_round (state_after key block n)) k
 
 -- the state after the last round is the cipher
-pub state_last : (key block state rk result : List ℕ) (i : ℕ) → i ≡ 10 → state ≡ state_after key block (i - 1)
-    → rk ≡ round_key key 10 → result ≡ final_round state rk → result ≡ aes key block
+pub state_last : (key block state rk result : List ℕ) → state ≡ state_after key block 9 → rk ≡ round_key key 10
+    → result ≡ final_round state rk → result ≡ aes key block
 unfolding aes
-state_last key block state rk result i ten s k e =
-    e ∙ ap (λ t. final_round t rk) (s ∙ ap (λ j. state_after key block (j - 1)) ten) ∙ ap (final_round (state_after key block 9)) k
+state_last key block state rk result s k e = e ∙ ap (λ t. final_round t rk) s ∙ ap (final_round (state_after key block 9)) k
 
 -- the state in which the last round is undone
 pub undone_first : (key block rk result : List ℕ) → rk ≡ round_key key 10 → result ≡ inv_final_round block rk

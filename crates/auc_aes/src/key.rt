@@ -47,12 +47,19 @@ impl Key {
     pub fn encrypt(&self, b: [u8; 16]) -> [u8; 16]
         ensures { result ≡ aes self.now b }
     {
-        let mut state = add(words_of(b), self.round_keys[0]);
-        for round in 1..10 {
-            let next = full_round(state, self.round_keys[round]);
-            state = next;
-        }
-        block_of(final_round(state, self.round_keys[10]))
+        // LLVM makes slower code of a loop over the nine full rounds.
+        let keys = &self.round_keys;
+        let state = add(words_of(b), keys[0]);
+        let state = full_round(state, keys[1]);
+        let state = full_round(state, keys[2]);
+        let state = full_round(state, keys[3]);
+        let state = full_round(state, keys[4]);
+        let state = full_round(state, keys[5]);
+        let state = full_round(state, keys[6]);
+        let state = full_round(state, keys[7]);
+        let state = full_round(state, keys[8]);
+        let state = full_round(state, keys[9]);
+        block_of(final_round(state, keys[10]))
     }
 
     /// The inverse cipher of a block (FIPS 197 §5.3).
