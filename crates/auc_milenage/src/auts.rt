@@ -3,7 +3,7 @@
 ghost use Rattle.std.specs.Prelude.{◌≡◌, ◌++◌};
 ghost use Rattle.auc_milenage.specs.Milenage.{auts};
 
-use crate::kernel::{Kernel, first_six, second_half};
+use crate::milenage::{Milenage, first_six, second_half};
 use crate::secret::Secret;
 use auc_aes::xor;
 
@@ -12,9 +12,10 @@ use auc_aes::xor;
 pub fn make_auts(s: &Secret, rand: [u8; 16], sqn_ms: [u8; 6]) -> [u8; 14]
     ensures { result ≡ auts s.now.k s.now.opc rand sqn_ms }
 {
-    let kernel = Kernel::new(s, rand);
-    let masked = xor(sqn_ms, first_six(kernel.out5()));
-    join(masked, second_half(kernel.out1(sqn_ms, [0, 0])))
+    let m = Milenage::new(s);
+    let temp = m.temp(rand);
+    let masked = xor(sqn_ms, first_six(m.out5(temp)));
+    join(masked, second_half(m.out1(temp, sqn_ms, [0, 0])))
 }
 
 /// The two parts of AUTS, one after the other.

@@ -3,7 +3,7 @@
 ghost use Rattle.std.specs.Prelude.{◌≡◌, take, drop};
 ghost use Rattle.auc_milenage.specs.Milenage.{f1 as f1_by, f1_star as f1_star_by, f2, f3, f4, f5, f5_star as f5_star_by, out, r2, r3, r4, c2, c3, c4};
 
-use crate::kernel::{Kernel, first_half, first_six, second_half};
+use crate::milenage::{Milenage, first_half, first_six, second_half};
 use crate::secret::{Four, Secret};
 
 /// f1: MAC-A over RAND, SQN and AMF.
@@ -11,7 +11,8 @@ use crate::secret::{Four, Secret};
 pub fn f1(s: &Secret, rand: [u8; 16], sqn: [u8; 6], amf: [u8; 2]) -> [u8; 8]
     ensures { result ≡ f1_by s.now.k s.now.opc rand sqn amf }
 {
-    first_half(Kernel::new(s, rand).out1(sqn, amf))
+    let m = Milenage::new(s);
+    first_half(m.out1(m.temp(rand), sqn, amf))
 }
 
 /// f1*: MAC-S, the authentication code of a resynchronisation.
@@ -19,7 +20,8 @@ pub fn f1(s: &Secret, rand: [u8; 16], sqn: [u8; 6], amf: [u8; 2]) -> [u8; 8]
 pub fn f1_star(s: &Secret, rand: [u8; 16], sqn: [u8; 6], amf: [u8; 2]) -> [u8; 8]
     ensures { result ≡ f1_star_by s.now.k s.now.opc rand sqn amf }
 {
-    second_half(Kernel::new(s, rand).out1(sqn, amf))
+    let m = Milenage::new(s);
+    second_half(m.out1(m.temp(rand), sqn, amf))
 }
 
 /// f2, f3, f4 and f5: RES, CK, IK and AK of a RAND.
@@ -30,20 +32,23 @@ pub fn f2345(s: &Secret, rand: [u8; 16]) -> Four
     ensures ik { result.ik ≡ f4 s.now.k s.now.opc rand }
     ensures ak { result.ak ≡ f5 s.now.k s.now.opc rand }
 {
-    four(&Kernel::new(s, rand))
+    let m = Milenage::new(s);
+    four(&m, m.temp(rand))
 }
 
-/// f1 to f5 at once, for five blocks and one key schedule: MAC-A, and RES, CK, IK and AK.
-#[tactic(auto, unfolding(crate::specs::Milenage::f1, crate::specs::Milenage::f2, crate::specs::Milenage::f3, crate::specs::Milenage::f4, crate::specs::Milenage::f5))]
-pub fn f12345(s: &Secret, rand: [u8; 16], sqn: [u8; 6], amf: [u8; 2]) -> ([u8; 8], Four)
-    ensures mac { result.0 ≡ f1_by s.now.k s.now.opc rand sqn amf }
-    ensures res { result.1.res ≡ f2 s.now.k s.now.opc rand }
-    ensures ck { result.1.ck ≡ f3 s.now.k s.now.opc rand }
-    ensures ik { result.1.ik ≡ f4 s.now.k s.now.opc rand }
-    ensures ak { result.1.ak ≡ f5 s.now.k s.now.opc rand }
-{
-    let kernel = Kernel::new(s, rand);
-    (first_half(kernel.out1(sqn, amf)), four(&kernel))
+impl Milenage {
+    /// f1 to f5 at once, for five blocks: MAC-A, and RES, CK, IK and AK.
+    #[tactic(auto, unfolding(crate::specs::Milenage::f1, crate::specs::Milenage::f2, crate::specs::Milenage::f3, crate::specs::Milenage::f4, crate::specs::Milenage::f5))]
+    pub fn f12345(&self, rand: [u8; 16], sqn: [u8; 6], amf: [u8; 2]) -> ([u8; 8], Four)
+        ensures mac { result.0 ≡ f1_by self.now.k self.now.opc rand sqn amf }
+        ensures res { result.1.res ≡ f2 self.now.k self.now.opc rand }
+        ensures ck { result.1.ck ≡ f3 self.now.k self.now.opc rand }
+        ensures ik { result.1.ik ≡ f4 self.now.k self.now.opc rand }
+        ensures ak { result.1.ak ≡ f5 self.now.k self.now.opc rand }
+    {
+        let temp = self.temp(rand);
+        (first_half(self.out1(temp, sqn, amf)), four(self, temp))
+    }
 }
 
 /// f5*: the AK of a resynchronisation.
@@ -51,21 +56,22 @@ pub fn f12345(s: &Secret, rand: [u8; 16], sqn: [u8; 6], amf: [u8; 2]) -> ([u8; 8
 pub fn f5_star(s: &Secret, rand: [u8; 16]) -> [u8; 6]
     ensures { result ≡ f5_star_by s.now.k s.now.opc rand }
 {
-    first_six(Kernel::new(s, rand).out5())
+    let m = Milenage::new(s);
+    first_six(m.out5(m.temp(rand)))
 }
 
 /// RES, CK, IK and AK from OUT2, OUT3 and OUT4.
-fn four(kernel: &Kernel) -> Four
-    ensures res { result.res ≡ drop 8 (out r2 c2 kernel.now.key kernel.now.opc kernel.now.temp) }
-    ensures ck { result.ck ≡ out r3 c3 kernel.now.key kernel.now.opc kernel.now.temp }
-    ensures ik { result.ik ≡ out r4 c4 kernel.now.key kernel.now.opc kernel.now.temp }
-    ensures ak { result.ak ≡ take 6 (out r2 c2 kernel.now.key kernel.now.opc kernel.now.temp) }
+fn four(m: &Milenage, temp: [u8; 16]) -> Four
+    ensures res { result.res ≡ drop 8 (out r2 c2 m.now.k m.now.opc temp) }
+    ensures ck { result.ck ≡ out r3 c3 m.now.k m.now.opc temp }
+    ensures ik { result.ik ≡ out r4 c4 m.now.k m.now.opc temp }
+    ensures ak { result.ak ≡ take 6 (out r2 c2 m.now.k m.now.opc temp) }
 {
-    let out2 = kernel.out2();
+    let out2 = m.out2(temp);
     Four {
         res: second_half(out2),
-        ck: kernel.out3(),
-        ik: kernel.out4(),
+        ck: m.out3(temp),
+        ik: m.out4(temp),
         ak: first_six(out2),
     }
 }

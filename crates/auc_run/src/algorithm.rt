@@ -4,7 +4,7 @@ ghost use Rattle.std.specs.Prelude.{◌≡◌, ◌++◌, OnOk, IfOk};
 ghost use Rattle.auc_run.specs.Algorithm.{values_in, values_named, value_line, algorithm_text};
 
 use auc_edge::{NoMemory, Octets};
-use auc_milenage::{Secret, f1_star, f5_star, f12345};
+use auc_milenage::{Milenage, Secret, f1_star, f5_star};
 use auc_text::read_octets;
 use std::alloc::Global;
 
@@ -59,7 +59,7 @@ pub fn algorithm_lines(alloc: Global, given: &AlgorithmWords) -> Result<Octets, 
         k: given.k,
         opc: given.opc,
     };
-    let (mac, four) = f12345(&secret, given.rand, given.sqn, given.amf);
+    let (mac, four) = Milenage::new(&secret).f12345(given.rand, given.sqn, given.amf);
     let mut text = Octets::new(alloc);
     append_value(alloc, &mut text, b"f1", &mac)?;
     append_value(

@@ -16,3 +16,8 @@ sixteen_at key stream place =
 -- RAND of a subscriber, which is its stream, and a number
 unfoldable pub rand_of : List ℕ → ℕ → ℕ → List ℕ
 rand_of key sub n = sixteen_at key sub (4 * n)
+
+-- the RANDs of one subscriber under a key
+pub record Stream : Type 0 where
+  pub key : List ℕ
+  pub sub : ℕ

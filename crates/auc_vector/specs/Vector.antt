@@ -6,6 +6,7 @@ use Rattle.auc_milenage.specs.declared.secret.Secret.{Secret}
 use Rattle.auc_sqn.specs.Number.{sqn_bytes}
 use Rattle.auc_sqn.specs.declared.number.TheConstants.{MAX_SEQ}
 use Rattle.auc_vector.specs.declared.parts.Vector.{Vector}
+use Rattle.auc_vector.specs.Random.{Stream}
 
 -- AUTN: SQN masked by AK, AMF, and the MAC f1
 unfoldable pub autn_of : List ℕ → List ℕ → List ℕ → List ℕ → ℕ → List ℕ
@@ -22,6 +23,12 @@ vector_of s amf n rand = record {
   ck = f3 s.k s.opc rand;
   ik = f4 s.k s.opc rand;
 }
+
+-- what the vectors of one subscriber are made from
+pub record Source : Type 0 where
+  pub secret : Secret
+  pub amf : List ℕ
+  pub rands : Stream
 
 -- the SQN that a USIM finds in AUTN
 unfoldable pub sqn_in : List ℕ → List ℕ → List ℕ → List ℕ → List ℕ

@@ -2,13 +2,15 @@
 //! authentication centre whose numbers they are of.
 //!
 //! [`vector`] makes the [`Vector`] of a number under a secret, and [`Rands`] gives its RAND by subscriber and
-//! number, as words of ChaCha20: the same key gives the same bytes again. [`read_auts`] reads a USIM's AUTS.
+//! number, as words of ChaCha20: the same key gives the same bytes again. Where many vectors of one subscriber are
+//! wanted, [`Vectors`] makes them with one key schedule and one generator. [`read_auts`] reads a USIM's AUTS.
 //!
 //! A [`Centre`] gives numbers and resynchronises them; its ghost members say which entries of a subscriber's history
 //! each call made. [`CoreCentre`] is the one over the pure core.
 //!
-//! Contracts see a `Rands` as the 32 bytes of its key, and a `CoreCentre` as the list of its subscribers' words. Nothing
-//! here takes memory or can fail. A `Centre`'s calls may wait, and those of `CoreCentre` wait for nobody.
+//! Contracts see a `Rands` as the 32 bytes of its key, a `RandStream` and a `Vectors` as what they are made from
+//! (`specs/Random`, `specs/Vector`), and a `CoreCentre` as the list of its subscribers' words. Nothing here takes memory
+//! or can fail. A `Centre`'s calls may wait, and those of `CoreCentre` wait for nobody.
 #![tactic(auto)]
 
 mod auts;
@@ -17,9 +19,11 @@ mod core_centre;
 mod law;
 mod making;
 mod parts;
+mod rand_stream;
 mod rands;
 #[cfg(test)]
 mod tests;
+mod vectors;
 
 pub use auts::{Auts, read_auts};
 pub use centre::{Centre, CentreRefusal, Resynced};
@@ -30,4 +34,6 @@ pub use law::{
 };
 pub use making::vector;
 pub use parts::Vector;
+pub use rand_stream::RandStream;
 pub use rands::Rands;
+pub use vectors::Vectors;

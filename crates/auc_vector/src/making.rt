@@ -5,18 +5,27 @@ ghost use Rattle.auc_vector.specs.Vector.{vector_of};
 
 use crate::parts::Vector;
 use auc_aes::xor;
-use auc_milenage::{Four, Secret, f12345};
+use auc_milenage::{Four, Milenage, Secret};
 use auc_sqn::{MAX_SEQ, sqn_of};
 
 /// The vector of number `n` with a RAND, under a subscriber's secret and AMF.
-#[tactic(auto, unfolding(crate::specs::Vector::autn_of))]
 pub fn vector(s: &Secret, amf: [u8; 2], n: u64, rand: [u8; 16]) -> Vector
     requires first { 1 ≤ n }
     requires last { n ≤ MAX_SEQ }
     ensures { result ≡ vector_of s.now amf n rand }
 {
+    vector_under(&Milenage::new(s), amf, n, rand)
+}
+
+/// The vector of number `n` with a RAND, under a secret whose key schedule is there.
+#[tactic(auto, unfolding(crate::specs::Vector::autn_of))]
+pub(crate) fn vector_under(m: &Milenage, amf: [u8; 2], n: u64, rand: [u8; 16]) -> Vector
+    requires first { 1 ≤ n }
+    requires last { n ≤ MAX_SEQ }
+    ensures { result ≡ vector_of m.now amf n rand }
+{
     let sqn = sqn_of(n);
-    let (mac, four) = f12345(s, rand, sqn, amf);
+    let (mac, four) = m.f12345(rand, sqn, amf);
     let Four { res, ck, ik, ak } = four;
     let autn = join(xor(sqn, ak), amf, mac);
     Vector {

@@ -2,7 +2,7 @@
 
 ghost use Rattle.std.specs.Prelude.{◌≡◌, ◌<◌};
 
-use crate::{Auts, Centre, CentreRefusal, CoreCentre, Rands, Resynced, read_auts, vector};
+use crate::{Auts, Centre, CentreRefusal, CoreCentre, Rands, Resynced, Vectors, read_auts, vector};
 use auc_core::Core;
 use auc_milenage::{Secret, make_auts};
 use auc_sqn::{MAX_SEQ, sqn_of};
@@ -34,6 +34,27 @@ fn rand_is_the_key_stream_of_the_subscriber_at_the_number(rt: HostRuntime) {
             rand.to_be_bytes(),
             "of {sub} at {n}"
         );
+    }
+}
+
+// The same key stream, of subscriber 7: number, RAND. The generator goes on, ahead, back and stays.
+#[test]
+fn stream_gives_the_rand_of_each_number_in_any_order(rt: HostRuntime) {
+    let cases: [(u64, u128); 10] = [
+        (1, 0x147f999fdb769ab661f0eb73b36ce7c8),
+        (2, 0xed24fee9481eb65eba4b4df7f80b0121),
+        (16, 0x626ca442b43ecc6f38c5e29602ec81a8),
+        (17, 0xbc4058178341013f197f505f0fe31d32),
+        (5, 0x329da241f1ed0905aa9a33e7e7e9d71c),
+        (4, 0xf10f844822e87a8962364e33fc88109a),
+        (15, 0x77b349ce2ad80b2642be1c010b19b428),
+        (16, 0x626ca442b43ecc6f38c5e29602ec81a8),
+        (8796093022207, 0x89fe4fe7970f7f4d0dffe0de36f144cf),
+        (0, 0x480f443fe9dbb832560a751a4ff29af7),
+    ];
+    let mut stream = rands().stream(7);
+    for (n, rand) in cases {
+        assert_eq!(rt; stream.rand_of(n), rand.to_be_bytes(), "at {n}");
     }
 }
 
@@ -78,6 +99,12 @@ fn each_part_of_a_vector_is_that_of_another_implementation(rt: HostRuntime) {
     for (sub, n, amf, autn, xres, ck, ik) in cases {
         let rand = rands.rand_of(sub, n);
         let made = vector(&s, amf.to_be_bytes(), n, rand);
+        let mut vectors = Vectors::new(&s, amf.to_be_bytes(), rands.stream(sub));
+        assert_eq!(rt;
+            vectors.vector_of(n),
+            made,
+            "the subscriber's vector at {n}"
+        );
         assert_eq!(rt; made.n, n);
         assert_eq!(rt; made.rand, rand, "RAND at {n}");
         assert_eq!(rt; made.autn, autn.to_be_bytes(), "AUTN at {n}");
