@@ -11,7 +11,7 @@ use Rattle.auc_vector.specs.declared.auts.Auts.{Auts}
 use Rattle.auc_vector.specs.Random.{rand_of}
 use Rattle.auc_world.specs.declared.record.SyncVerdict.{SyncVerdict}
 use Rattle.auc_world.specs.declared.record.SyncVerdict.TheVariants as verdict
-use Rattle.auc_vector.specs.Vector.{vector_of}
+use Rattle.auc_vector.specs.Vector.{vector_of, Source}
 use Rattle.auc_vector.specs.declared.parts.Vector.{Vector as AuthVector}
 use Rattle.auc_transcript.specs.Entries.{is_reported, entries_of_line, entries_of_lines}
 use Rattle.auc_transcript.specs.Given.{Setting, Before, IsVector, IsGiven, is_released, past_before, GiveGives, JobGives, JobsGive, auts_for}
@@ -27,6 +27,13 @@ use Rattle.auc_jobs.specs.Usims.{AreBehind}
 pub record IsCentreOf (count subs : ℕ) (top : ℕ → ℕ) : Type 0 where
   pub size : subs ≡ count
   pub greatest : (sub : ℕ) → top sub ≡ MAX_SEQ
+
+-- vectors are those of a subscriber's row, with the subscriber's RANDs
+pub record AreOfRow (key : List ℕ) (rows : List Row) (sub : ℕ) (source : Source) : Type 0 where
+  pub row : Row
+  pub there : slice_get rows sub ≡ Some row
+  pub is_row : IsRow row
+  pub made : source ≡ record { secret = row.secret; amf = row.amf; rands = record { key = key; sub = sub } }
 
 -- the vector of a subscriber's number is the one of its row
 pub record IsOfRow (key : List ℕ) (rows : List Row) (sub n : ℕ) (vector : AuthVector) : Type 0 where

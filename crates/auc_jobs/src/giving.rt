@@ -1,6 +1,6 @@
 //! Presenting vectors to USIMs.
 
-ghost use Rattle.std.specs.Prelude.{◌≡◌, ◌≤◌, ◌<◌, ◌||◌, ◌++◌, List, length, OnOk};
+ghost use Rattle.std.specs.Prelude.{◌≡◌, ◌≤◌, ◌<◌, ◌||◌, ◌++◌, List, length, IfOk, OnOk};
 ghost use Rattle.auc_sqn.specs.declared.number.TheConstants.{MAX_SEQ};
 ghost use Rattle.auc_world.specs.declared.record.LineRecord.{LineRecord};
 ghost use Rattle.auc_transcript.specs.Given.{is_in};
@@ -39,10 +39,15 @@ fn present(set: &Setting, usims: &mut Usims, sub: u32, n: u64) -> GiveVerdict
 }
 
 /// Whether a subscriber's number was released, in an earlier round or by the job's lines.
-fn is_released(released: &Numbers, lines: &JobLines, sub: u32, n: u64) -> bool
-    ensures { result ≡ (has released.now sub n || is_in n (numbers_of sub lines.now)) }
+fn is_released(released: &Numbers, lines: &mut JobLines, sub: u32, n: u64) -> Result<bool, NoMemory>
+    ensures value { IfOk result (λ is. is
+        ≡ (has released.now sub n || is_in n (numbers_of sub lines.old))) }
+    ensures lines { lines.new ≡ lines.old }
 {
-    released.has(sub, n) || lines.releases(sub, n)
+    if released.has(sub, n) {
+        return Ok(true);
+    }
+    lines.releases(sub, n)
 }
 
 /// What the subscriber's USIM answers to the vector of a number, if it was released.
@@ -52,22 +57,24 @@ fn answered(
     usims: &mut Usims,
     sub: u32,
     n: u64,
-    lines: &JobLines,
-) -> GiveVerdict
+    lines: &mut JobLines,
+) -> Result<GiveVerdict, NoMemory>
     requires usims { AreOfRows set.now.rows usims.old }
     requires known { sub < length set.now.rows }
     requires first { 1 ≤ n }
     requires last { n ≤ MAX_SEQ }
 
-    ensures answered { (early : List LineRecord) (beside : List LineRecord) → AreReleased released.now early
-        → AreBehind set.now.rows (early ++ beside ++ lines.now) usims.old
-        → IsAnswered set.now.rows (before_at early beside lines.now) sub n result usims.new }
+    ensures answered { IfOk result (λ verdict. (early : List LineRecord) (beside : List LineRecord)
+        → AreReleased released.now early
+        → AreBehind set.now.rows (early ++ beside ++ lines.old) usims.old
+        → IsAnswered set.now.rows (before_at early beside lines.old) sub n verdict usims.new) }
+    ensures lines { lines.new ≡ lines.old }
     ensures usims { AreOfRows set.now.rows usims.new }
 {
-    if is_released(released, lines, sub, n) {
-        present(set, usims, sub, n)
+    if is_released(released, lines, sub, n)? {
+        Ok(present(set, usims, sub, n))
     } else {
-        GiveVerdict::Absent
+        Ok(GiveVerdict::Absent)
     }
 }
 
@@ -90,6 +97,6 @@ pub(crate) fn give(
         → AddsGive set.now (before_at early beside lines.old) sub n usims.new lines.new) }
     ensures usims { AreOfRows set.now.rows usims.new }
 {
-    let verdict = answered(set, released, usims, sub, n, lines);
+    let verdict = answered(set, released, usims, sub, n, lines)?;
     lines.push(LineRecord::Give { sub, n, verdict })
 }
