@@ -24,8 +24,8 @@ use Rattle.auc_sqn.specs.declared.number.TheConstants.{MAX_SEQ}
 use Rattle.auc_subs.specs.declared.row.Row.{Row}
 use Rattle.auc_subs.specs.declared.refusal.SubsWhy.{SubsWhy}
 use Rattle.auc_text.specs.Field.{octets_in}
-use Rattle.auc_text.specs.Text.{words_of}
-use Rattle.auc_subs.specs.Subscriber.{is_text, place_of, rows_after}
+use Rattle.auc_text.specs.Text.{is_text, words_of}
+use Rattle.auc_subs.specs.Subscriber.{place_of, rows_after}
 use Rattle.auc_script.specs.declared.part.Line.{Line}
 use Rattle.auc_script.specs.declared.part.Line.TheVariants.{Draw, Give, Sync}
 use Rattle.auc_script.specs.declared.part.Part.{Part}

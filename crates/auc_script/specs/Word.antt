@@ -1,6 +1,6 @@
 -- How a line begins: with the # of a comment, or with a word.
 use Rattle.std.specs.Prelude.{ℕ, ◌==◌, ◌||◌, Bool, List, codes, Option, Some, None, if◌then◌else◌, slice_index_or}
-use Rattle.auc_subs.specs.Subscriber.{is_text}
+use Rattle.auc_text.specs.Text.{is_text}
 use Rattle.auc_script.specs.declared.word.HeaderWord.{HeaderWord}
 use Rattle.auc_script.specs.declared.word.HeaderWord.TheVariants as header
 use Rattle.auc_script.specs.declared.word.JobWord.{JobWord}

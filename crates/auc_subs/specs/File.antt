@@ -13,7 +13,8 @@ use Rattle.auc_subs.specs.declared.refusal.SubsRefusal.{SubsRefusal}
 use Rattle.auc_subs.specs.declared.refusal.SubsRefusal.TheVariants as refusal
 use Rattle.auc_subs.specs.declared.refusal.SubsWhy.{SubsWhy}
 use Rattle.auc_subs.specs.declared.refusal.SubsWhy.TheVariants as why
-use Rattle.auc_subs.specs.Subscriber.{field, is_text, rows_with_fields}
+use Rattle.auc_subs.specs.Subscriber.{field, rows_with_fields}
+use Rattle.auc_text.specs.Text.{is_text}
 
 -- the records of a file, each a list of its fields
 abbrev pub records_of : List ℕ → List (List (List ℕ))

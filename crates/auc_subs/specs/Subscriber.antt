@@ -10,8 +10,7 @@
 --   USIM   1 to 13 decimal digits, at most MAX_SEQ      Usim
 --
 -- Then the identity is new (Twice) and there is room for one more row (TooMany).
-use Rattle.std.specs.Prelude.{ℕ, ◌≡◌, ◌≢◌, ◌==◌, ◌&&◌, ◌≤◌, ◌++◌, nat_eq, nat_le, Bool, List, [], ◌∷◌, length, codes, Option, Some, is_some, Result, Ok, Err, if◌then◌else◌, All, AllPairs, position, slice_get, slice_index_or}
-use Rattle.std.specs.Cmp.Lexicographic.{pointwise}
+use Rattle.std.specs.Prelude.{ℕ, ◌≡◌, ◌≢◌, ◌==◌, ◌&&◌, ◌≤◌, ◌++◌, nat_le, Bool, List, [], ◌∷◌, length, codes, Option, Some, is_some, Result, Ok, Err, if◌then◌else◌, All, AllPairs, position, slice_get, slice_index_or}
 use Rattle.std.specs.Option.{ok_or}
 use Rattle.auc_aes.specs.Bytes.{IsBytes, IsBlock}
 use Rattle.auc_edge.specs.Identity.{Identity, IsIdentity, identity_of}
@@ -22,6 +21,7 @@ use Rattle.auc_subs.specs.declared.refusal.SubsWhy.{SubsWhy}
 use Rattle.auc_subs.specs.declared.refusal.SubsWhy.TheVariants as why
 use Rattle.auc_subs.specs.declared.subscribers.TheConstants.{MAX_SUBSCRIBERS}
 use Rattle.auc_text.specs.Field.{number_in, octets_in}
+use Rattle.auc_text.specs.Text.{is_text}
 use Rattle.auc_subs.specs.Field.{fields_of}
 
 -- one test after another: the first that fails gives its fault
@@ -29,10 +29,6 @@ infixl 10 ◌>>=◌
 abbrev pub ◌>>=◌ : {A B : Type 0} → Result A SubsWhy → (A → Result B SubsWhy) → Result B SubsWhy
 (Ok x) >>= next = next x
 (Err fault) >>= next = Err fault
-
--- whether two texts are one
-abbrev pub is_text : List ℕ → List ℕ → Bool
-is_text a b = pointwise nat_eq a b
 
 -- OPc under a key, from the operator's field: the word `op` and OP, or the word `opc` and OPc itself (TS 35.206 §4.1)
 abbrev pub opc_in : List ℕ → List ℕ → List ℕ → Result (List ℕ) SubsWhy

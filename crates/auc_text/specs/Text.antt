@@ -1,6 +1,11 @@
 -- The lines of a text and the words of a line, as lists of bytes.
-use Rattle.std.specs.Prelude.{ℕ, ◌==◌, ◌-◌, ◌||◌, not, Bool, List, [], ◌∷◌, length, take, slice_index_or, if◌then◌else◌}
+use Rattle.std.specs.Prelude.{ℕ, ◌==◌, ◌-◌, ◌||◌, nat_eq, not, Bool, List, [], ◌∷◌, length, take, slice_index_or, if◌then◌else◌}
+use Rattle.std.specs.Cmp.Lexicographic.{pointwise}
 use Rattle.std.specs.List.{filter, slice_split}
+
+-- whether two texts are one
+abbrev pub is_text : List ℕ → List ℕ → Bool
+is_text a b = pointwise nat_eq a b
 
 -- a line that an LF ended, without the one CR (13) that may stand before the LF
 abbrev pub without_cr : List ℕ → List ℕ

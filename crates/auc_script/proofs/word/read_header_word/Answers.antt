@@ -1,4 +1,4 @@
-use Rattle.std.proofs.Common.{◌≡◌, sym, ap, codes, arith}
+use Rattle.std.proofs.Common.{sym, ap, codes, arith}
 use Rattle.std.proofs.lemmas.Slice.Eq.{text_from_reads}
 use Rattle.auc_script.specs.Word.{header_word_of}
 use Rattle.auc_script.proofs.word.read_header_word.Goals as goal
