@@ -7,8 +7,9 @@ print, and within 400 in the full one.
 
 Each count is drawn in jobs of 1000 vectors over 100 subscribers. The figures are those of one run: the program's
 own processor time, its greatest resident size, and both as ratios: of the time to the row before, and of the size to
-the count. A run on four cores with other work beside it gave 0.012, 0.113 and 1.184 seconds for the brief print and
-0.014, 0.146 and 1.399 for the full one, so ratios of 9.4 to 10.4; at a million vectors 152 and 307 bytes a vector.
+the count. A run on four cores that did nothing else gave 0.007, 0.066 and 0.709 seconds for the brief print and 0.010,
+0.095 and 0.972 for the full one, so ratios of 9.1 to 10.7; at a million vectors 152 and 307 bytes a vector. Five runs
+gave 0.69 to 0.80 and 0.97 to 1.02 seconds for a million.
 """
 import sys
 import tempfile
