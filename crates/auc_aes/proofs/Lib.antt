@@ -1,9 +1,10 @@
-pub mod BytesLemmas
-pub mod TableLemmas
-pub mod RoundLemmas
-pub mod WordLemmas
-pub mod KeyLemmas
-pub mod CbcLemmas
-pub mod FieldLemmas
-pub mod InverseLemmas
-pub mod CbcInverseLemmas
+pub mod Facts
+mod BytesLemmas
+mod TableLemmas
+mod RoundLemmas
+mod WordLemmas
+mod KeyLemmas
+mod CbcLemmas
+mod FieldLemmas
+mod InverseLemmas
+mod CbcInverseLemmas

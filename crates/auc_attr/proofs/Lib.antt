@@ -1,9 +1,10 @@
-pub mod Tools
-pub mod ValueLemmas
-pub mod WritingLemmas
-pub mod ItemLemmas
-pub mod WalkLemmas
-pub mod SpellingLemmas
-pub mod FrameLemmas
-pub mod MacLemmas
-pub mod LawLemmas
+pub mod Facts
+mod Tools
+mod ValueLemmas
+mod WritingLemmas
+mod ItemLemmas
+mod WalkLemmas
+mod SpellingLemmas
+mod FrameLemmas
+mod MacLemmas
+mod LawLemmas

@@ -5,16 +5,14 @@ use Rattle.std.proofs.lemmas.Bool.Decides.{nat_tests}
 use Rattle.std.proofs.lemmas.List.{length-set, get_or-set_same, get_or-set_other}
 use Rattle.std.proofs.lemmas.List.Concat.{flat_map-append}
 use Rattle.std.proofs.lemmas.List.Elements.{All-set, All-get_or}
-use Rattle.auc_sqn.specs.declared.number.TheConstants.{MAX_SEQ}
+use Rattle.auc_sqn.specs.Number.{max_seq}
 use Rattle.auc_history.specs.declared.entry.Entry.{Entry}
 use Rattle.auc_history.specs.declared.entry.Entry.TheVariants.{Drawn, Look}
 use Rattle.auc_history.specs.declared.resynchronisation.Resynchronisation.TheVariants.{Moved as moved_to, InRange as in_range, Beyond as beyond}
 use Rattle.auc_history.specs.Resynchronise.{resynchronise_of}
 use Rattle.auc_history.specs.History.{IsLegal, drawn, drawn_by}
 use Rattle.auc_history.specs.Split.{times}
-use Rattle.auc_history.proofs.ListLemmas.{times-append, differ_from_times}
-use Rattle.auc_history.proofs.SplitLemmas.{legal_draws_once}
-use Rattle.auc_history.proofs.Walk.{Goes, IsLegal-from_goes, IsLegal-append, IsLegal-nil}
+use Rattle.auc_history.proofs.Facts.{times-append, differ_from_times, legal_draws_once, Goes, IsLegal-from_goes, IsLegal-append, IsLegal-nil}
 use Rattle.auc_core.specs.declared.event.Event.{Event}
 use Rattle.auc_core.specs.declared.event.Event.TheVariants.{Draw, Resync}
 use Rattle.auc_core.specs.declared.event.Reply.{Reply}
@@ -23,11 +21,11 @@ use Rattle.auc_core.specs.Step.{Knows, Answers, standing, word_after, Steps, ent
 
 -- no word is above the mark
 abbrev AreWords : List ℕ → Type 0
-AreWords words = All (λ word. word ≤ MAX_SEQ + 1) words
+AreWords words = All (λ word. word ≤ max_seq + 1) words
 
 -- the first refused draw makes the mark, and a later one nothing
-refused_goes : (b : Bool) (word w : ℕ) → MAX_SEQ ≤ word → w ≡ MAX_SEQ → word ≤ MAX_SEQ + 1 → nat_le word w ≡ b
-    → Goes MAX_SEQ word (if b then Drawn (w + 1) ∷ [] else []) (w + 1)
+refused_goes : (b : Bool) (word w : ℕ) → max_seq ≤ word → w ≡ max_seq → word ≤ max_seq + 1 → nat_le word w ≡ b
+    → Goes max_seq word (if b then Drawn (w + 1) ∷ [] else []) (w + 1)
 refused_goes true word w last same most is = (let low = leb-true word w is in omega arith, refl)
 refused_goes false word w last same most is = let high = leb-false word w is in omega arith
 
@@ -44,13 +42,13 @@ beyond_names seen seq_ms at seq = grind (arith, nat_tests)
 
 -- a look at the number that stands is one at the word, and after a refused draw nothing
 look_goes : (b : Bool) (word seen : ℕ) → seen ≡ standing word → nat_le word seen ≡ b
-    → Goes MAX_SEQ word (if b then Look seen ∷ [] else []) word
+    → Goes max_seq word (if b then Look seen ∷ [] else []) word
 look_goes true word seen names is = (let low = leb-true word seen is in grind arith, refl)
 look_goes false word seen names is = refl
 
 -- the entries of an answer are a walk from the word before it to the word after it
 answer_goes : (word : ℕ) (event : Event) (reply : Reply) (words : List ℕ) → Knows words event → Answers word event reply
-    → word ≤ MAX_SEQ + 1 → Goes MAX_SEQ word (entries_of word reply) (word_after word reply)
+    → word ≤ max_seq + 1 → Goes max_seq word (entries_of word reply) (word_after word reply)
 answer_goes word (Draw sub) (Number n) words knows (below, next) most = (next, refl)
 answer_goes word (Draw sub) (Exhausted w) words knows (last, same) most = refused_goes (nat_le word w) word w last same most refl
 answer_goes word (Draw sub) (Moved from to) words knows answers most = absurd answers
@@ -67,13 +65,13 @@ answer_goes word (Resync sub seq_ms) (Beyond seen seq) words knows answers most 
 
 -- the entries of an answer are a legal history from the word before it to the word after it
 pub answer_is_legal : (word : ℕ) (event : Event) (reply : Reply) (words : List ℕ) → Knows words event → Answers word event reply
-    → word ≤ MAX_SEQ + 1 → IsLegal MAX_SEQ word (word_after word reply) (entries_of word reply)
+    → word ≤ max_seq + 1 → IsLegal max_seq word (word_after word reply) (entries_of word reply)
 answer_is_legal word event reply words knows answers most =
-    IsLegal-from_goes MAX_SEQ word (word_after word reply) (entries_of word reply) (answer_goes word event reply words knows answers most)
+    IsLegal-from_goes max_seq word (word_after word reply) (entries_of word reply) (answer_goes word event reply words knows answers most)
 
 -- no answer leaves a word above the mark
 answer_keeps_bound : (word : ℕ) (event : Event) (reply : Reply) (words : List ℕ) → Knows words event → Answers word event reply
-    → word ≤ MAX_SEQ + 1 → word_after word reply ≤ MAX_SEQ + 1
+    → word ≤ max_seq + 1 → word_after word reply ≤ max_seq + 1
 answer_keeps_bound word (Draw sub) (Number n) words knows (below, next) most = omega arith
 answer_keeps_bound word (Draw sub) (Exhausted w) words knows (last, same) most = omega arith
 answer_keeps_bound word (Draw sub) (Moved from to) words knows answers most = absurd answers
@@ -95,8 +93,8 @@ known_subscriber words (Resync sub seq_ms) (known, number) = known
 steps_keep_bound : (old new : List ℕ) (event : Event) (reply : Reply) → AreWords old → Knows old event → Steps old event reply new → AreWords new
 steps_keep_bound old new event reply words knows (answers, is) =
     let word = slice_index old (subscriber_of event) in
-    let most = All-get_or (λ w. w ≤ MAX_SEQ + 1) old (subscriber_of event) 0 (known_subscriber old event knows) words in
-    subst AreWords (sym is) (All-set (λ w. w ≤ MAX_SEQ + 1) old (subscriber_of event) (word_after word reply)
+    let most = All-get_or (λ w. w ≤ max_seq + 1) old (subscriber_of event) 0 (known_subscriber old event knows) words in
+    subst AreWords (sym is) (All-set (λ w. w ≤ max_seq + 1) old (subscriber_of event) (word_after word reply)
     (answer_keeps_bound word event reply old knows answers most) words)
 
 -- each list of words is as long as the one before
@@ -107,8 +105,8 @@ steps_keep_length old new event reply (answers, is) =
 -- a step of the subscriber and the steps behind it, or of another and the steps behind it
 run_is_legal : (b : Bool) (old next : List ℕ) (event : Event) (reply : Reply) (sub closing : ℕ) (entries : ℕ → List Entry)
     → AreWords old → sub < length old → Knows old event → Steps old event reply next → (subscriber_of event == sub) ≡ b
-    → IsLegal MAX_SEQ (slice_index next sub) closing (entries (slice_index next sub))
-    → IsLegal MAX_SEQ (slice_index old sub) closing
+    → IsLegal max_seq (slice_index next sub) closing (entries (slice_index next sub))
+    → IsLegal max_seq (slice_index old sub) closing
     (if b then entries_of (slice_index old sub) reply ++ entries (word_after (slice_index old sub) reply) else entries (slice_index old sub))
 run_is_legal true old next event reply sub closing entries words known knows (answers, is) same rest =
     let one = eqb-true (subscriber_of event) sub same in
@@ -117,22 +115,22 @@ run_is_legal true old next event reply sub closing entries words known knows (an
     let set_sub : next ≡ slice_set old sub (word_after word reply) = rw one at is in
     let here : slice_index next sub ≡ word_after word reply =
     ap (λ (ws : List ℕ). slice_index ws sub) set_sub ∙ get_or-set_same old sub (word_after word reply) 0 known in
-    let rest_here : IsLegal MAX_SEQ (word_after word reply) closing (entries (word_after word reply)) =
-    let P : ℕ → Type 0 = λ w. IsLegal MAX_SEQ w closing (entries w) in subst P here rest in
-    IsLegal-append MAX_SEQ word (word_after word reply) closing (entries_of word reply) (entries (word_after word reply))
-    (answer_is_legal word event reply old knows answers_sub (All-get_or (λ w. w ≤ MAX_SEQ + 1) old sub 0 known words)) rest_here
+    let rest_here : IsLegal max_seq (word_after word reply) closing (entries (word_after word reply)) =
+    let P : ℕ → Type 0 = λ w. IsLegal max_seq w closing (entries w) in subst P here rest in
+    IsLegal-append max_seq word (word_after word reply) closing (entries_of word reply) (entries (word_after word reply))
+    (answer_is_legal word event reply old knows answers_sub (All-get_or (λ w. w ≤ max_seq + 1) old sub 0 known words)) rest_here
 run_is_legal false old next event reply sub closing entries words known knows (answers, is) other rest =
     let s = subscriber_of event in
     let apart : sub ≢ s = λ same. (let yes = eq-eqb s sub (sym same) in let no : ⊥ = cc in no) in
     let here : slice_index next sub ≡ slice_index old sub =
     ap (λ (ws : List ℕ). slice_index ws sub) is ∙ get_or-set_other old s sub (word_after (slice_index old s) reply) 0 apart in
-    let P : ℕ → Type 0 = λ w. IsLegal MAX_SEQ w closing (entries w) in subst P here rest
+    let P : ℕ → Type 0 = λ w. IsLegal max_seq w closing (entries w) in subst P here rest
 
 -- every run leaves a legal history of each subscriber
 pub each_history_is_legal : EachHistoryIsLegal
 each_history_is_legal old new [] sub words leads known =
-    let P : List ℕ → Type 0 = λ ws. IsLegal MAX_SEQ (slice_index old sub) (slice_index ws sub) [] in
-    subst P leads (IsLegal-nil MAX_SEQ (slice_index old sub))
+    let P : List ℕ → Type 0 = λ ws. IsLegal max_seq (slice_index old sub) (slice_index ws sub) [] in
+    subst P leads (IsLegal-nil max_seq (slice_index old sub))
 each_history_is_legal old new ((event, reply) ∷ run) sub words (next, knows, steps, more) known =
     run_is_legal (subscriber_of event == sub) old next event reply sub (slice_index new sub) (λ word. history sub word run) words known knows steps refl
     (each_history_is_legal next new run sub (steps_keep_bound old next event reply words knows steps) more
@@ -173,5 +171,5 @@ no_number_comes_twice old new run sub words leads known =
     let legal = each_history_is_legal old new run sub words leads known in
     differ_from_times (numbers_of sub run)
     (λ n. let drawn_too = numbers_are_drawn n sub word run in
-    let once = legal_draws_once MAX_SEQ word (slice_index new sub) (history sub word run) legal n in
+    let once = legal_draws_once max_seq word (slice_index new sub) (history sub word run) legal n in
     omega (arith, drawn_too, once))

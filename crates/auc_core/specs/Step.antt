@@ -1,7 +1,7 @@
 -- The steps of the pure authentication centre. Its state is the list of its subscribers' words: the last
--- number that was drawn or passed over, or MAX_SEQ + 1 after a draw was refused.
+-- number that was drawn or passed over, or max_seq + 1 after a draw was refused.
 use Rattle.std.specs.Prelude.{◌≡◌, ◌≢◌, ℕ, ◌+◌, ◌<◌, ◌≤◌, ◌==◌, nat_le, if◌then◌else◌, min, List, [], ◌∷◌, ◌++◌, All, AllPairs, length, slice_index, slice_set}
-use Rattle.auc_sqn.specs.declared.number.TheConstants.{MAX_SEQ}
+use Rattle.auc_sqn.specs.Number.{max_seq}
 use Rattle.auc_history.specs.declared.entry.Entry.{Entry}
 use Rattle.auc_history.specs.declared.entry.Entry.TheVariants.{Drawn, Moved as moved, Look}
 use Rattle.auc_history.specs.declared.resynchronisation.Resynchronisation.TheVariants.{Moved as moved_to, InRange as in_range, Beyond as beyond}
@@ -20,19 +20,19 @@ subscriber_of (Resync sub seq_ms) = sub
 -- the event is of a subscriber of the core, and its SEQ, if it has one, is a number
 abbrev pub Knows : List ℕ → Event → Type 0
 Knows words (Draw sub) = sub < length words
-Knows words (Resync sub seq_ms) = (sub < length words) × (seq_ms ≤ MAX_SEQ)
+Knows words (Resync sub seq_ms) = (sub < length words) × (seq_ms ≤ max_seq)
 
 -- the answer to a draw at a word: the next number, as long as the word is below the greatest
 abbrev pub AnswersDraw : ℕ → Reply → Type 0
-AnswersDraw word (Number n) = (word < MAX_SEQ) × (n ≡ word + 1)
-AnswersDraw word (Exhausted w) = (MAX_SEQ ≤ word) × (w ≡ MAX_SEQ)
+AnswersDraw word (Number n) = (word < max_seq) × (n ≡ word + 1)
+AnswersDraw word (Exhausted w) = (max_seq ≤ word) × (w ≡ max_seq)
 AnswersDraw word (Moved from to) = ⊥
 AnswersDraw word (InRange seen seq) = ⊥
 AnswersDraw word (Beyond seen seq) = ⊥
 
 -- the number that stands at a word: after a refused draw it is the greatest
 abbrev pub standing : ℕ → ℕ
-standing word = min word MAX_SEQ
+standing word = min word max_seq
 
 -- the answer to a resynchronisation at a word: the verdict on the number that stands
 abbrev pub AnswersResync : ℕ → ℕ → Reply → Type 0
@@ -105,11 +105,11 @@ numbers_of sub ((event, reply) ∷ run) =
 -- every run leaves a legal history of each subscriber, from its word before the run to its word after it
 abbrev pub EachHistoryIsLegal : Type 0
 EachHistoryIsLegal = (old new : List ℕ) (run : Run) (sub : ℕ)
-    → All (λ word. word ≤ MAX_SEQ + 1) old → Leads old run new → sub < length old
-    → IsLegal MAX_SEQ (slice_index old sub) (slice_index new sub) (history sub (slice_index old sub) run)
+    → All (λ word. word ≤ max_seq + 1) old → Leads old run new → sub < length old
+    → IsLegal max_seq (slice_index old sub) (slice_index new sub) (history sub (slice_index old sub) run)
 
 -- no run draws a number twice for a subscriber
 abbrev pub NoNumberComesTwice : Type 0
 NoNumberComesTwice = (old new : List ℕ) (run : Run) (sub : ℕ)
-    → All (λ word. word ≤ MAX_SEQ + 1) old → Leads old run new → sub < length old
+    → All (λ word. word ≤ max_seq + 1) old → Leads old run new → sub < length old
     → AllPairs ◌≢◌ (numbers_of sub run)

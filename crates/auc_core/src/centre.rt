@@ -2,6 +2,7 @@
 
 ghost use Rattle.std.specs.Prelude.{◌≡◌, ◌<◌, ◌≤◌, ◌+◌, All, length, IfOk, slice_index};
 ghost use Rattle.auc_core.specs.Step.{Knows, Steps};
+ghost use Rattle.auc_sqn.specs.Number.{max_seq};
 
 use crate::event::{Event, Reply};
 use auc_edge::NoMemory;
@@ -19,20 +20,20 @@ pub struct Core {
 
 impl Model for Core {
     ghost use Rattle.std.specs.Prelude.{ℕ, List, ◌≤◌, ◌+◌, All};
-    ghost use Rattle.auc_sqn.specs.declared.number.TheConstants.{MAX_SEQ};
+    ghost use Rattle.auc_sqn.specs.Number.{max_seq};
 
     ghost Value = { List ℕ };
 
     ghost view = { λ core. core.words.items };
 
-    ghost invariant = { λ core. All (λ word. word ≤ MAX_SEQ + 1) core.words.items };
+    ghost invariant = { λ core. All (λ word. word ≤ max_seq + 1) core.words.items };
 }
 
 impl Core {
     /// A core whose subscribers have drawn their numbers up to `openings`, one for each subscriber.
     pub fn new(alloc: Global, openings: &[u64]) -> Result<Core, NoMemory>
         requires count { length openings.now ≤ 65536 }
-        requires numbers { All (λ number. number ≤ MAX_SEQ) openings.now }
+        requires numbers { All (λ number. number ≤ max_seq) openings.now }
         ensures { IfOk result (λ core. core ≡ openings.now) }
     {
         let words = openings.to_vec(alloc)?;
@@ -46,7 +47,7 @@ impl Core {
         ensures step { Steps self.old e result self.new }
 
         // No word is ever above the mark.
-        ensures bound { All (λ word. word ≤ MAX_SEQ + 1) self.old }
+        ensures bound { All (λ word. word ≤ max_seq + 1) self.old }
     {
         // The bound on the words is known where the field is used.
         let _ = &self.words;
@@ -60,7 +61,7 @@ impl Core {
     pub fn word(&self, sub: u32) -> u64
         requires { sub < length self.now }
         ensures value { result ≡ slice_index self.now sub }
-        ensures bound { result ≤ MAX_SEQ + 1 }
+        ensures bound { result ≤ max_seq + 1 }
     {
         self.words[sub as usize]
     }

@@ -1,6 +1,7 @@
 //! The core, event by event.
 
 ghost use Rattle.std.specs.Prelude.{◌≡◌, ◌<◌, ◌≤◌, length};
+ghost use Rattle.auc_sqn.specs.Number.{max_seq};
 
 use crate::{Core, Event, Reply};
 use auc_sqn::MAX_SEQ;
@@ -23,7 +24,7 @@ fn each_subscriber_draws_its_own_numbers_to_the_greatest(rt: HostRuntime) -> Res
 /// The answer to a resynchronisation.
 fn resync(core: &mut Core, sub: u32, seq_ms: u64) -> Reply
     requires sub { sub < length core.old }
-    requires number { seq_ms ≤ MAX_SEQ }
+    requires number { seq_ms ≤ max_seq }
     ensures { length core.new ≡ length core.old }
 {
     core.apply(Event::Resync(sub, seq_ms))

@@ -1,3 +1,4 @@
-pub mod IdentityLemmas
-pub mod ShelfLemmas
-pub mod SinkLemmas
+pub mod Facts
+mod IdentityLemmas
+mod ShelfLemmas
+mod SinkLemmas

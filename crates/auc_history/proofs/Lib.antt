@@ -1,7 +1,8 @@
-pub mod ClimbLemmas
-pub mod CoverLemmas
-pub mod CutLemmas
-pub mod ListLemmas
-pub mod MergeLemmas
-pub mod SplitLemmas
-pub mod Walk
+pub mod Facts
+mod ClimbLemmas
+mod CoverLemmas
+mod CutLemmas
+mod ListLemmas
+mod MergeLemmas
+mod SplitLemmas
+mod Walk

@@ -1,9 +1,9 @@
-pub mod LineLemmas
-pub mod SayingLemmas
-pub mod DrawingLemmas
-pub mod UsimLemmas
-pub mod SyncLemmas
-pub mod JobLemmas
-pub mod CountLemmas
-pub mod StateLemmas
-pub mod RoundLemmas
+mod LineLemmas
+mod SayingLemmas
+mod DrawingLemmas
+mod UsimLemmas
+mod SyncLemmas
+mod JobLemmas
+mod CountLemmas
+mod StateLemmas
+mod RoundLemmas

@@ -10,9 +10,9 @@ use Rattle.auc_history.specs.declared.entry.Entry.{Entry}
 use Rattle.auc_history.specs.declared.entry.Entry.TheVariants.{Drawn, Moved as moved, Look}
 use Rattle.auc_history.specs.History.{drawn, drawn_by, skipped, skipped_by, IsLegal}
 use Rattle.auc_history.specs.Split.{all_entries}
-use Rattle.auc_history.proofs.SplitLemmas.{cut_history_is_a_split, legal_counts_its_numbers}
+use Rattle.auc_history.proofs.Facts.{cut_history_is_a_split, legal_counts_its_numbers}
 use Rattle.auc_script.specs.declared.part.Line.{Line}
-use Rattle.auc_sqn.specs.declared.number.TheConstants.{MAX_SEQ}
+use Rattle.auc_sqn.specs.Number.{max_seq}
 use Rattle.auc_transcript.specs.Entries.{is_reported, entries_of_line, entries_of_lines, entries_of_jobs, entries_of_verdict}
 use Rattle.auc_transcript.specs.Given.{Setting}
 use Rattle.auc_transcript.specs.Lines.{numbers_of, released_by, withheld_of, all_lines}
@@ -116,8 +116,8 @@ draws_lines sub before (line ∷ lines) =
 
 -- what the calls of a round made of a subscriber, from an opening to a closing
 pub record Makes (sub opening closing : ℕ) (lines : List LineRecord) : Type 0 where
-  pub legal : IsLegal MAX_SEQ opening closing (entries_of_lines sub [] lines)
-  pub bound : closing ≤ MAX_SEQ + 1
+  pub legal : IsLegal max_seq opening closing (entries_of_lines sub [] lines)
+  pub bound : closing ≤ max_seq + 1
   pub released_all : withheld_of sub lines ≡ []
 
 -- the parts of its count
@@ -132,10 +132,10 @@ counts_made sub opening closing lines m = record { whole = whole; skips = omega 
   where
     whole : closing ≡ opening + length (drawn (entries_of_lines sub [] lines)) + passed_in sub lines
     whole =
-        let e = legal_counts_its_numbers MAX_SEQ opening closing (entries_of_lines sub [] lines) m.legal in
+        let e = legal_counts_its_numbers max_seq opening closing (entries_of_lines sub [] lines) m.legal in
         let f = passes_lines sub [] lines in omega (arith, e, f)
 
-    bound : closing ≤ MAX_SEQ + 1
+    bound : closing ≤ max_seq + 1
     bound = m.bound
 
     few : length (numbers_of sub lines) ≤ length (drawn (entries_of_lines sub [] lines))
@@ -179,18 +179,18 @@ closings_counted sub (opening ∷ openings) (word ∷ words) (count ∷ counts) 
 -- ---- the round
 
 -- at its beginning nothing was told of a word
-told_first : (sub word : ℕ) → word ≤ MAX_SEQ → IsTold sub (kept_at word) []
+told_first : (sub word : ℕ) → word ≤ max_seq → IsTold sub (kept_at word) []
 told_first sub word within =
     let open_is : kept_at word ≡ None = grind (arith, nat_tests) in
     let told : IsTold sub None [] = λ w. refl in
     subst (λ (kept : Option ℕ). IsTold sub kept []) (sym open_is) told
 
-within_at : (words : List ℕ) (sub : ℕ) → All (λ word. word ≤ MAX_SEQ) words → slice_index words sub ≤ MAX_SEQ
+within_at : (words : List ℕ) (sub : ℕ) → All (λ word. word ≤ max_seq) words → slice_index words sub ≤ max_seq
 within_at [] sub within = omega arith
 within_at (word ∷ words) zero within = within 0 0 (omega arith)
 within_at (word ∷ words) (suc sub) within = within_at words sub (λ k d lt. within (suc k) d (omega arith))
 
-bound_at : (words : List ℕ) (sub : ℕ) → All (λ word. word ≤ MAX_SEQ + 1) words → slice_index words sub ≤ MAX_SEQ + 1
+bound_at : (words : List ℕ) (sub : ℕ) → All (λ word. word ≤ max_seq + 1) words → slice_index words sub ≤ max_seq + 1
 bound_at [] sub within = omega arith
 bound_at (word ∷ words) zero within = within 0 0 (omega arith)
 bound_at (word ∷ words) (suc sub) within = bound_at words sub (λ k d lt. within (suc k) d (omega arith))
@@ -199,7 +199,7 @@ bound_at (word ∷ words) (suc sub) within = bound_at words sub (λ k d lt. with
 pub stands_at_first : (set : Setting) (early : List LineRecord) (state : Standing) (centre : List ℕ) → centre ≡ state.words → StandsAt set early state
     → Stands set.rows (before_at early [] []) (λ sub. kept_at (slice_index centre sub)) state.released state.usims
 stands_at_first set early state centre is stands = record {
-  told = λ sub. told_first sub (slice_index centre sub) (within_at centre sub (subst (λ (ws : List ℕ). All (λ word. word ≤ MAX_SEQ) ws) (sym is) stands.subscribers.numbers));
+  told = λ sub. told_first sub (slice_index centre sub) (within_at centre sub (subst (λ (ws : List ℕ). All (λ word. word ≤ max_seq) ws) (sym is) stands.subscribers.numbers));
   earlier = stands.earlier;
   pasts = subst (λ (lines : List LineRecord). AreBehind set.rows lines state.usims) (sym (append-nil (early ++ []) ∙ append-nil early)) stands.pasts;
 }
@@ -207,11 +207,11 @@ stands_at_first set early state centre is stands = record {
 -- what its jobs gave, from the words of the state
 pub record Ran (set : Setting) (early : List LineRecord) (state : Standing) (jobs : List (List Line)) (records : List (List LineRecord)) (usims : List Memory) (words : List ℕ) : Type 0 where
   pub served : ServesJobs (λ i es ws. IsStretch state.words i es ws words) set early (λ sub. kept_at (slice_index words sub)) state.released usims jobs records
-  pub bound : All (λ word. word ≤ MAX_SEQ + 1) words
+  pub bound : All (λ word. word ≤ max_seq + 1) words
 
 -- by what the centre over the pure core did
 pub ran_of : (set : Setting) (early : List LineRecord) (state : Standing) (jobs : List (List Line)) (records : List (List LineRecord)) (old usims : List Memory) (released : List (ℕ × ℕ)) (centre new words : List ℕ)
-    → centre ≡ state.words → old ≡ state.usims → released ≡ state.released → words ≡ new → All (λ word. word ≤ MAX_SEQ + 1) words → StandsAt set early state
+    → centre ≡ state.words → old ≡ state.usims → released ≡ state.released → words ≡ new → All (λ word. word ≤ max_seq + 1) words → StandsAt set early state
     → (Stands set.rows (before_at early [] []) (λ sub. kept_at (slice_index centre sub)) released old
     → ServesJobs (λ i es ws. IsStretch centre i es ws new) set early (λ sub. kept_at (slice_index new sub)) released usims jobs records)
     → Ran set early state jobs records usims words
@@ -257,8 +257,8 @@ lawful_round set early state jobs records usims words counts number closings r s
   sizes = size;
   fits = λ sub inside. let bound = bound_at words sub r.bound in omega (arith, bound);
   given = r.served.given;
-  split = λ sub inside. cut_history_is_a_split MAX_SEQ (slice_index state.words sub) (slice_index words sub) (entries_of_jobs sub [] records)
-      (subst (IsLegal MAX_SEQ (slice_index state.words sub) (slice_index words sub)) (sym (all_entries-of_jobs sub [] records)) ((r.served.made sub).0));
+  split = λ sub inside. cut_history_is_a_split max_seq (slice_index state.words sub) (slice_index words sub) (entries_of_jobs sub [] records)
+      (subst (IsLegal max_seq (slice_index state.words sub) (slice_index words sub)) (sym (all_entries-of_jobs sub [] records)) ((r.served.made sub).0));
   closings = is ∙ sym (closings_counted 0 state.words words counts records sizes (λ k count inside there.
       let here : k ≡ 0 + k = omega arith in
       let same : count_of k (all_lines records) ≡ count = some_is (count_of k (all_lines records)) count (sym (counted.each k (omega arith)) ∙ there) in
@@ -274,12 +274,12 @@ lawful_round set early state jobs records usims words counts number closings r s
 -- the state behind the round
 pub stands_behind : (set : Setting) (early : List LineRecord) (state new : Standing) (jobs : List (List Line)) (records : List (List LineRecord)) (usims : List Memory) (words : List ℕ)
     → StandsAt set early state → Ran set early state jobs records usims words → length words ≡ length state.words → new.words ≡ reopened words
-    → All (λ word. word ≤ MAX_SEQ) new.words → new.usims ≡ usims → AreOfRows set.rows usims
+    → All (λ word. word ≤ max_seq) new.words → new.usims ≡ usims → AreOfRows set.rows usims
     → ((before : List LineRecord) → AreReleased state.released before → AreReleased new.released (before ++ all_lines records))
     → StandsAt set (early ++ all_lines records) new
 stands_behind set early state new jobs records usims words stands r size is within same of_rows released = record {
   subscribers = record {
-    size = ap (λ (ws : List ℕ). length ws) is ∙ length-map words (λ (word : ℕ). min word MAX_SEQ) ∙ size ∙ stands.subscribers.size;
+    size = ap (λ (ws : List ℕ). length ws) is ∙ length-map words (λ (word : ℕ). min word max_seq) ∙ size ∙ stands.subscribers.size;
     numbers = within;
     secrets = rw same of_rows;
   };

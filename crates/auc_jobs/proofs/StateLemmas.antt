@@ -5,7 +5,7 @@ use Rattle.std.proofs.lemmas.List.{take_more, take_all, map-append, length-map}
 use Rattle.std.proofs.lemmas.List.Elements.{All-weaker, All-map}
 use Rattle.std.proofs.lemmas.List.Folds.{list_any-append}
 use Rattle.std.proofs.lemmas.Option.{get_or_from_slice_get}
-use Rattle.auc_sqn.specs.declared.number.TheConstants.{MAX_SEQ}
+use Rattle.auc_sqn.specs.Number.{max_seq}
 use Rattle.auc_subs.specs.declared.row.Row.{Row}
 use Rattle.auc_subs.specs.Subscriber.{AreSubscribers, IsRow}
 use Rattle.auc_transcript.specs.Given.{Setting, is_in}
@@ -26,17 +26,17 @@ map-take_more rows sub row words so_far here inside =
     ∙ map-append (λ (r : Row). r.seq) (take sub rows) (row ∷ []))
 
 -- the rows' numbers are at most the greatest
-pub first_within : (rows : List Row) → AreSubscribers rows → All (λ number. number ≤ MAX_SEQ) (map (λ row. row.seq) rows)
-first_within rows subscribers = All-map (λ n. n ≤ MAX_SEQ) (λ (row : Row). row.seq) rows (All-weaker IsRow (λ row. row.seq ≤ MAX_SEQ) (λ row is. is.drawn) rows subscribers.each)
+pub first_within : (rows : List Row) → AreSubscribers rows → All (λ number. number ≤ max_seq) (map (λ row. row.seq) rows)
+first_within rows subscribers = All-map (λ n. n ≤ max_seq) (λ (row : Row). row.seq) rows (All-weaker IsRow (λ row. row.seq ≤ max_seq) (λ row is. is.drawn) rows subscribers.each)
 
 pub words_within : (rows : List Row) (words : List ℕ) (sub : ℕ) → AreSubscribers rows → words ≡ map (λ row. row.seq) (take sub rows) → length rows ≤ sub
-    → All (λ number. number ≤ MAX_SEQ) words
+    → All (λ number. number ≤ max_seq) words
 words_within rows words sub subscribers is all =
-    subst (λ (ws : List ℕ). All (λ number. number ≤ MAX_SEQ) ws) (sym (is ∙ ap (map (λ (r : Row). r.seq)) (take_all sub rows all))) (first_within rows subscribers)
+    subst (λ (ws : List ℕ). All (λ number. number ≤ max_seq) ws) (sym (is ∙ ap (map (λ (r : Row). r.seq)) (take_all sub rows all))) (first_within rows subscribers)
 
 -- the state before the first round
 pub stands_first : (rows : List Row) (set : Setting) (state : Standing) → set.rows ≡ rows → state.words ≡ map (λ row. row.seq) rows
-    → All (λ word. word ≤ MAX_SEQ) state.words → AreOfRows rows state.usims → AreBehind rows [] state.usims → state.released ≡ [] → StandsAt set [] state
+    → All (λ word. word ≤ max_seq) state.words → AreOfRows rows state.usims → AreBehind rows [] state.usims → state.released ≡ [] → StandsAt set [] state
 stands_first rows set state is words within of_rows behind none = record {
   subscribers = record { size = ap (λ (ws : List ℕ). length ws) words ∙ length-map rows (λ (row : Row). row.seq) ∙ ap (λ (rs : List Row). length rs) (sym is); numbers = within; secrets = rw is of_rows };
   pasts = rw is behind;

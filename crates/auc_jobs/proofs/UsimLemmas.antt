@@ -6,12 +6,11 @@ use Rattle.std.proofs.lemmas.List.{length-set}
 use Rattle.std.proofs.lemmas.List.Sums.{fold_push}
 use Rattle.auc_aes.specs.Bytes.{IsBlock}
 use Rattle.auc_milenage.specs.declared.secret.Secret.{Secret}
-use Rattle.auc_sqn.specs.Number.{seq_of, ind_of, sqn_bytes}
+use Rattle.auc_sqn.specs.Number.{seq_of, ind_of, sqn_bytes, max_seq}
 use Rattle.auc_sqn.specs.Past.{Past, Remembers, verdict_of, opening_past}
-use Rattle.auc_sqn.specs.declared.number.TheConstants.{MAX_SEQ}
 use Rattle.auc_sqn.specs.declared.verdict.Verdict.{Verdict}
 use Rattle.auc_sqn.specs.declared.verdict.Verdict.TheVariants.{Fresh, Old, Far}
-use Rattle.auc_sqn.proofs.NumberLemmas.{seq_of-sqn_bytes, ind_of-sqn_bytes}
+use Rattle.auc_sqn.proofs.Facts.{seq_of-sqn_bytes, ind_of-sqn_bytes}
 use Rattle.auc_subs.specs.declared.row.Row.{Row}
 use Rattle.auc_transcript.specs.Given.{Answers, past_of}
 use Rattle.auc_transcript.specs.Lines.{accepted, accepted_by}
@@ -21,7 +20,7 @@ use Rattle.auc_usim.specs.declared.answer.Answer.TheVariants.{Accepted, WrongMac
 use Rattle.auc_subs.specs.Subscriber.{IsRow}
 use Rattle.auc_vector.specs.Vector.{autn_of, vector_of, sqn_in as sqn_found}
 use Rattle.auc_vector.specs.declared.parts.Vector.{Vector}
-use Rattle.auc_vector.proofs.AutnLemmas.{autn_carries, autn_has_its_mac}
+use Rattle.auc_vector.proofs.Facts.{autn_carries, autn_has_its_mac}
 use Rattle.auc_world.specs.declared.record.GiveVerdict.{GiveVerdict}
 use Rattle.auc_world.specs.declared.record.GiveVerdict.TheVariants as given
 use Rattle.auc_world.specs.declared.record.LineRecord.{LineRecord}
@@ -95,7 +94,7 @@ unfolding sqn_in sqn_found xmac
 right_mac s rand amf n hk ho two = autn_has_its_mac s.k s.opc rand amf n hk ho two
 
 -- so the verdict of the past on the number decides
-pub verdict_decides : (s : Secret) (past : Past) (rand amf : List ℕ) (n : ℕ) (answer : Answer) → IsBlock s.k → IsBlock s.opc → length amf ≡ 2 → n ≤ MAX_SEQ
+pub verdict_decides : (s : Secret) (past : Past) (rand amf : List ℕ) (n : ℕ) (answer : Answer) → IsBlock s.k → IsBlock s.opc → length amf ≡ 2 → n ≤ max_seq
     → IsAnswer s past rand (autn_of s.k s.opc rand amf n) answer
     → FollowsVerdict s past rand (autn_of s.k s.opc rand amf n) (verdict_of past n (n % 32)) answer
 verdict_decides s past rand amf n answer hk ho two last is =
@@ -181,13 +180,13 @@ pub record Challenged (rows : List Row) (lines : List LineRecord) (old : List Me
   pub k : IsBlock row.secret.k
   pub opc : IsBlock row.secret.opc
   pub amf_size : length amf ≡ 2
-  pub last : n ≤ MAX_SEQ
+  pub last : n ≤ max_seq
   pub rows_are : AreOfRows rows old
   pub behind : AreBehind rows lines old
 
 -- it stands so where the vector was made of the row
 pub challenged : (rows : List Row) (lines : List LineRecord) (old : List Memory) (sub n : ℕ) (rand : List ℕ) (made : Vector) (answer : Answer) (new : List Memory) (row : Row)
-    → slice_get rows sub ≡ Some row → IsRow row → made ≡ vector_of row.secret row.amf n rand → n ≤ MAX_SEQ
+    → slice_get rows sub ≡ Some row → IsRow row → made ≡ vector_of row.secret row.amf n rand → n ≤ max_seq
     → Challenges old sub made.rand made.autn answer new → AreOfRows rows old → AreBehind rows lines old
     → Challenged rows lines old sub n rand row.amf answer new row
 challenged rows lines old sub n rand made answer new row at is e last c rows_are behind = record {
@@ -203,7 +202,7 @@ challenged rows lines old sub n rand made answer new row at is e last c rows_are
 
 -- and the answer isn't that the MAC is wrong
 pub never_wrong_of : (rows : List Row) (old : List Memory) (sub n : ℕ) (rand : List ℕ) (made : Vector) (answer : Answer) (new : List Memory) (row : Row)
-    → slice_get rows sub ≡ Some row → IsRow row → made ≡ vector_of row.secret row.amf n rand → n ≤ MAX_SEQ
+    → slice_get rows sub ≡ Some row → IsRow row → made ≡ vector_of row.secret row.amf n rand → n ≤ max_seq
     → Challenges old sub made.rand made.autn answer new → AreOfRows rows old → answer ≡ WrongMac → ⊥
 never_wrong_of rows old sub n rand made answer new row at is e last c rows_are wrong =
     let d : Challenges old sub rand (autn_of row.secret.k row.secret.opc rand row.amf n) answer new =

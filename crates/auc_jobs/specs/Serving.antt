@@ -3,7 +3,7 @@ use Rattle.std.specs.Prelude.{◌≡◌, ℕ, ◌≤◌, ◌<◌, Bool, true, fa
 use Rattle.auc_history.specs.declared.entry.Entry.{Entry}
 use Rattle.auc_script.specs.declared.part.Line.{Line}
 use Rattle.auc_script.specs.declared.part.Line.TheVariants as line
-use Rattle.auc_sqn.specs.declared.number.TheConstants.{MAX_SEQ}
+use Rattle.auc_sqn.specs.Number.{max_seq}
 use Rattle.auc_subs.specs.declared.row.Row.{Row}
 use Rattle.auc_subs.specs.Subscriber.{IsRow}
 use Rattle.auc_vector.specs.Auts.{read_auts_of}
@@ -23,10 +23,10 @@ use Rattle.auc_world.specs.declared.record.LineRecord.TheVariants.{Vector, Withh
 use Rattle.auc_jobs.specs.Numbers.{AreReleased}
 use Rattle.auc_jobs.specs.Usims.{AreBehind}
 
--- a centre has so many subscribers, whose greatest number is MAX_SEQ
+-- a centre has so many subscribers, whose greatest number is max_seq
 pub record IsCentreOf (count subs : ℕ) (top : ℕ → ℕ) : Type 0 where
   pub size : subs ≡ count
-  pub greatest : (sub : ℕ) → top sub ≡ MAX_SEQ
+  pub greatest : (sub : ℕ) → top sub ≡ max_seq
 
 -- vectors are those of a subscriber's row, with the subscriber's RANDs
 pub record AreOfRow (key : List ℕ) (rows : List Row) (sub : ℕ) (source : Source) : Type 0 where
@@ -52,8 +52,8 @@ IsBit (Some bit) = bit < 112
 -- the subscriber of a line is one of so many, and its numbers are such
 abbrev pub IsKnownLine : ℕ → Line → Type 0
 IsKnownLine subs (line.Draw sub count) = sub < subs
-IsKnownLine subs (line.Sync sub seq bit count) = (sub < subs) × (seq ≤ MAX_SEQ) × IsBit bit
-IsKnownLine subs (line.Give sub n) = (sub < subs) × (1 ≤ n) × (n ≤ MAX_SEQ)
+IsKnownLine subs (line.Sync sub seq bit count) = (sub < subs) × (seq ≤ max_seq) × IsBit bit
+IsKnownLine subs (line.Give sub n) = (sub < subs) × (1 ≤ n) × (n ≤ max_seq)
 
 abbrev pub AreKnown : ℕ → List Line → Type 0
 AreKnown subs job = All (IsKnownLine subs) job
@@ -88,8 +88,8 @@ pub record Say (goes : ℕ → List Entry → List ℕ → Type 0) (kept : ℕ �
 -- a line is what one draw of a subscriber comes to
 abbrev pub IsDrawn : Setting → ℕ → LineRecord → Type 0
 IsDrawn set sub (Vector s vector) = (s ≡ sub) × IsVector set sub vector
-IsDrawn set sub (Withheld s n stop) = (s ≡ sub) × (1 ≤ n) × (n ≤ MAX_SEQ)
-IsDrawn set sub (Exhausted s word) = (s ≡ sub) × (MAX_SEQ ≤ word)
+IsDrawn set sub (Withheld s n stop) = (s ≡ sub) × (1 ≤ n) × (n ≤ max_seq)
+IsDrawn set sub (Exhausted s word) = (s ≡ sub) × (max_seq ≤ word)
 IsDrawn set sub (Sync s answer) = ⊥
 IsDrawn set sub (Give s n answer) = ⊥
 

@@ -1,6 +1,6 @@
 -- What passes from round to round.
 use Rattle.std.specs.Prelude.{◌≡◌, ℕ, ◌≤◌, List, All, length}
-use Rattle.auc_sqn.specs.declared.number.TheConstants.{MAX_SEQ}
+use Rattle.auc_sqn.specs.Number.{max_seq}
 use Rattle.auc_subs.specs.declared.row.Row.{Row}
 use Rattle.auc_transcript.specs.Given.{Setting}
 use Rattle.auc_usim.specs.Usim.{Memory}
@@ -18,7 +18,7 @@ pub record Standing : Type 0 where
 -- a state is one of the subscribers of some rows
 pub record IsStateOf (rows : List Row) (state : Standing) : Type 0 where
   pub size : length state.words ≡ length rows
-  pub numbers : All (λ word. word ≤ MAX_SEQ) state.words
+  pub numbers : All (λ word. word ≤ max_seq) state.words
   pub secrets : AreOfRows rows state.usims
 
 -- a state is the one behind the lines of all rounds so far

@@ -1,7 +1,7 @@
 //! Presenting vectors to USIMs.
 
 ghost use Rattle.std.specs.Prelude.{◌≡◌, ◌≤◌, ◌<◌, ◌||◌, ◌++◌, List, length, IfOk, OnOk};
-ghost use Rattle.auc_sqn.specs.declared.number.TheConstants.{MAX_SEQ};
+ghost use Rattle.auc_sqn.specs.Number.{max_seq};
 ghost use Rattle.auc_world.specs.declared.record.LineRecord.{LineRecord};
 ghost use Rattle.auc_transcript.specs.Given.{is_in};
 ghost use Rattle.auc_transcript.specs.Lines.{numbers_of};
@@ -15,7 +15,6 @@ use crate::numbers::Numbers;
 use crate::setting::Setting;
 use crate::usims::Usims;
 use auc_edge::NoMemory;
-use auc_sqn::MAX_SEQ;
 use auc_usim::Answer;
 use auc_world::{GiveVerdict, LineRecord};
 
@@ -24,7 +23,7 @@ fn present(set: &Setting, usims: &mut Usims, sub: u32, n: u64) -> GiveVerdict
     requires usims { AreOfRows set.now.rows usims.old }
     requires known { sub < length set.now.rows }
     requires first { 1 ≤ n }
-    requires last { n ≤ MAX_SEQ }
+    requires last { n ≤ max_seq }
 
     ensures presented { (lines : List LineRecord) → AreBehind set.now.rows lines usims.old
         → Presents set.now.rows lines sub n result usims.new }
@@ -62,7 +61,7 @@ fn answered(
     requires usims { AreOfRows set.now.rows usims.old }
     requires known { sub < length set.now.rows }
     requires first { 1 ≤ n }
-    requires last { n ≤ MAX_SEQ }
+    requires last { n ≤ max_seq }
 
     ensures answered { IfOk result (λ verdict. (early : List LineRecord) (beside : List LineRecord)
         → AreReleased released.now early
@@ -90,7 +89,7 @@ pub(crate) fn give(
     requires usims { AreOfRows set.now.rows usims.old }
     requires known { sub < length set.now.rows }
     requires first { 1 ≤ n }
-    requires last { n ≤ MAX_SEQ }
+    requires last { n ≤ max_seq }
 
     ensures given { OnOk result ((early : List LineRecord) (beside : List LineRecord) → AreReleased released.now early
         → AreBehind set.now.rows (early ++ beside ++ lines.old) usims.old

@@ -1,14 +1,13 @@
 //! What passes from round to round.
 
 ghost use Rattle.std.specs.Prelude.{◌≡◌, ◌≤◌, [], All, map, IfOk};
-ghost use Rattle.auc_sqn.specs.declared.number.TheConstants.{MAX_SEQ};
+ghost use Rattle.auc_sqn.specs.Number.{max_seq};
 ghost use Rattle.auc_transcript.specs.Given.{Setting};
 ghost use Rattle.auc_jobs.specs.State.{StandsAt};
 
 use crate::numbers::Numbers;
 use crate::usims::Usims;
 use auc_edge::{Items, NoMemory};
-use auc_sqn::MAX_SEQ;
 use auc_subs::Subscribers;
 use std::alloc::Global;
 use std::marker::Model;
@@ -47,7 +46,7 @@ impl State {
 /// The numbers at which the rows say that the centre stands.
 fn first_words(alloc: Global, subs: &Subscribers) -> Result<Items<u64>, NoMemory>
     ensures value { IfOk result (λ words. words ≡ map (λ row. row.seq) subs.now) }
-    ensures bound { IfOk result (λ words. All (λ word. word ≤ MAX_SEQ) words) }
+    ensures bound { IfOk result (λ words. All (λ word. word ≤ max_seq) words) }
 {
     let mut words = Items::new(alloc);
     for sub in 0..subs.len() {

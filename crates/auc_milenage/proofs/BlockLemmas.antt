@@ -4,7 +4,7 @@ use Rattle.std.specs.Int.{w128, from_be_bytes, to_be_bytes, byte_at, bytes_high_
 use Rattle.std.proofs.lemmas.List.{length-take-le}
 use Rattle.auc_aes.specs.Bytes.{xor, rot, IsBytes, IsBlock}
 use Rattle.auc_aes.specs.Cipher.{aes}
-use Rattle.auc_aes.proofs.InverseLemmas.{xor_block, aes_block}
+use Rattle.auc_aes.proofs.Facts.{xor_block, aes_block}
 use Rattle.auc_milenage.specs.Milenage.{temp_of, out, f5, r2, c2}
 
 -- a number's bytes are bytes

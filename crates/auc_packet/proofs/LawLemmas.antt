@@ -15,10 +15,7 @@ use Rattle.auc_attr.specs.Grammar.{FirstFault, ReadsAttrs}
 use Rattle.auc_attr.specs.Laws.{AreBytes, is_value}
 use Rattle.auc_attr.specs.PacketFault.{PacketFault, Before, Within, IsFirstFault}
 use Rattle.auc_attr.specs.Spelling.{spelling}
-use Rattle.auc_attr.proofs.FrameLemmas.{frame_again, attrs_within}
-use Rattle.auc_attr.proofs.LawLemmas.{one_list, one_fault, refused_is_not_read, read_is_writable}
-use Rattle.auc_attr.proofs.SpellingLemmas.{written_attributes_are_read}
-use Rattle.auc_attr.proofs.Tools.{IsBytes-take, IsBytes-drop}
+use Rattle.auc_attr.proofs.Facts.{frame_again, attrs_within, one_list, one_fault, refused_is_not_read, read_is_writable, written_attributes_are_read, IsBytes-take, IsBytes-drop}
 use Rattle.auc_packet.specs.declared.packet.Packet.{Packet}
 use Rattle.auc_packet.specs.declared.packet.Packet.TheVariants as packet
 use Rattle.auc_packet.specs.declared.refusal.PacketRefusal.{PacketRefusal}

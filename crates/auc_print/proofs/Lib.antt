@@ -1,5 +1,6 @@
+pub mod Facts
 mod LineLemmas
-pub mod OneTextLemmas
+mod OneTextLemmas
 mod RoundLemmas
 mod SpacedLemmas
 mod TextLemmas

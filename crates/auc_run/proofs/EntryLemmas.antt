@@ -11,8 +11,7 @@ use Rattle.auc_history.specs.History.{covers, covered, drawn, drawn_by, last_of,
 use Rattle.auc_history.specs.Split.{Splits, all_entries, times}
 use Rattle.auc_history.specs.declared.entry.Entry.{Entry}
 use Rattle.auc_history.specs.declared.entry.Entry.TheVariants.{Drawn, Moved, Look}
-use Rattle.auc_history.proofs.ListLemmas.{times-append}
-use Rattle.auc_history.proofs.SplitLemmas.{times-numbers_after}
+use Rattle.auc_history.proofs.Facts.{times-append, times-numbers_after}
 use Rattle.auc_transcript.specs.Entries.{reports, entries_of_verdict, entries_of_line, entries_of_lines, entries_of_jobs}
 use Rattle.auc_transcript.specs.Lines.{released_by, numbers_of, all_lines}
 use Rattle.auc_world.specs.Record.{subscriber_of}

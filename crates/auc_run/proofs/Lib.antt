@@ -1,7 +1,7 @@
-pub mod SizeLemmas
-pub mod MadeLemmas
-pub mod EntryLemmas
-pub mod PrintableLemmas
-pub mod OutputLemmas
-pub mod KnownLemmas
-pub mod OutcomeLemmas
+mod SizeLemmas
+mod MadeLemmas
+mod EntryLemmas
+mod PrintableLemmas
+mod OutputLemmas
+mod KnownLemmas
+mod OutcomeLemmas

@@ -10,7 +10,7 @@ use Rattle.auc_print.specs.OneText.{GiveFits}
 use Rattle.auc_script.specs.declared.part.Line.{Line}
 use Rattle.auc_script.specs.declared.part.Line.TheVariants as line
 use Rattle.auc_sqn.specs.Past.{Past, verdict_of}
-use Rattle.auc_sqn.specs.declared.number.TheConstants.{MAX_SEQ}
+use Rattle.auc_sqn.specs.Number.{max_seq}
 use Rattle.auc_sqn.specs.declared.verdict.Verdict.{Verdict}
 use Rattle.auc_sqn.specs.declared.verdict.Verdict.TheVariants.{Fresh, Old, Far}
 use Rattle.auc_subs.specs.declared.row.Row.{Row}
@@ -38,10 +38,10 @@ SeqFits verdict.WrongMac = Unit {0}
 -- what a line is by itself: it names a subscriber; a vector is the one of its number; numbers are such
 abbrev pub IsMade : Setting → LineRecord → Type 0
 IsMade set (Vector sub vector) = (sub < length set.rows) × IsVector set sub vector
-IsMade set (Withheld sub n stop) = (sub < length set.rows) × (n ≤ MAX_SEQ)
+IsMade set (Withheld sub n stop) = (sub < length set.rows) × (n ≤ max_seq)
 IsMade set (Exhausted sub word) = sub < length set.rows
 IsMade set (Sync sub answer) = (sub < length set.rows) × SeqFits answer
-IsMade set (Give sub n answer) = (sub < length set.rows) × (n ≤ MAX_SEQ) × GiveFits answer
+IsMade set (Give sub n answer) = (sub < length set.rows) × (n ≤ max_seq) × GiveFits answer
 
 -- no lines
 none_made : (set : Setting) (lines : List LineRecord) → lines ≡ [] → All (IsMade set) lines

@@ -4,14 +4,12 @@ use Rattle.std.proofs.lemmas.List.{length-map}
 use Rattle.std.proofs.lemmas.List.Elements.{All-weaker}
 use Rattle.auc_print.specs.OneText.{IsPrintable, RoundFits, HasVectors}
 use Rattle.auc_print.specs.Text.{identities_of}
-use Rattle.auc_print.proofs.OneTextLemmas.{one_transcript, numbers_tell_vectors, are_identities}
+use Rattle.auc_print.proofs.Facts.{one_transcript, numbers_tell_vectors, are_identities}
 use Rattle.auc_script.specs.Reading.{script_of}
 use Rattle.auc_script.specs.declared.script.Script.{Script}
 use Rattle.auc_subs.specs.declared.row.Row.{Row}
 use Rattle.auc_transcript.specs.Transcript.{IsLawful}
-use Rattle.auc_transcript.proofs.VectorLemmas.{keeps_numbers_apart}
-use Rattle.auc_transcript.proofs.AcceptedLemmas.{accepts_none_twice}
-use Rattle.auc_transcript.proofs.FailureLemmas.{each_failure_is_by_place}
+use Rattle.auc_transcript.proofs.Facts.{keeps_numbers_apart, accepts_none_twice, each_failure_is_by_place}
 use Rattle.auc_world.specs.Record.{NamesBelow}
 use Rattle.auc_world.specs.declared.record.RoundRecord.{RoundRecord}
 use Rattle.auc_run.specs.Ending.{IsServed, TextEnds}

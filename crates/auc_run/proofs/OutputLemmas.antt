@@ -2,7 +2,7 @@
 use Rattle.std.proofs.Common.{◌≡◌, ℕ, ◌+◌, Bool, List, [], ◌∷◌, ◌++◌, map, Option, Some, None, refl, sym, ◌∙◌, ap, subst, append_assoc, append-nil}
 use Rattle.std.proofs.lemmas.Grind.{flat_map-append}
 use Rattle.auc_edge.specs.Sink.{Appends}
-use Rattle.auc_edge.proofs.SinkLemmas.{Appends-more}
+use Rattle.auc_edge.proofs.Facts.{Appends-more}
 use Rattle.auc_jobs.specs.State.{Standing, StandsAt}
 use Rattle.auc_print.specs.Text.{identities_of, round_text, transcript_text}
 use Rattle.auc_script.specs.declared.part.Part.{Part}

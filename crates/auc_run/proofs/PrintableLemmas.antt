@@ -7,12 +7,12 @@ use Rattle.std.proofs.lemmas.List.Elements.{All-nil, All-cons, All-head, All-tai
 use Rattle.auc_history.specs.History.{drawn, skipped}
 use Rattle.auc_history.specs.Split.{all_entries}
 use Rattle.auc_history.specs.declared.entry.Entry.{Entry}
-use Rattle.auc_history.proofs.SplitLemmas.{split_counts_its_numbers}
+use Rattle.auc_history.proofs.Facts.{split_counts_its_numbers}
 use Rattle.auc_print.specs.OneText.{AnswerFits, SyncFits, ClosingFits, RoundFits, HasVector, HasVectors}
 use Rattle.auc_script.specs.declared.part.Line.{Line}
 use Rattle.auc_script.specs.declared.part.Part.{Part}
 use Rattle.auc_script.specs.declared.part.Part.TheVariants.{Round}
-use Rattle.auc_sqn.specs.declared.number.TheConstants.{MAX_SEQ}
+use Rattle.auc_sqn.specs.Number.{max_seq}
 use Rattle.auc_subs.specs.Subscriber.{AreSubscribers}
 use Rattle.auc_subs.specs.declared.row.Row.{Row}
 use Rattle.auc_transcript.specs.Entries.{entries_of_jobs}
@@ -112,7 +112,7 @@ lines_fit set early openings jobs round words is k d inside =
     let sub = subscriber_of line in
     let closing = get_or words sub 0 in
     let entries = subst (All (IsWithin closing)) (all_entries-of_jobs sub [] round.jobs)
-    (splits_within MAX_SEQ (get_or openings sub 0) closing (entries_of_jobs sub [] round.jobs) (is.lawful.split sub (omega (arith, named, count)))) in
+    (splits_within max_seq (get_or openings sub 0) closing (entries_of_jobs sub [] round.jobs) (is.lawful.split sub (omega (arith, named, count)))) in
     let words_are = lines_within sub closing [] (all_lines round.jobs) (λ word told. absurd (cc)) entries in
     answer_fits set closing line made (words_are k d inside refl) (word_fits set early openings jobs round words is sub named)
 
@@ -181,7 +181,7 @@ counts_fit : (set : Setting) (early : List LineRecord) (openings : List ℕ) (jo
 counts_fit set early openings jobs round words is sub inside =
     let count = is.count in
     let bound = word_fits set early openings jobs round words is sub (omega (arith, count)) in
-    let whole = split_counts_its_numbers MAX_SEQ (get_or openings sub 0) (get_or words sub 0) (entries_of_jobs sub [] round.jobs) (is.lawful.split sub inside) in
+    let whole = split_counts_its_numbers max_seq (get_or openings sub 0) (get_or words sub 0) (entries_of_jobs sub [] round.jobs) (is.lawful.split sub inside) in
     let fewer = length-numbers sub [] (all_lines round.jobs) in
     let same = ap (λ (es : List Entry). length (drawn es)) (all_entries-of_jobs sub [] round.jobs) in
     let none = ap length (is.lawful.released sub) in
@@ -246,7 +246,7 @@ rounds_print set number early openings [] rounds are count known few lawful = rw
 rounds_print set number early openings (Round jobs ∷ parts) [] are count known few lawful = absurd lawful
 rounds_print set number early openings (Round jobs ∷ parts) (round ∷ rounds) are count known few (next, (is_number, words, lawful, is_next), rest) =
     let sizes = lawful.sizes in
-    let kept = length-map words (λ (word : ℕ). min word MAX_SEQ) in
+    let kept = length-map words (λ (word : ℕ). min word max_seq) in
     let same = ap length is_next in
     All-cons (Prints set) round rounds
     (round_prints set early openings jobs round words are count (All-head (IsKnownPart (length set.rows)) (Round jobs) parts known) (omega arith) lawful)

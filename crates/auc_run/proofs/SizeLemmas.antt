@@ -5,9 +5,9 @@ use Rattle.std.specs.Str.{bytes_eq}
 use Rattle.std.specs.Int.{w64, w128, to_be_bytes, byte_at, bytes_high_first}
 use Rattle.std.proofs.lemmas.List.{length-take-le, take-append-le}
 use Rattle.auc_aes.specs.Bytes.{xor, IsBytes, IsBlock}
-use Rattle.auc_aes.proofs.InverseLemmas.{bytes_xor, bytes_take, bytes_drop, length_xor}
+use Rattle.auc_aes.proofs.Facts.{bytes_xor, bytes_take, bytes_drop, length_xor}
 use Rattle.auc_milenage.specs.Milenage.{auts, f1_star, f5_star, out, temp_of, r5, c5}
-use Rattle.auc_milenage.proofs.BlockLemmas.{out_block}
+use Rattle.auc_milenage.proofs.Facts.{out_block}
 use Rattle.auc_sqn.specs.Number.{seq_of, value_of, sqn_with, sqn_bytes}
 use Rattle.auc_subs.specs.declared.row.Row.{Row}
 use Rattle.auc_subs.specs.Subscriber.{IsRow}

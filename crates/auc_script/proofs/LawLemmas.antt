@@ -16,7 +16,7 @@ use Rattle.auc_script.specs.Scenario.{Scenario, after_line}
 use Rattle.auc_script.specs.Reading.{AreRight, after, beginning, read_lines, script_from, script_in}
 use Rattle.auc_script.specs.Law.{EachRefusedLineIsTheFirstWrong, EachRightTextIsReadWhole, EachTextThatIsReadIsRight, Ended, IsEnded, IsFirstWrong, IsLine, all_lines, ended_text, text_of}
 use Rattle.auc_script.proofs.ReadingLemmas.{read_on}
-use Rattle.auc_text.proofs.TextLemmas.{has_part, line_first, line_last}
+use Rattle.auc_text.proofs.Facts.{has_part, line_first, line_last}
 
 -- a line has no byte at which a text is cut
 no_mark : (line : List ℕ) → IsLine line → All (λ byte. nat_eq byte 10 ≡ false) line

@@ -1,7 +1,7 @@
 -- What holds of every scenario that is read: its limits, that its lines speak of subscribers that there
 -- are, and that no two jobs of a round give to one USIM.
 use Rattle.std.specs.Prelude.{ℕ, ◌≡◌, ◌<◌, ◌≤◌, true, false, List, length, All, AllPairs, Option, Some, None, IfSome}
-use Rattle.auc_sqn.specs.declared.number.TheConstants.{MAX_SEQ}
+use Rattle.auc_sqn.specs.Number.{max_seq}
 use Rattle.auc_subs.specs.declared.row.Row.{Row}
 use Rattle.auc_subs.specs.Subscriber.{AreSubscribers}
 use Rattle.auc_script.specs.declared.header.Header.{Header}
@@ -21,8 +21,8 @@ IsBit (Some bit) = bit ≤ 111
 -- a line of a subscriber that there is, whose numbers are within their ranges
 abbrev pub IsLine : List Row → Line → Type 0
 IsLine rows (Draw sub count) = (sub < length rows) × (1 ≤ count) × (count ≤ MAX_COUNT)
-IsLine rows (Sync sub seq bit count) = (sub < length rows) × (seq ≤ MAX_SEQ) × IsBit bit × (count ≤ MAX_COUNT)
-IsLine rows (Give sub number) = (sub < length rows) × (1 ≤ number) × (number ≤ MAX_SEQ)
+IsLine rows (Sync sub seq bit count) = (sub < length rows) × (seq ≤ max_seq) × IsBit bit × (count ≤ MAX_COUNT)
+IsLine rows (Give sub number) = (sub < length rows) × (1 ≤ number) × (number ≤ max_seq)
 
 -- no two jobs give to one USIM
 abbrev pub AreApart : List Line → List Line → Type 0

@@ -9,9 +9,9 @@
 --   round                                    1000 at most
 --   job                                      in a round; 200000 in all at most
 --   draw IMSI COUNT                          in a job; 1 to 1000 vectors; a subscriber's IMSI
---   sync IMSI SEQ BIT COUNT                  in a job; SEQ to MAX_SEQ, BIT 0 to 111 or -, 0 to 1000
+--   sync IMSI SEQ BIT COUNT                  in a job; SEQ to max_seq, BIT 0 to 111 or -, 0 to 1000
 --                                            vectors; a subscriber's IMSI
---   give IMSI N                              in a job; N from 1 to MAX_SEQ; a subscriber's IMSI, to
+--   give IMSI N                              in a job; N from 1 to max_seq; a subscriber's IMSI, to
 --                                            whose USIM no earlier job of the round gives
 --
 -- All lines together ask for 1000000 vectors at most. A line without a word and a comment say nothing.
@@ -20,7 +20,7 @@ use Rattle.std.specs.Prelude.{ℕ, ◌+◌, ◌==◌, ◌++◌, ◌&&◌, ◌||�
 use Rattle.std.specs.List.{join_with_byte, list_any}
 use Rattle.std.specs.Option.{ok_or, option_to_list}
 use Rattle.auc_edge.specs.Identity.{identity_of, number_of}
-use Rattle.auc_sqn.specs.declared.number.TheConstants.{MAX_SEQ}
+use Rattle.auc_sqn.specs.Number.{max_seq}
 use Rattle.auc_subs.specs.declared.row.Row.{Row}
 use Rattle.auc_subs.specs.declared.refusal.SubsWhy.{SubsWhy}
 use Rattle.auc_text.specs.Field.{octets_in}
@@ -188,7 +188,7 @@ abbrev pub sync_of : List Row → List (List ℕ) → Result Line ScriptWhy
 sync_of rows fields = do
   four ← four_fields fields
   identity ← ok_or (identity_of four.0) why.Fields
-  seq ← number_in 0 MAX_SEQ four.1
+  seq ← number_in 0 max_seq four.1
   bit ← bit_in four.2
   count ← number_in 0 MAX_COUNT four.3
   sub ← ok_or (place_of rows identity) why.UnknownSubscriber
@@ -198,7 +198,7 @@ abbrev pub give_of : List Row → List (List ℕ) → Result Line ScriptWhy
 give_of rows fields = do
   two ← two_fields fields
   identity ← ok_or (identity_of two.0) why.Fields
-  number ← number_in 1 MAX_SEQ two.1
+  number ← number_in 1 max_seq two.1
   sub ← ok_or (place_of rows identity) why.UnknownSubscriber
   Ok (Give sub number)
 

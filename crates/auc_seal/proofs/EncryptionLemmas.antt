@@ -7,8 +7,7 @@ use Rattle.std.proofs.lemmas.List.{length-take-le}
 use Rattle.auc_aes.specs.Bytes.{xor, IsBytes, IsBlock}
 use Rattle.auc_aes.specs.Cipher.{aes}
 use Rattle.auc_aes.specs.Cbc.{encrypted_blocks, cbc_encrypted, cbc_decrypted}
-use Rattle.auc_aes.proofs.InverseLemmas.{bytes_take, bytes_drop, xor_block, aes_block}
-use Rattle.auc_aes.proofs.CbcInverseLemmas.{cbc_encrypted_undone}
+use Rattle.auc_aes.proofs.Facts.{bytes_take, bytes_drop, xor_block, aes_block, cbc_encrypted_undone}
 use Rattle.auc_edge.specs.Reserved.{Reserved, wrote}
 use Rattle.auc_attr.specs.declared.attr.Attr.{Attr}
 use Rattle.auc_attr.specs.declared.attr.Attr.TheVariants as attr
@@ -18,9 +17,7 @@ use Rattle.auc_attr.specs.Laws.{AreBytes, is_value}
 use Rattle.auc_attr.specs.Table.{row_of}
 use Rattle.auc_attr.specs.Item.{item_of, is_named}
 use Rattle.auc_attr.specs.Spelling.{stands_in, fits, fits_item, may_follow, writable, item_text, shape_text, spelling}
-use Rattle.auc_attr.proofs.LawLemmas.{one_list, one_fault, refused_is_not_read}
-use Rattle.auc_attr.proofs.Tools.{and_parts, and_from}
-use Rattle.auc_attr.proofs.SpellingLemmas.{written_attributes_are_read}
+use Rattle.auc_attr.proofs.Facts.{one_list, one_fault, refused_is_not_read, and_parts, and_from, written_attributes_are_read}
 use Rattle.auc_seal.specs.declared.refusal.SealRefusal.{SealRefusal}
 use Rattle.auc_seal.specs.declared.refusal.SealRefusal.TheVariants as refusal
 use Rattle.auc_seal.specs.Encrypted.{is_padding, iv_of, data_of, first_value, padded, encrypted, MayBeEncrypted, HasNoneEncrypted, is_ciphertext, bytes_under, decrypted_bytes, without_padding, IsDecrypted, IsFaulty, Decrypts}

@@ -1,6 +1,6 @@
-pub mod PlaceLemmas
-pub mod BlockLemmas
-pub mod CheckcodeLemmas
-pub mod SealLemmas
-pub mod PaddingLemmas
-pub mod EncryptionLemmas
+mod PlaceLemmas
+mod BlockLemmas
+mod CheckcodeLemmas
+mod SealLemmas
+mod PaddingLemmas
+mod EncryptionLemmas

@@ -6,7 +6,7 @@ use Rattle.std.proofs.lemmas.Bool.{eqb-true}
 use Rattle.std.proofs.lemmas.Bool.Decides.{nat_tests}
 use Rattle.std.proofs.lemmas.List.{append-nil, length-replicate}
 use Rattle.std.proofs.lemmas.List.Elements.{filter-append}
-use Rattle.auc_aes.proofs.InverseLemmas.{bytes_append}
+use Rattle.auc_aes.proofs.Facts.{bytes_append}
 use Rattle.auc_attr.specs.declared.attr.Attr.{Attr}
 use Rattle.auc_attr.specs.declared.attr.Attr.TheVariants as attr
 use Rattle.auc_attr.specs.Table.{row_of}
@@ -14,8 +14,7 @@ use Rattle.auc_attr.specs.Grammar.{IsAttr, Walks}
 use Rattle.auc_attr.specs.Item.{Item, item_of, items, is_named, is_skipped_row}
 use Rattle.auc_attr.specs.Laws.{AreBytes}
 use Rattle.auc_attr.specs.Spelling.{stands_in, fits, fits_item, may_follow, writable_from, writable, item_text, shape_text, spelling}
-use Rattle.auc_attr.proofs.Tools.{and_parts, and_from}
-use Rattle.auc_attr.proofs.SpellingLemmas.{attr_size, written_attributes_are_read}
+use Rattle.auc_attr.proofs.Facts.{and_parts, and_from, attr_size, written_attributes_are_read}
 use Rattle.auc_seal.specs.Encrypted.{is_padding, missing, padding_for, padded, without_padding, MayBeEncrypted}
 
 -- ---- sizes

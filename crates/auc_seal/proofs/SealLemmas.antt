@@ -15,11 +15,7 @@ use Rattle.auc_attr.specs.Spelling.{item_text}
 use Rattle.auc_attr.specs.Grammar.{IsAfterReserved, IsBody, IsAttr, Walks}
 use Rattle.auc_attr.specs.Frame.{Frame, Ended, Named, Message, length_of, frame_at, message_code, IsMessage}
 use Rattle.auc_attr.specs.Mac.{mac_from, mac_of, IsMacIn, IsMacOf, IsMacPlace}
-use Rattle.auc_attr.proofs.Tools.{IsBytes, some_is}
-use Rattle.auc_attr.proofs.SpellingLemmas.{attr_size}
-use Rattle.auc_attr.proofs.MacLemmas.{mac_within}
-use Rattle.auc_attr.proofs.FrameLemmas.{frame_again}
-use Rattle.auc_attr.proofs.LawLemmas.{found_is_framed}
+use Rattle.auc_attr.proofs.Facts.{IsBytes, some_is, attr_size, mac_within, frame_again, found_is_framed}
 use Rattle.auc_hmac.specs.declared.method.Method.{Method}
 use Rattle.auc_seal.specs.Mac.{with_block, no_mac, mac_input, right_mac, mac_value, IsRight}
 use Rattle.auc_seal.specs.Mac as seal

@@ -1,2 +1,3 @@
-pub mod NumberLemmas
-pub mod PastLemmas
+pub mod Facts
+mod NumberLemmas
+mod PastLemmas

@@ -2,7 +2,10 @@
 -- first (TS 33.102 §6.3.1 and Annex C.1.1.1).
 use Rattle.std.specs.Prelude.{◌≡◌, ℕ, ◌+◌, ◌*◌, ◌/◌, ◌%◌, ◌≤◌, List, drop, fold}
 use Rattle.std.specs.Int.{to_be_bytes, w64}
-use Rattle.auc_sqn.specs.declared.number.TheConstants.{MAX_SEQ}
+
+-- the greatest number of a vector: SEQ has 43 bits (TS 33.102 Annex C.1.1.1)
+abbrev pub max_seq : ℕ
+max_seq = 8796093022207
 
 -- the number that some bytes are, the most significant first
 abbrev pub value_of : List ℕ → ℕ
@@ -26,8 +29,8 @@ sqn_bytes number = sqn_with number (number % 32)
 
 -- an SQN taken apart gives its number, and as IND the number's remainder by 32
 abbrev pub SplitUndoesSqn : Type 0
-SplitUndoesSqn = (n : ℕ) → n ≤ MAX_SEQ → (seq_of (sqn_bytes n) ≡ n) × (ind_of (sqn_bytes n) ≡ n % 32)
+SplitUndoesSqn = (n : ℕ) → n ≤ max_seq → (seq_of (sqn_bytes n) ≡ n) × (ind_of (sqn_bytes n) ≡ n % 32)
 
 -- two numbers with one SQN are one number
 abbrev pub EachNumberHasItsOwnSqn : Type 0
-EachNumberHasItsOwnSqn = (m n : ℕ) → m ≤ MAX_SEQ → n ≤ MAX_SEQ → sqn_bytes m ≡ sqn_bytes n → m ≡ n
+EachNumberHasItsOwnSqn = (m n : ℕ) → m ≤ max_seq → n ≤ max_seq → sqn_bytes m ≡ sqn_bytes n → m ≡ n

@@ -1,7 +1,7 @@
 //! The SQN of a number, and SEQ and IND of an SQN.
 
 ghost use Rattle.std.specs.Prelude.{◌≡◌, ◌≤◌, ◌<◌, ◌%◌};
-ghost use Rattle.auc_sqn.specs.Number.{sqn_bytes, sqn_with, seq_of, ind_of};
+ghost use Rattle.auc_sqn.specs.Number.{max_seq, sqn_bytes, sqn_with, seq_of, ind_of};
 
 /// The greatest number that a subscriber's vectors have: SEQ has 43 bits.
 pub const MAX_SEQ: u64 = 8796093022207;
@@ -9,7 +9,7 @@ pub const MAX_SEQ: u64 = 8796093022207;
 /// The SQN of a number, as 6 bytes, most significant first: SEQ is the number, and IND its remainder
 /// by 32 (TS 33.102 Annex C.1.1.1).
 pub fn sqn_of(n: u64) -> [u8; 6]
-    requires { n ≤ MAX_SEQ }
+    requires { n ≤ max_seq }
     ensures { result ≡ sqn_bytes n }
 {
     spell(n, n % 32)
@@ -17,7 +17,7 @@ pub fn sqn_of(n: u64) -> [u8; 6]
 
 /// SEQ and IND side by side in 6 bytes.
 pub(crate) fn spell(seq: u64, ind: u64) -> [u8; 6]
-    requires seq { seq ≤ MAX_SEQ }
+    requires seq { seq ≤ max_seq }
     requires ind { ind < 32 }
     ensures { result ≡ sqn_with seq ind }
 {
@@ -30,7 +30,7 @@ pub(crate) fn spell(seq: u64, ind: u64) -> [u8; 6]
 pub fn split(sqn: [u8; 6]) -> (u64, u8)
     ensures seq { result.0 ≡ seq_of sqn }
     ensures ind { result.1 ≡ ind_of sqn }
-    ensures seq_within { result.0 ≤ MAX_SEQ }
+    ensures seq_within { result.0 ≤ max_seq }
     ensures ind_within { result.1 < 32 }
 {
     let [a, b, c, d, e, f] = sqn;

@@ -2,7 +2,7 @@
 
 ghost use Rattle.std.specs.Prelude.{◌≡◌, ℕ, ◌≤◌, ◌<◌, slice_index};
 ghost use Rattle.std.specs.List.{IsFirstMaxByKey};
-ghost use Rattle.auc_sqn.specs.Number.{seq_of, ind_of};
+ghost use Rattle.auc_sqn.specs.Number.{max_seq, seq_of, ind_of};
 ghost use Rattle.auc_sqn.specs.Past.{Past, Remembers, opening_past, verdict_of, past_after, IsSqnMs, verdict_at, IsLastNumber};
 
 use crate::number::{MAX_SEQ, spell, split};
@@ -21,13 +21,13 @@ pub struct SqnArray {
 
 impl Model for SqnArray {
     ghost use Rattle.std.specs.Prelude.{ℕ, List, ◌≡◌, ◌≤◌, All, length};
-    ghost use Rattle.auc_sqn.specs.declared.number.TheConstants.{MAX_SEQ};
+    ghost use Rattle.auc_sqn.specs.Number.{max_seq};
 
     ghost Value = { List ℕ };
 
     ghost view = { λ array. array.entries };
 
-    ghost invariant = { λ array. All (λ seq. seq ≤ MAX_SEQ) array.entries };
+    ghost invariant = { λ array. All (λ seq. seq ≤ max_seq) array.entries };
 
     ghost inverse = { λ entries. record { entries = entries } };
 }
@@ -35,7 +35,7 @@ impl Model for SqnArray {
 impl SqnArray {
     /// The array of a USIM for which the numbers 1 to `v` count as accepted.
     pub fn opening(v: u64) -> SqnArray
-        requires { v ≤ MAX_SEQ }
+        requires { v ≤ max_seq }
         ensures { Remembers result (opening_past v) }
     {
         let mut entries = [0; 32];

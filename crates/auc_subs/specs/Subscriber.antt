@@ -6,8 +6,8 @@
 --   KIND   op or opc                                    Kind
 --   OP     32 hexadecimal digits                        Op
 --   AMF    4 hexadecimal digits                         Amf
---   SEQ    1 to 13 decimal digits, at most MAX_SEQ      Seq
---   USIM   1 to 13 decimal digits, at most MAX_SEQ      Usim
+--   SEQ    1 to 13 decimal digits, at most max_seq      Seq
+--   USIM   1 to 13 decimal digits, at most max_seq      Usim
 --
 -- Then the identity is new (Twice) and there is room for one more row (TooMany).
 use Rattle.std.specs.Prelude.{ℕ, ◌≡◌, ◌≢◌, ◌==◌, ◌&&◌, ◌≤◌, ◌++◌, nat_le, Bool, List, [], ◌∷◌, length, codes, Option, Some, is_some, Result, Ok, Err, if◌then◌else◌, All, AllPairs, position, slice_get, slice_index_or}
@@ -15,7 +15,7 @@ use Rattle.std.specs.Option.{ok_or}
 use Rattle.auc_aes.specs.Bytes.{IsBytes, IsBlock}
 use Rattle.auc_edge.specs.Identity.{Identity, IsIdentity, identity_of}
 use Rattle.auc_milenage.specs.Milenage.{opc_of}
-use Rattle.auc_sqn.specs.declared.number.TheConstants.{MAX_SEQ}
+use Rattle.auc_sqn.specs.Number.{max_seq}
 use Rattle.auc_subs.specs.declared.row.Row.{Row}
 use Rattle.auc_subs.specs.declared.refusal.SubsWhy.{SubsWhy}
 use Rattle.auc_subs.specs.declared.refusal.SubsWhy.TheVariants as why
@@ -44,8 +44,8 @@ row_in imsi k kind op amf seq usim = do
   key ← ok_or (octets_in 16 k) why.Key
   opc ← opc_in key kind op
   management ← ok_or (octets_in 2 amf) why.Amf
-  drawn ← ok_or (number_in 13 MAX_SEQ seq) why.Seq
-  accepted ← ok_or (number_in 13 MAX_SEQ usim) why.Usim
+  drawn ← ok_or (number_in 13 max_seq seq) why.Seq
+  accepted ← ok_or (number_in 13 max_seq usim) why.Usim
   Ok (record { imsi = identity; secret = record { k = key; opc = opc }; amf = management; seq = drawn; usim = accepted })
 
 -- a field, from 0
@@ -95,8 +95,8 @@ pub record IsRow (row : Row) : Type 0 where
   pub operator : IsBlock row.secret.opc
   pub management : length row.amf ≡ 2
   pub management_bytes : IsBytes row.amf
-  pub drawn : row.seq ≤ MAX_SEQ
-  pub accepted : row.usim ≤ MAX_SEQ
+  pub drawn : row.seq ≤ max_seq
+  pub accepted : row.usim ≤ max_seq
 
 -- what rows of subscribers are: not too many, and of different identities
 pub record AreSubscribers (rows : List Row) : Type 0 where

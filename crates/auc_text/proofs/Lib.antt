@@ -1,2 +1,3 @@
+pub mod Facts
 mod NumberLemmas
-pub mod TextLemmas
+mod TextLemmas

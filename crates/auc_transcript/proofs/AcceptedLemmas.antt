@@ -4,8 +4,8 @@ use Rattle.std.specs.Prelude.{if◌then◌else◌}
 use Rattle.std.proofs.lemmas.Bool.{cases_eq, eqb-true}
 use Rattle.std.proofs.lemmas.Bool.Decides.{nat_tests}
 use Rattle.auc_history.specs.Split.{times}
-use Rattle.auc_history.proofs.ListLemmas.{differ_from_times, times-cons, times_at}
-use Rattle.auc_sqn.specs.declared.number.TheConstants.{MAX_SEQ}
+use Rattle.auc_history.proofs.Facts.{differ_from_times, times-cons, times_at}
+use Rattle.auc_sqn.specs.Number.{max_seq}
 use Rattle.auc_script.specs.declared.part.Part.{Part}
 use Rattle.auc_world.specs.declared.record.GiveVerdict.{GiveVerdict}
 use Rattle.auc_world.specs.declared.record.GiveVerdict.TheVariants as given
@@ -91,6 +91,6 @@ accepts_none_twice set parts rounds known lawful sub inside =
     let within = numbers_within set sub [] (lines_of rounds) (transcript_served set parts rounds lawful) in
     let numbers = accepted sub (lines_of rounds) in
     sqns_differ numbers
-    (λ k d k<n. All-times (λ n. n ≤ MAX_SEQ) (get_or numbers k d) (numbers_of sub (lines_of rounds)) within
+    (λ k d k<n. All-times (λ n. n ≤ max_seq) (get_or numbers k d) (numbers_of sub (lines_of rounds)) within
     ((transcript_accepts set parts rounds sub (get_or numbers k d) lawful).released (times_at numbers k d k<n)))
     (differ_from_times numbers (λ n. (transcript_accepts set parts rounds sub n lawful).once))

@@ -7,7 +7,7 @@ use Rattle.auc_history.specs.declared.entry.Entry.{Entry}
 use Rattle.auc_history.specs.Split.{times}
 use Rattle.auc_history.specs.History.{drawn}
 use Rattle.auc_sqn.specs.Past.{opening_past, verdict_of}
-use Rattle.auc_sqn.specs.declared.number.TheConstants.{MAX_SEQ}
+use Rattle.auc_sqn.specs.Number.{max_seq}
 use Rattle.auc_script.specs.declared.part.Part.{Part}
 use Rattle.auc_subs.specs.declared.row.Row.{Row}
 use Rattle.auc_subs.specs.Subscriber.{AreSubscribers}
@@ -46,7 +46,7 @@ record AreDrawn (entries : List Entry) (numbers : List ℕ) (n : ℕ) : Type 0 w
   low : ℕ
   high : ℕ
   covers : CoversRange low high entries
-  each : (m : ℕ) → (m ≡ n) ⊎ (1 ≤ times m numbers) → (m ≤ MAX_SEQ) × (1 ≤ times m (drawn entries))
+  each : (m : ℕ) → (m ≡ n) ⊎ (1 ≤ times m numbers) → (m ≤ max_seq) × (1 ≤ times m (drawn entries))
 
 -- places are as far apart as numbers
 places_apart : (entries : List Entry) (numbers : List ℕ) (k m n : ℕ) → AreDrawn entries numbers k → (m ≡ k) ⊎ (1 ≤ times m numbers) → (n ≡ k) ⊎ (1 ≤ times n numbers)
@@ -96,10 +96,10 @@ fails_exactly entries opening before n answer are reach answers =
     )
 
 -- the number of a vector was drawn
-vector_is_drawn : (sub : ℕ) (rounds : List RoundRecord) (m : ℕ) → All (λ k. k ≤ MAX_SEQ) (numbers_of sub (lines_of rounds)) → 1 ≤ times m (numbers_of sub (lines_of rounds))
-    → (m ≤ MAX_SEQ) × (1 ≤ times m (drawn (entries_of sub rounds)))
+vector_is_drawn : (sub : ℕ) (rounds : List RoundRecord) (m : ℕ) → All (λ k. k ≤ max_seq) (numbers_of sub (lines_of rounds)) → 1 ≤ times m (numbers_of sub (lines_of rounds))
+    → (m ≤ max_seq) × (1 ≤ times m (drawn (entries_of sub rounds)))
 vector_is_drawn sub rounds m within there =
-    let more = rounds_drawn m sub rounds in (All-times (λ k. k ≤ MAX_SEQ) m (numbers_of sub (lines_of rounds)) within there, omega (arith, more, there))
+    let more = rounds_drawn m sub rounds in (All-times (λ k. k ≤ max_seq) m (numbers_of sub (lines_of rounds)) within there, omega (arith, more, there))
 
 -- the numbers that a USIM accepted before, and the presented one, were drawn
 accepted_are_drawn : (set : Setting) (parts : List Part) (rounds : List RoundRecord) (before after : List LineRecord) (sub n : ℕ) (answer : GiveVerdict)

@@ -1,8 +1,9 @@
-pub mod LineLemmas
-pub mod ServedLemmas
-pub mod RoundLemmas
-pub mod UsimLemmas
-pub mod PlaceLemmas
-pub mod VectorLemmas
-pub mod AcceptedLemmas
-pub mod FailureLemmas
+pub mod Facts
+mod LineLemmas
+mod ServedLemmas
+mod RoundLemmas
+mod UsimLemmas
+mod PlaceLemmas
+mod VectorLemmas
+mod AcceptedLemmas
+mod FailureLemmas

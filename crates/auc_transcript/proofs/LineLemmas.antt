@@ -9,7 +9,7 @@ use Rattle.auc_history.specs.declared.entry.Entry.{Entry}
 use Rattle.auc_history.specs.declared.entry.Entry.TheVariants.{Drawn}
 use Rattle.auc_history.specs.History.{drawn, drawn_by}
 use Rattle.auc_history.specs.Split.{times}
-use Rattle.auc_history.proofs.ListLemmas.{times-cons, times-append, times_at}
+use Rattle.auc_history.proofs.Facts.{times-cons, times-append, times_at}
 use Rattle.auc_world.specs.declared.record.LineRecord.{LineRecord}
 use Rattle.auc_world.specs.declared.record.LineRecord.TheVariants.{Vector, Withheld, Exhausted, Sync, Give}
 use Rattle.auc_transcript.specs.Lines.{released_by, numbers_of, accepted_by, accepted}

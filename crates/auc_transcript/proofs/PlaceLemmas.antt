@@ -3,13 +3,12 @@ use Rattle.std.proofs.Common.{◌≡◌, ℕ, zero, suc, ◌+◌, ◌-◌, ◌<�
 use Rattle.std.specs.Prelude.{if◌then◌else◌, count_by}
 use Rattle.std.proofs.lemmas.Bool.Decides.{nat_tests}
 use Rattle.std.proofs.lemmas.List.Sums.{sum_by-cons, length-filter}
-use Rattle.auc_sqn.specs.declared.number.TheConstants.{MAX_SEQ}
+use Rattle.auc_sqn.specs.Number.{max_seq}
 use Rattle.auc_history.specs.declared.entry.Entry.{Entry}
 use Rattle.auc_history.specs.declared.entry.Entry.TheVariants.{Drawn, Moved, Look}
 use Rattle.auc_history.specs.History.{numbers_after, covered, drawn}
 use Rattle.auc_history.specs.Split.{times}
-use Rattle.auc_history.proofs.ListLemmas.{times-cons, times-append}
-use Rattle.auc_history.proofs.SplitLemmas.{times-drawn, times-numbers_after}
+use Rattle.auc_history.proofs.Facts.{times-cons, times-append, times-drawn, times-numbers_after}
 use Rattle.auc_transcript.specs.Headline.{is_later, is_one_period, place_of}
 use Rattle.auc_transcript.proofs.RoundLemmas.{CoversRange}
 
@@ -134,12 +133,12 @@ range_counts : (n low high : ℕ) → low < n → n ≤ high → ◌≡◌ {A = 
 range_counts n low high = grind (arith, nat_tests)
 
 -- a drawn number is in the range
-drawn_in_range : (low high : ℕ) (entries : List Entry) (n : ℕ) → CoversRange low high entries → n ≤ MAX_SEQ → 1 ≤ times n (drawn entries) → (low < n) × (n ≤ high)
+drawn_in_range : (low high : ℕ) (entries : List Entry) (n : ℕ) → CoversRange low high entries → n ≤ max_seq → 1 ≤ times n (drawn entries) → (low < n) × (n ≤ high)
 drawn_in_range low high entries n covers within there =
     let more = times-drawn n entries in let once = covers.once n within in in_range n low high (omega (arith, there, more, once))
 
 -- between two drawn numbers of one period each is drawn once
-drawn_between : (low high : ℕ) (entries : List Entry) (m k n : ℕ) → CoversRange low high entries → n ≤ MAX_SEQ → 1 ≤ times m (drawn entries) → 1 ≤ times n (drawn entries)
+drawn_between : (low high : ℕ) (entries : List Entry) (m k n : ℕ) → CoversRange low high entries → n ≤ max_seq → 1 ≤ times m (drawn entries) → 1 ≤ times n (drawn entries)
     → is_later entries m n ≡ false → m < k → k ≤ n → times k (drawn entries) ≡ 1
 drawn_between low high entries m k n covers within first last none above below =
     let (m_low, m_high) = drawn_in_range low high entries m covers (omega arith) first in
@@ -151,7 +150,7 @@ drawn_between low high entries m k n covers within first last none above below =
     omega (arith, m_once, k_once, both, most, first)
 
 -- two drawn numbers of one period are as far apart as their places
-pub place_apart : (low high : ℕ) (entries : List Entry) (m n : ℕ) → CoversRange low high entries → m ≤ n → n ≤ MAX_SEQ
+pub place_apart : (low high : ℕ) (entries : List Entry) (m n : ℕ) → CoversRange low high entries → m ≤ n → n ≤ max_seq
     → 1 ≤ times m (drawn entries) → 1 ≤ times n (drawn entries) → is_later entries m n ≡ false → place_of entries n ≡ place_of entries m + (n - m)
 place_apart low high entries m n covers up within first last none =
     let to : m + (n - m) ≡ n = omega arith in

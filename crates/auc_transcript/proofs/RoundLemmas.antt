@@ -4,11 +4,11 @@ use Rattle.std.specs.Prelude.{if◌then◌else◌}
 use Rattle.std.proofs.Math.ListN.{get_or-map, length-map}
 use Rattle.std.proofs.lemmas.Bool.Decides.{nat_tests}
 use Rattle.std.proofs.lemmas.List.Concat.{flat_map-append}
-use Rattle.auc_sqn.specs.declared.number.TheConstants.{MAX_SEQ}
+use Rattle.auc_sqn.specs.Number.{max_seq}
 use Rattle.auc_history.specs.declared.entry.Entry.{Entry}
 use Rattle.auc_history.specs.History.{covers, covered, drawn, drawn_by}
 use Rattle.auc_history.specs.Split.{all_entries, times}
-use Rattle.auc_history.proofs.ListLemmas.{times-append}
+use Rattle.auc_history.proofs.Facts.{times-append}
 use Rattle.auc_script.specs.declared.part.Part.{Part}
 use Rattle.auc_script.specs.declared.part.Part.TheVariants.{Round}
 use Rattle.auc_world.specs.declared.record.LineRecord.{LineRecord}
@@ -23,8 +23,8 @@ use Rattle.auc_transcript.proofs.LineLemmas.{times-numbers, times-numbers-append
 -- vector may have
 pub record CoversRange (low high : ℕ) (entries : List Entry) : Type 0 where
   pub forward : low ≤ high
-  pub within : high ≤ MAX_SEQ
-  pub once : (n : ℕ) → n ≤ MAX_SEQ → times n (covered entries) ≡ (if nat_lt low n && nat_le n high then 1 else 0)
+  pub within : high ≤ max_seq
+  pub once : (n : ℕ) → n ≤ max_seq → times n (covered entries) ≡ (if nat_lt low n && nat_le n high then 1 else 0)
 
 -- how often entries and further ones cover a number
 times-covered-append : (n : ℕ) (xs ys : List Entry) → times n (covered (xs ++ ys)) ≡ times n (covered xs) + times n (covered ys)
@@ -35,16 +35,16 @@ times-drawn-append : (n : ℕ) (xs ys : List Entry) → times n (drawn (xs ++ ys
 times-drawn-append n xs ys = ap (times n) (flat_map-append drawn_by xs ys) ∙ times-append n (drawn xs) (drawn ys)
 
 -- two ranges, one behind the other
-ranges_joined : (n low closing next high : ℕ) → n ≤ MAX_SEQ → next ≡ min closing MAX_SEQ → low ≤ closing → low ≤ MAX_SEQ → next ≤ high
+ranges_joined : (n low closing next high : ℕ) → n ≤ max_seq → next ≡ min closing max_seq → low ≤ closing → low ≤ max_seq → next ≤ high
     → (if nat_lt low n && nat_le n closing then 1 else 0) + (if nat_lt next n && nat_le n high then 1 else 0) ≡ (if nat_lt low n && nat_le n high then 1 else 0)
 ranges_joined n low closing next high = grind (arith, nat_tests)
 
 -- where a subscriber is opened again
-get_or-reopened : (words : List ℕ) (sub : ℕ) → get_or (reopened words) sub 0 ≡ min (get_or words sub 0) MAX_SEQ
-get_or-reopened words sub = get_or-map (λ (word : ℕ). min word MAX_SEQ) words sub 0
+get_or-reopened : (words : List ℕ) (sub : ℕ) → get_or (reopened words) sub 0 ≡ min (get_or words sub 0) max_seq
+get_or-reopened words sub = get_or-map (λ (word : ℕ). min word max_seq) words sub 0
 
 -- a range that a round covers, and the range of the rounds behind it
-round_joined : (low closing next high : ℕ) (xs ys : List Entry) → next ≡ min closing MAX_SEQ → low ≤ closing → low ≤ MAX_SEQ
+round_joined : (low closing next high : ℕ) (xs ys : List Entry) → next ≡ min closing max_seq → low ≤ closing → low ≤ max_seq
     → ((n : ℕ) → times n (covered xs) ≡ (if nat_lt low n && nat_le n closing then 1 else 0)) → CoversRange next high ys → CoversRange low high (xs ++ ys)
 round_joined low closing next high xs ys again forward below once covers =
     let up = covers.forward in record {
@@ -60,7 +60,7 @@ round_joined low closing next high xs ys again forward below once covers =
 
 -- what the rounds of a lawful transcript cover
 pub rounds_cover : (set : Setting) (sub number : ℕ) (early : List LineRecord) (openings : List ℕ) (parts : List Part) (rounds : List RoundRecord) → sub < length openings
-    → get_or openings sub 0 ≤ MAX_SEQ → AreLawful set number early openings parts rounds → (high : ℕ) × CoversRange (get_or openings sub 0) high (entries_of sub rounds)
+    → get_or openings sub 0 ≤ max_seq → AreLawful set number early openings parts rounds → (high : ℕ) × CoversRange (get_or openings sub 0) high (entries_of sub rounds)
 rounds_cover set sub number early openings [] rounds inside below lawful = (
   get_or openings sub 0,
   subst (λ (rs : List RoundRecord). CoversRange (get_or openings sub 0) (get_or openings sub 0) (entries_of sub rs)) (sym lawful)
@@ -73,7 +73,7 @@ rounds_cover set sub number early openings (part ∷ parts) [] inside below lawf
 rounds_cover set sub number early openings (Round jobs ∷ parts) (round ∷ rounds) inside below (next, (is_number, words, lawful, is_next), rest) =
     let more = subst (λ (ws : List ℕ). AreLawful set (number + 1) (early ++ all_lines round.jobs) ws parts rounds) is_next rest in
     let again = get_or-reopened words sub in
-    let known : sub < length (reopened words) = let sizes = lawful.sizes in let kept = length-map words (λ (word : ℕ). min word MAX_SEQ) in omega (arith, sizes, kept) in
+    let known : sub < length (reopened words) = let sizes = lawful.sizes in let kept = length-map words (λ (word : ℕ). min word max_seq) in omega (arith, sizes, kept) in
     let splits = lawful.split sub inside in
     let (high, covers) = rounds_cover set sub (number + 1) (early ++ all_lines round.jobs) (reopened words) parts rounds known (omega (arith, again)) more in (
       high,

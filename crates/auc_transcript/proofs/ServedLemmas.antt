@@ -8,7 +8,7 @@ use Rattle.auc_script.specs.declared.part.Line.TheVariants as line
 use Rattle.auc_script.specs.declared.part.Part.{Part}
 use Rattle.auc_script.specs.declared.part.Part.TheVariants.{Round}
 use Rattle.auc_sqn.specs.Past.{verdict_of}
-use Rattle.auc_sqn.specs.declared.number.TheConstants.{MAX_SEQ}
+use Rattle.auc_sqn.specs.Number.{max_seq}
 use Rattle.auc_subs.specs.declared.row.Row.{Row}
 use Rattle.auc_world.specs.declared.record.GiveVerdict.{GiveVerdict}
 use Rattle.auc_world.specs.declared.record.GiveVerdict.TheVariants as given
@@ -31,7 +31,7 @@ pub record IsAnswered (set : Setting) (before : List LineRecord) (sub n : ℕ) (
 
 -- what a line is, behind the lines before it: a vector has a number, and a presented vector was answered
 abbrev pub IsServed : Setting → List LineRecord → LineRecord → Type 0
-IsServed set before (Vector s vector) = vector.n ≤ MAX_SEQ
+IsServed set before (Vector s vector) = vector.n ≤ max_seq
 IsServed set before (Withheld s n stop) = Unit {0}
 IsServed set before (Exhausted s word) = Unit {0}
 IsServed set before (Sync s answer) = Unit {0}

@@ -6,11 +6,9 @@ use Rattle.std.proofs.lemmas.Bool.{cases_lt}
 use Rattle.std.proofs.lemmas.Bool.Decides.{nat_tests}
 use Rattle.std.proofs.lemmas.List.Elements.{All-nil, All-cons, All-head, All-tail, All-append, All-map, All-weaker}
 use Rattle.auc_history.specs.Split.{times}
-use Rattle.auc_history.proofs.ListLemmas.{differ_from_times, AllPairs-cons, AllPairs-head, AllPairs-tail}
-use Rattle.auc_history.proofs.SplitLemmas.{times-drawn}
-use Rattle.auc_sqn.specs.Number.{sqn_bytes}
-use Rattle.auc_sqn.specs.declared.number.TheConstants.{MAX_SEQ}
-use Rattle.auc_sqn.proofs.NumberLemmas.{each_number_has_its_own_sqn}
+use Rattle.auc_history.proofs.Facts.{differ_from_times, AllPairs-cons, AllPairs-head, AllPairs-tail, times-drawn}
+use Rattle.auc_sqn.specs.Number.{sqn_bytes, max_seq}
+use Rattle.auc_sqn.proofs.Facts.{each_number_has_its_own_sqn}
 use Rattle.auc_script.specs.declared.part.Part.{Part}
 use Rattle.auc_subs.specs.declared.row.Row.{Row}
 use Rattle.auc_subs.specs.Subscriber.{IsRow, AreSubscribers}
@@ -26,26 +24,26 @@ use Rattle.auc_transcript.proofs.ServedLemmas.{AreServed, rounds_served}
 use Rattle.auc_transcript.proofs.RoundLemmas.{CoversRange, rounds_cover, rounds_drawn}
 
 -- different numbers that vectors may have have different SQNs
-pub sqns_differ : (numbers : List ℕ) → All (λ n. n ≤ MAX_SEQ) numbers → AllPairs ◌≢◌ numbers → AllPairs ◌≢◌ (map sqn_bytes numbers)
+pub sqns_differ : (numbers : List ℕ) → All (λ n. n ≤ max_seq) numbers → AllPairs ◌≢◌ numbers → AllPairs ◌≢◌ (map sqn_bytes numbers)
 sqns_differ [] within differ = λ i j d i<j j<n. absurd (omega arith)
 sqns_differ (n ∷ numbers) within differ =
-    let first = All-head (λ m. m ≤ MAX_SEQ) n numbers within in
-    let others = All-tail (λ m. m ≤ MAX_SEQ) n numbers within in
+    let first = All-head (λ m. m ≤ max_seq) n numbers within in
+    let others = All-tail (λ m. m ≤ max_seq) n numbers within in
     AllPairs-cons ◌≢◌ (sqn_bytes n) (map sqn_bytes numbers)
     (All-map (λ sqn. sqn_bytes n ≢ sqn) sqn_bytes numbers
     (λ k d k<n same. AllPairs-head ◌≢◌ n numbers differ k d k<n (each_number_has_its_own_sqn n (get_or numbers k d) first (others k d k<n) same)))
     (sqns_differ numbers others (AllPairs-tail ◌≢◌ n numbers differ))
 
 -- a vector's number, where the line is a subscriber's
-within_one : (there : Bool) (n : ℕ) → n ≤ MAX_SEQ → All (λ m. m ≤ MAX_SEQ) (if there then n ∷ [] else [])
-within_one true n within = All-cons (λ m. m ≤ MAX_SEQ) n [] within (All-nil (λ m. m ≤ MAX_SEQ))
-within_one false n within = All-nil (λ m. m ≤ MAX_SEQ)
+within_one : (there : Bool) (n : ℕ) → n ≤ max_seq → All (λ m. m ≤ max_seq) (if there then n ∷ [] else [])
+within_one true n within = All-cons (λ m. m ≤ max_seq) n [] within (All-nil (λ m. m ≤ max_seq))
+within_one false n within = All-nil (λ m. m ≤ max_seq)
 
 -- the numbers of all vectors are numbers that vectors may have
-pub numbers_within : (set : Setting) (sub : ℕ) (before lines : List LineRecord) → AreServed set before lines → All (λ n. n ≤ MAX_SEQ) (numbers_of sub lines)
-numbers_within set sub before [] served = All-nil (λ n. n ≤ MAX_SEQ)
+pub numbers_within : (set : Setting) (sub : ℕ) (before lines : List LineRecord) → AreServed set before lines → All (λ n. n ≤ max_seq) (numbers_of sub lines)
+numbers_within set sub before [] served = All-nil (λ n. n ≤ max_seq)
 numbers_within set sub before (Vector s vector ∷ lines) (is, more) =
-    All-append (λ n. n ≤ MAX_SEQ) (if s == sub then vector.n ∷ [] else []) (numbers_of sub lines) (within_one (s == sub) vector.n is)
+    All-append (λ n. n ≤ max_seq) (if s == sub then vector.n ∷ [] else []) (numbers_of sub lines) (within_one (s == sub) vector.n is)
     (numbers_within set sub (before ++ Vector s vector ∷ []) lines more)
 numbers_within set sub before (Withheld s n stop ∷ lines) (is, more) = numbers_within set sub (before ++ Withheld s n stop ∷ []) lines more
 numbers_within set sub before (Exhausted s word ∷ lines) (is, more) = numbers_within set sub (before ++ Exhausted s word ∷ []) lines more
@@ -62,8 +60,8 @@ pub transcript_covers : (set : Setting) (parts : List Part) (rounds : List Round
 transcript_covers set parts rounds sub known lawful inside =
     let openings = map (λ (row : Row). row.seq) set.rows in
     let size = length-map set.rows (λ (row : Row). row.seq) in
-    let known_seqs = All-map (λ (seq : ℕ). seq ≤ MAX_SEQ) (λ (row : Row). row.seq) set.rows
-    (All-weaker IsRow (λ (row : Row). row.seq ≤ MAX_SEQ) (λ row is. is.drawn) set.rows known.each) in
+    let known_seqs = All-map (λ (seq : ℕ). seq ≤ max_seq) (λ (row : Row). row.seq) set.rows
+    (All-weaker IsRow (λ (row : Row). row.seq ≤ max_seq) (λ row is. is.drawn) set.rows known.each) in
     let there : sub < length openings = omega (arith, size) in
     let (high, covers) = rounds_cover set sub 1 [] openings parts rounds there (known_seqs sub 0 there) lawful in
     (get_or openings sub 0, high, covers)
@@ -78,7 +76,7 @@ keeps_numbers_apart set parts rounds known lawful sub inside =
     let within = numbers_within set sub [] (lines_of rounds) (transcript_served set parts rounds lawful) in
     let (low, high, covers) = transcript_covers set parts rounds sub known lawful inside in
     sqns_differ (numbers_of sub (lines_of rounds)) within (differ_from_times (numbers_of sub (lines_of rounds))
-    (λ n. elim (cases_lt MAX_SEQ n) [
+    (λ n. elim (cases_lt max_seq n) [
       | inl above ↦ at_most_none n (numbers_of sub (lines_of rounds)) within above
       | inr below ↦
           let first = rounds_drawn n sub rounds in
@@ -87,9 +85,9 @@ keeps_numbers_apart set parts rounds known lawful sub inside =
           range_once (times n (numbers_of sub (lines_of rounds))) n low high (omega (arith, first, second, third))
     ]))
   where
-    at_most_none : (n : ℕ) (numbers : List ℕ) → All (λ m. m ≤ MAX_SEQ) numbers → MAX_SEQ < n → times n numbers ≤ 1
+    at_most_none : (n : ℕ) (numbers : List ℕ) → All (λ m. m ≤ max_seq) numbers → max_seq < n → times n numbers ≤ 1
     at_most_none n numbers within above =
         elim (cases_lt 0 (times n numbers)) [
-          | inl some ↦ absurd (let low = All-times (λ m. m ≤ MAX_SEQ) n numbers within (omega arith) in omega arith)
+          | inl some ↦ absurd (let low = All-times (λ m. m ≤ max_seq) n numbers within (omega arith) in omega arith)
           | inr none ↦ omega arith
         ]

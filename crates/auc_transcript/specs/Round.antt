@@ -1,7 +1,7 @@
 -- A lawful round: what its jobs demand of the records, and what they say of each subscriber's history.
 -- Nothing here speaks of an order between the jobs' steps.
 use Rattle.std.specs.Prelude.{◌≡◌, ℕ, ◌+◌, ◌^◌, ◌<◌, ◌==◌, List, [], ◌∷◌, ◌++◌, length, slice_index, if◌then◌else◌}
-use Rattle.auc_sqn.specs.declared.number.TheConstants.{MAX_SEQ}
+use Rattle.auc_sqn.specs.Number.{max_seq}
 use Rattle.auc_history.specs.History.{drawn, skipped}
 use Rattle.auc_history.specs.Split.{Splits, all_entries}
 use Rattle.auc_script.specs.declared.part.Line.{Line}
@@ -41,7 +41,7 @@ pub record IsLawfulRound (set : Setting) (early : List LineRecord) (openings : L
   pub fits : (sub : ℕ) → sub < length words → slice_index words sub < 2 ^ 64
   pub given : JobsGive set early [] jobs round.jobs
   pub split : (sub : ℕ) → sub < length openings
-      → Splits MAX_SEQ (slice_index openings sub) (slice_index words sub) (entries_of_jobs sub [] round.jobs)
+      → Splits max_seq (slice_index openings sub) (slice_index words sub) (entries_of_jobs sub [] round.jobs)
   pub closings : round.closings ≡ closings_from 0 openings words round.jobs
   -- a drawn number that is no mark was released
   pub released : (sub : ℕ) → withheld_of sub (all_lines round.jobs) ≡ []

@@ -4,7 +4,7 @@ use Rattle.auc_history.specs.declared.entry.Entry.{Entry}
 use Rattle.auc_history.specs.Split.{all_entries}
 use Rattle.auc_script.specs.declared.part.Part.{Part}
 use Rattle.auc_script.specs.declared.part.Part.TheVariants.{Round}
-use Rattle.auc_sqn.specs.declared.number.TheConstants.{MAX_SEQ}
+use Rattle.auc_sqn.specs.Number.{max_seq}
 use Rattle.auc_world.specs.declared.record.LineRecord.{LineRecord}
 use Rattle.auc_world.specs.declared.record.RoundRecord.{RoundRecord}
 use Rattle.auc_transcript.specs.Lines.{all_lines}
@@ -14,7 +14,7 @@ use Rattle.auc_transcript.specs.Round.{IsLawfulRound}
 
 -- where the next round opens a subscriber: where the last one closed it, and no higher than its greatest number
 abbrev pub reopened : List ℕ → List ℕ
-reopened words = map (λ word. min word MAX_SEQ) words
+reopened words = map (λ word. min word max_seq) words
 
 -- a part of a scenario is a round of this number, from the openings to where the next round opens
 abbrev pub ServesPart : Setting → ℕ → List LineRecord → List ℕ → Part → RoundRecord → List ℕ → Type 0

@@ -1,10 +1,11 @@
 //! The USIM by vectors of the standard.
 
 ghost use Rattle.std.specs.Prelude.{◌≤◌};
+ghost use Rattle.auc_sqn.specs.Number.{max_seq};
 
 use crate::{Answer, Usim};
 use auc_milenage::Secret;
-use auc_sqn::{MAX_SEQ, sqn_of};
+use auc_sqn::sqn_of;
 
 // TS 35.208, test set 1: K, OPc, RAND and SQN; AUTN of SQN masked by f5, AMF and f1.
 const RAND: u128 = 0x23553cbe9637a89d218ae64dae47bf35;
@@ -18,7 +19,7 @@ const SEQ: u64 = 8782631830960;
 
 /// The USIM of the test set, for which the numbers up to `opening` count as accepted.
 fn usim(opening: u64) -> Usim
-    requires { opening ≤ MAX_SEQ }
+    requires { opening ≤ max_seq }
 {
     let s = Secret {
         k: 0x465b5ce8b199b49faa5f0a2ee238a6bc_u128.to_be_bytes(),

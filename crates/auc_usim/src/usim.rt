@@ -3,12 +3,13 @@
 ghost use Rattle.std.specs.Prelude.{◌≡◌, ◌≤◌};
 ghost use Rattle.auc_sqn.specs.Past.{Past, Remembers, opening_past};
 ghost use Rattle.auc_usim.specs.Usim.{IsAnswer, IsSyncFailure, past_after_answer};
+ghost use Rattle.auc_sqn.specs.Number.{max_seq};
 
 use crate::answer::Answer;
 use crate::autn::Autn;
 use auc_aes::xor;
 use auc_milenage::{Four, Secret, f1, f2345, make_auts};
-use auc_sqn::{MAX_SEQ, SqnArray, Verdict};
+use auc_sqn::{SqnArray, Verdict};
 use std::marker::Model;
 
 /// A subscriber's USIM. Contracts speak of its secret, and of the past, the list of all that it has
@@ -32,7 +33,7 @@ impl Model for Usim {
 impl Usim {
     /// The USIM of a subscriber's secret, for which the numbers 1 to `opening` count as accepted.
     pub fn new(s: Secret, opening: u64) -> Usim
-        requires { opening ≤ MAX_SEQ }
+        requires { opening ≤ max_seq }
         ensures secret { result.secret ≡ s }
         ensures past { Remembers result.array (opening_past opening) }
     {

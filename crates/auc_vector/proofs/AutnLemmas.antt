@@ -2,12 +2,11 @@
 use Rattle.std.proofs.Common.{◌≡◌, ℕ, ◌≤◌, List, ◌++◌, length, take, drop, refl, sym, ap, ◌∙◌, append_assoc, arith}
 use Rattle.std.proofs.lemmas.List.{take_at, drop_at, length-append}
 use Rattle.auc_aes.specs.Bytes.{xor, IsBlock}
-use Rattle.auc_aes.proofs.InverseLemmas.{xor_twice, length_xor}
+use Rattle.auc_aes.proofs.Facts.{xor_twice, length_xor}
 use Rattle.auc_milenage.specs.Milenage.{f1, f5}
-use Rattle.auc_milenage.proofs.BlockLemmas.{f5_size}
-use Rattle.auc_sqn.specs.Number.{sqn_bytes}
-use Rattle.auc_sqn.specs.declared.number.TheConstants.{MAX_SEQ}
-use Rattle.auc_sqn.proofs.NumberLemmas.{each_number_has_its_own_sqn}
+use Rattle.auc_milenage.proofs.Facts.{f5_size}
+use Rattle.auc_sqn.specs.Number.{sqn_bytes, max_seq}
+use Rattle.auc_sqn.proofs.Facts.{each_number_has_its_own_sqn}
 use Rattle.auc_vector.specs.Vector.{autn_of, sqn_in}
 
 -- the SQN of a number has 6 bytes
@@ -27,7 +26,7 @@ autn_carries k opc rand amf n hk ho =
     ∙ ap (λ b. xor b ak) (take_at (xor (sqn_bytes n) ak) (amf ++ mac) 6 masked) ∙ xor_twice (sqn_bytes n) ak same
 
 -- AUTNs in which one SQN is found are of one number
-pub one_number : (k opc amf r s : List ℕ) (m n : ℕ) → IsBlock k → IsBlock opc → m ≤ MAX_SEQ → n ≤ MAX_SEQ
+pub one_number : (k opc amf r s : List ℕ) (m n : ℕ) → IsBlock k → IsBlock opc → m ≤ max_seq → n ≤ max_seq
     → sqn_in k opc r (autn_of k opc r amf m) ≡ sqn_in k opc s (autn_of k opc s amf n) → m ≡ n
 one_number k opc amf r s m n hk ho lm ln e =
     each_number_has_its_own_sqn m n lm ln

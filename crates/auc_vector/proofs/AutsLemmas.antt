@@ -4,10 +4,10 @@ use Rattle.std.specs.Str.{bytes_eq}
 use Rattle.std.proofs.lemmas.List.{length-take-le, take_at, drop_at}
 use Rattle.std.proofs.lemmas.Slice.Eq.{bytes_eq-Decides}
 use Rattle.auc_aes.specs.Bytes.{xor, IsBlock}
-use Rattle.auc_aes.proofs.InverseLemmas.{xor_twice, length_xor}
+use Rattle.auc_aes.proofs.Facts.{xor_twice, length_xor}
 use Rattle.auc_milenage.specs.Milenage.{f1_star, f5_star, auts, out, r5, c5, temp_of}
 use Rattle.auc_milenage.specs.declared.secret.Secret.{Secret}
-use Rattle.auc_milenage.proofs.BlockLemmas.{out_block}
+use Rattle.auc_milenage.proofs.Facts.{out_block}
 use Rattle.auc_sqn.specs.Number.{seq_of}
 use Rattle.auc_vector.specs.declared.auts.Auts.{Auts}
 use Rattle.auc_vector.specs.declared.auts.Auts.TheVariants.{SeqMs, WrongMac}

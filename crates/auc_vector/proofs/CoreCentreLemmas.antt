@@ -2,7 +2,7 @@
 use Rattle.std.proofs.Common.{◌≡◌, ℕ, ◌+◌, ◌<◌, ◌≤◌, nat_le, Bool, true, false, if◌then◌else◌, List, [], ◌∷◌, length, slice_index, Result, Ok, Err, Some, None, All, arith, refl, sym, ap, ◌∙◌, subst, get_or-set_same}
 use Rattle.std.proofs.lemmas.Bool.Decides.{nat_tests}
 use Rattle.std.proofs.lemmas.List.Elements.{All-get_or}
-use Rattle.auc_sqn.specs.declared.number.TheConstants.{MAX_SEQ}
+use Rattle.auc_sqn.specs.Number.{max_seq}
 use Rattle.auc_history.specs.declared.entry.Entry.{Entry}
 use Rattle.auc_history.specs.declared.entry.Entry.TheVariants.{Drawn, Look}
 use Rattle.auc_history.specs.History.{IsLegal}
@@ -11,7 +11,7 @@ use Rattle.auc_core.specs.declared.event.Event.TheVariants.{Draw, Resync}
 use Rattle.auc_core.specs.declared.event.Reply.{Reply}
 use Rattle.auc_core.specs.declared.event.Reply.TheVariants.{Number, Exhausted as exhausted, Moved as moved, InRange as in_range, Beyond as beyond}
 use Rattle.auc_core.specs.Step.{Knows, Steps, subscriber_of, standing, word_after, entries_of}
-use Rattle.auc_core.proofs.RunLemmas.{answer_is_legal, known_subscriber, in_range_names, beyond_names}
+use Rattle.auc_core.proofs.Facts.{answer_is_legal, known_subscriber, in_range_names, beyond_names}
 use Rattle.auc_vector.specs.declared.centre.Resynced.{Resynced}
 use Rattle.auc_vector.specs.declared.centre.Resynced.TheVariants.{Moved, InRange}
 use Rattle.auc_vector.specs.declared.centre.CentreRefusal.{CentreRefusal}
@@ -20,7 +20,7 @@ use Rattle.auc_vector.specs.Centre.{unless_spent, entries_of_next, withheld_of_n
 use Rattle.auc_vector.specs.Stretch.{kept_at, IsStretch}
 
 -- a step is a stretch of its subscriber, with the step's entries
-pub step_stretches : (words : List ℕ) (event : Event) (reply : Reply) (new : List ℕ) → All (λ word. word ≤ MAX_SEQ + 1) words
+pub step_stretches : (words : List ℕ) (event : Event) (reply : Reply) (new : List ℕ) → All (λ word. word ≤ max_seq + 1) words
     → Knows words event → Steps words event reply new
     → IsStretch words (subscriber_of event) (entries_of (slice_index words (subscriber_of event)) reply) [] new
 step_stretches words event reply new bound knows (answers, is) =
@@ -29,63 +29,63 @@ step_stretches words event reply new bound knows (answers, is) =
     let known = known_subscriber words event knows in
     let here : slice_index new sub ≡ word_after word reply =
     ap (λ (ws : List ℕ). slice_index ws sub) is ∙ get_or-set_same words sub (word_after word reply) 0 known in
-    let legal = answer_is_legal word event reply words knows answers (All-get_or (λ w. w ≤ MAX_SEQ + 1) words sub 0 known bound) in
-    let P : ℕ → Type 0 = λ w. IsLegal MAX_SEQ word w (entries_of word reply) in
+    let legal = answer_is_legal word event reply words knows answers (All-get_or (λ w. w ≤ max_seq + 1) words sub 0 known bound) in
+    let P : ℕ → Type 0 = λ w. IsLegal max_seq word w (entries_of word reply) in
     (subst P (sym here) legal, refl)
 
 -- what is left out after a refused draw, by the word and by the number that stands
-left_out : (b : Bool) (entries : List Entry) → unless_spent (if b then None else Some MAX_SEQ) entries ≡ (if b then entries else [])
+left_out : (b : Bool) (entries : List Entry) → unless_spent (if b then None else Some max_seq) entries ≡ (if b then entries else [])
 left_out true entries = refl
 left_out false entries = refl
 
 -- no word is kept at a number, for the crates above
-pub kept_at_number : (word : ℕ) → word ≤ MAX_SEQ → kept_at word ≡ None
+pub kept_at_number : (word : ℕ) → word ≤ max_seq → kept_at word ≡ None
 kept_at_number word = grind (arith, nat_tests)
 
 -- the word is no higher than what stands where it is no mark
-stands : (word seen : ℕ) → seen ≡ standing word → nat_le word seen ≡ nat_le word MAX_SEQ
+stands : (word seen : ℕ) → seen ≡ standing word → nat_le word seen ≡ nat_le word max_seq
 stands word seen = grind (arith, nat_tests)
 
 -- the entries that a call makes for a subscriber that isn't spent are those of the core's step
 entries_are : (word seen : ℕ) (entries : List Entry) → seen ≡ standing word
     → (if nat_le word seen then entries else []) ≡ unless_spent (kept_at word) entries
 entries_are word seen entries is =
-    ap (λ b. if b then entries else []) (stands word seen is) ∙ sym (left_out (nat_le word MAX_SEQ) entries)
+    ap (λ b. if b then entries else []) (stands word seen is) ∙ sym (left_out (nat_le word max_seq) entries)
 
 -- a draw of a number, of a core that the centre is seen as
 pub number_goes : (core words new : List ℕ) (sub n : ℕ) (answer : Result ℕ CentreRefusal) → core ≡ words
-    → All (λ word. word ≤ MAX_SEQ + 1) core → sub < length words → Steps core (Draw sub) (Number n) new → answer ≡ Ok n
+    → All (λ word. word ≤ max_seq + 1) core → sub < length words → Steps core (Draw sub) (Number n) new → answer ≡ Ok n
     → IsStretch words sub (entries_of_next (kept_at (slice_index words sub)) answer) (withheld_of_next answer) new
 number_goes core words new sub n answer seen bound known steps is =
-    rw is (step_stretches words (Draw sub) (Number n) new (subst (All (λ w. w ≤ MAX_SEQ + 1)) seen bound) known
+    rw is (step_stretches words (Draw sub) (Number n) new (subst (All (λ w. w ≤ max_seq + 1)) seen bound) known
     (subst (λ (ws : List ℕ). Steps ws (Draw sub) (Number n) new) seen steps))
 
 -- a draw that is refused
 pub exhausted_goes : (core words new : List ℕ) (sub w : ℕ) (answer : Result ℕ CentreRefusal) → core ≡ words
-    → All (λ word. word ≤ MAX_SEQ + 1) core → sub < length words → Steps core (Draw sub) (exhausted w) new → answer ≡ Err (Exhausted w)
+    → All (λ word. word ≤ max_seq + 1) core → sub < length words → Steps core (Draw sub) (exhausted w) new → answer ≡ Err (Exhausted w)
     → IsStretch words sub (entries_of_next (kept_at (slice_index words sub)) answer) (withheld_of_next answer) new
 exhausted_goes core words new sub w answer seen bound known steps is =
     let word = slice_index words sub in
     let ((last, same), set) = steps in
-    let stands_there : nat_le word w ≡ nat_le word MAX_SEQ = ap (nat_le word) same in
-    let entries = ap (λ b. if b then Drawn (w + 1) ∷ [] else []) stands_there ∙ sym (left_out (nat_le word MAX_SEQ) (Drawn (w + 1) ∷ [])) in
-    let goes = step_stretches words (Draw sub) (exhausted w) new (subst (All (λ w. w ≤ MAX_SEQ + 1)) seen bound) known
+    let stands_there : nat_le word w ≡ nat_le word max_seq = ap (nat_le word) same in
+    let entries = ap (λ b. if b then Drawn (w + 1) ∷ [] else []) stands_there ∙ sym (left_out (nat_le word max_seq) (Drawn (w + 1) ∷ [])) in
+    let goes = step_stretches words (Draw sub) (exhausted w) new (subst (All (λ w. w ≤ max_seq + 1)) seen bound) known
     (subst (λ (ws : List ℕ). Steps ws (Draw sub) (exhausted w) new) seen steps) in
     rw is (subst (λ (es : List Entry). IsStretch words sub es [] new) entries goes)
 
 -- what is known of a resynchronisation by a core that the centre is seen as
 pub record Resyncs (core words new : List ℕ) (sub seq_ms : ℕ) (reply : Reply) : Type 0 where
   pub seen_as : core ≡ words
-  pub bound : All (λ word. word ≤ MAX_SEQ + 1) core
+  pub bound : All (λ word. word ≤ max_seq + 1) core
   pub known : sub < length words
-  pub number : seq_ms ≤ MAX_SEQ
+  pub number : seq_ms ≤ max_seq
   pub steps : Steps core (Resync sub seq_ms) reply new
 
 -- it is a stretch, with the step's entries
 resync_stretches : (core words new : List ℕ) (sub seq_ms : ℕ) (reply : Reply) → Resyncs core words new sub seq_ms reply
     → IsStretch words sub (entries_of (slice_index words sub) reply) [] new
 resync_stretches core words new sub seq_ms reply r =
-    step_stretches words (Resync sub seq_ms) reply new (subst (All (λ w. w ≤ MAX_SEQ + 1)) r.seen_as r.bound) (r.known, r.number)
+    step_stretches words (Resync sub seq_ms) reply new (subst (All (λ w. w ≤ max_seq + 1)) r.seen_as r.bound) (r.known, r.number)
     (subst (λ (ws : List ℕ). Steps ws (Resync sub seq_ms) reply new) r.seen_as r.steps)
 
 -- a resynchronisation that moves the number

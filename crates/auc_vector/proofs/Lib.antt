@@ -1,4 +1,5 @@
-pub mod AutnLemmas
-pub mod AutsLemmas
-pub mod CoreCentreLemmas
-pub mod RandomLemmas
+pub mod Facts
+mod AutnLemmas
+mod AutsLemmas
+mod CoreCentreLemmas
+mod RandomLemmas

@@ -4,8 +4,7 @@ use Rattle.std.specs.Str.{bytes_eq}
 use Rattle.auc_aes.specs.Bytes.{xor, IsBlock}
 use Rattle.auc_milenage.specs.Milenage.{f1_star, f5_star, auts}
 use Rattle.auc_milenage.specs.declared.secret.Secret.{Secret}
-use Rattle.auc_sqn.specs.Number.{seq_of}
-use Rattle.auc_sqn.specs.declared.number.TheConstants.{MAX_SEQ}
+use Rattle.auc_sqn.specs.Number.{seq_of, max_seq}
 use Rattle.auc_vector.specs.declared.auts.Auts.{Auts}
 use Rattle.auc_vector.specs.declared.auts.Auts.TheVariants.{SeqMs, WrongMac}
 
@@ -28,7 +27,7 @@ read_auts_of s rand answer =
 
 -- the SEQ, if there is one, is a number
 abbrev pub IsNumber : Auts → Type 0
-IsNumber (SeqMs seq) = seq ≤ MAX_SEQ
+IsNumber (SeqMs seq) = seq ≤ max_seq
 IsNumber WrongMac = Unit {0}
 
 -- the AUTS of an SQN_MS is read as its SEQ, under the same secret and RAND

@@ -3,8 +3,7 @@ use Rattle.std.specs.Prelude.{◌≡◌, ℕ, ◌≤◌, List, ◌++◌, length,
 use Rattle.auc_aes.specs.Bytes.{xor, IsBlock}
 use Rattle.auc_milenage.specs.Milenage.{f1, f2, f3, f4, f5}
 use Rattle.auc_milenage.specs.declared.secret.Secret.{Secret}
-use Rattle.auc_sqn.specs.Number.{sqn_bytes}
-use Rattle.auc_sqn.specs.declared.number.TheConstants.{MAX_SEQ}
+use Rattle.auc_sqn.specs.Number.{sqn_bytes, max_seq}
 use Rattle.auc_vector.specs.declared.parts.Vector.{Vector}
 use Rattle.auc_vector.specs.Random.{Stream}
 
@@ -43,7 +42,7 @@ AutnCarriesTheSqn =
 -- two vectors under one secret, with any RANDs, in which one SQN is found, are of one number
 abbrev pub NumbersHaveDifferentSqns : Type 0
 NumbersHaveDifferentSqns =
-    (k opc amf r s : List ℕ) (m n : ℕ) → IsBlock k → IsBlock opc → m ≤ MAX_SEQ → n ≤ MAX_SEQ
+    (k opc amf r s : List ℕ) (m n : ℕ) → IsBlock k → IsBlock opc → m ≤ max_seq → n ≤ max_seq
     → sqn_in k opc r (autn_of k opc r amf m) ≡ sqn_in k opc s (autn_of k opc s amf n) → m ≡ n
 
 -- the MAC of an AUTN is the one that a USIM expects: f1 of the SQN and the AMF that it finds there

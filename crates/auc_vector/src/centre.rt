@@ -4,9 +4,9 @@ ghost use Rattle.std.specs.Prelude.{◌≡◌, ◌≢◌, ◌<◌, ◌≤◌, �
 ghost use Rattle.auc_history.specs.declared.entry.Entry.{Entry};
 ghost use Rattle.auc_history.specs.History.{IsInOrder};
 ghost use Rattle.auc_vector.specs.Centre.{AnswersNext, entries_of_next, withheld_of_next, kept_after_next, AnswersResync, entries_of_resync};
+ghost use Rattle.auc_sqn.specs.Number.{max_seq};
 
 use auc_edge::Stop;
-use auc_sqn::MAX_SEQ;
 use std::sync::Wait;
 
 /// What a resynchronisation comes to where the USIM accepts the next number. Each names the number that stood at the
@@ -73,7 +73,7 @@ pub trait Centre {
     /// becomes the greater of itself and that SEQ. It never answers Exhausted or Withheld.
     fn resync<R: Wait>(&mut self, rt: &R, sub: u32, seq_ms: u64) -> Result<Resynced, CentreRefusal>
         requires sub { sub < subs self.old }
-        requires number { seq_ms ≤ MAX_SEQ }
+        requires number { seq_ms ≤ max_seq }
 
         ensures answer { AnswersResync (kept self.old sub) seq_ms result }
 

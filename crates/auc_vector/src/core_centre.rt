@@ -1,10 +1,10 @@
 //! The centre over the pure core.
 
 ghost use Rattle.std.specs.Prelude.{◌≡◌, ◌<◌, ◌≤◌, ◌+◌, length, slice_index};
+ghost use Rattle.auc_sqn.specs.Number.{max_seq};
 
 use crate::centre::{Centre, CentreRefusal, Resynced};
 use auc_core::{Core, Event, Reply};
-use auc_sqn::MAX_SEQ;
 use std::marker::Model;
 use std::sync::Wait;
 
@@ -35,7 +35,7 @@ impl CoreCentre {
     pub fn word(&self, sub: u32) -> u64
         requires { sub < length self.now }
         ensures value { result ≡ slice_index self.now sub }
-        ensures bound { result ≤ MAX_SEQ + 1 }
+        ensures bound { result ≤ max_seq + 1 }
     {
         self.core.word(sub)
     }
@@ -43,13 +43,13 @@ impl CoreCentre {
 
 impl Centre for CoreCentre {
     ghost use Rattle.std.specs.Prelude.{length, slice_index};
-    ghost use Rattle.auc_sqn.specs.declared.number.TheConstants.{MAX_SEQ};
+    ghost use Rattle.auc_sqn.specs.Number.{max_seq};
     ghost use Rattle.auc_vector.specs.Stretch.{kept_at, IsStretch};
     ghost use Rattle.auc_vector.specs.StretchLaws.{stretch_stays, stretch_joins, stretch_rises};
 
     ghost subs = { λ words. length words };
 
-    ghost top = { λ words sub. MAX_SEQ };
+    ghost top = { λ words sub. max_seq };
 
     ghost kept = { λ words sub. kept_at (slice_index words sub) };
 

@@ -2,16 +2,17 @@
 
 ghost use Rattle.std.specs.Prelude.{◌≡◌, ◌≤◌, ◌++◌};
 ghost use Rattle.auc_vector.specs.Vector.{vector_of};
+ghost use Rattle.auc_sqn.specs.Number.{max_seq};
 
 use crate::parts::Vector;
 use auc_aes::xor;
 use auc_milenage::{Four, Milenage, Secret};
-use auc_sqn::{MAX_SEQ, sqn_of};
+use auc_sqn::sqn_of;
 
 /// The vector of number `n` with a RAND, under a subscriber's secret and AMF.
 pub fn vector(s: &Secret, amf: [u8; 2], n: u64, rand: [u8; 16]) -> Vector
     requires first { 1 ≤ n }
-    requires last { n ≤ MAX_SEQ }
+    requires last { n ≤ max_seq }
     ensures { result ≡ vector_of s.now amf n rand }
 {
     vector_under(&Milenage::new(s), amf, n, rand)
@@ -21,7 +22,7 @@ pub fn vector(s: &Secret, amf: [u8; 2], n: u64, rand: [u8; 16]) -> Vector
 #[tactic(auto, unfolding(crate::specs::Vector::autn_of))]
 pub(crate) fn vector_under(m: &Milenage, amf: [u8; 2], n: u64, rand: [u8; 16]) -> Vector
     requires first { 1 ≤ n }
-    requires last { n ≤ MAX_SEQ }
+    requires last { n ≤ max_seq }
     ensures { result ≡ vector_of m.now amf n rand }
 {
     let sqn = sqn_of(n);

@@ -3,12 +3,12 @@
 ghost use Rattle.std.specs.Prelude.{◌≡◌, ◌≤◌};
 ghost use Rattle.auc_vector.specs.Random.{rand_of};
 ghost use Rattle.auc_vector.specs.Vector.{vector_of};
+ghost use Rattle.auc_sqn.specs.Number.{max_seq};
 
 use crate::making::vector_under;
 use crate::parts::Vector;
 use crate::rand_stream::RandStream;
 use auc_milenage::{Milenage, Secret};
-use auc_sqn::MAX_SEQ;
 use std::marker::Model;
 
 /// The authentication vectors of one subscriber (TS 33.102 §6.3.2), with the key schedule of its K and the generator of
@@ -43,7 +43,7 @@ impl Vectors {
     /// The vector of a number with its RAND.
     pub fn vector_of(&mut self, n: u64) -> Vector
         requires first { 1 ≤ n }
-        requires last { n ≤ MAX_SEQ }
+        requires last { n ≤ max_seq }
         ensures value { result ≡ vector_of self.old.secret self.old.amf n
             (rand_of self.old.rands.key self.old.rands.sub n) }
         ensures kept { self.new ≡ self.old }

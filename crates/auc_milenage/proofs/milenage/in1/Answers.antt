@@ -1,6 +1,6 @@
 use Rattle.std.proofs.Common.{ℕ, List, ◌++◌, get_or, ap, ◌∙◌, arith}
 use Rattle.auc_milenage.specs.Milenage.{in1_of}
-use Rattle.auc_aes.proofs.BytesLemmas.{tabulate, listed}
+use Rattle.auc_aes.proofs.Facts.{tabulate, listed}
 use Rattle.auc_milenage.proofs.milenage.in1.Goals as goal
 
 pub returns : goal.returns

@@ -1,5 +1,5 @@
 use Rattle.std.proofs.Common.{arith}
-use Rattle.auc_packet.proofs.LawLemmas.{read_may_be_written}
+use Rattle.auc_packet.proofs.Facts.{read_may_be_written}
 use Rattle.auc_packet_cli.proofs.answer.answer_of.Goals as goal
 
 pub write_packet-requires : goal.write_packet-requires

@@ -1,5 +1,5 @@
 use Rattle.std.proofs.Common.{ℕ, List, ◌++◌, get_or, ap, ◌∙◌, arith}
-use Rattle.auc_aes.proofs.BytesLemmas.{tabulate, listed}
+use Rattle.auc_aes.proofs.Facts.{tabulate, listed}
 use Rattle.auc_vector.proofs.making.join.Goals as goal
 
 pub returns : goal.returns

@@ -1,0 +1,2 @@
+-- What other crates may cite of the proofs here; every other module is private.
+pub use Rattle.auc_core.proofs.RunLemmas.{answer_is_legal, beyond_names, in_range_names, known_subscriber}
