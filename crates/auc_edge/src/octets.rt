@@ -33,6 +33,15 @@ impl Octets {
         }
     }
 
+    /// A copy of some bytes, in memory of its own.
+    pub fn copied_from(alloc: Global, bytes: &[u8]) -> Result<Octets, NoMemory>
+        ensures { IfOk result (λ octets. octets ≡ bytes.now) }
+    {
+        Ok(Octets {
+            bytes: bytes.to_vec(alloc)?,
+        })
+    }
+
     /// The string of the bytes of a vector.
     pub(crate) fn from_bytes(bytes: Vec<u8>) -> Octets
         ensures { result ≡ bytes.items }
