@@ -1,0 +1,92 @@
+#!/usr/bin/env python3
+"""Runs each scenario of examples/ and compares what the program prints with the file of its expected output.
+
+    examples/compare.py [--program PROGRAM] [--after LINE]
+
+PROGRAM is crates/auc_cli/out/auc_cli, which `rt ci`, `rt run` and `./auc` build, unless it is given. NAME.scenario has
+its expected output in NAME.expected, and the exit status must be 0; a scenario over a file of subscribers stands in
+the table below. Each example gets a line, and the last line is `N passed, M failed`. With --after, LINE is the last
+line of `rt ci`, and its counts are added; if LINE has no such counts, that is one failure.
+
+The exit status is 0 if nothing failed, else 1.
+"""
+import argparse
+import re
+import subprocess
+import sys
+from pathlib import Path
+
+HERE = Path(__file__).resolve().parent
+BUILT = HERE.parent / "crates/auc_cli/out/auc_cli"
+SUBSCRIBERS = {"day": "subscribers.csv"}
+SECONDS = 60
+
+
+def options():
+    parser = argparse.ArgumentParser(description=__doc__, formatter_class=argparse.RawDescriptionHelpFormatter)
+    parser.add_argument("--program", type=Path, default=BUILT, help="the program to run")
+    parser.add_argument("--after", metavar="LINE", help="the last line of rt ci, whose counts are added")
+    return parser.parse_args()
+
+
+def counts_in(line):
+    """The counts of a line `N passed, M failed`; one failure if it is no such line."""
+    found = re.match(r"(\d+) passed, (\d+) failed", line)
+    return (int(found[1]), int(found[2])) if found else (0, 1)
+
+
+def words_of(name):
+    """The words that run an example, from the folder examples/."""
+    return ["run", f"{name}.scenario", *([SUBSCRIBERS[name]] if name in SUBSCRIBERS else [])]
+
+
+def difference(wrote, expected):
+    """Where two texts differ first, in words; nothing if they are the same."""
+    if wrote == expected:
+        return ""
+    ours, theirs = wrote.splitlines(), expected.splitlines()
+    place = next((i for i, (a, b) in enumerate(zip(ours, theirs)) if a != b), min(len(ours), len(theirs)))
+    return f"line {place + 1} differs"
+
+
+def fault_of(name, program):
+    """What is wrong with an example; nothing if it is right."""
+    expected = HERE / f"{name}.expected"
+    if not expected.exists():
+        return f"there is no {expected.name}"
+    try:
+        ran = subprocess.run([program, *words_of(name)], cwd=HERE, capture_output=True, timeout=SECONDS)
+    except OSError as error:
+        return f"the program could not be run: {error.strerror}"
+    except subprocess.TimeoutExpired:
+        return f"the program had not ended after {SECONDS} seconds"
+    if ran.returncode != 0:
+        return f"status {ran.returncode}"
+    if ran.stderr:
+        return "something was printed to standard error"
+    return difference(ran.stdout, expected.read_bytes())
+
+
+def stray(names):
+    """The expected outputs that no scenario has."""
+    return sorted(path.name for path in HERE.glob("*.expected") if path.stem not in names)
+
+
+def main():
+    given = options()
+    if not given.program.exists():
+        print(f"examples: {given.program} isn't there; `./auc` builds it", file=sys.stderr)
+    names = sorted(path.stem for path in HERE.glob("*.scenario"))
+    passed, failed = counts_in(given.after) if given.after is not None else (0, 0)
+    for name in names:
+        fault = fault_of(name, given.program.resolve())
+        print(f"examples/{name}.scenario: {'FAILED: ' + fault if fault else 'as expected'}")
+        passed, failed = passed + (not fault), failed + bool(fault)
+    for name in stray(names):
+        print(f"examples/{name}: FAILED: there is no scenario for it")
+        failed += 1
+    print(f"{passed} passed, {failed} failed")
+    sys.exit(1 if failed else 0)
+
+
+main()
