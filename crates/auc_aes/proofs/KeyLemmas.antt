@@ -2,7 +2,8 @@
 use Rattle.std.proofs.Common.{◌≡◌, ℕ, zero, suc, ◌+◌, ◌-◌, ◌<◌, ◌≤◌, List, [], length, get_or, set, sym, ap, ◌∙◌, arith}
 use Rattle.std.proofs.lemmas.List.{get_or-set_same, get_or-set_other}
 use borrow.Author.Count.{below_more}
-use Rattle.auc_aes.specs.Bytes.{xor, block_of_words}
+use Rattle.auc_aes.specs.Bytes.{xor}
+use Rattle.auc_aes.specs.Inner.{block_of_words}
 use Rattle.auc_aes.specs.Field.{xtimes}
 use Rattle.auc_aes.specs.Cipher.{round_constant, next_key, round_key, full_round, final_round, state_after, aes, inv_full_round, inv_final_round, state_undone, aes_inverse}
 

@@ -1,7 +1,8 @@
 -- The steps of the inverse cipher on blocks, for the functions that take a block apart.
 use Rattle.std.proofs.Common.{◌≡◌, ℕ, ◌<◌, List, [], ◌∷◌, length, get_or, refl}
 use Rattle.auc_aes.specs.Field.{inv_sub_byte}
-use Rattle.auc_aes.specs.Cipher.{inv_sub_bytes, inv_mixed_column, inv_mix_columns}
+use Rattle.auc_aes.specs.Cipher.{inv_sub_bytes, inv_mix_columns}
+use Rattle.auc_aes.specs.Inner.{inv_mixed_column}
 use Rattle.auc_aes.proofs.BytesLemmas.{map_by_index}
 
 -- INVSUBBYTES, by index

@@ -5,7 +5,8 @@ use Rattle.std.proofs.lemmas.Bool.{and_parts, eqb-true, cases_lt}
 use mathlib.Core.Logic.{⊎_elim}
 use Rattle.auc_aes.specs.Bytes.{xor}
 use Rattle.auc_aes.specs.Field.{xtimes, product_by, product, inverse_among, inverse, turned, affine, inverse_affine, sub_byte, inv_sub_byte}
-use Rattle.auc_aes.specs.Cipher.{mixed, mixed_column, inv_mixed}
+use Rattle.auc_aes.specs.Cipher.{mixed, inv_mixed}
+use Rattle.auc_aes.specs.Inner.{mixed_column}
 use Rattle.auc_aes.specs.declared.tables.TheConstants.{S_BOX, INVERSE_S_BOX, COLUMN_0, COLUMN_1, COLUMN_2, COLUMN_3, TIMES_9, TIMES_11, TIMES_13, TIMES_14}
 use Rattle.auc_aes.proofs.BytesLemmas.{to_be_bytes-xor, xor_turn}
 

@@ -3,9 +3,10 @@ use Rattle.std.proofs.Common.{◌≡◌, ℕ, zero, suc, ◌<◌, List, [], ◌�
 use Rattle.std.specs.Int.{w32, to_be_bytes, from_be_bytes}
 use Rattle.std.specs.Int.Bits.{xor_zero_r}
 use Rattle.std.proofs.lemmas.Nat.{be_bytes_4}
-use Rattle.auc_aes.specs.Bytes.{xor, block_of_words}
+use Rattle.auc_aes.specs.Bytes.{xor}
+use Rattle.auc_aes.specs.Inner.{block_of_words, mixed_column}
 use Rattle.auc_aes.specs.Field.{sub_byte}
-use Rattle.auc_aes.specs.Cipher.{sub_bytes, shift_rows, mixed_column, mix_columns, schedule_word, next_key, full_round, final_round}
+use Rattle.auc_aes.specs.Cipher.{sub_bytes, shift_rows, mix_columns, schedule_word, next_key, full_round, final_round}
 use Rattle.auc_aes.proofs.BytesLemmas.{listed, to_be_bytes-xor}
 
 -- the bytes of the word of four bytes

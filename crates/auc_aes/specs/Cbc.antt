@@ -3,16 +3,16 @@ use Rattle.std.specs.Prelude.{ℕ, zero, suc, ◌/◌, List, [], ◌++◌, take,
 use Rattle.auc_aes.specs.Bytes.{xor}
 use Rattle.auc_aes.specs.Cipher.{aes, aes_inverse}
 
--- the first n blocks encrypted: each output block is that of the plaintext block added to the output
--- block before it, and of the first to the initialization vector
+-- the first n blocks encrypted: the cipher is applied to each plaintext block after it is added to the
+-- previous ciphertext block, and the first to the initialization vector
 unfoldable pub encrypted_blocks : List ℕ → List ℕ → ℕ → List ℕ → List ℕ
 encrypted_blocks key iv zero bytes = []
 encrypted_blocks key iv (suc n) bytes =
     let block = aes key (xor (take 16 bytes) iv) in
     block ++ encrypted_blocks key block n (drop 16 bytes)
 
--- the first n blocks decrypted: to each inverse cipher of a ciphertext block the ciphertext block
--- before it is added, and to the first the initialization vector
+-- the first n blocks decrypted: the inverse cipher of each ciphertext block is added to the previous
+-- ciphertext block, and the first to the initialization vector
 unfoldable pub decrypted_blocks : List ℕ → List ℕ → ℕ → List ℕ → List ℕ
 decrypted_blocks key iv zero bytes = []
 decrypted_blocks key iv (suc n) bytes =
@@ -22,6 +22,6 @@ decrypted_blocks key iv (suc n) bytes =
 abbrev pub cbc_encrypted : List ℕ → List ℕ → List ℕ → List ℕ
 cbc_encrypted key iv bytes = encrypted_blocks key iv (length bytes / 16) bytes
 
--- CBC decryption of such a string
+-- CBC decryption of a string whose length is a multiple of 16
 abbrev pub cbc_decrypted : List ℕ → List ℕ → List ℕ → List ℕ
 cbc_decrypted key iv bytes = decrypted_blocks key iv (length bytes / 16) bytes

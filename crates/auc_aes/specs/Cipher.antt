@@ -1,5 +1,5 @@
--- AES-128 (FIPS 197) on lists of bytes. The byte of a state in row r and column c stands at place
--- r + 4 c (§3.4), and the names are the standard's.
+-- AES-128 (FIPS 197) on lists of bytes. The byte of a state in row r and column c is at place r + 4 c
+-- (§3.4), and the names are the standard's.
 use Rattle.std.specs.Prelude.{ℕ, zero, suc, ◌+◌, ◌-◌, ◌*◌, ◌%◌, List, [], ◌∷◌, ◌++◌, map, slice_index, bit_xor}
 use Rattle.auc_aes.specs.Bytes.{xor}
 use Rattle.auc_aes.specs.Field.{xtimes, product, sub_byte, inv_sub_byte}
@@ -24,18 +24,14 @@ state_of f = column_of f 0 ++ column_of f 1 ++ column_of f 2 ++ column_of f 3
 unfoldable pub sub_bytes : List ℕ → List ℕ
 sub_bytes state = map sub_byte state
 
--- SHIFTROWS: row r is turned by r columns (§5.1.2)
+-- SHIFTROWS: row r is rotated by r columns (§5.1.2)
 unfoldable pub shift_rows : List ℕ → List ℕ
 shift_rows state = state_of (λ r c. at state r (c + r))
 
--- a byte of a mixed column, from the column's bytes from that row on, the first after the last:
+-- a byte of a mixed column, from the column's four bytes in order, beginning with the byte's own row:
 -- 2 a + 3 b + c + d (§5.1.3, equation 5.8)
 unfoldable pub mixed : ℕ → ℕ → ℕ → ℕ → ℕ
 mixed a b c d = bit_xor (bit_xor (bit_xor (product 2 a) (product 3 b)) c) d
-
--- the mixed column
-unfoldable pub mixed_column : ℕ → ℕ → ℕ → ℕ → List ℕ
-mixed_column a b c d = mixed a b c d ∷ mixed b c d a ∷ mixed c d a b ∷ mixed d a b c ∷ []
 
 -- MIXCOLUMNS (§5.1.3)
 unfoldable pub mix_columns : List ℕ → List ℕ
@@ -59,8 +55,8 @@ schedule_word key constant =
 abbrev pub word_of : List ℕ → ℕ → List ℕ
 word_of key c = column_of (at key) c
 
--- the four words after a round key's: each is the one before it added to the one four before it, of
--- which the first is the schedule word
+-- the four words that follow a round key: each is the exclusive or of the previous word and the word four
+-- places back; for the first of them the schedule word stands in for the previous word
 unfoldable pub next_key : List ℕ → ℕ → List ℕ
 next_key key constant =
     let w0 = xor (word_of key 0) (schedule_word key constant) in
@@ -108,25 +104,20 @@ unfoldable pub inv_mixed : ℕ → ℕ → ℕ → ℕ → ℕ
 inv_mixed a b c d =
     bit_xor (bit_xor (bit_xor (product 14 a) (product 11 b)) (product 13 c)) (product 9 d)
 
--- the column whose mixing is undone
-unfoldable pub inv_mixed_column : ℕ → ℕ → ℕ → ℕ → List ℕ
-inv_mixed_column a b c d =
-    inv_mixed a b c d ∷ inv_mixed b c d a ∷ inv_mixed c d a b ∷ inv_mixed d a b c ∷ []
-
 -- INVMIXCOLUMNS (§5.3.3)
 unfoldable pub inv_mix_columns : List ℕ → List ℕ
 inv_mix_columns state =
     state_of (λ r c. inv_mixed (at state r c) (at state (r + 1) c) (at state (r + 2) c) (at state (r + 3) c))
 
--- the last round undone
+-- undoes the last round
 unfoldable pub inv_final_round : List ℕ → List ℕ → List ℕ
 inv_final_round state key = inv_sub_bytes (inv_shift_rows (xor state key))
 
--- one round undone
+-- undoes one round
 unfoldable pub inv_full_round : List ℕ → List ℕ → List ℕ
 inv_full_round state key = inv_sub_bytes (inv_shift_rows (inv_mix_columns (xor state key)))
 
--- the state in which the last round and n full rounds before it are undone
+-- the state after the last round and the n full rounds before it are undone
 unfoldable pub state_undone : List ℕ → List ℕ → ℕ → List ℕ
 state_undone key block zero = inv_final_round block (round_key key 10)
 state_undone key block (suc n) = inv_full_round (state_undone key block n) (round_key key (9 - n))

@@ -5,8 +5,7 @@ use Rattle.std.specs.Prelude.{ℕ, zero, suc, ◌+◌, ◌*◌, ◌/◌, ◌%◌
 unfoldable pub xtimes : ℕ → ℕ
 xtimes b = bit_xor (b * 2) (b / 128 * 0x11b)
 
--- the product of b and c, of which the lowest n bits of b are taken: c times x^i is added for each bit
--- i of b that is 1
+-- the product of the lowest n bits of b with c: c times x^i is added for each bit i of b that is 1
 unfoldable pub product_by : ℕ → ℕ → ℕ → ℕ
 product_by zero b c = 0
 product_by (suc n) b c = bit_xor (b % 2 * c) (product_by n (b / 2) (xtimes c))
@@ -15,7 +14,7 @@ product_by (suc n) b c = bit_xor (b % 2 * c) (product_by n (b / 2) (xtimes c))
 unfoldable pub product : ℕ → ℕ → ℕ
 product b c = product_by 8 b c
 
--- the first of the n bytes from c on whose product with b is 1, or 0 where there is none
+-- the first of the n bytes from c on whose product with b is 1, or 0 if there is none
 unfoldable pub inverse_among : ℕ → ℕ → ℕ → ℕ
 inverse_among zero c b = 0
 inverse_among (suc n) c b = if product b c == 1 then c else inverse_among n (c + 1) b
@@ -24,7 +23,7 @@ inverse_among (suc n) c b = if product b c == 1 then c else inverse_among n (c +
 unfoldable pub inverse : ℕ → ℕ
 inverse b = inverse_among 256 0 b
 
--- a byte turned by n bits towards its most significant bit
+-- a byte rotated left by n bits
 unfoldable pub turned : ℕ → ℕ → ℕ
 turned zero b = b
 turned (suc n) b = turned n (b * 2 % 256 + b / 128)

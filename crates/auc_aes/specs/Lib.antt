@@ -3,3 +3,4 @@ pub mod Field
 pub mod Cipher
 pub mod Cbc
 pub mod Law
+pub mod Inner

@@ -1,7 +1,7 @@
 //! Blocks of 16 bytes.
 
-ghost use Rattle.std.specs.Prelude.{◌≡◌, ◌+◌, ◌≤◌, ◌++◌, length, take, drop};
-ghost use Rattle.auc_aes.specs.Bytes.{xor as xored, rot as turned};
+ghost use Rattle.std.specs.Prelude.{◌≡◌, ◌+◌, ◌≤◌, length};
+ghost use Rattle.auc_aes.specs.Bytes.{xor as xored, rot as rotated, block_from, with_block};
 
 /// The exclusive or of two strings of `N` bytes.
 pub fn xor<const N: usize>(mut string: [u8; N], other: [u8; N]) -> [u8; N]
@@ -13,18 +13,18 @@ pub fn xor<const N: usize>(mut string: [u8; N], other: [u8; N]) -> [u8; N]
     string
 }
 
-/// A block turned cyclically by `bits` bits towards its most significant bit.
+/// A block rotated left by `bits` bits.
 #[tactic(auto, unfolding(crate::specs::Bytes::rot))]
 pub fn rot(block: [u8; 16], bits: u32) -> [u8; 16]
-    ensures { result ≡ turned block bits }
+    ensures { result ≡ rotated block bits }
 {
     u128::from_be_bytes(block).rotate_left(bits).to_be_bytes()
 }
 
 /// The block of `bytes` that begins at `at`.
-pub(crate) fn block_at(bytes: &[u8], at: usize) -> [u8; 16]
+pub fn block_at(bytes: &[u8], at: usize) -> [u8; 16]
     requires { at + 16 ≤ length bytes.now }
-    ensures { result ≡ take 16 (drop at bytes.now) }
+    ensures { result ≡ block_from bytes.now at }
 {
     let mut block = [0; 16];
     block.copy_from_slice(&bytes[at..at + 16]);
@@ -32,9 +32,9 @@ pub(crate) fn block_at(bytes: &[u8], at: usize) -> [u8; 16]
 }
 
 /// Writes a block over the 16 bytes that begin at `at`.
-pub(crate) fn put_block(bytes: &mut [u8], at: usize, block: [u8; 16])
+pub fn put_block(bytes: &mut [u8], at: usize, block: [u8; 16])
     requires { at + 16 ≤ length bytes.old }
-    ensures { bytes.new ≡ take at bytes.old ++ (block ++ drop (at + 16) bytes.old) }
+    ensures { bytes.new ≡ with_block bytes.old at block }
 {
     bytes[at..at + 16].copy_from_slice(&block);
 }

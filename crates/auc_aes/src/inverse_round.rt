@@ -2,7 +2,8 @@
 
 ghost use Rattle.std.specs.Prelude.{◌≡◌};
 ghost use Rattle.auc_aes.specs.Field.{inv_sub_byte};
-ghost use Rattle.auc_aes.specs.Cipher.{inv_mixed, inv_mixed_column, inv_shift_rows, inv_sub_bytes, inv_mix_columns, inv_full_round, inv_final_round};
+ghost use Rattle.auc_aes.specs.Cipher.{inv_mixed, inv_shift_rows, inv_sub_bytes, inv_mix_columns, inv_full_round, inv_final_round};
+ghost use Rattle.auc_aes.specs.Inner.{inv_mixed_column};
 
 use crate::block::xor;
 use crate::tables::{INVERSE_S_BOX, TIMES_9, TIMES_11, TIMES_13, TIMES_14};
@@ -35,7 +36,7 @@ fn shift_back(state: [u8; 16]) -> [u8; 16]
     ]
 }
 
-/// A byte of a column whose mixing is undone, from the column's bytes from that row on (§5.3.3).
+/// A byte of a column before its mixing, from the column's bytes in order, that row's first (§5.3.3).
 #[tactic(auto, using(crate::proofs::TableLemmas::unmixed_is))]
 fn unmixed(a: u8, b: u8, c: u8, d: u8) -> u8
     ensures { result ≡ inv_mixed a b c d }
@@ -43,8 +44,8 @@ fn unmixed(a: u8, b: u8, c: u8, d: u8) -> u8
     TIMES_14[a as usize] ^ TIMES_11[b as usize] ^ TIMES_13[c as usize] ^ TIMES_9[d as usize]
 }
 
-/// A column whose mixing is undone.
-#[tactic(auto, unfolding(crate::specs::Cipher::inv_mixed_column))]
+/// A column before its mixing.
+#[tactic(auto, unfolding(crate::specs::Inner::inv_mixed_column))]
 fn unmixed_column(a: u8, b: u8, c: u8, d: u8) -> [u8; 4]
     ensures { result ≡ inv_mixed_column a b c d }
 {

@@ -18,7 +18,7 @@ pub struct Key {
 
 impl Model for Key {
     ghost use Rattle.std.specs.Prelude.{◌≡◌, ℕ, ◌<◌, List, [], slice_index_or};
-    ghost use Rattle.auc_aes.specs.Bytes.{block_of_words};
+    ghost use Rattle.auc_aes.specs.Inner.{block_of_words};
     ghost use Rattle.auc_aes.specs.Cipher.{round_key};
 
     ghost Value = { List ℕ };
@@ -47,7 +47,7 @@ impl Key {
     pub fn encrypt(&self, b: [u8; 16]) -> [u8; 16]
         ensures { result ≡ aes self.now b }
     {
-        // LLVM makes slower code of a loop over the nine full rounds.
+        // Written out, because LLVM compiles a loop over the nine full rounds to slower code.
         let keys = &self.round_keys;
         let state = add(words_of(b), keys[0]);
         let state = full_round(state, keys[1]);

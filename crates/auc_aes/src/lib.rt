@@ -1,12 +1,13 @@
 //! AES-128 (FIPS 197) and its CBC mode (NIST SP 800-38A §6.2).
 //!
-//! Start from [`Key`]: one key schedule a key, then [`Key::encrypt`] and [`Key::decrypt`] for a block of
-//! 16 bytes, and [`Key::cbc_encrypt`] and [`Key::cbc_decrypt`] in place for a string of whole blocks.
-//! [`xor`] and [`rot`] are the exclusive or of byte strings and the cyclic turn of a block.
+//! Start from [`Key`], which holds the key schedule: [`Key::encrypt`] and [`Key::decrypt`] take a block of
+//! 16 bytes, [`Key::cbc_encrypt`] and [`Key::cbc_decrypt`] work in place on a string of whole blocks.
+//! [`xor`] is the exclusive or of byte strings, [`rot`] rotates a block, [`block_at`] and [`put_block`] read
+//! and write a block of a longer string.
 //!
-//! Contracts see a `Key` as the 16 bytes of the key; the round keys that it keeps are the code's own.
-//! They speak of the standard as functions on lists, in `specs/`; the code works by tables, whose rules
-//! are proved over all their entries. Nothing here takes memory, waits or can fail.
+//! Contracts see a `Key` as the 16 bytes of the key, and not its round keys. They cite the standard's
+//! functions on lists, in `specs/`; the code uses tables, and each entry is proved to follow its rule.
+//! Nothing here takes memory, waits or can fail.
 #![tactic(auto)]
 
 mod block;
@@ -19,6 +20,6 @@ mod tables;
 mod tests;
 mod words;
 
-pub use block::{rot, xor};
+pub use block::{block_at, put_block, rot, xor};
 pub use key::Key;
 pub use law::{decryption_undoes_encryption, encryption_undoes_decryption};

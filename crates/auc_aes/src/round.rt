@@ -2,9 +2,9 @@
 
 ghost use Rattle.std.specs.Prelude.{◌≡◌, [], ◌∷◌, slice_index};
 ghost use Rattle.std.specs.Int.{w32, to_be_bytes};
-ghost use Rattle.auc_aes.specs.Bytes.{block_of_words};
 ghost use Rattle.auc_aes.specs.Field.{xtimes, sub_byte};
-ghost use Rattle.auc_aes.specs.Cipher.{mixed_column, full_round as full_round_of, final_round as final_round_of, next_key as key_after};
+ghost use Rattle.auc_aes.specs.Cipher.{full_round as full_round_of, final_round as final_round_of, next_key as key_after};
+ghost use Rattle.auc_aes.specs.Inner.{block_of_words, mixed_column};
 
 use crate::tables::{COLUMN_0, COLUMN_1, COLUMN_2, COLUMN_3, S_BOX};
 use crate::words::word;
@@ -39,7 +39,7 @@ pub(crate) fn double(byte: u8) -> u8
     ((byte & 0x7f) * 2) ^ (byte / 128 * 0x1b)
 }
 
-/// The column that SHIFTROWS makes of four columns, of which the first is the one in its place (§5.1.2).
+/// The column that SHIFTROWS makes of four columns; the first is the column at the same place (§5.1.2).
 fn shifted(a: u32, b: u32, c: u32, d: u32) -> [u8; 4]
     ensures { result ≡ slice_index (to_be_bytes w32 a) 0 ∷ slice_index (to_be_bytes w32 b) 1
         ∷ slice_index (to_be_bytes w32 c) 2 ∷ slice_index (to_be_bytes w32 d) 3 ∷ [] }

@@ -2,7 +2,8 @@
 
 ghost use Rattle.std.specs.Prelude.{◌≡◌, [], ◌∷◌};
 ghost use Rattle.std.specs.Int.{w32, to_be_bytes};
-ghost use Rattle.auc_aes.specs.Bytes.{xor as xored, block_of_words};
+ghost use Rattle.auc_aes.specs.Bytes.{xor as xored};
+ghost use Rattle.auc_aes.specs.Inner.{block_of_words};
 
 /// The word of four bytes.
 #[tactic(auto, using(crate::proofs::WordLemmas::word_is))]

@@ -1,5 +1,5 @@
 use Rattle.std.proofs.Common.{refl}
-use Rattle.auc_aes.specs.Bytes.{block_of_words}
+use Rattle.auc_aes.specs.Inner.{block_of_words}
 use Rattle.auc_aes.proofs.words.block_of.Goals as goal
 
 pub returns : goal.returns

@@ -1,5 +1,6 @@
 use Rattle.std.proofs.Common.{◌≡◌, ℕ, ◌<◌, [], get_or, ap, ◌∙◌, arith}
-use Rattle.auc_aes.specs.Bytes.{xor, block_of_words}
+use Rattle.auc_aes.specs.Bytes.{xor}
+use Rattle.auc_aes.specs.Inner.{block_of_words}
 use Rattle.auc_aes.specs.Cipher.{round_key}
 use Rattle.auc_aes.proofs.KeyLemmas.{state_first, state_next, state_last}
 use Rattle.auc_aes.proofs.key.Key.encrypt.Goals as goal

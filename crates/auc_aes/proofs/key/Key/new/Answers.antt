@@ -1,5 +1,5 @@
 use Rattle.std.proofs.Common.{rules, ◌≡◌, refl, sym, ap, ◌∙◌, arith, get_or, []}
-use Rattle.auc_aes.specs.Bytes.{block_of_words}
+use Rattle.auc_aes.specs.Inner.{block_of_words}
 use Rattle.auc_aes.specs.Cipher.{round_constant, round_key}
 use Rattle.auc_aes.proofs.KeyLemmas.{constant_after, key_after, keys_more, first_key}
 use Rattle.auc_aes.proofs.key.Key.new.Goals as goal

@@ -1,5 +1,5 @@
 use Rattle.std.proofs.Common.{◌≡◌, ℕ, ◌-◌, ◌<◌, [], length, get_or}
-use Rattle.auc_aes.specs.Bytes.{block_of_words}
+use Rattle.auc_aes.specs.Inner.{block_of_words}
 use Rattle.auc_aes.specs.Cipher.{round_constant, round_key}
 use Rattle.auc_aes.proofs.key.Key.new.Given as goal
 
