@@ -3,15 +3,15 @@ use Rattle.std.specs.Prelude.{ℕ, ◌-◌, List, ◌++◌, length, map, replica
 use Rattle.sha1.specs.Sha1.{sha1}
 use Rattle.sha2.specs.Sha256.{sha256}
 
--- a key with zero bytes behind it, up to a block (§2, step 1)
+-- a key, followed by zero bytes up to a block (§2, step 1)
 abbrev pub filled : ℕ → List ℕ → List ℕ
 filled size key = key ++ replicate (size - length key) 0
 
--- the key as a block: one that is longer than a block is hashed first (§2)
+-- the key as a block: a key longer than a block is hashed first (§2)
 abbrev pub key_block : (List ℕ → List ℕ) → ℕ → List ℕ → List ℕ
 key_block hash size key = filled size (if nat_lt size (length key) then hash key else key)
 
--- a block, each byte of it XORed with the byte that a pad repeats (§2, steps 2 and 5)
+-- a block XOR a pad, which repeats one byte (§2, steps 2 and 5)
 abbrev pub masked : ℕ → List ℕ → List ℕ
 masked pad block = map (λ byte. bit_xor byte pad) block
 

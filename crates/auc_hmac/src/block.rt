@@ -6,12 +6,12 @@ ghost use Rattle.auc_hmac.specs.Hmac.{filled, masked};
 // SHA-1 and SHA-256 both have blocks of 64 bytes (FIPS 180-4).
 pub(crate) const BLOCK: usize = 64;
 
-// The bytes that the inner and the outer pad repeat (RFC 2104 §2).
+// The byte that each pad repeats (RFC 2104 §2).
 pub(crate) const INNER_PAD: u8 = 0x36;
 
 pub(crate) const OUTER_PAD: u8 = 0x5C;
 
-// A key that is no longer than a block, with zero bytes behind it.
+// A key of at most a block, followed by zero bytes up to a block.
 pub(crate) fn filled(key: &[u8]) -> [u8; 64]
     requires { length key.now ≤ 64 }
     ensures { result ≡ filled 64 key.now }
@@ -21,7 +21,7 @@ pub(crate) fn filled(key: &[u8]) -> [u8; 64]
     block
 }
 
-// A block, each byte of it XORed with `pad`.
+// A block, each byte XORed with `pad`.
 pub(crate) fn masked(mut block: [u8; 64], pad: u8) -> [u8; 64]
     ensures { result ≡ masked pad block }
 {

@@ -8,8 +8,8 @@ ghost use Rattle.auc_hmac.specs.States.{HoldsSha1};
 use crate::block::{BLOCK, INNER_PAD, OUTER_PAD, filled, masked};
 use sha1::Sha1;
 
-/// An HMAC-SHA-1 under way (RFC 2104 §2, with the SHA-1 of FIPS 180-4). Contracts see its key and the
-/// bytes that it was fed so far.
+/// An unfinished HMAC-SHA-1 (RFC 2104 §2, with the SHA-1 of FIPS 180-4). Contracts see its key and the
+/// bytes fed so far.
 #[derive(Drop)]
 pub struct HmacSha1 {
     inner: Sha1,
@@ -17,7 +17,7 @@ pub struct HmacSha1 {
 }
 
 impl HmacSha1 {
-    /// Begins with a key of any length; one of more than 64 bytes is hashed first.
+    /// An HMAC under a key of any length, fed nothing yet. A key of more than 64 bytes is hashed first.
     pub fn new(key: &[u8]) -> HmacSha1
         ensures { HoldsSha1 result key.now [] }
     {
@@ -36,7 +36,7 @@ impl HmacSha1 {
         self.inner.update(bytes);
     }
 
-    /// The HMAC of all that was fed, 20 bytes.
+    /// The HMAC of all bytes fed, 20 bytes.
     #[tactic(auto, unfolding(crate::specs::Hmac::hmac))]
     pub fn finish(mut self) -> [u8; 20]
         ensures { (key fed : List ℕ) → HoldsSha1 self key fed → result ≡ hmac_sha1 key fed }
@@ -58,7 +58,7 @@ fn block_of(key: &[u8]) -> [u8; 64]
     }
 }
 
-// A hasher that has been fed a block.
+// A hasher that was fed a block.
 fn hasher_of(block: &[u8; 64]) -> Sha1
     ensures { Holds result block.now }
 {

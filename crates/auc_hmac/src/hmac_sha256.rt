@@ -9,8 +9,8 @@ ghost use Rattle.auc_hmac.specs.States.{HoldsSha256};
 use crate::block::{BLOCK, INNER_PAD, OUTER_PAD, filled, masked};
 use sha2::{Digest, Sha256};
 
-/// An HMAC-SHA-256 under way (RFC 2104 §2, with the SHA-256 of FIPS 180-4). Contracts see its key and the
-/// bytes that it was fed so far.
+/// An unfinished HMAC-SHA-256 (RFC 2104 §2, with the SHA-256 of FIPS 180-4). Contracts see its key and the
+/// bytes fed so far.
 #[derive(Drop)]
 pub struct HmacSha256 {
     inner: Sha256,
@@ -18,7 +18,7 @@ pub struct HmacSha256 {
 }
 
 impl HmacSha256 {
-    /// Begins with a key of any length; one of more than 64 bytes is hashed first.
+    /// An HMAC under a key of any length, fed nothing yet. A key of more than 64 bytes is hashed first.
     pub fn new(key: &[u8]) -> HmacSha256
         ensures { HoldsSha256 result key.now [] }
     {
@@ -37,7 +37,7 @@ impl HmacSha256 {
         self.inner.update(bytes);
     }
 
-    /// The HMAC of all that was fed, 32 bytes.
+    /// The HMAC of all bytes fed, 32 bytes.
     #[tactic(auto, unfolding(crate::specs::Hmac::hmac))]
     pub fn finish(mut self) -> [u8; 32]
         ensures { (key fed : List ℕ) → HoldsSha256 self key fed → result ≡ hmac_sha256 key fed }
@@ -59,7 +59,7 @@ fn block_of(key: &[u8]) -> [u8; 64]
     }
 }
 
-// A hasher that has been fed a block.
+// A hasher that was fed a block.
 fn hasher_of(block: &[u8; 64]) -> Sha256
     ensures { Holds256 result block.now }
 {

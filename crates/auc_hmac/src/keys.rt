@@ -1,14 +1,14 @@
 //! The keys of an authentication.
 
-/// The keys that a full authentication yields (RFC 4187 §7, RFC 9048 §3.3).
+/// The keys of a full authentication (RFC 4187 §7, RFC 9048 §3.3).
 #[derive(Clone, Copy, Debug, PartialEq, Eq)]
 pub struct KeySet {
     /// K_encr, which encrypts attributes: 16 bytes.
     pub k_encr: [u8; 16],
-    /// K_aut, which authenticates packets: 32 bytes. EAP-AKA's has 16, and 16 zero bytes follow it.
+    /// K_aut, which authenticates packets: 32 bytes. EAP-AKA's has 16, followed by 16 zero bytes.
     pub k_aut: [u8; 32],
-    /// K_re, from which EAP-AKA' makes the keys of a fast re-authentication: 32 bytes. EAP-AKA has
-    /// none, and all are zero.
+    /// K_re, from which EAP-AKA' derives the keys of a fast re-authentication: 32 bytes. EAP-AKA has
+    /// none: all bytes are zero.
     pub k_re: [u8; 32],
     /// The Master Session Key, 64 bytes.
     pub msk: [u8; 64],
@@ -16,7 +16,7 @@ pub struct KeySet {
     pub emsk: [u8; 64],
 }
 
-/// The key that a fast re-authentication starts from.
+/// The key that the keys of a fast re-authentication are derived from.
 #[derive(Clone, Copy, Debug, PartialEq, Eq)]
 pub enum Master {
     /// EAP-AKA's MK, 20 bytes (RFC 4187 §7).
@@ -25,7 +25,7 @@ pub enum Master {
     Prime([u8; 32]),
 }
 
-/// The keys that a fast re-authentication yields (RFC 4187 §7, RFC 9048 §3.3).
+/// The keys of a fast re-authentication (RFC 4187 §7, RFC 9048 §3.3).
 #[derive(Clone, Copy, Debug, PartialEq, Eq)]
 pub struct Pair {
     /// The Master Session Key, 64 bytes.
