@@ -1,4 +1,4 @@
--- The sizes of what the functions give, for the crates above.
+-- The sizes of the functions' values, for the crates above.
 use Rattle.std.proofs.Common.{◌≡◌, ℕ, zero, suc, ◌<◌, List, length, refl, arith}
 use Rattle.std.specs.Int.{w128, from_be_bytes, to_be_bytes, byte_at, bytes_high_first, rotate_left}
 use Rattle.std.proofs.lemmas.List.{length-take-le}

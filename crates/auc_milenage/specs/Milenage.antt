@@ -56,7 +56,7 @@ unfoldable pub out1 : List ℕ → List ℕ → List ℕ → List ℕ → List �
 out1 k opc temp sqn amf =
     xor (aes k (xor (xor temp (rot (xor (in1_of sqn amf) opc) r1)) (to_be_bytes w128 c1))) opc
 
--- OUT2 to OUT5, by their constants
+-- OUT2 to OUT5, each by its constants r and c
 unfoldable pub out : ℕ → ℕ → List ℕ → List ℕ → List ℕ → List ℕ
 out r c k opc temp = xor (aes k (xor (rot (xor temp opc) r) (to_be_bytes w128 c))) opc
 

@@ -1,4 +1,4 @@
-//! AUTS, the USIM's answer to a number out of range (TS 33.102 §6.3.3).
+//! AUTS, the USIM's answer to a SEQ that it refuses (TS 33.102 §6.3.3).
 
 ghost use Rattle.std.specs.Prelude.{◌≡◌, ◌++◌};
 ghost use Rattle.auc_milenage.specs.Milenage.{auts};
@@ -7,7 +7,7 @@ use crate::milenage::{Milenage, first_six, second_half};
 use crate::secret::Secret;
 use auc_aes::xor;
 
-/// AUTS: SQN_MS masked by f5*, 6 bytes, and MAC-S over SQN_MS, RAND and an AMF of two zero bytes, 8 bytes.
+/// AUTS, 14 bytes: SQN_MS masked by f5*, then MAC-S over SQN_MS, RAND and an AMF of two zero bytes.
 #[tactic(auto, unfolding(crate::specs::Milenage::auts, crate::specs::Milenage::f1_star, crate::specs::Milenage::f5_star))]
 pub fn make_auts(s: &Secret, rand: [u8; 16], sqn_ms: [u8; 6]) -> [u8; 14]
     ensures { result ≡ auts s.now.k s.now.opc rand sqn_ms }

@@ -37,7 +37,7 @@ pub fn f2345(s: &Secret, rand: [u8; 16]) -> Four
 }
 
 impl Milenage {
-    /// f1 to f5 at once, for five blocks: MAC-A, and RES, CK, IK and AK.
+    /// f1 to f5 at once, with five AES blocks: MAC-A, and RES, CK, IK and AK.
     #[tactic(auto, unfolding(crate::specs::Milenage::f1, crate::specs::Milenage::f2, crate::specs::Milenage::f3, crate::specs::Milenage::f4, crate::specs::Milenage::f5))]
     pub fn f12345(&self, rand: [u8; 16], sqn: [u8; 6], amf: [u8; 2]) -> ([u8; 8], Four)
         ensures mac { result.0 ≡ f1_by self.now.k self.now.opc rand sqn amf }

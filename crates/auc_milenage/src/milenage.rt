@@ -45,7 +45,7 @@ fn in1(sqn: [u8; 6], amf: [u8; 2]) -> [u8; 16]
     ]
 }
 
-/// Milenage under one secret, with the key schedule of its K. Contracts see the secret.
+/// Milenage under one secret, with the key schedule of K. Contracts see the secret.
 #[derive(Drop)]
 pub struct Milenage {
     key: Key,

@@ -1,4 +1,4 @@
-//! What a subscriber's USIM and the authentication centre share, and what they derive from it.
+//! The secret that a USIM and the authentication centre share, and the values derived from it.
 
 ghost use Rattle.std.specs.Prelude.{◌≡◌};
 ghost use Rattle.auc_milenage.specs.Milenage.{opc_of as opc_by};
@@ -10,11 +10,11 @@ use auc_aes::{Key, xor};
 pub struct Secret {
     /// The subscriber key.
     pub k: [u8; 16],
-    /// OP, the operator's variant, under this key.
+    /// OPc, which is derived from OP, the operator's variant, and K.
     pub opc: [u8; 16],
 }
 
-/// RES, CK, IK and AK: what f2, f3, f4 and f5 give.
+/// RES, CK, IK and AK: the values of f2, f3, f4 and f5.
 #[derive(Clone, Copy, Debug, PartialEq, Eq)]
 pub struct Four {
     /// The response to a challenge.
