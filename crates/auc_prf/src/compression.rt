@@ -5,7 +5,7 @@ ghost use Rattle.sha1.specs.Sha1.{compress, digest_bytes, round, round_constant,
 
 use crate::schedule::schedule;
 
-// The hash value after a block, from the one before it.
+// The hash value after a block, from the previous hash value.
 pub(crate) fn compress(hash: [u32; 5], block: &[u8; 64]) -> [u32; 5]
     ensures { result ≡ compress hash block.now }
 {

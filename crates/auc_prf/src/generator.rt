@@ -28,7 +28,7 @@ pub fn next_word(xkey: [u8; 20]) -> ([u8; 20], [u8; 20])
     (word, next_xkey(xkey, word))
 }
 
-// Eight words from XKEY on, one behind the other.
+// Eight words from XKEY on, one after the other.
 pub(crate) fn stream(mut xkey: [u8; 20]) -> [u8; 160]
     ensures { result ≡ words 8 (number_of xkey) }
 {
@@ -41,14 +41,14 @@ pub(crate) fn stream(mut xkey: [u8; 20]) -> [u8; 160]
     out
 }
 
-// G of 20 bytes: they and 44 zero bytes are compressed from SHA-1's initial value.
+// G of 20 bytes: SHA-1's compression, from its initial value, of them and 44 zero bytes.
 fn compressed(xkey: [u8; 20]) -> [u8; 20]
     ensures { result ≡ compressed xkey }
 {
     bytes(compress(INITIAL, &block_of(xkey)))
 }
 
-// 20 bytes and 44 zero bytes.
+// 20 bytes, followed by 44 zero bytes.
 fn block_of(xkey: [u8; 20]) -> [u8; 64]
     ensures { result ≡ xkey ++ replicate 44 0 }
 {

@@ -1,17 +1,17 @@
 //! The keys of EAP-AKA.
 
-ghost use Rattle.std.specs.Prelude.{◌≡◌, ◌≤◌, ◌+◌, ◌++◌, length, replicate};
-ghost use Rattle.auc_prf.specs.Keys.{key_pair, key_set, master_key, piece, reauth_xkey, stream};
+ghost use Rattle.std.specs.Prelude.{◌≡◌, ◌++◌, replicate};
+ghost use Rattle.auc_prf.specs.Keys.{aka_key_pair, aka_key_set, aka_mk, reauth_xkey, stream};
 
 use crate::generator::stream;
-use auc_hmac::{KeySet, Master, Pair};
+use auc_hmac::{KeySet, Master, Pair, piece_of};
 use sha1::Sha1;
 
-/// The keys of a full authentication and MK, from the identity that the peer sent last and from IK and
-/// CK (RFC 4187 §7).
+/// The keys of a full authentication, and MK, from the identity that the peer sent last, IK and CK
+/// (RFC 4187 §7).
 pub fn aka_keys(identity: &[u8], ik: [u8; 16], ck: [u8; 16]) -> (KeySet, Master)
-    ensures keys { result.0 ≡ key_set (stream (master_key identity.now ik ck)) }
-    ensures master { result.1 ≡ Master.Aka (master_key identity.now ik ck) }
+    ensures keys { result.0 ≡ aka_key_set (stream (aka_mk identity.now ik ck)) }
+    ensures master { result.1 ≡ Master.Aka (aka_mk identity.now ik ck) }
 {
     let mut hasher = Sha1::new();
     hasher.update(identity);
@@ -24,7 +24,7 @@ pub fn aka_keys(identity: &[u8], ik: [u8; 16], ck: [u8; 16]) -> (KeySet, Master)
 /// The keys of a fast re-authentication, from the identity that the peer sent, the counter, the
 /// server's NONCE_S and the MK of the full authentication (RFC 4187 §7).
 pub fn aka_reauth_keys(identity: &[u8], counter: u16, nonce: [u8; 16], mk: [u8; 20]) -> Pair
-    ensures { result ≡ key_pair (stream (reauth_xkey identity.now counter nonce mk)) }
+    ensures { result ≡ aka_key_pair (stream (reauth_xkey identity.now counter nonce mk)) }
 {
     let mut hasher = Sha1::new();
     hasher.update(identity);
@@ -33,39 +33,29 @@ pub fn aka_reauth_keys(identity: &[u8], counter: u16, nonce: [u8; 16], mk: [u8; 
     hasher.update(&mk);
     let bytes = stream(hasher.finalize());
     Pair {
-        msk: piece(&bytes, 0),
-        emsk: piece(&bytes, 64),
+        msk: piece_of(&bytes, 0),
+        emsk: piece_of(&bytes, 64),
     }
 }
 
 // The keys that the generator's bytes are cut into.
 fn cut(bytes: &[u8; 160]) -> KeySet
-    ensures { result ≡ key_set bytes.now }
+    ensures { result ≡ aka_key_set bytes.now }
 {
     KeySet {
-        k_encr: piece(bytes, 0),
-        k_aut: filled(piece(bytes, 16)),
+        k_encr: piece_of(bytes, 0),
+        k_aut: filled(piece_of(bytes, 16)),
         k_re: [0; 32],
-        msk: piece(bytes, 32),
-        emsk: piece(bytes, 96),
+        msk: piece_of(bytes, 32),
+        emsk: piece_of(bytes, 96),
     }
 }
 
-// A key of 16 bytes with 16 zero bytes behind it.
+// A key of 16 bytes, followed by 16 zero bytes.
 fn filled(key: [u8; 16]) -> [u8; 32]
     ensures { result ≡ key ++ replicate 16 0 }
 {
     let mut out = [0; 32];
     out[..16].copy_from_slice(&key);
-    out
-}
-
-// `N` bytes, from byte `from` on.
-fn piece<const N: usize>(bytes: &[u8], from: usize) -> [u8; N]
-    requires { from + N ≤ length bytes.now }
-    ensures { result ≡ piece from N bytes.now }
-{
-    let mut out = [0; N];
-    out.copy_from_slice(&bytes[from..from + N]);
     out
 }

@@ -1,10 +1,9 @@
-//! The keys of EAP-AKA (RFC 4187 §7) and the generator that they come from.
+//! The keys of EAP-AKA (RFC 4187 §7), and the generator that makes them.
 //!
-//! [`next_word`] is one step of the generator of RFC 4187 Appendix A, which is that of FIPS 186-2 with
-//! change notice 1: a word of 20 bytes from XKEY, and the next XKEY. [`aka_keys`] makes all keys of a full
-//! authentication from it, and [`aka_reauth_keys`] those of a fast re-authentication. Contracts speak of
-//! XKEY as a number below 2^160 and of the generator as one recursion over such numbers; the code works
-//! on strings of 20 bytes. Nothing here takes memory, waits or fails.
+//! [`next_word`] is one step of the generator of RFC 4187 Appendix A (FIPS 186-2 with change notice 1): it
+//! gives a word of 20 bytes from XKEY, and the next XKEY. [`aka_keys`] makes all keys of a full
+//! authentication, and [`aka_reauth_keys`] those of a fast re-authentication. Contracts see XKEY as a number
+//! below 2^160, and the generator as a recursion on such numbers; the code works on strings of 20 bytes. Nothing here takes memory, waits or fails.
 #![tactic(auto)]
 
 mod compression;

@@ -3,7 +3,7 @@
 ghost use Rattle.std.specs.Prelude.{◌≡◌, ◌≤◌, ◌<◌, ◌+◌};
 ghost use Rattle.sha1.specs.Sha1.{next_word, schedule, word_at};
 
-// W of a block: its 16 words, and the 64 that follow from them.
+// W of a block: its 16 words, and 64 that are computed from them.
 pub(crate) fn schedule(block: &[u8; 64]) -> [u32; 80]
     ensures { result ≡ schedule block.now 64 }
 {
@@ -25,7 +25,7 @@ fn word_at(block: &[u8; 64], at: usize) -> u32
     u32::from_be_bytes([block[at], block[at + 1], block[at + 2], block[at + 3]])
 }
 
-// W(t) from the words before it.
+// W(t) from earlier words.
 fn following(words: &[u32; 80], t: usize) -> u32
     requires low { 16 ≤ t }
     requires high { t < 80 }

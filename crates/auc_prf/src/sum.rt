@@ -3,8 +3,8 @@
 ghost use Rattle.std.specs.Prelude.{◌≡◌, ◌+◌, ◌%◌, ◌^◌};
 ghost use Rattle.auc_prf.specs.Generator.{bytes_of, number_of};
 
-// (1 + XKEY + w) mod 2^160 on strings of 20 bytes: the carry begins with the 1 and runs from the last
-// byte to the first, where it is dropped.
+// (1 + XKEY + w) mod 2^160 on strings of 20 bytes: the carry starts as the 1, and goes from the last byte
+// to the first; the carry out of the first is dropped.
 pub(crate) fn next_xkey(xkey: [u8; 20], word: [u8; 20]) -> [u8; 20]
     ensures { result ≡ bytes_of ((1 + number_of xkey + number_of word) % 2 ^ 160) }
 {

@@ -27,8 +27,8 @@ fn two_steps_give_the_published_words(rt: HostRuntime) {
     );
 }
 
-// The smallest and the greatest XKEY: the next is w + 1, and w. The words are from SHA-1's compression in
-// Python, which gives both published streams too.
+// The smallest and the greatest XKEY: the next is w + 1, and w. The words come from SHA-1's compression in
+// Python, which also gives both published streams.
 #[test]
 fn next_xkey_is_one_plus_xkey_plus_the_word(rt: HostRuntime) {
     let cases = [
