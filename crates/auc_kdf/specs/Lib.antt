@@ -1,2 +1,2 @@
 pub mod Prime
-pub mod Seed
+pub mod Inner

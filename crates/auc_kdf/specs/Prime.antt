@@ -1,21 +1,18 @@
 -- The keys of EAP-AKA' (RFC 9048 §3) on lists of bytes.
-use Rattle.std.specs.Prelude.{ℕ, zero, suc, ◌+◌, ◌/◌, List, [], ◌∷◌, ◌++◌, length, take, drop, codes}
+use Rattle.std.specs.Prelude.{ℕ, zero, suc, ◌+◌, ◌/◌, List, [], ◌∷◌, ◌++◌, length, take, codes}
 use Rattle.std.specs.Int.{w16, to_be_bytes}
 use Rattle.auc_hmac.specs.Hmac.{hmac_sha256}
 use Rattle.auc_hmac.specs.declared.keys.KeySet.{KeySet}
 use Rattle.auc_hmac.specs.declared.keys.Pair.{Pair}
+use Rattle.auc_hmac.specs.Piece.{piece}
 
--- `count` bytes, from byte `from` on
-abbrev pub piece : ℕ → ℕ → List ℕ → List ℕ
-piece from count bytes = take count (drop from bytes)
-
--- FC | name | length of the name | SQN XOR AK | length of that, where FC is 0x20 and a length has 2 bytes
--- (TS 33.402 Annex A.2)
+-- FC | name | length of name | SQN XOR AK | length of SQN XOR AK, where FC is 0x20 and each length has 2
+-- bytes (TS 33.402 Annex A.2)
 abbrev pub primed_input : List ℕ → List ℕ → List ℕ
 primed_input name sqn_xor_ak =
     0x20 ∷ name ++ to_be_bytes w16 (length name) ++ sqn_xor_ak ++ to_be_bytes w16 6
 
--- CK' | IK' = HMAC-SHA-256(CK | IK, that) (TS 33.402 Annex A.2)
+-- CK' | IK' = HMAC-SHA-256(CK | IK, S), where S is that input (TS 33.402 Annex A.2)
 abbrev pub primed_ck_ik : List ℕ → List ℕ → List ℕ → List ℕ → List ℕ
 primed_ck_ik ck ik name sqn_xor_ak = hmac_sha256 (ck ++ ik) (primed_input name sqn_xor_ak)
 
@@ -34,12 +31,12 @@ abbrev pub prf : ℕ → List ℕ → List ℕ → List ℕ
 prf count key seed = take count (prf_blocks key seed ((count + 31) / 32))
 
 -- MK = PRF'(IK' | CK', "EAP-AKA'" | Identity) (RFC 9048 §3.3)
-abbrev pub master_key : List ℕ → List ℕ → List ℕ → List ℕ
-master_key identity ik ck = prf 208 (ik ++ ck) (codes "EAP-AKA'" ++ identity)
+abbrev pub prime_mk : List ℕ → List ℕ → List ℕ → List ℕ
+prime_mk identity ik ck = prf 208 (ik ++ ck) (codes "EAP-AKA'" ++ identity)
 
--- the keys that MK is cut into: 128, 256, 256, 512 and 512 bits (RFC 9048 §3.3)
-abbrev pub key_set : List ℕ → KeySet
-key_set mk = record {
+-- the keys that MK is cut into: of 16, 32, 32, 64 and 64 bytes (RFC 9048 §3.3)
+abbrev pub prime_key_set : List ℕ → KeySet
+prime_key_set mk = record {
   k_encr = piece 0 16 mk;
   k_aut = piece 16 32 mk;
   k_re = piece 48 32 mk;
@@ -48,10 +45,10 @@ key_set mk = record {
 }
 
 -- MK = PRF'(K_re, "EAP-AKA' re-auth" | Identity | counter | NONCE_S) (RFC 9048 §3.3)
-abbrev pub reauth_key : List ℕ → ℕ → List ℕ → List ℕ → List ℕ
-reauth_key identity counter nonce k_re =
+abbrev pub prime_reauth_mk : List ℕ → ℕ → List ℕ → List ℕ → List ℕ
+prime_reauth_mk identity counter nonce k_re =
     prf 128 k_re (codes "EAP-AKA' re-auth" ++ identity ++ to_be_bytes w16 counter ++ nonce)
 
--- the keys that it is cut into: 512 bits and 512 bits (RFC 9048 §3.3)
-abbrev pub key_pair : List ℕ → Pair
-key_pair mk = record { msk = piece 0 64 mk; emsk = piece 64 64 mk }
+-- the keys that this MK is cut into, of 64 bytes each (RFC 9048 §3.3)
+abbrev pub prime_key_pair : List ℕ → Pair
+prime_key_pair mk = record { msk = piece 0 64 mk; emsk = piece 64 64 mk }

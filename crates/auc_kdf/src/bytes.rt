@@ -1,9 +1,8 @@
-//! Strings of bytes that are joined and cut.
+//! Strings of bytes that are joined.
 
-ghost use Rattle.std.specs.Prelude.{◌≡◌, ◌≤◌, ◌+◌, ◌++◌, length};
-ghost use Rattle.auc_kdf.specs.Prime.{piece};
+ghost use Rattle.std.specs.Prelude.{◌≡◌, ◌++◌};
 
-// Two keys, one behind the other.
+// Two keys, one after the other.
 pub(crate) fn joined(front: [u8; 16], back: [u8; 16]) -> [u8; 32]
     ensures { result ≡ front ++ back }
 {
@@ -11,14 +10,4 @@ pub(crate) fn joined(front: [u8; 16], back: [u8; 16]) -> [u8; 32]
     both[..16].copy_from_slice(&front);
     both[16..].copy_from_slice(&back);
     both
-}
-
-// `N` bytes, from byte `from` on.
-pub(crate) fn piece<const N: usize>(bytes: &[u8], from: usize) -> [u8; N]
-    requires { from + N ≤ length bytes.now }
-    ensures { result ≡ piece from N bytes.now }
-{
-    let mut out = [0; N];
-    out.copy_from_slice(&bytes[from..from + N]);
-    out
 }

@@ -1,16 +1,16 @@
 //! The keys of a full authentication.
 
-ghost use Rattle.std.specs.Prelude.{◌≡◌, ◌≤◌, length};
-ghost use Rattle.auc_kdf.specs.Prime.{key_set, master_key};
+ghost use Rattle.std.specs.Prelude.{◌≡◌};
+ghost use Rattle.auc_kdf.specs.Prime.{prime_key_set, prime_mk};
 
-use crate::bytes::{joined, piece};
+use crate::bytes::joined;
 use crate::prf::{Seed, write_blocks};
-use auc_hmac::KeySet;
+use auc_hmac::{KeySet, piece_of};
 
-/// The keys of a full authentication, from the primed IK and CK and the identity that the peer sent
-/// last (RFC 9048 §3.3).
+/// The keys of a full authentication, from the identity that the peer sent last, IK' and CK'
+/// (RFC 9048 §3.3).
 pub fn prime_keys(identity: &[u8], ik: [u8; 16], ck: [u8; 16]) -> KeySet
-    ensures { result ≡ key_set (master_key identity.now ik ck) }
+    ensures { result ≡ prime_key_set (prime_mk identity.now ik ck) }
 {
     let seed = Seed {
         label: b"EAP-AKA'",
@@ -19,18 +19,18 @@ pub fn prime_keys(identity: &[u8], ik: [u8; 16], ck: [u8; 16]) -> KeySet
     };
     let mut blocks = [0; 224];
     write_blocks(&joined(ik, ck), &seed, &mut blocks);
-    cut(&piece(&blocks, 0))
+    cut(&piece_of(&blocks, 0))
 }
 
 // The keys that MK is cut into.
 fn cut(mk: &[u8; 208]) -> KeySet
-    ensures { result ≡ key_set mk.now }
+    ensures { result ≡ prime_key_set mk.now }
 {
     KeySet {
-        k_encr: piece(mk, 0),
-        k_aut: piece(mk, 16),
-        k_re: piece(mk, 48),
-        msk: piece(mk, 80),
-        emsk: piece(mk, 144),
+        k_encr: piece_of(mk, 0),
+        k_aut: piece_of(mk, 16),
+        k_re: piece_of(mk, 48),
+        msk: piece_of(mk, 80),
+        emsk: piece_of(mk, 144),
     }
 }

@@ -1,9 +1,9 @@
 //! The keys of EAP-AKA' (RFC 9048 §3).
 //!
-//! [`prime_ck_ik`] makes CK' and IK' for one access network (TS 33.402 Annex A.2), [`prime_keys`] all
-//! keys of a full authentication, and [`prime_reauth_keys`] those of a fast re-authentication. The
-//! latter two stand on PRF' (RFC 9048 §3.4.1), whose blocks are HMAC-SHA-256 that is fed in pieces.
-//! Contracts give each key as bytes of the RFC's MK. Nothing here takes memory, waits or fails.
+//! [`prime_ck_ik`] derives CK' and IK' for one access network (TS 33.402 Annex A.2), [`prime_keys`] all
+//! keys of a full authentication, and [`prime_reauth_keys`] those of a fast re-authentication. The last
+//! two use PRF' (RFC 9048 §3.4.1), whose blocks are HMAC-SHA-256. Contracts give each key as bytes of the
+//! RFC's MK. Nothing here takes memory, waits or fails.
 #![tactic(auto)]
 
 mod bytes;

@@ -3,14 +3,14 @@
 ghost use Rattle.std.specs.Prelude.{◌≡◌, ◌≤◌, ◌+◌, ◌/◌, ◌%◌, ◌++◌, ◌∷◌, [], length};
 ghost use Rattle.auc_hmac.specs.Hmac.{hmac_sha256};
 ghost use Rattle.auc_kdf.specs.Prime.{prf_blocks};
-ghost use Rattle.auc_kdf.specs.Seed.{seed_bytes};
+ghost use Rattle.auc_kdf.specs.Inner.{seed_bytes};
 
 use auc_hmac::HmacSha256;
 
 // The size of a block of PRF', which is a digest of SHA-256.
 const BLOCK: usize = 32;
 
-// The string that PRF' is seeded with, in pieces that follow one another.
+// The string S of PRF', in three consecutive pieces.
 #[derive(Clone, Copy)]
 pub(crate) struct Seed<'a> {
     pub(crate) label: &'a [u8],
@@ -18,7 +18,7 @@ pub(crate) struct Seed<'a> {
     pub(crate) freshness: &'a [u8],
 }
 
-// T1 | T2 | .., as many bytes as fit into `out`.
+// T1 | T2 | .., as many blocks as `out` holds.
 pub(crate) fn write_blocks(key: &[u8], seed: &Seed, out: &mut [u8])
     requires whole { length out.old % 32 ≡ 0 }
     requires few { length out.old ≤ 8160 }

@@ -1,17 +1,18 @@
 //! CK' and IK'.
 
 ghost use Rattle.std.specs.Prelude.{◌≡◌, ◌≤◌, length};
-ghost use Rattle.auc_kdf.specs.Prime.{piece, primed_ck_ik, primed_input};
 ghost use Rattle.auc_hmac.specs.Hmac.{hmac_sha256};
+ghost use Rattle.auc_hmac.specs.Piece.{piece};
+ghost use Rattle.auc_kdf.specs.Prime.{primed_ck_ik, primed_input};
 
-use crate::bytes::{joined, piece};
-use auc_hmac::HmacSha256;
+use crate::bytes::joined;
+use auc_hmac::{HmacSha256, piece_of};
 
-// What tells this key derivation from the others of TS 33.220 Annex B.2 (TS 33.402 Annex A.2).
+// The FC of this key derivation among those of TS 33.220 Annex B.2 (TS 33.402 Annex A.2).
 const FC: u8 = 0x20;
 
 /// CK' and IK', 16 bytes each, bound to the name of the access network (TS 33.402 Annex A.2, RFC 9048
-/// §3.3). The 6 bytes are SQN XOR AK as AUTN carries them.
+/// §3.3). `sqn_xor_ak` is the first 6 bytes of AUTN.
 pub fn prime_ck_ik(
     ck: [u8; 16],
     ik: [u8; 16],
@@ -23,7 +24,7 @@ pub fn prime_ck_ik(
     ensures ik { result.1 ≡ piece 16 16 (primed_ck_ik ck ik name.now sqn_xor_ak) }
 {
     let both = primed(&joined(ck, ik), name, sqn_xor_ak);
-    (piece(&both, 0), piece(&both, 16))
+    (piece_of(&both, 0), piece_of(&both, 16))
 }
 
 // CK' | IK' from CK | IK.

@@ -1,8 +1,8 @@
 use super::*;
 use auc_hmac::{KeySet, Pair};
 
-// RFC 5448 Appendix C, which RFC 9048 repeats: the inputs of test cases 1 and 2, which differ in the
-// network name alone.
+// RFC 5448 Appendix C, which RFC 9048 repeats: the inputs of test cases 1 and 2, which differ only in the
+// network name.
 const IDENTITY: &[u8] = b"0555444333222111";
 
 const CK: [u8; 16] = [

@@ -1,6 +1,6 @@
 use Rattle.std.proofs.Common.{◌≡◌, ◌+◌, refl, arith, rules}
 use Rattle.auc_kdf.specs.Prime.{prf_block, prf_blocks}
-use Rattle.auc_kdf.specs.Seed.{seed_bytes}
+use Rattle.auc_kdf.specs.Inner.{seed_bytes}
 use Rattle.auc_kdf.proofs.BlockLemmas.{prf_block_next, written_next, last_next}
 use Rattle.auc_kdf.proofs.prf.write_blocks.Goals as goal
 

@@ -1,7 +1,7 @@
 use Rattle.std.proofs.Common.{◌≡◌, ◌-◌, ◌*◌, take, length}
 use Rattle.std.specs.List.{between}
 use Rattle.auc_kdf.specs.Prime.{prf_block, prf_blocks}
-use Rattle.auc_kdf.specs.Seed.{seed_bytes}
+use Rattle.auc_kdf.specs.Inner.{seed_bytes}
 use Rattle.auc_kdf.proofs.prf.write_blocks.Given as goal
 
 -- the blocks so far are written, and the last of them ends them
