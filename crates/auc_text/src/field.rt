@@ -1,4 +1,4 @@
-//! What a word spells: decimal numbers, and octets by their hexadecimal digits.
+//! Words that are decimal numbers, or octets in hexadecimal digits.
 
 ghost use Rattle.std.specs.Prelude.{◌≡◌, ◌≤◌, length, IfSome, IsTrue};
 ghost use Rattle.std.specs.List.{AllPass, list_all};
@@ -9,8 +9,8 @@ ghost use Rattle.auc_text.specs.Field.{number_in, octets_in};
 
 use hex::FromHex;
 
-/// The number that a text of 1 to `digits` decimal digits is, leading zeros among them, or `None`
-/// where the text isn't such or the number is above `greatest`.
+/// The number that a text of 1 to `digits` decimal digits is, leading zeros included. It answers `None`
+/// for any other text, and if the number is above `greatest`.
 pub fn read_decimal(text: &[u8], digits: usize, greatest: u64) -> Option<u64>
     requires { digits ≤ 20 }
     ensures { result ≡ number_in digits greatest text.now }
@@ -34,7 +34,7 @@ pub fn are_digits(text: &[u8]) -> bool
     text.iter().all(|byte| byte.is_ascii_digit())
 }
 
-/// The number that at most 20 decimal digits are.
+/// The number of at most 20 decimal digits.
 fn value(text: &[u8]) -> u128
     requires short { length text.now ≤ 20 }
     requires digits { AllPass is_ascii_digit text.now }
@@ -47,7 +47,7 @@ fn value(text: &[u8]) -> u128
     number
 }
 
-/// The bytes that twice as many hexadecimal digits of either case are, or `None` for any other text.
+/// The `N` bytes that `2 * N` hexadecimal digits of either case are, or `None` for any other text.
 pub fn read_octets<const N: usize>(text: &[u8]) -> Option<[u8; N]>
     ensures value { result ≡ octets_in N text.now }
     ensures octets { IfSome result (λ octets. length octets ≡ N × IsBytes octets) }

@@ -7,7 +7,7 @@ ghost use Rattle.auc_text.specs.Text.{is_blank, lines_of, without_cr, words_of};
 use auc_edge::{NoMemory, Octets};
 use std::alloc::Global;
 
-/// The first line of a text without its end, and what stands behind that end, or `None` where the line
+/// The first line of a text without its ending, and the text after that ending, or `None` if the line
 /// is the last.
 pub fn next_line(text: &[u8]) -> (&[u8], Option<&[u8]>)
     ensures line { MatchOption result.1
@@ -21,7 +21,7 @@ pub fn next_line(text: &[u8]) -> (&[u8], Option<&[u8]>)
     }
 }
 
-/// What stands before the first LF and what behind it, or `None` where there is none.
+/// The text before the first LF and the text after it, or `None` if there is no LF.
 fn cut(text: &[u8]) -> Option<(&[u8], &[u8])>
     ensures cut { MatchOption result
         (slice_split (λ byte. byte == 10) text.now ≡ text.now ∷ [])
@@ -51,7 +51,7 @@ fn without_cr(line: &[u8]) -> &[u8]
     &line[..line.len() - 1]
 }
 
-/// The first word of a text and what stands behind it, or `None` where there is none.
+/// The first word of a text and the text after it, or `None` if there is no word.
 pub fn next_word(text: &[u8]) -> Option<(&[u8], &[u8])>
     ensures word { MatchOption result
         (words_of text.now ≡ [])
@@ -102,7 +102,7 @@ pub fn word_count(text: &[u8]) -> usize
     count
 }
 
-/// The words of a text with one space between each two.
+/// The words of a text, with one space between each two.
 pub fn joined(alloc: Global, text: &[u8]) -> Result<Octets, NoMemory>
     ensures { IfOk result (λ line. line ≡ join_with_byte 32 (words_of text.now)) }
 {
