@@ -1,6 +1,6 @@
 //! Strings of bytes.
 
-ghost use Rattle.std.specs.Prelude.{◌≡◌, ◌++◌, length, IfOk, OnOk, OnErr, IsTrue, ◌↔◌, []};
+ghost use Rattle.std.specs.Prelude.{◌≡◌, ◌++◌, length, take, IfOk, OnOk, OnErr, IsTrue, ◌↔◌, []};
 ghost use Rattle.auc_edge.specs.Reserved.{Reserved};
 ghost use Rattle.std.specs.Fmt.{decimal};
 
@@ -93,5 +93,12 @@ impl Octets {
     {
         let text = number.to_string(*self.bytes.allocator())?;
         self.append(text.as_bytes())
+    }
+
+    /// Drops all but the first `count` bytes. If there are fewer, all stay.
+    pub fn truncate(&mut self, count: usize)
+        ensures { self.new ≡ take count self.old }
+    {
+        self.bytes.truncate(count);
     }
 }
