@@ -3,7 +3,8 @@ use Rattle.std.proofs.Common.{◌≡◌, ℕ, ◌+◌, ◌-◌, ◌≤◌, List,
 use Rattle.std.proofs.lemmas.List.{length-take-le}
 use Rattle.std.proofs.Math.Seq.{take-append-add}
 use Rattle.auc_attr.specs.Frame.{length_of}
-use Rattle.auc_seal.specs.Mac.{with_block, no_mac, mac_input}
+use Rattle.auc_aes.specs.Bytes.{with_block}
+use Rattle.auc_seal.specs.Mac.{no_mac, mac_input}
 
 -- as many bytes as a front has, and some of those behind it
 take_behind : (front rest : List ℕ) (n m : ℕ) → m ≡ length front + n → take m (front ++ rest) ≡ front ++ take n rest

@@ -17,7 +17,8 @@ use Rattle.auc_attr.specs.Frame.{Frame, Ended, Named, Message, length_of, frame_
 use Rattle.auc_attr.specs.Mac.{mac_from, mac_of, IsMacIn, IsMacOf, IsMacPlace}
 use Rattle.auc_attr.proofs.Facts.{IsBytes, some_is, attr_size, mac_within, frame_again, found_is_framed}
 use Rattle.auc_hmac.specs.declared.method.Method.{Method}
-use Rattle.auc_seal.specs.Mac.{with_block, no_mac, mac_input, right_mac, mac_value, IsRight}
+use Rattle.auc_aes.specs.Bytes.{with_block}
+use Rattle.auc_seal.specs.Mac.{no_mac, mac_input, right_mac, mac_value, IsRight}
 use Rattle.auc_seal.specs.Mac as seal
 
 -- ---- a block set in bytes that have two parts

@@ -13,16 +13,17 @@ use Rattle.auc_seal.specs.declared.checkcode.Checkcode.{Checkcode}
 use Rattle.auc_seal.specs.declared.checkcode.Hasher.{Hasher}
 use Rattle.auc_seal.specs.declared.checkcode.Hasher.TheVariants as hashers
 
--- the method's hash of the packets, one behind the other
+-- the method's hash of bytes
 abbrev pub hash_of : Method → List ℕ → CheckValue
 hash_of methods.Aka bytes = values.Sha1 (sha1 bytes)
 hash_of methods.Prime bytes = values.Sha256 (sha256 bytes)
 
--- the value for packets: Empty where there is none
+-- the value for packets: Empty if there is none, else the hash of their bytes in order
 abbrev pub checkcode_of : Method → List (List ℕ) → CheckValue
 checkcode_of method [] = values.Empty
 checkcode_of method (packet ∷ packets) = hash_of method (concat (packet ∷ packets))
 
+-- whether there is no packet
 abbrev pub is_none : List (List ℕ) → Bool
 is_none [] = true
 is_none (packet ∷ packets) = false
@@ -32,7 +33,7 @@ abbrev pub HoldsBytes : Hasher → Method → List ℕ → Type 0
 HoldsBytes (hashers.Sha1 hasher) method bytes = (method ≡ methods.Aka) × One.Holds hasher bytes
 HoldsBytes (hashers.Sha256 hasher) method bytes = (method ≡ methods.Prime) × Holds256 hasher bytes
 
--- the checkcode was begun for this method and was given these packets
+-- the checkcode is of this method, and was given these packets
 pub record HoldsPackets (code : Checkcode) (method : Method) (packets : List (List ℕ)) : Type 0 where
   pub hashed : HoldsBytes code.hasher method (concat packets)
   pub counted : code.is_empty ≡ is_none packets

@@ -1,5 +1,5 @@
 -- Encrypted attributes (RFC 4187 §10.12): the spelling of a list of attributes, padded to whole blocks and
--- encrypted by AES-128 in CBC mode under K_encr. AT_IV has the initialisation vector, AT_ENCR_DATA the
+-- encrypted by AES-128 in CBC mode under K_encr. AT_IV carries the initialisation vector, AT_ENCR_DATA the
 -- ciphertext.
 use Rattle.std.specs.Prelude.{◌≡◌, ◌≢◌, ℕ, ◌-◌, ◌%◌, ◌≤◌, ◌==◌, nat_lt, Bool, true, false, not, ◌&&◌, if◌then◌else◌, List, [], ◌∷◌, ◌++◌, length, replicate, Option, Some, None, Result, Ok, Err}
 use Rattle.std.specs.List.{filter, list_any}
@@ -14,6 +14,7 @@ use Rattle.auc_attr.specs.Spelling.{writable, spelling}
 use Rattle.auc_seal.specs.declared.refusal.SealRefusal.{SealRefusal}
 use Rattle.auc_seal.specs.declared.refusal.SealRefusal.TheVariants as refusal
 
+-- whether an attribute is AT_PADDING
 abbrev pub is_padding : Attr → Bool
 is_padding (attr.Padding v) = true
 is_padding _ = false
@@ -28,7 +29,7 @@ abbrev pub data_of : Attr → Option (List ℕ)
 data_of (attr.EncrData v) = Some v
 data_of _ = None
 
--- the first of such values in a list
+-- the first such value in a list
 abbrev pub first_value : (Attr → Option (List ℕ)) → List Attr → Option (List ℕ)
 first_value value [] = None
 first_value value (a ∷ list) = option_or (value a) (first_value value list)
@@ -39,11 +40,11 @@ first_value value (a ∷ list) = option_or (value a) (first_value value list)
 abbrev pub missing : ℕ → ℕ
 missing n = (16 - n % 16) % 16
 
--- AT_PADDING whose type, length and zeros fill n bytes to a multiple of 16, or none where none is missing
+-- AT_PADDING that fills n bytes up to a multiple of 16 with its type, length and zeros, or nothing if n is one
 abbrev pub padding_for : ℕ → List Attr
 padding_for n = if missing n == 0 then [] else attr.Padding (replicate (missing n - 2) 0) ∷ []
 
--- a list and its padding, which stands last
+-- a list, followed by its padding
 abbrev pub padded : List Attr → List Attr
 padded inner = inner ++ padding_for (length (spelling inner))
 
@@ -51,31 +52,32 @@ padded inner = inner ++ padding_for (length (spelling inner))
 abbrev pub encrypted : List ℕ → List ℕ → List Attr → List Attr
 encrypted k_encr iv inner = attr.Iv iv ∷ attr.EncrData (cbc_encrypted k_encr iv (spelling (padded inner))) ∷ []
 
--- what may be encrypted: attributes that may be written, at least one and none of them padding, in at most
--- 992 bytes
+-- the lists that may be encrypted: they have a spelling of at most 992 bytes, at least one attribute and no
+-- padding
 pub record MayBeEncrypted (inner : List Attr) : Type 0 where
   pub some : inner ≢ []
   pub writable : writable inner ≡ true
   pub unpadded : list_any is_padding inner ≡ false
   pub size : length (spelling inner) ≤ 992
 
--- a list in which no attributes are encrypted
+-- a list without AT_IV and AT_ENCR_DATA
 pub record HasNoneEncrypted (list : List Attr) : Type 0 where
   pub iv : first_value iv_of list ≡ None
   pub ciphertext : first_value data_of list ≡ None
 
 -- ---- decryption
 
--- a ciphertext is some whole blocks
+-- a ciphertext is one or more whole blocks
 abbrev pub is_ciphertext : List ℕ → Bool
 is_ciphertext bytes = nat_lt 0 (length bytes) && (length bytes % 16 == 0)
 
+-- the bytes that a ciphertext and an initialisation vector give, if the list has them
 abbrev pub bytes_under : List ℕ → Option (List ℕ) → Option (List ℕ) → Result (List ℕ) SealRefusal
 bytes_under k_encr None iv = Ok []
 bytes_under k_encr (Some ciphertext) None = Err refusal.NoIv
 bytes_under k_encr (Some ciphertext) (Some iv) = if is_ciphertext ciphertext then Ok (cbc_decrypted k_encr iv ciphertext) else Err refusal.BadSize
 
--- the bytes that a list has encrypted, which are none where it has no AT_ENCR_DATA
+-- the decrypted bytes of a list; there are none if it has no AT_ENCR_DATA
 abbrev pub decrypted_bytes : List ℕ → List Attr → Result (List ℕ) SealRefusal
 decrypted_bytes k_encr list = bytes_under k_encr (first_value data_of list) (first_value iv_of list)
 
@@ -83,7 +85,7 @@ decrypted_bytes k_encr list = bytes_under k_encr (first_value data_of list) (fir
 abbrev pub without_padding : List Attr → List Attr
 without_padding list = filter (λ a. not (is_padding a)) list
 
--- the bytes that a list has encrypted are these attributes and padding
+-- the decrypted bytes of a list are these attributes and padding
 pub record IsDecrypted (k_encr : List ℕ) (list inner : List Attr) : Type 0 where
   pub bytes : List ℕ
   pub plain : decrypted_bytes k_encr list ≡ Ok bytes
@@ -91,14 +93,14 @@ pub record IsDecrypted (k_encr : List ℕ) (list inner : List Attr) : Type 0 whe
   pub reads : ReadsAttrs bytes whole
   pub rest : inner ≡ without_padding whole
 
--- the bytes that a list has encrypted have this first fault
+-- the decrypted bytes of a list have this first fault
 pub record IsFaulty (k_encr : List ℕ) (list : List Attr) (fault : AttrRefusal) : Type 0 where
   pub bytes : List ℕ
   pub plain : decrypted_bytes k_encr list ≡ Ok bytes
   pub a_fault : fault ≢ attr_refusal.NoMemory
   pub first : FirstFault bytes fault
 
--- what decryption answers; want of memory is no fault of the list
+-- what decryption answers; running out of memory is no fault of the list
 abbrev pub Decrypts : List ℕ → List Attr → Result (List Attr) SealRefusal → Type 0
 Decrypts k_encr list (Ok inner) = IsDecrypted k_encr list inner
 Decrypts k_encr list (Err refusal.NoIv) = decrypted_bytes k_encr list ≡ Err refusal.NoIv

@@ -20,19 +20,20 @@ abbrev pub has_values : Result (List Attr) SealRefusal → Bool
 has_values (Ok list) = list_all is_value list
 has_values (Err refused) = true
 
--- the decryption of a list has one answer but for want of memory
+-- the decryption of a list has one answer, unless memory runs out
 abbrev pub OneDecryption : Type 0
 OneDecryption =
     (k_encr : List ℕ) (list : List Attr) (a b : Result (List Attr) SealRefusal) → a ≢ Err refusal.NoMemory → b ≢ Err refusal.NoMemory
     → has_values a ≡ true → has_values b ≡ true → Decrypts k_encr list a → Decrypts k_encr list b → a ≡ b
 
--- a list behind which another was encrypted decrypts to that other
+-- a list that is followed by the encryption of another decrypts to the other
 abbrev pub EncryptedIsDecrypted : Type 0
 EncryptedIsDecrypted =
     (k_encr iv : List ℕ) (inner out : List Attr) → IsBlock k_encr → IsBlock iv → MayBeEncrypted inner → AreBytes (spelling inner)
     → HasNoneEncrypted out → Decrypts k_encr (out ++ encrypted k_encr iv inner) (Ok inner)
 
--- it may be written where it could be before, in 24 bytes more than the padded list takes
+-- if the list could be written before, it can be written with the encryption, in 24 bytes more than the
+-- padded list takes
 abbrev pub EncryptedIsWritable : Type 0
 EncryptedIsWritable =
     (k_encr iv : List ℕ) (inner out : List Attr) → IsBlock k_encr → IsBlock iv → MayBeEncrypted inner → AreBytes (spelling inner)

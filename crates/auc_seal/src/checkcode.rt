@@ -13,15 +13,15 @@ use auc_hmac::Method;
 use sha1::Sha1;
 use sha2::{Digest, Sha256};
 
-/// The checkcode of the packets with Subtype AKA-Identity that were sent and received, in their order
-/// (RFC 4187 §10.13, RFC 9048 §3.4.3). Contracts see its method and the packets so far.
+/// The checkcode of the AKA-Identity packets that were sent and received, in order (RFC 4187 §10.13,
+/// RFC 9048 §3.4.3). Contracts see its method and the packets so far.
 #[derive(Drop)]
 pub struct Checkcode {
     hasher: Hasher,
     is_empty: bool,
 }
 
-// The hash of the method, under way.
+// The unfinished hash of the method.
 #[derive(Drop)]
 pub(crate) enum Hasher {
     Sha1(Sha1),
@@ -65,7 +65,7 @@ impl Checkcode {
         Ok(())
     }
 
-    /// The hash of all packets, one behind the other, or `Empty` where there was none.
+    /// The hash of all packets in order, or `Empty` if there was none.
     pub fn value(&self) -> CheckValue
         ensures { (method : Method) (packets : List (List ℕ)) → HoldsPackets self.now method packets
             → result ≡ checkcode_of method packets }

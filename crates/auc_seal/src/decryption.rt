@@ -1,4 +1,4 @@
-//! Attributes that are decrypted (RFC 4187 §10.12).
+//! Decryption of attributes (RFC 4187 §10.12).
 
 ghost use Rattle.std.specs.Prelude.{◌≡◌, ◌≢◌, ◌%◌, ℕ, List, Err, length, IfOk};
 ghost use Rattle.std.specs.Option.{option_copied};
@@ -14,8 +14,9 @@ use auc_attr::{Attr, AttrList, AttrRefusal, read_attrs};
 use auc_edge::{NoMemory, Octets};
 use std::alloc::Global;
 
-/// The attributes that a list has encrypted under K_encr, without their padding; none where it has no
-/// AT_ENCR_DATA. The refusals are tested in the order in which [`SealRefusal`] has them.
+/// Decrypts the AT_ENCR_DATA of a list under K_encr, and gives its attributes without their padding; none if
+/// the list has no AT_ENCR_DATA. If several refusals apply, the first in the order of [`SealRefusal`] is
+/// given.
 pub fn decrypt_attrs(
     alloc: Global,
     k_encr: [u8; 16],
@@ -51,6 +52,7 @@ fn first_data(list: &AttrList) -> Option<&Octets>
     None
 }
 
+/// The value of an AT_ENCR_DATA.
 fn data_of(attr: &Attr) -> Option<&Octets>
     ensures { option_copied result ≡ data_of attr.now }
 {
@@ -72,6 +74,7 @@ fn first_iv(list: &AttrList) -> Option<[u8; 16]>
     None
 }
 
+/// The value of an AT_IV.
 fn iv_of(attr: &Attr) -> Option<[u8; 16]>
     ensures { result ≡ iv_of attr.now }
 {
@@ -81,7 +84,7 @@ fn iv_of(attr: &Attr) -> Option<[u8; 16]>
     }
 }
 
-/// Whether bytes are some whole blocks.
+/// Whether bytes are one or more whole blocks.
 fn is_ciphertext(bytes: &[u8]) -> bool
     ensures { result ≡ is_ciphertext bytes.now }
 {
@@ -103,7 +106,7 @@ fn decrypted(
     Ok(bytes)
 }
 
-/// The refusal of a list whose decrypted bytes have a fault.
+/// The refusal for a fault of the decrypted bytes.
 fn refusal_of(fault: AttrRefusal) -> SealRefusal
     ensures { (k_encr : List ℕ) (list : List Attr) → (fault ≢ attr_refusal.NoMemory → IsFaulty k_encr list fault) → Decrypts k_encr list (Err result) }
 {

@@ -1,4 +1,4 @@
-//! Attributes that are encrypted (RFC 4187 §10.12).
+//! Encryption of attributes (RFC 4187 §10.12).
 
 ghost use Rattle.std.specs.Prelude.{◌≡◌, ◌%◌, ◌≤◌, ◌↔◌, ◌++◌, true, IsTrue, List, length, Ok, IfOk, OnOk, OnErr};
 ghost use Rattle.auc_aes.specs.Bytes.{IsBlock};
@@ -16,11 +16,11 @@ use auc_edge::{NoMemory, Octets, Places, Room};
 use std::alloc::Global;
 use std::marker::Model;
 
-/// The most bytes that attributes have which are encrypted.
+/// The greatest size of a spelling that is encrypted, in bytes.
 const MOST: usize = 992;
 
-/// Memory that is taken before attributes are encrypted, enough for any that may be. It has no value that
-/// contracts see.
+/// Memory for one encryption, taken before it; enough for all attributes that may be encrypted. Contracts see
+/// no value of it.
 #[derive(Drop)]
 pub struct EncryptionRoom {
     plain: Room,
@@ -28,7 +28,7 @@ pub struct EncryptionRoom {
 }
 
 impl Model for EncryptionRoom {
-    ghost use Rattle.auc_seal.specs.Room.{IsFresh};
+    ghost use Rattle.auc_seal.specs.Inner.{IsFresh};
 
     ghost Value = { Unit {0} };
 
@@ -38,7 +38,7 @@ impl Model for EncryptionRoom {
 }
 
 impl EncryptionRoom {
-    /// Memory for the attributes and for what they are encrypted to.
+    /// Memory for the attributes and for their ciphertext.
     pub fn new(alloc: Global) -> Result<EncryptionRoom, NoMemory> {
         Ok(EncryptionRoom {
             plain: Room::new(alloc, MOST)?,
@@ -47,14 +47,15 @@ impl EncryptionRoom {
     }
 }
 
-/// Whether attributes may be encrypted: there is at least one, none is padding, and they may be written, in at
-/// most 992 bytes.
+/// Whether attributes may be encrypted: there is at least one, none is padding, and they have a spelling of
+/// at most 992 bytes.
 pub fn may_be_encrypted(inner: &AttrList) -> bool
     ensures { IsTrue result ↔ MayBeEncrypted inner.now }
 {
     inner.len() > 0 && !has_padding(inner) && inner.writable() && is_short(inner)
 }
 
+/// Whether a spelling has at most 992 bytes.
 fn is_short(inner: &AttrList) -> bool
     requires { writable inner.now ≡ true }
     ensures { IsTrue result ↔ (length (spelling inner.now) ≤ 992) }
@@ -65,9 +66,9 @@ fn is_short(inner: &AttrList) -> bool
     }
 }
 
-/// Encrypts attributes under K_encr and pushes AT_IV and AT_ENCR_DATA. Where the spelling of `inner` is no
-/// multiple of 16 bytes, AT_PADDING of 4, 8 or 12 bytes behind it fills it to one. Want of memory leaves
-/// `out` as it was.
+/// Encrypts attributes under K_encr and pushes AT_IV and AT_ENCR_DATA. If the spelling of `inner` is no
+/// multiple of 16 bytes, it is filled up to one by AT_PADDING of 4, 8 or 12 bytes. If memory runs out,
+/// `out` stays as it was.
 pub fn encrypt_attrs(
     alloc: Global,
     k_encr: [u8; 16],
@@ -83,7 +84,7 @@ pub fn encrypt_attrs(
     ensures kept { OnErr result (out.new ≡ out.old) }
 {
     let room = EncryptionRoom::new(alloc)?;
-    // A copy gets the two, so that the list gets both or none.
+    // A copy is extended, so that `out` gets both attributes or none.
     let mut list = copied(alloc, out)?;
     list.push(Attr::Iv(iv))?;
     list.push(Attr::EncrData(encrypted_data(k_encr, iv, inner, room)))?;
@@ -91,7 +92,7 @@ pub fn encrypt_attrs(
     Ok(())
 }
 
-/// Encrypts attributes as `encrypt_attrs` does, into memory and places that were taken before.
+/// Encrypts attributes as `encrypt_attrs` does, in memory and places that were taken before.
 pub fn put_encrypted(
     k_encr: [u8; 16],
     iv: [u8; 16],
@@ -136,8 +137,8 @@ fn put_padded(inner: &AttrList, room: &mut Room)
     room.put(padding_for(size_of(inner)));
 }
 
-/// Writes the ciphertext of whole blocks. The last three clauses say what is known of bytes, for the law that
-/// decryption undoes encryption.
+/// Writes the ciphertext of whole blocks. The last three clauses say that arguments are bytes, as the law that
+/// decryption undoes encryption requires.
 fn put_ciphertext(k_encr: [u8; 16], iv: [u8; 16], plain: &[u8], room: &mut Room)
     requires whole { length plain.now % 16 ≡ 0 }
     requires small { length plain.now ≤ 992 }
@@ -154,7 +155,7 @@ fn put_ciphertext(k_encr: [u8; 16], iv: [u8; 16], plain: &[u8], room: &mut Room)
     room.put(blocks);
 }
 
-/// How many bytes attributes take.
+/// The size of the spelling of attributes, in bytes.
 fn size_of(inner: &AttrList) -> usize
     requires { MayBeEncrypted inner.now }
     ensures { result ≡ length (spelling inner.now) }
@@ -165,7 +166,7 @@ fn size_of(inner: &AttrList) -> usize
     }
 }
 
-/// The spelling of the padding for so many bytes.
+/// The spelling of the padding after `size` bytes.
 fn padding_for(size: usize) -> &'static [u8]
     requires { size % 4 ≡ 0 }
     ensures { result.now ≡ spelling (padding_for size) }

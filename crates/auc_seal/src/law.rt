@@ -7,19 +7,19 @@ pub fn values_of_the_mac_have_one_place()
     ensures { OnePlace }
 {}
 
-/// The decryption of a list has one answer, but for want of memory.
+/// The decryption of a list has one answer, unless memory runs out.
 pub fn decryption_has_one_answer()
     ensures { OneDecryption }
 {}
 
-/// Under any key and initialisation vector, a list behind which attributes were encrypted decrypts to those
-/// attributes.
+/// Under any key and initialisation vector, decryption gives back the attributes that were encrypted and
+/// pushed.
 pub fn encrypted_attributes_are_decrypted()
     ensures { EncryptedIsDecrypted }
 {}
 
-/// A list that may be written may be written with the encrypted attributes behind it, in 24 bytes more than
-/// those take with their padding.
+/// A list that can be written can still be written after encrypted attributes were pushed; these take 24
+/// bytes more than the attributes with their padding.
 pub fn encrypted_attributes_may_be_written()
     ensures { EncryptedIsWritable }
 {}

@@ -1,14 +1,14 @@
-//! What makes the packets of EAP-AKA (RFC 4187 §10.13 and §10.15) and EAP-AKA' (RFC 9048 §3.4) authentic, and
-//! their encrypted attributes (RFC 4187 §10.12).
+//! Authentication of the packets of EAP-AKA (RFC 4187 §10.13 and §10.15) and EAP-AKA' (RFC 9048 §3.4), and
+//! encryption of attributes (RFC 4187 §10.12).
 //!
 //! [`seal_mac`] sets the value of a packet's AT_MAC, [`check_mac`] tells whether it is right. A
-//! [`Checkcode`] hashes the packets of the AKA-Identity rounds in their order. [`encrypt_attrs`] encrypts
-//! attributes, [`put_encrypted`] does the same into memory that was taken before, and [`decrypt_attrs`]
-//! gives them back.
+//! [`Checkcode`] hashes the packets of the AKA-Identity rounds in order. [`encrypt_attrs`] encrypts
+//! attributes, [`put_encrypted`] does so in memory that was taken before, and [`decrypt_attrs`] decrypts
+//! them.
 //!
-//! Contracts see a packet as the list of its bytes, and a `Checkcode` through the method that it was begun
-//! for and the packets that it was given. An [`EncryptionRoom`] has nothing that they see.
-//! `encrypt_attrs`, `decrypt_attrs` and `EncryptionRoom::new` alone take memory, and nothing waits.
+//! Contracts see a packet as the list of its bytes, and a `Checkcode` as its method and the packets that it
+//! was given. They see nothing of an [`EncryptionRoom`]. Only `encrypt_attrs`, `decrypt_attrs` and
+//! `EncryptionRoom::new` take memory, and nothing waits.
 #![tactic(auto)]
 
 mod checkcode;

@@ -1,29 +1,31 @@
 //! The message authentication code of a packet.
 
-ghost use Rattle.std.specs.Prelude.{◌≡◌, ℕ, ◌+◌, ◌≤◌, length, take, drop, Some};
+ghost use Rattle.std.specs.Prelude.{◌≡◌, ℕ, ◌+◌, ◌≤◌, length, take, Some};
+ghost use Rattle.auc_aes.specs.Bytes.{with_block};
 ghost use Rattle.auc_attr.specs.Frame.{length_of};
 ghost use Rattle.auc_attr.specs.Laws.{AreBytes};
 ghost use Rattle.auc_attr.specs.Mac.{IsMacPlace};
 ghost use Rattle.auc_hmac.specs.Hmac.{hmac_sha1, hmac_sha256};
-ghost use Rattle.auc_seal.specs.Mac.{with_block, right_mac, IsRight, Checks};
-ghost use Rattle.auc_seal.specs.Pieces.{input_bytes};
+ghost use Rattle.auc_seal.specs.Inner.{input_bytes};
+ghost use Rattle.auc_seal.specs.Mac.{right_mac, IsRight, Checks};
 
+use auc_aes::{block_at, put_block};
 use auc_attr::mac_place;
 use auc_hmac::{HmacSha1, HmacSha256, Method};
 
-/// What a check of a packet's message authentication code finds.
+/// The result of checking a packet's message authentication code.
 #[derive(Clone, Copy, Debug, PartialEq, Eq)]
 pub enum Mac {
-    /// The value is the right one.
+    /// The value is right.
     Right,
-    /// The value is another one.
+    /// The value isn't right.
     Wrong,
-    /// The bytes have a fault, or the packet has no AT_MAC.
+    /// The bytes have a fault or no AT_MAC.
     Absent,
 }
 
-// What is authenticated, in pieces that follow one another: a packet up to the value of its AT_MAC, what
-// counts as the value, the packet behind it, and what else is authenticated.
+// What is authenticated, in consecutive pieces: the packet up to the value of its AT_MAC, 16 bytes in place
+// of the value, the packet after it, and further bytes.
 #[derive(Clone, Copy)]
 pub(crate) struct Pieces<'a> {
     pub(crate) front: &'a [u8],
@@ -32,9 +34,10 @@ pub(crate) struct Pieces<'a> {
     pub(crate) extra: &'a [u8],
 }
 
-/// Checks the value of a packet's AT_MAC (RFC 4187 §10.15, RFC 9048 §3.4.2): the first 16 bytes of the
-/// method's HMAC of the packet, the value zero, and of `extra`. Bytes past Length are left out. EAP-AKA
-/// takes the first 16 bytes of `k_aut`, EAP-AKA' all 32. Takes no memory.
+/// Checks the value of a packet's AT_MAC (RFC 4187 §10.15, RFC 9048 §3.4.2). The right value is the first 16
+/// bytes of the method's HMAC over the packet, with the value zero, followed by `extra`. Bytes past Length
+/// don't count. The key of EAP-AKA is the first 16 bytes of `k_aut`, that of EAP-AKA' all 32. Takes no
+/// memory.
 pub fn check_mac(method: Method, k_aut: &[u8; 32], packet: &[u8], extra: &[u8]) -> Mac
     ensures { Checks method k_aut.now packet.now extra.now result }
 {
@@ -63,7 +66,7 @@ pub fn seal_mac(method: Method, k_aut: &[u8; 32], packet: &mut [u8], extra: &[u8
     }
 }
 
-// The value that is right for a packet. The clause `bytes` is for a caller that then changes the packet.
+// The right value for a packet. The clause `bytes` is for a caller that then changes the packet.
 fn right_mac(
     method: Method,
     k_aut: &[u8; 32],
@@ -112,28 +115,10 @@ fn mac_prime(key: &[u8], pieces: &Pieces) -> [u8; 16]
     block_at(&mac.finish(), 0)
 }
 
-// The bytes that a packet says that it has.
+// How many bytes a packet has by its Length.
 fn length_of(packet: &[u8]) -> usize
     requires { 4 ≤ length packet.now }
     ensures { result ≡ length_of packet.now }
 {
     u16::from_be_bytes([packet[2], packet[3]]) as usize
-}
-
-// The 16 bytes that begin at `place`.
-fn block_at(bytes: &[u8], place: usize) -> [u8; 16]
-    requires { place + 16 ≤ length bytes.now }
-    ensures { result ≡ take 16 (drop place bytes.now) }
-{
-    let mut block = [0; 16];
-    block.copy_from_slice(&bytes[place..place + 16]);
-    block
-}
-
-// Sets the 16 bytes that begin at `place`.
-fn put_block(bytes: &mut [u8], place: usize, block: [u8; 16])
-    requires { place + 16 ≤ length bytes.old }
-    ensures { bytes.new ≡ with_block bytes.old place block }
-{
-    bytes[place..place + 16].copy_from_slice(&block);
 }

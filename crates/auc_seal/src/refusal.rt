@@ -1,4 +1,4 @@
-//! Why encrypted attributes aren't decrypted.
+//! Refusals of decryption.
 
 ghost use Rattle.std.specs.Prelude.{◌≡◌};
 ghost use Rattle.auc_seal.specs.declared.refusal.SealRefusal.TheVariants as refusal;
@@ -9,13 +9,13 @@ use auc_edge::NoMemory;
 /// Why encrypted attributes (RFC 4187 §10.12) aren't decrypted.
 #[derive(Clone, Copy, Debug, PartialEq, Eq)]
 pub enum SealRefusal {
-    /// There is AT_ENCR_DATA and no AT_IV.
+    /// The list has AT_ENCR_DATA and no AT_IV.
     NoIv,
-    /// The encrypted data is empty, or no multiple of 16 bytes.
+    /// The size of the ciphertext is zero, or no multiple of 16 bytes.
     BadSize,
     /// The decrypted bytes have this fault, which isn't `NoMemory`.
     Attr(AttrRefusal),
-    /// Memory was wanted and was not to be had.
+    /// Memory ran out.
     NoMemory,
 }
 

@@ -13,7 +13,7 @@ fn k_aut() -> [u8; 32] {
     key
 }
 
-// A Challenge response of EAP-AKA with the RES a54211d5e3ba50bf and AT_MAC; of EAP-AKA' where the type is 50.
+// A Challenge response of EAP-AKA with the RES a54211d5e3ba50bf and AT_MAC; with type 50 it is of EAP-AKA'.
 const RESPONSE: [u8; 40] = [
     0x02, 0x07, 0x00, 0x28, 0x17, 0x01, 0x00, 0x00, 0x03, 0x03, 0x00, 0x40, 0xa5, 0x42, 0x11, 0xd5,
     0xe3, 0xba, 0x50, 0xbf, 0x0b, 0x05, 0x00, 0x00, 0x00, 0x00, 0x00, 0x00, 0x00, 0x00, 0x00, 0x00,
@@ -73,12 +73,15 @@ fn sealed_packets_have_the_mac_of_another_implementation(rt: HostRuntime) {
             Mac::Right,
             "of type {kind}"
         );
-        packet[24] ^= 1;
-        assert_eq!(rt;
-            check_mac(method, &k_aut(), &packet, &[]),
-            Mac::Wrong,
-            "of type {kind}"
-        );
+        for at in 24..40 {
+            let mut wrong = packet;
+            wrong[at] ^= 1;
+            assert_eq!(rt;
+                check_mac(method, &k_aut(), &wrong, &[]),
+                Mac::Wrong,
+                "of type {kind} at {at}"
+            );
+        }
     }
 }
 
@@ -123,7 +126,54 @@ fn nonce_is_authenticated_and_bytes_past_length_are_not(rt: HostRuntime) {
     }
 }
 
-// A packet without AT_MAC, and one whose AT_MAC says that it goes past the end (RFC 4187 §8.1 and §10.15).
+// AT_MAC, its value zero, and as many AT_KDF with the value 1 as fit into a packet of 65532 bytes, the greatest
+// multiple of 4 that Length can be.
+fn greatest_packet(rt: &HostRuntime, kind: u8) -> Result<Vec<u8>, Fail> {
+    let mut packet = Vec::new(rt.alloc());
+    for byte in [2, 7, 0xff, 0xfc, kind, 1, 0, 0, 11, 5, 0, 0] {
+        packet.push(byte)?;
+    }
+    for _ in 0..16 {
+        packet.push(0)?;
+    }
+    for _ in 0..16376 {
+        for byte in [24, 1, 0, 1] {
+            packet.push(byte)?;
+        }
+    }
+    Ok(packet)
+}
+
+// Python's `hmac`, as above.
+#[test]
+fn greatest_packet_has_the_mac_of_another_implementation(rt: HostRuntime) -> Result<(), Fail> {
+    let cases = [
+        (
+            Method::Aka,
+            23,
+            [
+                0x9d, 0x41, 0x01, 0xff, 0x43, 0x0b, 0x2f, 0xbc, 0xcd, 0x3b, 0x0d, 0x14, 0xba, 0x77,
+                0x50, 0xd6,
+            ],
+        ),
+        (
+            Method::Prime,
+            50,
+            [
+                0x45, 0xa5, 0x59, 0xc7, 0xd1, 0xe4, 0x8e, 0x82, 0x94, 0x00, 0x34, 0xe1, 0x08, 0x64,
+                0xf2, 0x71,
+            ],
+        ),
+    ];
+    for (method, kind, mac) in cases {
+        let mut packet = greatest_packet(&rt, kind)?;
+        assert!(rt; seal(method, &mut packet, &[]), "of type {kind}");
+        assert_eq!(rt; packet.get(12..28), Some(mac.as_slice()), "of type {kind}");
+    }
+    Ok(())
+}
+
+// A packet without AT_MAC, one whose AT_MAC goes past the end, and one with no attribute (RFC 4187 §8.1 and §10.15).
 #[test]
 fn bytes_without_a_mac_have_an_absent_one(rt: HostRuntime) {
     let request = [1, 2, 0, 12, 23, 5, 0, 0, 10, 1, 0, 0];
@@ -134,9 +184,11 @@ fn bytes_without_a_mac_have_an_absent_one(rt: HostRuntime) {
     let mut faulty = RESPONSE;
     faulty[21] = 6;
     assert_eq!(rt; check_mac(Method::Aka, &k_aut(), &faulty, &[]), Mac::Absent);
+    let bare = [2, 7, 0, 8, 23, 1, 0, 0];
+    assert_eq!(rt; check_mac(Method::Aka, &k_aut(), &bare, &[]), Mac::Absent);
 }
 
-// Python's `hashlib` on the two packets, one behind the other.
+// Python's `hashlib` on the bytes of the two packets, in order.
 #[test]
 fn checkcode_is_the_hash_of_the_packets(rt: HostRuntime) {
     let request = [1, 2, 0, 12, 23, 5, 0, 0, 10, 1, 0, 0];
@@ -177,8 +229,8 @@ const IV: [u8; 16] = [
     0x80, 0x81, 0x82, 0x83, 0x84, 0x85, 0x86, 0x87, 0x88, 0x89, 0x8a, 0x8b, 0x8c, 0x8d, 0x8e, 0x8f,
 ];
 
-// Attributes, and what Python's `cryptography` makes of them and of AT_PADDING of 0, 4, 8 and 12 bytes, and of
-// 12 bytes behind more than one block: AES-128-CBC under K_ENCR and IV.
+// Attributes, and their ciphertext by Python's `cryptography`: AES-128-CBC under K_ENCR and IV, after AT_PADDING of
+// 0, 4, 8 and 12 bytes, and of 12 bytes in the third block.
 const CIPHERTEXTS: [(&[u8], &[u8]); 5] = [
     (
         &[
@@ -228,7 +280,7 @@ const CIPHERTEXTS: [(&[u8], &[u8]); 5] = [
     ),
 ];
 
-// Attributes that are encrypted behind AT_RESULT_IND, or that alone where they may not be.
+// AT_RESULT_IND, followed by the encryption of attributes if they may be encrypted.
 fn encrypted_list(rt: &HostRuntime, plain: &[u8]) -> Result<AttrList, Fail> {
     let inner = read_attrs(rt.alloc(), plain)?;
     let mut out = AttrList::new(rt.alloc());
@@ -239,7 +291,7 @@ fn encrypted_list(rt: &HostRuntime, plain: &[u8]) -> Result<AttrList, Fail> {
     Ok(out)
 }
 
-// The same alone and in places.
+// The same without AT_RESULT_IND, in places.
 fn list_in_places(rt: &HostRuntime, plain: &[u8]) -> Result<AttrList, Fail> {
     let inner = read_attrs(rt.alloc(), plain)?;
     let room = EncryptionRoom::new(rt.alloc())?;
@@ -250,10 +302,9 @@ fn list_in_places(rt: &HostRuntime, plain: &[u8]) -> Result<AttrList, Fail> {
     Ok(AttrList::from_places(places))
 }
 
-// AT_ENCR_DATA, behind AT_IV where it is wanted.
+// AT_ENCR_DATA, after AT_IV if the list has one.
 fn list_of(rt: &HostRuntime, has_iv: bool, ciphertext: &[u8]) -> Result<AttrList, Fail> {
-    let mut octets = Octets::new(rt.alloc());
-    octets.append(ciphertext)?;
+    let octets = Octets::copied_from(rt.alloc(), ciphertext)?;
     let mut list = AttrList::new(rt.alloc());
     if has_iv {
         list.push(Attr::Iv(IV))?;
@@ -270,7 +321,7 @@ fn ends_in(list: &AttrList, ciphertext: &[u8]) -> bool {
     }
 }
 
-// The attributes that a list has encrypted, as bytes.
+// The decrypted attributes of a list, as bytes.
 fn decrypted_text(rt: &HostRuntime, list: &AttrList) -> Result<Octets, Fail> {
     let inner = decrypt_attrs(rt.alloc(), K_ENCR, list)?;
     let mut text = Octets::new(rt.alloc());
@@ -339,6 +390,45 @@ fn each_refusal_comes_where_it_should(rt: HostRuntime) -> Result<(), Fail> {
             "at {has_iv} {ciphertext:?}"
         );
     }
+    Ok(())
+}
+
+// AT_COUNTER, and AT_NEXT_REAUTH_ID of `units` times 4 bytes with a value of `size` bytes: 0, 1, .. 250, 0 and so
+// on.
+fn long_text(rt: &HostRuntime, units: u8, size: u16) -> Result<Vec<u8>, Fail> {
+    let [high, low] = size.to_be_bytes();
+    let mut text = Vec::new(rt.alloc());
+    for byte in [0x13, 1, 0, 1, 0x85, units, high, low] {
+        text.push(byte)?;
+    }
+    for i in 0..size {
+        text.push((i % 251) as u8)?;
+    }
+    Ok(text)
+}
+
+// Attributes of 992 bytes, and of 996. The last block of the ciphertext is that of Python's `cryptography`, as above;
+// in CBC mode it depends on all blocks before it.
+#[test]
+fn greatest_list_is_encrypted_and_a_greater_or_empty_one_is_not(
+    rt: HostRuntime,
+) -> Result<(), Fail> {
+    let last = [
+        0xa7, 0x97, 0xc1, 0x1c, 0x20, 0xf0, 0x50, 0x36, 0xf8, 0xbd, 0x9c, 0x10, 0xe5, 0x10, 0x97,
+        0x5a,
+    ];
+    let text = long_text(&rt, 247, 984)?;
+    let list = encrypted_list(&rt, &text)?;
+    match list.as_slice() {
+        [_, Attr::Iv(_), Attr::EncrData(v)] => {
+            assert_eq!(rt; v.len(), 992);
+            assert!(rt; v.as_slice().ends_with(&last));
+        }
+        _ => assert!(rt; false),
+    }
+    assert_eq!(rt; decrypted_text(&rt, &list)?.as_slice(), text.as_slice());
+    assert_eq!(rt; encrypted_list(&rt, &long_text(&rt, 248, 988)?)?.len(), 1);
+    assert_eq!(rt; encrypted_list(&rt, &[])?.len(), 1);
     Ok(())
 }
 

@@ -1,5 +1,6 @@
 use Rattle.std.proofs.Common.{◌≡◌, ℕ, length, ap, sym, ◌∙◌, rules}
-use Rattle.auc_seal.specs.Mac.{with_block, right_mac}
+use Rattle.auc_aes.specs.Bytes.{with_block}
+use Rattle.auc_seal.specs.Mac.{right_mac}
 use Rattle.auc_seal.proofs.PlaceLemmas.{same_place, no_place}
 use Rattle.auc_seal.proofs.SealLemmas.{sealed_is_right}
 use Rattle.auc_seal.proofs.mac.seal_mac.Goals as goal
