@@ -4,10 +4,35 @@ use Rattle.std.specs.List.{list_all}
 use Rattle.std.specs.Char.{is_ascii_digit}
 use Rattle.std.proofs.lemmas.Bool.{leb-true, le-leb}
 use Rattle.std.proofs.lemmas.List.Folds.{list_all-append}
-use Rattle.std.proofs.lemmas.List.Sums.{fold_push}
 use Rattle.std.proofs.Math.Seq.{take-suc, take-length}
-use Rattle.std.proofs.Math.Nat.{pow-le-pow_right, pow-suc}
+use Rattle.std.proofs.Math.Nat.{pow-le-pow_right, pow-suc, mul_assoc}
 use Rattle.auc_edge.specs.Identity.{Identity, IsIdentity, is_identity, number_of, identity_of, last_digits, digits_of}
+
+-- ten times a product with a power is the product with the next power
+ten_times : (digit power number last : ℕ) → digit * (power * 10) + (10 * number + last) ≡ 10 * (digit * power + number) + last
+ten_times digit power number last =
+    let moved : digit * (power * 10) ≡ digit * power * 10 = sym (mul_assoc digit power 10) in
+    omega (arith, moved)
+
+-- a digit after the last makes ten times the number, and the digit
+pub number_of_push : (text : List ℕ) (digit : ℕ) → number_of (text ++ digit ∷ []) ≡ 10 * number_of text + (digit - 48)
+number_of_push [] digit = omega arith
+number_of_push (first ∷ rest) digit =
+    let size : length (rest ++ digit ∷ []) ≡ suc (length rest) = omega (arith, length-append rest (digit ∷ [])) in
+    rw (size, pow-suc, number_of_push rest digit) (ten_times (first - 48) (10 ^ length rest) (number_of rest) (digit - 48))
+
+-- the number of one digit more of a text, for loops over the digits
+pub number_of_more : (text : List ℕ) (i number digit : ℕ) → number ≡ number_of (take i text) → digit ≡ get_or text i 0 - 48 → i < length text
+    → 10 * number + digit ≡ number_of (take (i + 1) text)
+number_of_more text i number digit front is within =
+    let one : i + 1 ≡ suc i = omega arith in
+    let more : number_of (take (suc i) text) ≡ 10 * number_of (take i text) + (get_or text i 0 - 48) =
+    ap number_of (take-suc text i 0 within) ∙ number_of_push (take i text) (get_or text i 0) in
+    rw one (omega (arith, more, front, is))
+
+-- and the number stays below the next power of ten
+pub below_more : (number digit i : ℕ) → number < 10 ^ i → digit ≤ 9 → 10 * number + digit < 10 ^ (i + 1)
+below_more number digit i below last = let one : i + 1 ≡ suc i = omega arith in rw one (omega (arith, below, last, pow-suc 10 i))
 
 -- both tests of a pair hold
 both : (a b : Bool) → (a && b) ≡ true → (a ≡ true) × (b ≡ true)
@@ -17,6 +42,10 @@ both false b e = absurd (cc)
 -- a digit's code is 48 to 57
 digit_range : (code : ℕ) → is_ascii_digit code ≡ true → (48 ≤ code) × (code ≤ 57)
 digit_range code e = let two = both (leb 48 code) (leb code 57) e in (leb-true 48 code two.0, leb-true code 57 two.1)
+
+-- what a digit's code spells is at most 9
+pub digit_most : (code : ℕ) → is_ascii_digit code ≡ true → code - 48 ≤ 9
+digit_most code e = let range = digit_range code e in omega (arith, range.1)
 
 -- each byte of a text of digits is a digit
 pub digit_at : (text : List ℕ) (i : ℕ) → list_all is_ascii_digit text ≡ true → i < length text → (48 ≤ get_or text i 0) × (get_or text i 0 ≤ 57)
@@ -52,7 +81,7 @@ tenth_below count number h = omega (arith, pow-suc 10 count)
 number_of-last_digits : (count number : ℕ) → number < 10 ^ count → number_of (last_digits count number) ≡ number
 number_of-last_digits zero number h = omega arith
 number_of-last_digits (suc count) number h =
-    fold_push (λ (all digit : ℕ). 10 * all + (digit - 48)) 0 (last_digits count (number / 10)) (48 + number % 10)
+    number_of_push (last_digits count (number / 10)) (48 + number % 10)
     ∙ omega (arith, number_of-last_digits count (number / 10) (tenth_below count number h))
 
 -- a text of a right length, all of digits, is an identity's
@@ -82,7 +111,7 @@ front_is text (suc i) digits h =
     let digit = digit_at text i digits (omega arith) in
     let code : ℕ = get_or text i 0 in
     let front : ℕ = number_of (take i text) in
-    let all : number_of (take (suc i) text) ≡ 10 * front + (code - 48) = ap number_of (take-suc text i 0 (omega arith)) ∙ fold_push (λ (all digit : ℕ). 10 * all + (digit - 48)) 0 (take i text) code in
+    let all : number_of (take (suc i) text) ≡ 10 * front + (code - 48) = ap number_of (take-suc text i 0 (omega arith)) ∙ number_of_push (take i text) code in
     let tenth : number_of (take (suc i) text) / 10 ≡ front = omega (arith, digit.0, digit.1) in
     let last : 48 + number_of (take (suc i) text) % 10 ≡ code = omega (arith, digit.0, digit.1) in
     (λ k. last_digits i (tenth k) ++ last k ∷ [])
@@ -100,7 +129,7 @@ front_below : (text : List ℕ) (i : ℕ) → list_all is_ascii_digit text ≡ t
 front_below text zero digits h = omega arith
 front_below text (suc i) digits h =
     let digit = digit_at text i digits (omega arith) in
-    let all : number_of (take (suc i) text) ≡ 10 * number_of (take i text) + (get_or text i 0 - 48) = ap number_of (take-suc text i 0 (omega arith)) ∙ fold_push (λ (all digit : ℕ). 10 * all + (digit - 48)) 0 (take i text) (get_or text i 0) in
+    let all : number_of (take (suc i) text) ≡ 10 * number_of (take i text) + (get_or text i 0 - 48) = ap number_of (take-suc text i 0 (omega arith)) ∙ number_of_push (take i text) (get_or text i 0) in
     omega (arith, all, digit.1, front_below text i digits (omega arith), pow-suc 10 i)
 
 -- the number of a text of digits has no more digits than the text

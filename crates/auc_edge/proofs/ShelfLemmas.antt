@@ -1,15 +1,15 @@
--- For `read_all`: a file that is read piece by piece.
+-- For `read_all`: a file that is read in chunks.
 use Rattle.std.proofs.Common.{◌≡◌, ℕ, ◌+◌, List, [], ◌++◌, length, take, drop, Option, Some, None, sym, ◌∙◌, ap, arith, length-append}
 use Rattle.std.proofs.Math.Seq.{take-add}
 use Rattle.std.proofs.lemmas.List.{length-take}
 use Rattle.auc_edge.specs.Shelf.{File, file_of, FileGives, ReadsFrom}
 
--- the text is a front of a file, or empty where the file is missing
+-- the text is a front of a file, or empty if the file is missing
 abbrev pub IsFront : Option (List ℕ) → List ℕ → Type 0
 IsFront None text = text ≡ []
 IsFront (Some bytes) text = take (length text) bytes ≡ text
 
--- the same of the file with this name, where the shelf tells its files
+-- the same of the file with this name, if the shelf reveals its files
 abbrev pub IsReadSoFar : Option (List File) → List ℕ → List ℕ → Type 0
 IsReadSoFar None name text = Unit {0}
 IsReadSoFar (Some files) name text = IsFront (file_of files name) text
@@ -27,7 +27,7 @@ read_more : (told : Option (List File)) (name text buffer : List ℕ) (count : �
 read_more None name text buffer count front gives = tt
 read_more (Some files) name text buffer count front gives = front_more (file_of files name) text buffer count front gives
 
--- the same where the files stayed as they were told, and the text grew by the piece
+-- the same if the files stayed as they were and the text grew by the piece
 pub IsReadSoFar-more : (told here : Option (List File)) (name text next buffer : List ℕ) (from count : ℕ) → here ≡ told → from ≡ length text → next ≡ text ++ take count buffer → IsReadSoFar told name text → ReadsFrom here name from count buffer → IsReadSoFar told name next
 IsReadSoFar-more told here name text next buffer from count same place grown front gives =
     let told_gives : ReadsFrom told name (length text) count buffer = rw (← same, ← place) gives in

@@ -1,9 +1,9 @@
 -- Identities of subscribers: the IMSI (TS 23.003 §2.2), as how many digits it has and their value.
-use Rattle.std.specs.Prelude.{◌≡◌, ℕ, zero, suc, ◌+◌, ◌-◌, ◌*◌, ◌/◌, ◌%◌, ◌^◌, ◌<◌, ◌≤◌, ◌&&◌, nat_le, Bool, List, [], ◌∷◌, ◌++◌, length, Option, Some, None, if◌then◌else◌, fold}
+use Rattle.std.specs.Prelude.{◌≡◌, ℕ, zero, suc, ◌+◌, ◌-◌, ◌*◌, ◌/◌, ◌%◌, ◌^◌, ◌<◌, ◌≤◌, ◌&&◌, nat_le, Bool, List, [], ◌∷◌, ◌++◌, length, Option, Some, None, if◌then◌else◌}
 use Rattle.std.specs.List.{list_all}
 use Rattle.std.specs.Char.{is_ascii_digit}
 
--- how many digits, and the number that they are in decimal
+-- how many digits there are, and the number that they are in decimal
 pub record Identity : Type 0 where
   pub digits : ℕ
   pub number : ℕ
@@ -18,15 +18,16 @@ pub record IsIdentity (digits number : ℕ) : Type 0 where
 abbrev pub is_identity : List ℕ → Bool
 is_identity text = nat_le 6 (length text) && nat_le (length text) 15 && list_all is_ascii_digit text
 
--- the number that a text of decimal digits is, the first digit first
+-- the number that a text of decimal digits is: each digit times the power of ten of its place
 abbrev pub number_of : List ℕ → ℕ
-number_of text = fold (λ number digit. 10 * number + (digit - 48)) 0 text
+number_of [] = 0
+number_of (digit ∷ rest) = (digit - 48) * 10 ^ length rest + number_of rest
 
--- the identity that a text of 6 to 15 decimal digits is, and none of any other text
+-- the identity that a text of 6 to 15 decimal digits is, or none if the text is another one
 abbrev pub identity_of : List ℕ → Option Identity
 identity_of text = if is_identity text then Some (record { digits = length text; number = number_of text }) else None
 
--- the last so many decimal digits of a number, leading zeros among them
+-- the last `count` decimal digits of a number, leading zeros among them
 abbrev pub last_digits : ℕ → ℕ → List ℕ
 last_digits zero number = []
 last_digits (suc count) number = last_digits count (number / 10) ++ (48 + number % 10) ∷ []

@@ -16,15 +16,15 @@ pub record ShelfState : Type 0 where
   pub reads : ℕ
   pub failing : List ℕ
 
--- the place of the file with this name, or the number of files where there is none
+-- the place of the file with this name, or the number of files if there is none
 abbrev pub place_of : List File → List ℕ → ℕ
 place_of files name = position_or_len (λ file. bytes_eq file.name name) files
 
--- the count of a name: its file's, or that of all other names
+-- the count of a name: its file's count, or the one of all other names
 abbrev pub faults_of : ShelfState → List ℕ → ℕ
 faults_of state name = slice_index_or state.counts (place_of state.files name) state.others
 
--- the shelf after a fault at a place was counted
+-- the shelf after a fault of the file at this place was counted
 abbrev pub after_fault : ShelfState → ℕ → ShelfState
 after_fault state place =
     if nat_lt place (length state.counts)

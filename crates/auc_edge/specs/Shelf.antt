@@ -1,4 +1,4 @@
--- Sets of files: what a shelf holds, where it tells that, and what a read of a file gives.
+-- Sets of files: what a shelf holds, if it reveals that, and what a read of a file gives.
 use Rattle.std.specs.Prelude.{◌≡◌, ℕ, ◌<◌, ◌≤◌, List, [], ◌∷◌, length, take, drop, Option, Some, None, if◌then◌else◌}
 use Rattle.std.specs.Str.{bytes_eq}
 
@@ -12,7 +12,7 @@ abbrev pub file_of : List File → List ℕ → Option (List ℕ)
 file_of [] name = None
 file_of (file ∷ files) name = if bytes_eq file.name name then Some file.bytes else file_of files name
 
--- the buffer's first bytes are those of the file from a place on; none are given to a buffer with room only at the file's end
+-- the buffer's first bytes are those of the file from an offset; if the buffer isn't empty, none are given only at the file's end
 pub record GivesFrom (bytes : List ℕ) (from count : ℕ) (buffer : List ℕ) : Type 0 where
   pub within : count ≤ length (drop from bytes)
   pub same : take count buffer ≡ take count (drop from bytes)
@@ -23,12 +23,12 @@ abbrev pub FileGives : Option (List ℕ) → ℕ → ℕ → List ℕ → Type 0
 FileGives None from count buffer = ⊥
 FileGives (Some bytes) from count buffer = GivesFrom bytes from count buffer
 
--- the same of the file with this name, where the shelf tells its files
+-- the same of the file with this name, if the shelf reveals its files
 abbrev pub ReadsFrom : Option (List File) → List ℕ → ℕ → ℕ → List ℕ → Type 0
 ReadsFrom None name from count buffer = Unit {0}
 ReadsFrom (Some files) name from count buffer = FileGives (file_of files name) from count buffer
 
--- a text is the whole file with this name, where the shelf tells its files
+-- a text is the whole file with this name, if the shelf reveals its files
 abbrev pub IsFile : Option (List File) → List ℕ → List ℕ → Type 0
 IsFile None name text = Unit {0}
 IsFile (Some files) name text = file_of files name ≡ Some text
@@ -38,7 +38,7 @@ abbrev pub IsLonger : Option (List ℕ) → ℕ → Type 0
 IsLonger None limit = ⊥
 IsLonger (Some bytes) limit = limit < length bytes
 
--- the file with this name is there and has more than so many bytes, where the shelf tells its files
+-- there is a file with this name, of more than so many bytes, if the shelf reveals its files
 abbrev pub IsLongerFile : Option (List File) → List ℕ → ℕ → Type 0
 IsLongerFile None name limit = Unit {0}
 IsLongerFile (Some files) name limit = IsLonger (file_of files name) limit

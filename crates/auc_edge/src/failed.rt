@@ -9,7 +9,7 @@ use std::io;
 #[derive(Clone, Copy, Debug, PartialEq, Eq)]
 pub struct Failed;
 
-// The answer of a real call. Where it failed, a fault is counted.
+// The answer of a real call. If the call failed, a fault is counted.
 pub(crate) fn counted(faults: &mut u64, answer: io::Result<usize>) -> Result<usize, Failed>
     ensures { MatchResult answer
         (λ count. (result ≡ Ok count) × (faults.new ≡ faults.old))

@@ -11,11 +11,11 @@ use std::os::unix::fs::FileExt;
 use std::rt::Files;
 use std::str;
 
-// How often a read that a signal interrupts is tried.
+// How often a read is tried again if a signal interrupts it.
 const TRIES: u32 = 1000;
 
-/// The files of the operating system, by their paths. Each read opens its file anew, and may find
-/// another one than the read before, so contracts know no content. A name that isn't UTF-8, a folder
+/// The files of the operating system, by their paths. Each read opens its file anew and may find
+/// another file than the previous read, so contracts know no content. A name that isn't UTF-8, a folder
 /// and a missing file are faults. One count serves every name.
 #[derive(Drop)]
 pub struct FileShelf<R: Files<File = File>> {

@@ -9,7 +9,7 @@ use crate::no_memory::NoMemory;
 use crate::octets::Octets;
 use std::marker::Model;
 
-// How many digits an identity has at most.
+// The greatest number of digits of an identity.
 const MAX_DIGITS: usize = 15;
 
 /// An IMSI: 6 to 15 decimal digits, leading zeros among them (TS 23.003 §2.2). Contracts see how many
@@ -47,7 +47,7 @@ impl Imsi {
         self.number
     }
 
-    /// The identity that a text of 6 to 15 decimal digits is. `None` for any other text.
+    /// The identity that a text of 6 to 15 decimal digits is, or `None` if the text is another one.
     pub fn read(text: &[u8]) -> Option<Imsi>
         ensures { result ≡ identity_of text.now }
     {
@@ -60,8 +60,7 @@ impl Imsi {
         })
     }
 
-    /// Puts its digits behind the last byte, leading zeros among them. Where there is no memory for them,
-    /// none is put.
+    /// Appends its digits, leading zeros among them. If memory runs out, nothing is appended.
     pub fn write_to(&self, out: &mut Octets) -> Result<(), NoMemory>
         ensures written { OnOk result (out.new ≡ out.old ++ digits_of self.now) }
         ensures kept { OnErr result (out.new ≡ out.old) }

@@ -59,14 +59,14 @@ impl<T> Items<T> {
         self.all.as_slice()
     }
 
-    /// The item at a place, counted from 0, or `None` where there are not so many.
+    /// The item at a place, counted from 0, or `None` if the list is shorter.
     pub fn get(&self, place: usize) -> Option<&T>
         ensures { option_copied result ≡ slice_get self.now place }
     {
         self.all.get(place)
     }
 
-    /// Takes the last item away, or answers `None` where there is none.
+    /// Removes the last item, or answers `None` if there is none.
     pub fn pop(&mut self) -> Option<T>
         ensures popped { self.old ≡ self.new ++ option_to_list result }
         ensures none { IfNone result (self.old ≡ []) }
@@ -76,7 +76,7 @@ impl<T> Items<T> {
 }
 
 impl<T: Drop> Items<T> {
-    /// Puts an item behind the last. Where there is no memory for it, it is dropped and the list stays.
+    /// Appends an item. If memory runs out, the item is dropped and the list stays as it was.
     pub fn push(&mut self, item: T) -> Result<(), NoMemory>
         ensures pushed { OnOk result (self.new ≡ self.old ++ item ∷ []) }
         ensures kept { OnErr result (self.new ≡ self.old) }

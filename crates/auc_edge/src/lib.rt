@@ -1,15 +1,14 @@
 //! The outside of the authentication centre, and the small types that every layer uses.
 //!
-//! A [`Shelf`] is a set of files that is read, a [`Sink`] an output that is written. Contracts see what
-//! they hold, where they tell it, and a count of faults: a call fails only where the object's count
-//! rose. [`MemShelf`] and [`MemSink`] tell all; [`FileShelf`] and [`StdSink`], the real ones, no content.
-//! [`read_all`] and [`write_whole`] are what the layers above call.
+//! A [`Shelf`] is a set of files that is read, a [`Sink`] an output that is written. Contracts see a
+//! count of faults, and the contents if the object reveals them: a call fails only if the object's count
+//! rose. [`MemShelf`] and [`MemSink`] reveal everything; [`FileShelf`] and [`StdSink`], the real ones,
+//! no content. The layers above call [`read_all`] and [`write_whole`].
 //!
 //! [`Octets`] is a string of bytes and [`Items`] a list of records; contracts see both as lists.
 //! [`Imsi`] is a subscriber's identity (TS 23.003 §2.2), which contracts see as the record of how many
-//! digits it has and of their value. [`NoMemory`] is the answer where memory was wanted and not to be
-//! had; nothing else is merged with it. [`Stop`] names why numbers are withheld. Nothing here waits for
-//! another thread.
+//! digits it has and of their value. [`NoMemory`] is the answer if memory runs out, and stands for
+//! nothing else. [`Stop`] names why numbers are withheld. Nothing here waits for another thread.
 #![tactic(auto)]
 
 mod failed;

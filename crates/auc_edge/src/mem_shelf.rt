@@ -31,8 +31,8 @@ impl Model for MemFile {
     ghost view = { λ f. record { name = f.name; bytes = f.bytes } };
 }
 
-/// A set of files in memory. A read fails where it was told to, and where no file has the name. Each
-/// file has a count of faults, and all other names have one together.
+/// A set of files in memory. A read fails if it was told to, or if no file has the name. Each file has
+/// a count of faults, and all other names share one.
 #[derive(Drop)]
 pub struct MemShelf {
     files: Vec<MemFile>,
@@ -64,8 +64,8 @@ impl MemShelf {
         }
     }
 
-    /// Puts a file there, whose count goes on from that of all other names. Where there is no memory for
-    /// it, nothing is put.
+    /// Adds a file, whose count of faults starts at that of all other names. If memory runs out, nothing
+    /// is added.
     pub fn add(&mut self, name: &[u8], bytes: &[u8]) -> Result<(), NoMemory>
         requires { file_of self.old.files name.now ≡ None }
         ensures put { OnOk result (self.new ≡ record self.old {
@@ -76,8 +76,8 @@ impl MemShelf {
     {
         let alloc = *self.files.allocator();
         let file = MemFile {
-            name: copy_of(alloc, name)?,
-            bytes: copy_of(alloc, bytes)?,
+            name: Octets::copied_from(alloc, name)?,
+            bytes: Octets::copied_from(alloc, bytes)?,
         };
         self.counts.reserve(1)?;
         self.files.push(file)?;
@@ -85,7 +85,8 @@ impl MemShelf {
         Ok(())
     }
 
-    /// Makes a read fail, by its place among all reads, the first being 1.
+    /// Makes a read fail, by its place among all reads, the first being 1. If memory runs out, nothing
+    /// changes.
     pub fn fail(&mut self, ordinal: u64) -> Result<(), NoMemory>
         ensures told { OnOk result (self.new ≡ record self.old { failing = self.old.failing ++ ordinal ∷ [] }) }
         ensures kept { OnErr result (self.new ≡ self.old) }
@@ -145,21 +146,13 @@ impl Shelf for MemShelf {
     }
 }
 
-fn copy_of(alloc: Global, bytes: &[u8]) -> Result<Octets, NoMemory>
-    ensures { IfOk result (λ copy. copy ≡ bytes.now) }
-{
-    let mut copy = Octets::new(alloc);
-    copy.append(bytes)?;
-    Ok(copy)
-}
-
 fn is_named(file: &MemFile, name: &[u8]) -> bool
     ensures { result ≡ bytes_eq file.now.name name.now }
 {
     file.name.as_slice() == name
 }
 
-// The place of the file with a name, or the number of files where there is none.
+// The place of the file with a name, or the number of files if there is none.
 fn place_of(files: &[MemFile], name: &[u8]) -> usize
     ensures { result ≡ place_of files.now name.now }
 {

@@ -12,8 +12,8 @@ use crate::sink::Sink;
 use std::alloc::Global;
 use std::marker::Model;
 
-/// An output that is kept in memory. A write takes all its bytes, or fails: where it was told to, and
-/// where there is no memory.
+/// An output that is kept in memory. A write takes all its bytes, or fails: if it was told to, or if
+/// memory runs out.
 #[derive(Drop)]
 pub struct MemSink {
     written: Octets,
@@ -43,7 +43,8 @@ impl MemSink {
         }
     }
 
-    /// Makes a write fail, by its place among all writes, the first being 1.
+    /// Makes a write fail, by its place among all writes, the first being 1. If memory runs out, nothing
+    /// changes.
     pub fn fail(&mut self, ordinal: u64) -> Result<(), NoMemory>
         ensures told { OnOk result (self.new ≡ record self.old { failing = self.old.failing ++ ordinal ∷ [] }) }
         ensures kept { OnErr result (self.new ≡ self.old) }
@@ -84,7 +85,7 @@ impl Sink for MemSink {
         ensures quiet { IfOk result (λ count. (0 < count) ⊎ (length bytes.now ≡ 0)
             → self.new.faults ≡ self.old.faults) }
 
-        // It takes all or fails, and fails where it was told to.
+        // It takes all or fails, and fails if it was told to.
         ensures whole { IfOk result (λ count. count ≡ length bytes.now) }
         ensures told { IsTrue (is_failing self.old) → IsErr result }
         ensures written { OnOk result (self.new ≡ after_write self.old bytes.now) }

@@ -1,8 +1,8 @@
-//! Want of memory.
+//! Memory that ran out.
 
 use std::alloc::{AllocError, AllocFailed};
 
-/// Memory was wanted and was not to be had.
+/// Memory ran out.
 #[derive(Clone, Copy, Debug, PartialEq, Eq)]
 pub struct NoMemory;
 

@@ -77,7 +77,7 @@ impl Octets {
         self.bytes.as_slice()
     }
 
-    /// Puts bytes behind the last. Where there is no memory for them, none is put.
+    /// Appends bytes. If memory runs out, nothing is appended.
     pub fn append(&mut self, bytes: &[u8]) -> Result<(), NoMemory>
         ensures appended { OnOk result (self.new ≡ self.old ++ bytes.now) }
         ensures kept { OnErr result (self.new ≡ self.old) }
@@ -86,7 +86,8 @@ impl Octets {
         Ok(())
     }
 
-    /// Puts the decimal digits of a number behind the last byte, without leading zeros.
+    /// Appends the decimal digits of a number, without leading zeros. If memory runs out, nothing is
+    /// appended.
     pub fn append_number(&mut self, number: u64) -> Result<(), NoMemory>
         ensures appended { OnOk result (self.new ≡ self.old ++ decimal number) }
         ensures kept { OnErr result (self.new ≡ self.old) }

@@ -46,7 +46,7 @@ impl<T> Places<T> {
         self.left
     }
 
-    /// The items that are there, as a list. Places that are left go with it.
+    /// The items that are there, as a list. The places that are left belong to it.
     pub fn into_items(self) -> Items<T>
         ensures { result ≡ self.written }
     {
@@ -56,7 +56,7 @@ impl<T> Places<T> {
 }
 
 impl<T: Drop> Places<T> {
-    /// Puts an item behind the last.
+    /// Appends an item.
     pub fn put(&mut self, item: T)
         requires { 0 < self.old.left }
         ensures { self.new ≡ wrote self.old (item ∷ []) }

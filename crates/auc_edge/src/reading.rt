@@ -9,10 +9,10 @@ use crate::read_refusal::ReadRefusal;
 use crate::shelf::Shelf;
 use std::alloc::Global;
 
-// How many bytes are asked for at a time.
+// How many bytes one read asks for at most.
 const PIECE: usize = 65536;
 
-/// Reads the whole file of a name, where it has at most `limit` bytes.
+/// Reads the whole file of a name, if it has at most `limit` bytes.
 pub fn read_all<H: Shelf>(
     alloc: Global,
     shelf: &mut H,

@@ -8,8 +8,8 @@ use crate::octets::Octets;
 use std::alloc::Global;
 use std::marker::Model;
 
-/// Memory for a string of bytes that is filled piece by piece. Contracts see the bytes so far and how
-/// many more there is room for; filling it takes no memory, so it never fails.
+/// Memory for a string of bytes that is filled part by part. Contracts see the bytes so far and how
+/// many more there is room for. Filling it takes no memory, so it never fails.
 #[derive(Drop)]
 pub struct Room {
     bytes: Vec<u8>,
@@ -53,7 +53,7 @@ impl Room {
         self.bytes.as_slice()
     }
 
-    /// Writes bytes behind the last.
+    /// Appends bytes.
     pub fn put(&mut self, bytes: &[u8])
         requires { length bytes.now ≤ self.old.left }
         ensures { self.new ≡ wrote self.old bytes.now }
@@ -65,7 +65,7 @@ impl Room {
         }
     }
 
-    /// The bytes that are written, as a string of bytes. Room that is left goes with it.
+    /// The bytes that are written, as a string of bytes. The room that is left belongs to it.
     pub fn into_octets(self) -> Octets
         ensures { result ≡ self.written }
     {

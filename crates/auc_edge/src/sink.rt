@@ -8,20 +8,20 @@ use crate::failed::Failed;
 
 /// An output, which takes bytes in order.
 pub trait Sink {
-    /// What was written, where the sink tells that.
+    /// What was written, if the sink reveals it.
     ghost written: { Self → Option (List ℕ) };
 
     /// How often a write has failed. The count never falls.
     ghost faults: { Self → ℕ };
 
-    /// Writes a front of the bytes, and answers how many. To take none of a piece that isn't empty is a
-    /// fault. Where it fails, nothing was written.
+    /// Writes the first bytes, and answers how many. It is a fault to take none of bytes that aren't
+    /// empty. If it fails, nothing was written.
     fn write(&mut self, bytes: &[u8]) -> Result<usize, Failed>
         ensures bound { IfOk result (λ count. count ≤ length bytes.now) }
         ensures taken { IfOk result (λ count. Appends (written self.old) (written self.new) (take count bytes.now)) }
         ensures untouched { OnErr result (Appends (written self.old) (written self.new) []) }
 
-        // It fails only with a risen count, and raises it nowhere else but where it takes nothing.
+        // If it fails or takes nothing, the count rose; otherwise the count stays.
         ensures later { faults self.old ≤ faults self.new }
         ensures failed { OnErr result (Rose (faults self.old) (faults self.new)) }
         ensures stuck { IfOk result (λ count. count ≡ 0 → 0 < length bytes.now

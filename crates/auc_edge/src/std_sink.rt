@@ -7,7 +7,7 @@ use crate::sink::Sink;
 use std::io::{self, ErrorKind, Print, Write};
 use std::marker::Model;
 
-// How often a write that a signal interrupts is tried.
+// How often a write is tried again if a signal interrupts it.
 const TRIES: u32 = 1000;
 
 /// Standard output. A write is one call of the system and may take less than it was given; contracts
@@ -46,7 +46,7 @@ impl<R: Print> Sink for StdSink<R> {
     }
 }
 
-// To take nothing of a piece that isn't empty is an error.
+// It is an error if the system takes nothing of bytes that aren't empty.
 fn write_some<R: Print>(rt: &R, bytes: &[u8]) -> io::Result<usize>
     ensures bound { IfOk result (λ count. count ≤ length bytes.now) }
     ensures some { IfOk result (λ count. (0 < count) ⊎ (length bytes.now ≡ 0)) }

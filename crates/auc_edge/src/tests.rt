@@ -11,7 +11,7 @@ fn numbered(alloc: Global, size: usize) -> Result<Vec<u8>, Fail> {
     Ok((0..size).map(|at| (at % 251) as u8).collect(alloc)?)
 }
 
-// Each limit stands at, above or below the size; the third file is longer than two pieces.
+// Each limit is the size, above it or below it; the third file takes three reads.
 #[test]
 fn a_file_is_read_whole_up_to_the_limit(rt: HostRuntime) -> Result<(), Fail> {
     let alloc = rt.alloc();
@@ -40,7 +40,7 @@ fn a_file_is_read_whole_up_to_the_limit(rt: HostRuntime) -> Result<(), Fail> {
     Ok(())
 }
 
-// The second read of a file of three pieces fails, then none does; another name is missing.
+// The second of three reads of a file fails, then none does; another name is missing.
 #[test]
 fn a_read_that_fails_in_the_middle_is_a_fault(rt: HostRuntime) -> Result<(), Fail> {
     let alloc = rt.alloc();

@@ -7,12 +7,12 @@ ghost use Rattle.auc_edge.specs.Sink.{Appends, AppendsFront};
 use crate::failed::Failed;
 use crate::sink::Sink;
 
-/// Writes all the bytes. Where it fails, a front of them was written.
+/// Writes all the bytes. If it fails, the first of them may have been written.
 pub fn write_whole<K: Sink>(out: &mut K, bytes: &[u8]) -> Result<(), Failed>
     ensures written { OnOk result (Appends (K.written out.old) (K.written out.new) bytes.now) }
     ensures quiet { OnOk result (K.faults out.new ≡ K.faults out.old) }
 
-    // Where it fails, the count rose.
+    // If it fails, the count rose.
     ensures front { OnErr result (AppendsFront (K.written out.old) (K.written out.new) bytes.now) }
     ensures failed { OnErr result (Rose (K.faults out.old) (K.faults out.new)) }
     ensures later { K.faults out.old ≤ K.faults out.new }

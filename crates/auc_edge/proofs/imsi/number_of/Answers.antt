@@ -1,6 +1,17 @@
 use Rattle.std.proofs.Common.{arith}
-use Rattle.auc_edge.proofs.IdentityLemmas.{digit_at, below_limit}
+use Rattle.auc_edge.proofs.IdentityLemmas.{digit_at, below_limit, below_more, number_of_more}
 use Rattle.auc_edge.proofs.imsi.number_of.Goals as goal
+
+pub loop-digit-preserved : goal.loop-digit-preserved
+loop-digit-preserved c =
+    let text = c.args.text.now in
+    let i = c.loop-digit.digit-index in
+    let digit = digit_at text i c.requires.digits (omega arith) in
+    let code = c.from.ensures in
+    record {
+      value = number_of_more text i c.loop-digit.number c.from.result c.loop-digit.invariant.value code (omega arith);
+      fits = below_more c.loop-digit.number c.from.result i c.loop-digit.invariant.fits (omega (arith, digit.1, code));
+    }
 
 pub overflow_mul-number : goal.overflow_mul-number
 overflow_mul-number c =

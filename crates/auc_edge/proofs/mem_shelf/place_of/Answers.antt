@@ -7,7 +7,7 @@ use Rattle.std.proofs.lemmas.List.Sums.{prefix_len-le-length}
 use Rattle.auc_edge.specs.Shelf.{File}
 use Rattle.auc_edge.proofs.mem_shelf.place_of.Goals as goal
 
--- the place where there is one, else the length, is one number
+-- the place if there is one, else the length, is one number
 either_way : (place size : ℕ) (test : Bool) → ltb place size ≡ test → place ≤ size → unwrap_or (cond test (Some place) None) size ≡ place
 either_way place size true e h = refl
 either_way place size false e h = let past = ltb-false place size e in omega arith
