@@ -7,7 +7,8 @@ use Rattle.std.proofs.lemmas.List.{get_or-set_same, get_or-set_other}
 use Rattle.std.proofs.lemmas.List.Elements.{Contains-get_or, Contains-append_left, Contains-append_right, Contains-append_cases}
 use Rattle.auc_sqn.specs.declared.verdict.Verdict.{Verdict}
 use Rattle.auc_sqn.specs.declared.verdict.Verdict.TheVariants.{Fresh, Old, Far}
-use Rattle.auc_sqn.specs.Past.{Past, zeros, numbers_to, opening_past, is_old, entry_of, greatest_of, verdict_of, past_after, IsHighest, Remembers, verdict_at, IsLastNumber}
+use Rattle.auc_sqn.specs.Past.{Past, zeros, numbers_to, opening_past, is_old, entry_of, greatest_of, verdict_of, past_after, IsHighest, Remembers}
+use Rattle.auc_sqn.specs.Inner.{verdict_at, IsLastNumber}
 
 -- an element of a list with a head is the head or one of the others
 Contains-cases : {X : Type 0} (x y : X) (xs : List X) → Contains (x ∷ xs) y → (x ≡ y) ⊎ Contains xs y
@@ -76,7 +77,7 @@ old_later a i ind seq b = grind (arith, nat_tests)
 old_nowhere : (a i ind seq : ℕ) (b : Bool) → (i ≡ ind → a < seq) → b ≡ false → ((i == ind) && nat_le seq a || b) ≡ false
 old_nowhere a i ind seq b = grind (arith, nat_tests)
 
--- a SEQ is old where one as great has its IND
+-- a SEQ is old if one as great has its IND
 old_if : (seq ind other : ℕ) (past : Past) → Contains past (other, ind) → seq ≤ other → is_old past seq ind ≡ true
 old_if seq ind other [] (k, k<n, at) low = absurd (omega arith)
 old_if seq ind other (pair ∷ past) in_past low =
@@ -86,7 +87,7 @@ old_if seq ind other (pair ∷ past) in_past low =
       | inr later ↦ old_later pair.0 pair.1 ind seq (is_old past seq ind) (old_if seq ind other past later low)
     ]
 
--- and is not where none is
+-- and is not if there is none
 not_old_if : (seq ind : ℕ) (past : Past) → ((other : ℕ) → Contains past (other, ind) → other < seq) → is_old past seq ind ≡ false
 not_old_if seq ind [] below = refl
 not_old_if seq ind (pair ∷ past) below =

@@ -37,8 +37,8 @@ abbrev pub greatest_of : Past → ℕ
 greatest_of [] = 0
 greatest_of (pair ∷ past) = max pair.0 (greatest_of past)
 
--- the verdict on a SEQ and an IND: old where the past has one at least as great with this IND, far where
--- the SEQ is more than 2 ^ 28 above the greatest, and fresh otherwise
+-- the verdict on a SEQ and an IND: old if the past has one at least as great with this IND, else far if
+-- the SEQ is more than 2 ^ 28 above the greatest, else fresh
 abbrev pub verdict_of : Past → ℕ → ℕ → Verdict
 verdict_of past seq ind =
     if is_old past seq ind then Old (entry_of ind past)
@@ -61,22 +61,9 @@ pub record IsHighest (past : Past) (seq ind : ℕ) : Type 0 where
 abbrev pub IsSqnMs : Past → List ℕ → Type 0
 IsSqnMs past sqn = (seq : ℕ) × (ind : ℕ) × IsHighest past seq ind × (sqn ≡ sqn_with seq ind)
 
--- the array remembers the past: with each IND its entry is the greatest SEQ that was accepted
+-- the array remembers the past: its entry for each IND is the greatest SEQ that was accepted with it
 pub record Remembers (entries : List ℕ) (past : Past) : Type 0 where
   -- each entry was accepted with its IND
   pub there : (ind : ℕ) → ind < 32 → Contains past (slice_index entries ind, ind)
   -- and nothing greater was
   pub above : (seq ind : ℕ) → Contains past (seq, ind) → (ind < 32) × (seq ≤ slice_index entries ind)
-
--- the verdict by the entry for the IND and the greatest entry
-abbrev pub verdict_at : ℕ → ℕ → ℕ → Verdict
-verdict_at entry greatest seq =
-    if nat_le seq entry then Old entry
-    else if nat_lt (greatest + 2 ^ 28) seq then Far greatest
-    else Fresh
-
--- the last number up to v with a remainder by 32, or 0 where there is none
-pub record IsLastNumber (v ind number : ℕ) : Type 0 where
-  pub within : number ≤ v
-  pub remainder : 0 < number → number % 32 ≡ ind
-  pub last : (m : ℕ) → m ≤ v → m % 32 ≡ ind → m ≤ number

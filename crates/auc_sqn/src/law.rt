@@ -1,11 +1,19 @@
 //! Laws of numbers and their SQNs.
 
-ghost use Rattle.auc_sqn.specs.Number.{SplitUndoesSqn, EachNumberHasItsOwnSqn};
+ghost use Rattle.std.specs.Prelude.{◌≡◌};
+ghost use Rattle.auc_sqn.specs.Number.{SplitUndoesSqn, EachNumberHasItsOwnSqn, max_seq};
+
+use crate::number::MAX_SEQ;
 
 /// The SQN of a number, taken apart, gives the number as SEQ and its remainder by 32 as IND.
 #[tactic(auto, using(crate::proofs::NumberLemmas::split_undoes_sqn))]
 pub fn split_undoes_sqn_of()
     ensures { SplitUndoesSqn }
+{}
+
+/// [`MAX_SEQ`] is the greatest number of the definitions, 2^43 - 1.
+pub fn max_seq_is_the_greatest_number()
+    ensures { MAX_SEQ ≡ max_seq }
 {}
 
 /// Different numbers have different SQNs.

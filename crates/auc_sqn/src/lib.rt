@@ -2,7 +2,7 @@
 //!
 //! The home network numbers a subscriber's vectors 1, 2, 3 and so on up to [`MAX_SEQ`]. [`sqn_of`]
 //! spells a number as the SQN of 6 bytes that AUTN carries, and [`split`] takes an SQN apart into SEQ
-//! and IND. That an SQN gives its number back is [`split_undoes_sqn_of`]. A [`SqnArray`] is what a USIM
+//! and IND. An SQN gives its number back ([`split_undoes_sqn_of`]). A [`SqnArray`] is what a USIM
 //! remembers: the greatest SEQ that it has accepted for each IND.
 //!
 //! Contracts see an `SqnArray` through the list of all that it has accepted; the 32 entries are the
@@ -18,7 +18,7 @@ mod sqn_array;
 mod tests;
 mod verdict;
 
-pub use law::{each_number_has_its_own_sqn, split_undoes_sqn_of};
+pub use law::{each_number_has_its_own_sqn, max_seq_is_the_greatest_number, split_undoes_sqn_of};
 pub use number::{MAX_SEQ, split, sqn_of};
 pub use sqn_array::SqnArray;
 pub use verdict::Verdict;

@@ -3,9 +3,10 @@
 ghost use Rattle.std.specs.Prelude.{◌≡◌, ℕ, ◌≤◌, ◌<◌, slice_index};
 ghost use Rattle.std.specs.List.{IsFirstMaxByKey};
 ghost use Rattle.auc_sqn.specs.Number.{max_seq, seq_of, ind_of};
-ghost use Rattle.auc_sqn.specs.Past.{Past, Remembers, opening_past, verdict_of, past_after, IsSqnMs, verdict_at, IsLastNumber};
+ghost use Rattle.auc_sqn.specs.Past.{Past, Remembers, opening_past, verdict_of, past_after, IsSqnMs};
+ghost use Rattle.auc_sqn.specs.Inner.{verdict_at, IsLastNumber};
 
-use crate::number::{MAX_SEQ, spell, split};
+use crate::number::{spell, split};
 use crate::verdict::Verdict;
 use std::marker::Model;
 
@@ -98,7 +99,7 @@ impl SqnArray {
     }
 }
 
-/// The last number up to `v` whose remainder by 32 is `ind`, or 0 where there is none.
+/// The last number up to `v` whose remainder by 32 is `ind`, or 0 if there is none.
 fn last_number(v: u64, ind: u64) -> u64
     requires { ind < 32 }
     ensures { IsLastNumber v ind result }

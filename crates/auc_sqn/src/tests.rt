@@ -19,8 +19,32 @@ fn sqn_of_spells_seq_and_ind_and_split_reads_them(rt: HostRuntime) {
     }
 }
 
-// By hand, TS 33.102 Annex C.2.1: 1 comes 32 places before 33 and shares its IND, 2 to 32 are of INDs of
-// their own; 2^28 above the greatest is the last that isn't far.
+// By hand, TS 33.102 Annex C.2.1: an untouched array has entry 0 for each IND, so that SEQ 0 is old, 2^28 is within
+// reach and 2^28 + 1 is far. SQN, SEQ, IND, the verdict.
+#[test]
+fn untouched_array_refuses_seq_0_and_accepts_up_to_its_reach(rt: HostRuntime) {
+    let cases = [
+        ([0, 0, 0, 0, 0x00, 0x00], 0, 0, Verdict::Old(0)),
+        ([0, 0, 0, 0, 0x00, 0x1f], 0, 31, Verdict::Old(0)),
+        ([0, 0, 0, 0, 0x00, 0x20], 1, 0, Verdict::Fresh),
+        ([0, 0, 0, 0, 0x00, 0x3f], 1, 31, Verdict::Fresh),
+        ([0, 2, 0, 0, 0x00, 0x00], 268435456, 0, Verdict::Fresh),
+        ([0, 2, 0, 0, 0x00, 0x20], 268435457, 0, Verdict::Far(0)),
+        ([255, 255, 255, 255, 255, 0xe0], MAX_SEQ, 0, Verdict::Far(0)),
+        ([255, 255, 255, 255, 255, 255], MAX_SEQ, 31, Verdict::Far(0)),
+    ];
+    for (sqn, seq, ind, verdict) in cases {
+        let mut array = SqnArray::opening(0);
+        assert_eq!(rt; split(sqn), (seq, ind), "at {seq} and {ind}");
+        assert_eq!(rt; array.check(sqn), verdict, "at {seq} and {ind}");
+    }
+    let mut spent = SqnArray::opening(MAX_SEQ);
+    assert_eq!(rt; spent.highest(), [255; 6]);
+    assert_eq!(rt; spent.check([255; 6]), Verdict::Old(MAX_SEQ));
+}
+
+// By hand, TS 33.102 Annex C.2.1: 1 comes 32 places before 33 and shares its IND, and 2 to 32 have INDs of
+// their own; the last SEQ that isn't far is 2^28 above the greatest.
 #[test]
 fn each_verdict_comes_where_it_should(rt: HostRuntime) {
     let mut array = SqnArray::opening(0);

@@ -5,8 +5,8 @@
 pub enum Verdict {
     /// The SQN is accepted.
     Fresh,
-    /// The SEQ is no greater than the one that was accepted last with the same IND, which this is.
+    /// The SEQ is no greater than this one, the greatest that was accepted with the same IND.
     Old(u64),
-    /// The SEQ is more than 2^28 above the greatest that was accepted, which this is.
+    /// The SEQ is more than 2^28 above this one, the greatest that was accepted.
     Far(u64),
 }
