@@ -1,5 +1,6 @@
 -- What other crates may cite of the proofs here; every other module is private.
-pub use Rattle.auc_attr.proofs.FrameLemmas.{attrs_within, frame_again}
+pub use Rattle.auc_attr.proofs.FrameLemmas.{attrs_within}
+pub use Rattle.auc_attr.proofs.FrameFaultLemmas.{frame_again}
 pub use Rattle.auc_attr.proofs.LawLemmas.{found_is_framed, one_fault, one_list, read_is_writable, refused_is_not_read}
 pub use Rattle.auc_attr.proofs.MacLemmas.{mac_within}
 pub use Rattle.auc_attr.proofs.SpellingLemmas.{attr_size, written_attributes_are_read}

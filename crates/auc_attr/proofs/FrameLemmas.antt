@@ -1,23 +1,21 @@
--- What the tests of a packet find is what stands there, and the other way round.
-use Rattle.std.proofs.Common.{◌≡◌, ℕ, ◌+◌, ◌<◌, ◌≤◌, ◌⊎◌, Bool, true, false, cond, not, ◌||◌, ◌==◌, nat_lt, nat_le, List, [], ◌∷◌, ◌++◌, length, get_or, take, drop, Result, Ok, Err, IfOk, refl, sym, ap, ◌∙◌, subst, arith, inl, inr, append_assoc, length-append, length-drop, drop-cons}
+-- What the steps find is what stands there, and the other way round.
+use Rattle.std.proofs.Common.{◌≡◌, ℕ, ◌+◌, ◌<◌, ◌≤◌, ◌⊎◌, Bool, true, false, cond, not, ◌||◌, ◌==◌, nat_lt, nat_le, List, [], ◌∷◌, ◌++◌, length, get_or, take, drop, Ok, refl, sym, ap, ◌∙◌, subst, arith, inl, inr, append_assoc, length-append, length-drop, drop-cons}
 use Rattle.std.specs.Int.{w16, to_be_bytes}
 use Rattle.std.proofs.lemmas.Bool.{eqb-true, ltb-false, le-ltb}
 use Rattle.std.proofs.lemmas.Bool.Decides.{nat_tests}
 use Rattle.std.proofs.lemmas.List.{take_at, take-append-drop, length-take, get_or-take, drop-drop, drop-append-le}
 use Rattle.std.proofs.lemmas.Nat.{from_be_bytes-to_be_bytes_2}
-use Rattle.auc_attr.specs.declared.frame.FrameFault.{FrameFault}
 use Rattle.auc_attr.specs.declared.frame.FrameFault.TheVariants as faults
-use Rattle.auc_attr.specs.Frame.{Frame, Ended, Named, Message, length_of, is_code, is_wrong_length, is_method, is_subtype, typed_at, sized_at, frame_at, end_code, message_code, IsEnded, IsIdentity, IsMessage, IsFramed}
-use Rattle.auc_attr.specs.declared.frame.Framed.{Framed}
-use Rattle.auc_attr.specs.FrameView.{frame_of, Frames}
+use Rattle.auc_attr.specs.Frame.{Frame, Ended, Named, Message, length_of, is_code, is_method, is_subtype, end_code, message_code, IsEnded, IsIdentityPacket, IsMessage, IsFramed}
+use Rattle.auc_attr.specs.InnerFrame.{is_wrong_length, typed_at, sized_at, frame_by_steps}
 use Rattle.auc_attr.proofs.Tools.{IsBytes, IsBytes-drop, passed, ok_is, not-false}
 use Rattle.auc_attr.proofs.ValueLemmas.{number_front}
 
 -- ---- what stands there is found
 
 -- bytes of a code that exists are judged by their Length
-pub frame_steps : (bytes : List ℕ) → 4 ≤ length bytes → is_code (get_or bytes 0 0) ≡ true → frame_at bytes ≡ sized_at (get_or bytes 0 0) (get_or bytes 1 0) (length_of bytes) bytes
-unfolding frame_at
+pub frame_steps : (bytes : List ℕ) → 4 ≤ length bytes → is_code (get_or bytes 0 0) ≡ true → frame_by_steps bytes ≡ sized_at (get_or bytes 0 0) (get_or bytes 1 0) (length_of bytes) bytes
+unfolding frame_by_steps
 frame_steps bytes long code = rw (le-ltb (length bytes) 4 long, code) refl
 
 -- a Success or Failure of right Length is one
@@ -38,7 +36,7 @@ four : (given : ℕ) → 4 ≤ given → (nat_lt given 4 || false) ≡ false
 four given h = grind (arith, nat_tests)
 
 -- Success and Failure are found, whatever follows them
-ended_again : (success : Bool) (id : ℕ) (past : List ℕ) → frame_at (end_code success ∷ id ∷ 0 ∷ 4 ∷ past) ≡ Ok (Ended success id)
+ended_again : (success : Bool) (id : ℕ) (past : List ℕ) → frame_by_steps (end_code success ∷ id ∷ 0 ∷ 4 ∷ past) ≡ Ok (Ended success id)
 ended_again true id past =
     let bytes = 3 ∷ id ∷ 0 ∷ 4 ∷ past in
     let long : 4 ≤ length bytes = omega arith in
@@ -50,7 +48,7 @@ ended_again false id past =
 
 -- a Request or Response whose Length is the number of bytes up to what follows it
 typed_code : (code id size : ℕ) (front past : List ℕ) → is_code code ≡ true → nat_le 3 code ≡ false → size < 65536 → length front + 4 ≡ size → 1 ≤ length front
-    → frame_at (code ∷ id ∷ (to_be_bytes w16 size ++ (front ++ past)))
+    → frame_by_steps (code ∷ id ∷ (to_be_bytes w16 size ++ (front ++ past)))
     ≡ typed_at (code == 1) id (get_or (front ++ past) 0 0) (code ∷ id ∷ (to_be_bytes w16 size ++ front))
 typed_code code id size front past known below small whole some =
     let bytes = code ∷ id ∷ (to_be_bytes w16 size ++ (front ++ past)) in
@@ -65,7 +63,7 @@ typed_code code id size front past known below small whole some =
 
 -- Identity is found, whatever follows it
 named_again : (request : Bool) (id : ℕ) (text past : List ℕ) → 5 + length text < 65536
-    → frame_at (message_code request ∷ id ∷ (to_be_bytes w16 (5 + length text) ++ (1 ∷ (text ++ past)))) ≡ Ok (Named request id text)
+    → frame_by_steps (message_code request ∷ id ∷ (to_be_bytes w16 (5 + length text) ++ (1 ∷ (text ++ past)))) ≡ Ok (Named request id text)
 named_again true id text past small = typed_code 1 id (5 + length text) (1 ∷ text) past refl refl small (omega arith) (omega arith)
 named_again false id text past small = typed_code 2 id (5 + length text) (1 ∷ text) past refl refl small (omega arith) (omega arith)
 
@@ -80,7 +78,7 @@ typed_message request id kind bytes m long s = rw (not_one kind m, m, le-ltb (le
 
 -- a message is found, whatever its reserved bytes are and whatever follows it
 message_again : (request : Bool) (id kind subtype : ℕ) (reserved attrs past : List ℕ) → is_method kind ≡ true → is_subtype subtype ≡ true → length reserved ≡ 2 → 8 + length attrs < 65536
-    → frame_at (message_code request ∷ id ∷ (to_be_bytes w16 (8 + length attrs) ++ (kind ∷ subtype ∷ (reserved ++ (attrs ++ past))))) ≡ Ok (Message request id kind subtype attrs)
+    → frame_by_steps (message_code request ∷ id ∷ (to_be_bytes w16 (8 + length attrs) ++ (kind ∷ subtype ∷ (reserved ++ (attrs ++ past))))) ≡ Ok (Message request id kind subtype attrs)
 message_again request id kind subtype [] attrs past m s two small = absurd (omega arith)
 message_again request id kind subtype (a ∷ []) attrs past m s two small = absurd (omega arith)
 message_again true id kind subtype (a ∷ b ∷ []) attrs past m s two small =
@@ -92,11 +90,11 @@ message_again false id kind subtype (a ∷ b ∷ []) attrs past m s two small =
 message_again request id kind subtype (a ∷ b ∷ c ∷ reserved) attrs past m s two small = absurd (omega arith)
 
 -- what stands there is found
-pub frame_again : (f : Frame) (bytes : List ℕ) → IsFramed f bytes → frame_at bytes ≡ Ok f
-frame_again (Ended success id) bytes p = ap (λ (b : List ℕ). frame_at b) p.parts ∙ ended_again success id p.past
-frame_again (Named request id text) bytes p = ap (λ (b : List ℕ). frame_at b) p.parts ∙ named_again request id text p.past p.size
-frame_again (Message request id kind subtype attrs) bytes p =
-    ap (λ (b : List ℕ). frame_at b) p.parts ∙ message_again request id kind subtype p.reserved attrs p.past p.method p.known p.two p.size
+pub steps_again : (f : Frame) (bytes : List ℕ) → IsFramed f bytes → frame_by_steps bytes ≡ Ok f
+steps_again (Ended success id) bytes p = ap (λ (b : List ℕ). frame_by_steps b) p.parts ∙ ended_again success id p.past
+steps_again (Named request id text) bytes p = ap (λ (b : List ℕ). frame_by_steps b) p.parts ∙ named_again request id text p.past p.size
+steps_again (Message request id kind subtype attrs) bytes p =
+    ap (λ (b : List ℕ). frame_by_steps b) p.parts ∙ message_again request id kind subtype p.reserved attrs p.past p.method p.known p.two p.size
 
 -- ---- what is found stands there
 
@@ -129,7 +127,7 @@ tail_is bytes size some within =
 
 -- an Identity that is found stands in the bytes
 named_sound : (request : Bool) (id : ℕ) (bytes : List ℕ) → IsBytes bytes → get_or bytes 0 0 ≡ message_code request → get_or bytes 1 0 ≡ id → 5 ≤ length_of bytes → length_of bytes ≤ length bytes
-    → get_or bytes 4 0 ≡ 1 → IsIdentity request id (drop 5 (take (length_of bytes) bytes)) bytes
+    → get_or bytes 4 0 ≡ 1 → IsIdentityPacket request id (drop 5 (take (length_of bytes) bytes)) bytes
 named_sound request id bytes fits code ident some within one =
     let size = length_of bytes in
     let text = drop 5 (take size bytes) in
@@ -229,9 +227,9 @@ ended_sound bytes fits long code size = record {
 }
 
 -- what is found stands there
-pub frame_sound : (bytes : List ℕ) (f : Frame) → IsBytes bytes → frame_at bytes ≡ Ok f → IsFramed f bytes
-unfolding frame_at
-frame_sound bytes f fits e =
+pub steps_sound : (bytes : List ℕ) (f : Frame) → IsBytes bytes → frame_by_steps bytes ≡ Ok f → IsFramed f bytes
+unfolding frame_by_steps
+steps_sound bytes f fits e =
     let code = get_or bytes 0 0 in
     let id = get_or bytes 1 0 in
     let size = length_of bytes in
@@ -245,11 +243,6 @@ frame_sound bytes f fits e =
       | inl h ↦ subst (λ (g : Frame). IsFramed g bytes) (ok_is (Ended (code == 3) id) f h.1) (ended_sound bytes fits long (end_is code known h.0) (right.whole h.0))
       | inr h ↦ typed_sound (code == 1) id bytes f fits (message_is code known h.0) refl (right.least h.0) right.within h.1
     ]
-
--- what a reader by the tests gives is framed so
-pub framed_from : (bytes : List ℕ) (r : Result Framed FrameFault) → IsBytes bytes → Frames r (frame_at bytes) → IfOk r (λ f. IsFramed (frame_of f) bytes)
-framed_from bytes (Ok f) fits e = frame_sound bytes (frame_of f) fits e
-framed_from bytes (Err d) fits e = tt
 
 -- the attributes of a message stand within its Length
 pub attrs_within : (request : Bool) (id kind subtype : ℕ) (attrs bytes : List ℕ) → IsMessage request id kind subtype attrs bytes

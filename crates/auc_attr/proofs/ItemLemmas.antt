@@ -8,7 +8,7 @@ use Rattle.auc_attr.specs.declared.refusal.AttrRefusal.TheVariants as refusal
 use Rattle.auc_attr.specs.declared.table.Row.{Row}
 use Rattle.auc_attr.specs.Table.{row_of}
 use Rattle.auc_attr.specs.Item.{Item, item}
-use Rattle.auc_attr.specs.Fault.{value_at, row_at, known_at, item_at}
+use Rattle.auc_attr.specs.InnerFront.{value_at, row_at, known_at, item_at}
 use Rattle.auc_attr.specs.Grammar.{IsBody, IsAttr}
 use Rattle.auc_attr.specs.Spelling.{stands_in, fits, fits_row, fits_item}
 use Rattle.auc_attr.proofs.Tools.{IsBytes, IsBytes-take, IsBytes-drop, IsBytes-tail, bind_ok, passed, ok_is}
@@ -91,7 +91,7 @@ attr_fits seen i bytes rest p fits =
 front_is : (seen : List ℕ) (i : Item) (bytes rest : List ℕ) (p : IsAttr seen i bytes rest) → bytes ≡ (i.kind ∷ p.units ∷ p.body) ++ rest
 front_is seen i bytes rest p = p.parts
 
--- the bytes behind an attribute are bytes
+-- the bytes after an attribute are bytes
 pub attr_rest : (seen : List ℕ) (i : Item) (bytes rest : List ℕ) → IsAttr seen i bytes rest → IsBytes bytes → IsBytes rest
 attr_rest seen i bytes rest p fits =
     let front = i.kind ∷ p.units ∷ p.body in

@@ -18,7 +18,7 @@ use Rattle.auc_attr.proofs.Tools.{IsBytes, and_parts, and_from, some_is}
 use Rattle.auc_attr.proofs.ItemLemmas.{attr_fits, attr_rest}
 use Rattle.auc_attr.proofs.WalkLemmas.{one_walk}
 use Rattle.auc_attr.proofs.SpellingLemmas.{attr_size}
-use Rattle.auc_attr.proofs.FrameLemmas.{frame_sound, frame_again}
+use Rattle.auc_attr.proofs.FrameFaultLemmas.{frame_sound, frame_again}
 
 -- ---- an attribute is determined by its item
 
@@ -114,7 +114,7 @@ one_list bytes list other va vb p q =
 
 -- ---- faults
 
--- a first fault stands behind a list of items
+-- a first fault follows a list of items
 fault_walk : (bytes : List ℕ) (f : AttrRefusal) → f ≢ refusal.NoMemory → FirstFault bytes f → (is : List Item) × Walks [] bytes is (Some f)
 fault_walk bytes refusal.Truncated n p = p
 fault_walk bytes refusal.ZeroLength n p = p
@@ -143,7 +143,7 @@ refused_is_not_read bytes list f nf p q =
 
 -- ---- what is read may be written
 
--- an attribute that is read may be written where it stood
+-- an attribute that was read may be written in its place
 may_again : (seen : List ℕ) (a : Attr) (bytes rest : List ℕ) → IsBytes bytes → IsAttr seen (item_of a) bytes rest → is_named a ≡ true → may_follow a (stands_in seen (item_of a).kind) ≡ true
 may_again seen a bytes rest fits p named =
     and_from (fits_item (item_of a) && is_named a) _

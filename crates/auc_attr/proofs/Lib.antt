@@ -3,8 +3,11 @@ mod Tools
 mod ValueLemmas
 mod WritingLemmas
 mod ItemLemmas
+mod FaultLemmas
 mod WalkLemmas
 mod SpellingLemmas
+mod ConditionLemmas
 mod FrameLemmas
+mod FrameFaultLemmas
 mod MacLemmas
 mod LawLemmas

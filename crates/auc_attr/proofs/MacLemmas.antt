@@ -9,17 +9,17 @@ use Rattle.auc_attr.specs.declared.table.Shape.{Shape}
 use Rattle.auc_attr.specs.declared.table.Shape.TheVariants as shape
 use Rattle.auc_attr.specs.Table.{row_of}
 use Rattle.auc_attr.specs.Item.{Item}
-use Rattle.auc_attr.specs.Fault.{item_at}
+use Rattle.auc_attr.specs.InnerFront.{item_at}
 use Rattle.auc_attr.specs.Grammar.{IsBody, IsAttr, Walks}
-use Rattle.auc_attr.specs.Mac.{mac_from, place_or, IsMacIn}
-use Rattle.auc_attr.specs.Marks.{Marks}
+use Rattle.auc_attr.specs.Mac.{mac_from, IsMacIn}
+use Rattle.auc_attr.specs.Inner.{Marks, place_or}
 use Rattle.auc_attr.specs.Spelling.{stands_in, item_text, texts}
 use Rattle.auc_attr.proofs.Tools.{IsBytes, some_is}
 use Rattle.auc_attr.proofs.ItemLemmas.{attr_shorter}
 use Rattle.auc_attr.proofs.SpellingLemmas.{attr_size}
 use Rattle.auc_attr.proofs.WalkLemmas.{kinds, IsReadTo, begins, goes_on, taken, faulty, ended}
 
--- one more attribute behind another one, which is AT_MAC or not
+-- one more attribute after another one, which is AT_MAC or not
 push_by_kind : (b : Bool) (start later total : ℕ) (one both : Option ℕ) (kind : ℕ) → both ≡ place_or one kind total
     → cond b (Some (start + 4)) both ≡ place_or (cond b (Some (start + 4)) one) kind total
 push_by_kind true start later total one both kind e = refl
@@ -44,7 +44,7 @@ pub record IsPlacedTo (attrs : List ℕ) (place : Option ℕ) (marks : List Bool
 pub place_begins : (attrs : List ℕ) (marks : List Bool) → IsBytes attrs → Marks marks [] → IsPlacedTo attrs None marks attrs
 place_begins attrs marks fits m = record { is = []; read = begins attrs marks fits m; placed = refl; size = omega arith }
 
--- the bytes of one more attribute stand behind the others
+-- the bytes of one more attribute stand after the others
 texts_push : (is : List Item) (i : Item) → texts (is ++ i ∷ []) ≡ texts is ++ item_text i
 texts_push is i = flat_map-append item_text is (i ∷ []) ∙ ap (λ (t : List ℕ). texts is ++ t) (append-nil (item_text i))
 
@@ -94,7 +94,7 @@ wider : (o : Option ℕ) (later start more all : ℕ) → later + more ≡ start
 wider None later start more all e h = tt
 wider (Some place) later start more all e h = omega (arith, h)
 
--- the place is in this attribute, or behind it
+-- the place is in this attribute, or after it
 within_by_kind : (seen : List ℕ) (start : ℕ) (bytes rest : List ℕ) (i : Item) (o : Option ℕ) (b : Bool) → IsAttr seen i bytes rest → (i.kind == 11) ≡ b
     → IfSome o (λ place. place + 16 ≤ start + length bytes) → IfSome (cond b (Some (start + 4)) o) (λ place. place + 16 ≤ start + length bytes)
 within_by_kind seen start bytes rest i o true p e h = omega (arith, mac_fits seen i bytes rest p (eqb-true i.kind 11 e))

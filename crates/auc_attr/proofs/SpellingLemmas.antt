@@ -9,7 +9,7 @@ use Rattle.auc_attr.specs.declared.attr.Attr.{Attr}
 use Rattle.auc_attr.specs.declared.table.Row.{Row}
 use Rattle.auc_attr.specs.declared.table.Shape.{Shape}
 use Rattle.auc_attr.specs.declared.table.Shape.TheVariants as shape
-use Rattle.auc_attr.specs.Table.{once, often, row_of}
+use Rattle.auc_attr.specs.Table.{single, repeated, row_of}
 use Rattle.auc_attr.specs.Item.{Item, item_of, items, is_named}
 use Rattle.auc_attr.specs.Grammar.{IsAfterReserved, IsCounted, IsBody, IsAttr, Walks, ReadsAttrs}
 use Rattle.auc_attr.specs.Spelling.{stands_in, is_zero, fill, fits, fits_row, fits_item, may_stand_row, may_follow, writable_from, writable, parts_text, reserved, shape_text, row_text, item_text, spelling}
@@ -40,31 +40,31 @@ if_whole false x y p q = q
 each_is_whole : (kind : ℕ) → IsWholeRow (row_of kind)
 unfolding row_of
 each_is_whole kind =
-    if_whole (kind == 1) (once (shape.AfterReserved 16)) _ refl (
-    if_whole (kind == 2) (once (shape.AfterReserved 16)) _ refl (
-    if_whole (kind == 3) (once shape.BitCounted) _ refl (
-    if_whole (kind == 4) (once (shape.Fixed 14)) _ refl (
-    if_whole (kind == 6) (once shape.Zeros) _ refl (
-    if_whole (kind == 10) (once (shape.AfterReserved 0)) _ refl (
-    if_whole (kind == 11) (once (shape.AfterReserved 16)) _ refl (
-    if_whole (kind == 12) (once (shape.Fixed 2)) _ refl (
-    if_whole (kind == 13) (once (shape.AfterReserved 0)) _ refl (
-    if_whole (kind == 14) (once shape.ByteCounted) _ refl (
-    if_whole (kind == 17) (once (shape.AfterReserved 0)) _ refl (
-    if_whole (kind == 19) (once (shape.Fixed 2)) _ refl (
-    if_whole (kind == 20) (once (shape.AfterReserved 0)) _ refl (
-    if_whole (kind == 21) (once (shape.AfterReserved 16)) _ refl (
-    if_whole (kind == 22) (once (shape.Fixed 2)) _ refl (
-    if_whole (kind == 23) (once shape.ByteCounted) _ refl (
-    if_whole (kind == 24) (often (shape.Fixed 2)) _ refl (
-    if_whole (kind == 129) (once (shape.AfterReserved 16)) _ refl (
-    if_whole (kind == 130) (once shape.Ciphertext) _ refl (
-    if_whole (kind == 132) (once shape.ByteCounted) _ refl (
-    if_whole (kind == 133) (once shape.ByteCounted) _ refl (
-    if_whole (kind == 134) (once shape.Hash) _ refl (
-    if_whole (kind == 135) (once (shape.AfterReserved 0)) _ refl (
-    if_whole (kind == 136) (once shape.Flag) _ refl (
-    if_whole (nat_le 128 kind) (often shape.Skipped) None refl (record { whole = refl })))))))))))))))))))))))))
+    if_whole (kind == 1) (single (shape.AfterReserved 16)) _ refl (
+    if_whole (kind == 2) (single (shape.AfterReserved 16)) _ refl (
+    if_whole (kind == 3) (single shape.BitCounted) _ refl (
+    if_whole (kind == 4) (single (shape.Fixed 14)) _ refl (
+    if_whole (kind == 6) (single shape.Zeros) _ refl (
+    if_whole (kind == 10) (single (shape.AfterReserved 0)) _ refl (
+    if_whole (kind == 11) (single (shape.AfterReserved 16)) _ refl (
+    if_whole (kind == 12) (single (shape.Fixed 2)) _ refl (
+    if_whole (kind == 13) (single (shape.AfterReserved 0)) _ refl (
+    if_whole (kind == 14) (single shape.ByteCounted) _ refl (
+    if_whole (kind == 17) (single (shape.AfterReserved 0)) _ refl (
+    if_whole (kind == 19) (single (shape.Fixed 2)) _ refl (
+    if_whole (kind == 20) (single (shape.AfterReserved 0)) _ refl (
+    if_whole (kind == 21) (single (shape.AfterReserved 16)) _ refl (
+    if_whole (kind == 22) (single (shape.Fixed 2)) _ refl (
+    if_whole (kind == 23) (single shape.ByteCounted) _ refl (
+    if_whole (kind == 24) (repeated (shape.Fixed 2)) _ refl (
+    if_whole (kind == 129) (single (shape.AfterReserved 16)) _ refl (
+    if_whole (kind == 130) (single shape.Ciphertext) _ refl (
+    if_whole (kind == 132) (single shape.ByteCounted) _ refl (
+    if_whole (kind == 133) (single shape.ByteCounted) _ refl (
+    if_whole (kind == 134) (single shape.Hash) _ refl (
+    if_whole (kind == 135) (single (shape.AfterReserved 0)) _ refl (
+    if_whole (kind == 136) (single shape.Flag) _ refl (
+    if_whole (nat_le 128 kind) (repeated shape.Skipped) None refl (record { whole = refl })))))))))))))))))))))))))
 
 -- how many bytes a body of parts has
 parts_length : (front value : List ℕ) (zeros : ℕ) → length (front ++ (value ++ replicate zeros 0)) ≡ length front + length value + zeros
@@ -96,7 +96,7 @@ three_sizes n a b c e = grind (arith, nat_tests)
 leb-le : (a b : ℕ) → leb a b ≡ true → a ≤ b
 leb-le a b e = grind (arith, nat_tests)
 
--- a hash behind two bytes fills whole units
+-- a hash after two bytes fills whole units
 hash_whole : (n : ℕ) → (n ≡ 0) ⊎ ((n ≡ 20) ⊎ (n ≡ 32)) → (2 + n + 0) % 4 ≡ 2
 hash_whole n (inl e) = rw e refl
 hash_whole n (inr (inl e)) = rw e refl
@@ -116,7 +116,7 @@ flag_value (suc zero ∷ []) e f = refl
 flag_value (suc (suc n) ∷ []) e f = absurd (omega arith)
 flag_value (a ∷ b ∷ value) e f = absurd (omega arith)
 
--- a value behind two zero bytes stands behind two reserved ones
+-- a value after two zero bytes is one after two reserved bytes
 behind : (value : List ℕ) → IsAfterReserved (reserved ++ (value ++ [])) value
 behind value = record { free = reserved; two = refl; parts = ap (λ (v : List ℕ). reserved ++ v) (append-nil value) }
 
@@ -231,14 +231,14 @@ written_attributes_are_read list e = spelled_list [] list e
 parts_size : (kind : ℕ) (front value : List ℕ) (zeros : ℕ) → length (parts_text kind front value zeros) ≡ length front + length value + zeros + 2
 parts_size kind front value zeros = omega (arith, parts_length front value zeros)
 
--- a value behind its length takes as many bytes as its body
+-- a value after its length takes as many bytes as its body
 counted_size : (unit least most kind : ℕ) (front body value : List ℕ) (units : ℕ) → length front ≡ 2 → length body + 2 ≡ 4 * units → IsCounted unit least most body value
     → length (parts_text kind front value (fill (length value))) ≡ length body + 2
 counted_size unit least most kind front body value units two size p =
     let long : length body ≡ 2 + (length value + length p.filling) = ap length p.parts ∙ omega (arith, length-append value p.filling) in
     omega (arith, parts_size kind front value (fill (length value)), filled (length value) (length p.filling) (length body) units p.short long size)
 
--- a value behind two reserved bytes has two fewer than its body
+-- a value after two reserved bytes has two fewer than its body
 behind_size : (body value : List ℕ) → IsAfterReserved body value → length body ≡ 2 + length value
 behind_size body value p = ap length p.parts ∙ omega (arith, length-append p.free value, p.two)
 

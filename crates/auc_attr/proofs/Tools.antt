@@ -3,7 +3,7 @@ use Rattle.std.proofs.Common.{◌≡◌, ℕ, suc, ◌+◌, ◌<◌, Bool, true,
 use Rattle.std.proofs.lemmas.Bool.{cases_lt}
 use Rattle.std.proofs.lemmas.List.{get_or-drop, get_or-take, get_or_past, length-take}
 use Rattle.auc_attr.specs.declared.refusal.AttrRefusal.{AttrRefusal}
-use Rattle.auc_attr.specs.Fault.{◌>>=◌}
+use Rattle.auc_attr.specs.InnerFront.{◌>>=◌}
 
 -- each number of a list is a byte
 abbrev pub IsBytes : List ℕ → Type 0

@@ -9,12 +9,12 @@ use Rattle.std.proofs.lemmas.Nat.{be_bytes_2, from_be_bytes-to_be_bytes_2}
 use Rattle.auc_attr.specs.declared.refusal.AttrRefusal.TheVariants as refusal
 use Rattle.auc_attr.specs.declared.table.Shape.{Shape}
 use Rattle.auc_attr.specs.declared.table.Shape.TheVariants as shape
-use Rattle.auc_attr.specs.Fault.{value_if, zeros_if, counted, counted_value, value_at}
+use Rattle.auc_attr.specs.InnerFront.{value_if, zeros_if, counted, counted_value, value_at}
 use Rattle.auc_attr.specs.Grammar.{IsAfterReserved, IsCounted, IsBody}
 use Rattle.auc_attr.specs.Spelling.{is_zero, fill, fits}
 use Rattle.auc_attr.proofs.Tools.{IsBytes, IsBytes-take, held, ok_is, and_parts, and_from, passed, not-false}
 
--- what stands behind two bytes
+-- what follows two bytes
 after_reserved : (body value : List ℕ) → 2 ≤ length body → drop 2 body ≡ value → IsAfterReserved body value
 after_reserved body value long e = record {
   free = take 2 body;
@@ -33,7 +33,7 @@ pub number_front : (body : List ℕ) → 2 ≤ length body → IsBytes body → 
 number_front body long fits =
     be_bytes_2 (take 2 body) (from_be_bytes w16 body) (omega (arith, length-take 2 body)) (IsBytes-take 2 body fits) (sym (front_number body))
 
--- what the test of a value behind its length says
+-- what the test of a value after its length says
 record Tested (unit least most count size long : ℕ) : Type 0 where
   whole : unit * size ≡ count
   at_least : least ≤ size
@@ -44,7 +44,7 @@ record Tested (unit least most count size long : ℕ) : Type 0 where
 whole_is : (unit count : ℕ) → 0 < unit → count % unit ≡ 0 → unit * (count / unit) ≡ count
 whole_is unit count some e = omega arith
 
--- the test of a value behind its length says so
+-- the test of a value after its length says so
 tested : (unit least most : ℕ) (body : List ℕ) → 0 < unit → counted unit least most body ≡ true
     → Tested unit least most (from_be_bytes w16 body) (from_be_bytes w16 body / unit) (length body)
 tested unit least most body some e =
@@ -66,7 +66,7 @@ tested unit least most body some e =
     leb-is : (a b : ℕ) → leb a b ≡ true → a ≤ b
     leb-is a b h = grind (arith, nat_tests)
 
--- a value behind its length that is read stands there
+-- a value after its length that is read stands there
 counted_sound : (unit least most : ℕ) (body value : List ℕ) → 0 < unit → 2 ≤ length body → IsBytes body
     → counted unit least most body ≡ true → counted_value unit body ≡ value → IsCounted unit least most body value
 counted_sound unit least most body value some long fits test e =
@@ -103,7 +103,7 @@ two_cells (a ∷ []) e = absurd (omega arith)
 two_cells (a ∷ b ∷ []) e = refl
 two_cells (a ∷ b ∷ c ∷ body) e = absurd (omega arith)
 
--- a body is two bytes longer than what stands behind two
+-- a body is two bytes longer than what follows two
 long_by : (body value : List ℕ) → 2 ≤ length body → drop 2 body ≡ value → length body ≡ 2 + length value
 long_by body value long e = omega (arith, length-drop 2 body, ap length e)
 
@@ -141,7 +141,7 @@ body_sound shape.Skipped kind body value long fits e = ok_is body value e
 le-leb : (a b : ℕ) → a ≤ b → leb a b ≡ true
 le-leb a b h = grind (arith, nat_tests)
 
--- a value behind its length passes the test
+-- a value after its length passes the test
 test_is : (unit least most count n long : ℕ) → count ≡ unit * n → (unit * n) / unit ≡ n → (unit * n) % unit ≡ 0 → least ≤ n → n ≤ most → long ≡ 2 + n + fill n
     → (((eqb (count % unit) 0 && leb least (count / unit)) && leb (count / unit) most) && eqb long (2 + count / unit + fill (count / unit))) ≡ true
 test_is unit least most count n long e d m lo hi size =
@@ -151,7 +151,7 @@ test_is unit least most count n long e d m lo hi size =
 pub filled : (n filling long units : ℕ) → filling < 4 → long ≡ 2 + (n + filling) → long + 2 ≡ 4 * units → long ≡ 2 + n + fill n
 filled n filling long units short e f = omega arith
 
--- a value behind its length is read
+-- a value after its length is read
 counted_again : (unit least most : ℕ) (body value : List ℕ) (units : ℕ) → ((n : ℕ) → (unit * n) / unit ≡ n) → ((n : ℕ) → (unit * n) % unit ≡ 0)
     → ((n : ℕ) → n ≤ most → unit * n < 2 ^ 16) → length body + 2 ≡ 4 * units → IsCounted unit least most body value
     → (counted unit least most body ≡ true) × (counted_value unit body ≡ value)
@@ -172,9 +172,9 @@ value_if_true b kind v w e f = rw e (ap (λ x. Ok x) f)
 zeros_if_true : (b : Bool) (kind : ℕ) (body value : List ℕ) → b ≡ true → list_all is_zero body ≡ true → body ≡ value → zeros_if b kind body ≡ Ok value
 zeros_if_true b kind body value e z f = rw (e, z) (ap (λ x. Ok x) f)
 
--- what stands behind two reserved bytes is read there
-behind_two : (body value : List ℕ) → IsAfterReserved body value → (length body ≡ 2 + length value) × (drop 2 body ≡ value)
-behind_two body value p =
+-- what follows two reserved bytes is read there
+after_two : (body value : List ℕ) → IsAfterReserved body value → (length body ≡ 2 + length value) × (drop 2 body ≡ value)
+after_two body value p =
     (ap length p.parts ∙ omega (arith, length-append p.free value, p.two), ap (λ (b : List ℕ). drop 2 b) p.parts ∙ drop_at p.free value 2 p.two)
 
 -- a number that is one of three passes their test
@@ -192,14 +192,14 @@ pub body_again : (s : Shape) (kind : ℕ) (body value : List ℕ) (units : ℕ) 
 unfolding value_at
 body_again (shape.Fixed n) kind body value units size p = value_if_true _ kind body value (eq-eqb (length body) n (ap length p.1 ∙ p.0)) p.1
 body_again (shape.AfterReserved n) kind body value units size p =
-    let b = behind_two body value p.1 in value_if_true _ kind (drop 2 body) value (eq-eqb (length body) (2 + n) (omega (arith, b.0, p.0))) b.1
+    let b = after_two body value p.1 in value_if_true _ kind (drop 2 body) value (eq-eqb (length body) (2 + n) (omega (arith, b.0, p.0))) b.1
 body_again shape.BitCounted kind body value units size p =
     let c = counted_again 8 4 16 body value units (λ n. omega arith) (λ n. omega arith) (λ n h. omega arith) size p in value_if_true _ kind (counted_value 8 body) value c.0 c.1
 body_again shape.ByteCounted kind body value units size p =
     let c = counted_again 1 0 1016 body value units (λ n. omega arith) (λ n. omega arith) (λ n h. omega arith) size p in value_if_true _ kind (counted_value 1 body) value c.0 c.1
-body_again shape.Ciphertext kind body value units size p = ap (λ x. Ok x) (behind_two body value p).1
+body_again shape.Ciphertext kind body value units size p = ap (λ x. Ok x) (after_two body value p).1
 body_again shape.Hash kind body value units size p =
-    let b = behind_two body value p.1 in
+    let b = after_two body value p.1 in
     value_if_true _ kind (drop 2 body) value (three_tests (length body) 2 22 34 (hash_tests (length body) (length value) b.0 p.0)) b.1
 body_again shape.Zeros kind body value units size p =
     zeros_if_true _ kind body value
@@ -224,7 +224,7 @@ body_fits (shape.AfterReserved n) body value units some small size p = eq-eqb (l
 body_fits shape.BitCounted body value units some small size p = and_from _ _ (le-leb 4 (length value) p.at_least) (le-leb (length value) 16 p.at_most)
 body_fits shape.ByteCounted body value units some small size p = le-leb (length value) 1016 p.at_most
 body_fits shape.Ciphertext body value units some small size p =
-    let b = behind_two body value p in
+    let b = after_two body value p in
     and_from _ _ (le-leb (length value) 1016 (omega (arith, b.0))) (eq-eqb (length value % 4) 0 (omega (arith, b.0)))
 body_fits shape.Hash body value units some small size p = three_tests (length value) 0 20 32 p.0
 body_fits shape.Zeros body value units some small size p = and_from _ _ (three_tests (length value) 2 6 10 p.0) p.1

@@ -1,46 +1,37 @@
 -- Bytes have one reading, or one first fault; and reading them from the front.
-use Rattle.std.proofs.Common.{◌≡◌, ℕ, ◌<◌, Bool, true, List, [], ◌∷◌, ◌++◌, length, get_or, map, Option, Some, None, Result, Ok, Err, refl, sym, ap, ◌∙◌, subst, arith, append_assoc}
+use Rattle.std.proofs.Common.{◌≡◌, ℕ, ◌<◌, Bool, true, List, [], ◌∷◌, ◌++◌, length, get_or, map, Option, Some, None, Ok, Err, refl, sym, ap, ◌∙◌, subst, arith, append_assoc}
 use Rattle.std.specs.List.{list_all}
 use Rattle.std.proofs.lemmas.List.{append-nil, map_push, nil_from_length}
 use Rattle.auc_attr.specs.declared.attr.Attr.{Attr}
 use Rattle.auc_attr.specs.declared.refusal.AttrRefusal.{AttrRefusal}
 use Rattle.auc_attr.specs.declared.refusal.AttrRefusal.TheVariants as refusal
 use Rattle.auc_attr.specs.Item.{Item, item_of, items, is_named}
-use Rattle.auc_attr.specs.Fault.{item_at}
+use Rattle.auc_attr.specs.InnerFront.{item_at}
 use Rattle.auc_attr.specs.Grammar.{IsAttr, IsFault, Ends, Walks, FirstFault}
-use Rattle.auc_attr.specs.Marks.{Marks}
+use Rattle.auc_attr.specs.Inner.{Marks}
 use Rattle.auc_attr.specs.Spelling.{stands_in}
-use Rattle.auc_attr.proofs.Tools.{IsBytes, and_parts, and_from, ok_is}
+use Rattle.auc_attr.proofs.Tools.{IsBytes, and_parts, and_from, ok_is, some_is}
 use Rattle.auc_attr.proofs.ItemLemmas.{attr_sound, attr_again, attr_rest}
-
--- two refusals that are one have one cause
-err_is : {A : Type 0} (e f : AttrRefusal) → ◌≡◌ {A = Result A AttrRefusal} (Err e) (Err f) → e ≡ f
-err_is e f h = cc
+use Rattle.auc_attr.proofs.FaultLemmas.{item_fault, attr_right}
 
 -- at a place there is one fault
 one_fault : (seen bytes : List ℕ) (e f : AttrRefusal) → IsFault seen bytes e → IsFault seen bytes f → e ≡ f
-one_fault seen [] e f p q = absurd p
-one_fault seen (kind ∷ bytes) e f p q = err_is {A = Item × List ℕ} e f (sym p ∙ q)
+one_fault seen bytes e f p q = some_is e f (sym p.first ∙ q.first)
 
 -- at a place the bytes end, or have one fault
 one_end : (seen bytes : List ℕ) (e f : Option AttrRefusal) → Ends seen bytes e → Ends seen bytes f → e ≡ f
 one_end seen bytes None None p q = refl
-one_end seen bytes None (Some f) p q = absurd (subst (λ (b : List ℕ). IsFault seen b f) p q)
-one_end seen bytes (Some e) None p q = absurd (subst (λ (b : List ℕ). IsFault seen b e) q p)
+one_end seen bytes None (Some f) p q = absurd (q.some p)
+one_end seen bytes (Some e) None p q = absurd (p.some q)
 one_end seen bytes (Some e) (Some f) p q = ap (λ x. Some x) (one_fault seen bytes e f p q)
 
--- where an attribute stands the bytes don't end, nor is there a fault
+-- if an attribute stands there, the bytes don't end, nor is there a fault
 no_end : (seen : List ℕ) (i : Item) (bytes rest : List ℕ) (e : Option AttrRefusal) → IsAttr seen i bytes rest → Ends seen bytes e → ⊥
 no_end seen i bytes rest None p q = not_empty _ _ (sym p.parts ∙ q)
   where
     not_empty : (k : ℕ) (b : List ℕ) → k ∷ b ≡ [] → ⊥
     not_empty k b h = cc
-no_end seen i bytes rest (Some f) p q =
-    let fault : IsFault seen (i.kind ∷ p.units ∷ (p.body ++ rest)) f = subst (λ (b : List ℕ). IsFault seen b f) p.parts q in
-    ok_or_err (i, rest) f (sym (attr_again seen i bytes rest p) ∙ ap (λ (b : List ℕ). item_at (stands_in seen i.kind) b) p.parts ∙ fault)
-  where
-    ok_or_err : (x : Item × List ℕ) (g : AttrRefusal) → Ok x ≡ Err g → ⊥
-    ok_or_err x g h = cc
+no_end seen i bytes rest (Some f) p q = attr_right seen i bytes rest f p q
 
 -- one attribute stands at the front
 one_attr : (seen : List ℕ) (i j : Item) (bytes r s : List ℕ) → IsAttr seen i bytes r → IsAttr seen j bytes s → (i ≡ j) × (r ≡ s)
@@ -100,7 +91,7 @@ taken bytes is marks [] stood i more p some tells e = absurd (omega arith)
 taken bytes is marks (kind ∷ rest) stood i more p some tells e =
     attr_sound (kinds is) kind rest i more p.fits (ap (λ b. item_at b (kind ∷ rest)) (sym (tells (kinds is) p.marked)) ∙ e)
 
--- a fault behind attributes is the first
+-- a fault after attributes is the first
 fault_of : (bytes : List ℕ) (f : AttrRefusal) (is : List Item) → Walks [] bytes is (Some f) → FirstFault bytes f
 fault_of bytes refusal.Truncated is w = (is, w)
 fault_of bytes refusal.ZeroLength is w = (is, w)
@@ -116,14 +107,14 @@ pub faulty : (bytes : List ℕ) (is : List Item) (marks : List Bool) (rest : Lis
 faulty bytes is marks [] stood f p some tells e = absurd (omega arith)
 faulty bytes is marks (kind ∷ rest) stood f p some tells e =
     subst (λ (x : List Item). Walks [] bytes x (Some f)) (append-nil is)
-    (p.completes [] (Some f) (ap (λ b. item_at b (kind ∷ rest)) (sym (tells (kinds is) p.marked)) ∙ e))
+    (p.completes [] (Some f) (item_fault (kinds is) kind rest f (ap (λ b. item_at b (kind ∷ rest)) (sym (tells (kinds is) p.marked)) ∙ e)))
 
 -- a fault at the front of the rest is the first of the bytes
 pub first_fault : (bytes : List ℕ) (is : List Item) (marks : List Bool) (rest : List ℕ) (stood : Bool) (f : AttrRefusal) → IsReadTo bytes is marks rest → 0 < length rest
     → ((ks : List ℕ) → Marks marks ks → stood ≡ stands_in ks (get_or rest 0 0)) → item_at stood rest ≡ Err f → FirstFault bytes f
 first_fault bytes is marks rest stood f p some tells e = fault_of bytes f is (faulty bytes is marks rest stood f p some tells e)
 
--- where nothing is left all was read
+-- if nothing is left, all was read
 pub ended : (bytes : List ℕ) (is : List Item) (marks : List Bool) (rest : List ℕ) → IsReadTo bytes is marks rest → length rest ≡ 0 → Walks [] bytes is None
 ended bytes is marks rest p e =
     subst (λ (x : List Item). Walks [] bytes x None) (append-nil is) (p.completes [] None (nil_from_length rest e))

@@ -6,7 +6,7 @@ use Rattle.std.proofs.lemmas.List.{append-nil, drop_all}
 use Rattle.auc_edge.specs.Reserved.{Reserved, wrote}
 use Rattle.auc_attr.specs.declared.attr.Attr.{Attr}
 use Rattle.auc_attr.specs.Item.{item_of, is_named}
-use Rattle.auc_attr.specs.Marks.{Marks}
+use Rattle.auc_attr.specs.Inner.{Marks}
 use Rattle.auc_attr.specs.Spelling.{stands_in, fits_item, may_follow, writable_from, writable, item_text, spelling}
 use Rattle.auc_attr.proofs.Tools.{and_parts, and_from}
 
@@ -114,7 +114,7 @@ count_done size total xs i le p =
     let q = subst (λ (r : List Attr). IsCountedTo size r total) (drop_all i xs le) p in
     omega (arith, q.sum)
 
--- whether the rest of a list may be written behind attributes of these types
+-- whether the rest of a list may be written after attributes of these types
 pub record IsJudgedTo (marks : List Bool) (rest : List Attr) (whole : Bool) : Type 0 where
   pub kinds : List ℕ
   pub marked : Marks marks kinds

@@ -1,5 +1,6 @@
--- The tests of an attribute at the front of bytes, in their order; the first that fails gives the refusal.
-use Rattle.std.specs.Prelude.{◌≡◌, ℕ, ◌+◌, ◌-◌, ◌*◌, ◌/◌, ◌%◌, ◌==◌, nat_lt, nat_le, Bool, not, ◌&&◌, ◌||◌, if◌then◌else◌, List, [], ◌∷◌, length, take, drop, slice_index, Option, Some, None, Result, Ok, Err}
+-- What can be wrong with an attribute at the front of bytes (RFC 4187 §8.1 and §10): each fault beside a condition
+-- of its own, in the order in which they are reported. No standard orders them; this order is the project's.
+use Rattle.std.specs.Prelude.{ℕ, ◌+◌, ◌-◌, ◌*◌, ◌%◌, ◌==◌, nat_lt, nat_le, Bool, true, false, not, ◌&&◌, ◌||◌, List, [], ◌∷◌, length, take, drop, slice_index, Option, Some, None}
 use Rattle.std.specs.List.{list_all}
 use Rattle.std.specs.Int.{w16, from_be_bytes}
 use Rattle.auc_attr.specs.declared.refusal.AttrRefusal.{AttrRefusal}
@@ -8,64 +9,78 @@ use Rattle.auc_attr.specs.declared.table.Row.{Row}
 use Rattle.auc_attr.specs.declared.table.Shape.{Shape}
 use Rattle.auc_attr.specs.declared.table.Shape.TheVariants as shape
 use Rattle.auc_attr.specs.Table.{row_of}
-use Rattle.auc_attr.specs.Item.{Item, item}
-use Rattle.auc_attr.specs.Spelling.{is_zero, fill}
+use Rattle.auc_attr.specs.Spelling.{stands_in, is_zero}
 
--- the value where a test holds
-abbrev pub value_if : Bool → ℕ → List ℕ → Result (List ℕ) AttrRefusal
-value_if holds kind value = if holds then Ok value else Err (refusal.BadLength kind)
+-- the type
+abbrev pub kind_at : List ℕ → ℕ
+kind_at bytes = slice_index bytes 0
 
-abbrev pub zeros_if : Bool → ℕ → List ℕ → Result (List ℕ) AttrRefusal
-zeros_if holds kind body =
-    if not holds then Err (refusal.BadLength kind)
-    else if list_all is_zero body then Ok body else Err refusal.BadPadding
+-- the length, in units of four bytes
+abbrev pub units_at : List ℕ → ℕ
+units_at bytes = slice_index bytes 1
 
--- a value behind its length in two bytes, whose unit is this part of a byte: the body is no longer than it has to be
-abbrev pub counted : ℕ → ℕ → ℕ → List ℕ → Bool
-counted unit least most body =
-    let count = from_be_bytes w16 body in
-    let size = count / unit in
-    (count % unit == 0) && nat_le least size && nat_le size most && (length body == 2 + size + fill size)
+-- the bytes after type and length
+abbrev pub body_at : List ℕ → List ℕ
+body_at bytes = take (4 * units_at bytes - 2) (drop 2 bytes)
 
-abbrev pub counted_value : ℕ → List ℕ → List ℕ
-counted_value unit body = take (from_be_bytes w16 body / unit) (drop 2 body)
+-- the number in the first two of these bytes
+abbrev pub count_at : List ℕ → ℕ
+count_at body = from_be_bytes w16 body
 
--- the value in what stands behind type and length, or the refusal
-unfoldable pub value_at : Shape → ℕ → List ℕ → Result (List ℕ) AttrRefusal
-value_at (shape.Fixed n) kind body = value_if (length body == n) kind body
-value_at (shape.AfterReserved n) kind body = value_if (length body == 2 + n) kind (drop 2 body)
-value_at shape.BitCounted kind body = value_if (counted 8 4 16 body) kind (counted_value 8 body)
-value_at shape.ByteCounted kind body = value_if (counted 1 0 1016 body) kind (counted_value 1 body)
-value_at shape.Ciphertext kind body = Ok (drop 2 body)
-value_at shape.Hash kind body = value_if (length body == 2 || length body == 22 || length body == 34) kind (drop 2 body)
-value_at shape.Zeros kind body = zeros_if (length body == 2 || length body == 6 || length body == 10) kind body
-value_at shape.Flag kind body = value_if (length body == 2) kind ((if nat_lt (slice_index body 0) 128 then 0 else 1) ∷ [])
-value_at shape.Skipped kind body = Ok body
+-- whether so many units are the fewest that hold type, length, the count, and as many bits or bytes as it counts.
+-- A unit has 32 bits or 4 bytes, and type, length and count take one unit
+abbrev pub is_least : ℕ → ℕ → ℕ → Bool
+is_least unit count units = nat_le (unit + count) (unit * units) && nat_lt (unit * units) (unit + count + unit)
 
-infixl 10 ◌>>=◌
-abbrev pub ◌>>=◌ : {A B : Type 0} → Result A AttrRefusal → (A → Result B AttrRefusal) → Result B AttrRefusal
-(Ok x) >>= f = f x
-(Err e) >>= f = Err e
+-- whether an attribute of a shape may have so many units
+abbrev pub has_length : Shape → ℕ → List ℕ → Bool
+has_length (shape.Fixed n) units body = 4 * units == 2 + n
+has_length (shape.AfterReserved n) units body = 4 * units == 4 + n
+has_length shape.BitCounted units body =
+    (count_at body % 8 == 0) && nat_le 32 (count_at body) && nat_le (count_at body) 128 && is_least 32 (count_at body) units
+has_length shape.ByteCounted units body = nat_le (count_at body) 1016 && is_least 4 (count_at body) units
+has_length shape.Ciphertext units body = true
+has_length shape.Hash units body = units == 1 || units == 6 || units == 9
+has_length shape.Zeros units body = units == 1 || units == 2 || units == 3
+has_length shape.Flag units body = units == 1
+has_length shape.Skipped units body = true
 
--- an attribute of a type in the table: whether the type stood before, its length in units, and the bytes behind that
-abbrev pub row_at : Row → Bool → ℕ → ℕ → List ℕ → Result (Item × List ℕ) AttrRefusal
-row_at row stood kind units after =
-    if row.once && stood then Err (refusal.Twice kind)
-    else if units == 0 then Err refusal.ZeroLength
-    else if nat_lt (length after + 2) (4 * units) then Err refusal.Truncated
-    else (value_at row.shape kind (take (4 * units - 2) after) >>= λ value. Ok (item kind value, drop (4 * units - 2) after))
+-- the type isn't in the table and is below 128
+abbrev pub is_unknown : Option Row → Bool
+is_unknown None = true
+is_unknown (Some row) = false
 
-abbrev pub known_at : Option Row → Bool → ℕ → ℕ → List ℕ → Result (Item × List ℕ) AttrRefusal
-known_at None stood kind units after = Err (refusal.UnknownType kind)
-known_at (Some row) stood kind units after = row_at row stood kind units after
+-- a message has the type once alone, and the type stood before
+abbrev pub is_second : Option Row → List ℕ → ℕ → Bool
+is_second None seen kind = false
+is_second (Some row) seen kind = row.once && stands_in seen kind
 
--- the attribute at the front, and the bytes behind it
-unfoldable pub item_at : Bool → List ℕ → Result (Item × List ℕ) AttrRefusal
-item_at stood [] = Err refusal.Truncated
-item_at stood (kind ∷ []) = Err refusal.Truncated
-item_at stood (kind ∷ units ∷ after) = known_at (row_of kind) stood kind units after
+-- the length isn't one that the table has for the type and its value
+abbrev pub has_bad_length : Option Row → ℕ → List ℕ → Bool
+has_bad_length None units body = false
+has_bad_length (Some row) units body = not (has_length row.shape units body)
 
--- what a reader gives, seen by view, is what the bytes give
-abbrev pub Gives : {X Y : Type 0} → (X → Y) → Result X AttrRefusal → Result Y AttrRefusal → Type 0
-Gives view (Ok x) read = read ≡ Ok (view x)
-Gives view (Err e) read = read ≡ Err e
+-- whether each byte of a padding is zero
+abbrev pub has_zeros : Shape → List ℕ → Bool
+has_zeros shape.Zeros body = list_all is_zero body
+has_zeros _ body = true
+
+-- it is a padding with another byte
+abbrev pub has_bad_padding : Option Row → List ℕ → Bool
+has_bad_padding None body = false
+has_bad_padding (Some row) body = not (has_zeros row.shape body)
+
+-- the faults of an attribute whose type has this row of the table, after attributes of these types
+abbrev pub faults_by : Option Row → List ℕ → List ℕ → List (Bool × AttrRefusal)
+faults_by row seen bytes =
+    (nat_lt (length bytes) 2, refusal.Truncated)
+    ∷ (is_unknown row, refusal.UnknownType (kind_at bytes))
+    ∷ (is_second row seen (kind_at bytes), refusal.Twice (kind_at bytes))
+    ∷ (units_at bytes == 0, refusal.ZeroLength)
+    ∷ (nat_lt (length bytes) (4 * units_at bytes), refusal.Truncated)
+    ∷ (has_bad_length row (units_at bytes) (body_at bytes), refusal.BadLength (kind_at bytes))
+    ∷ (has_bad_padding row (body_at bytes), refusal.BadPadding)
+    ∷ []
+
+unfoldable pub attr_faults : List ℕ → List ℕ → List (Bool × AttrRefusal)
+attr_faults seen bytes = faults_by (row_of (kind_at bytes)) seen bytes

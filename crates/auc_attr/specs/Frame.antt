@@ -1,9 +1,10 @@
 -- What stands before the attributes of a packet: EAP (RFC 3748 §4 and §5.1) and EAP-AKA (RFC 4187 §8.1).
--- The tests stand in their order. What follows the bytes that Length counts is free.
-use Rattle.std.specs.Prelude.{◌≡◌, ℕ, ◌+◌, ◌<◌, ◌==◌, nat_lt, nat_le, Bool, true, not, ◌&&◌, ◌||◌, if◌then◌else◌, List, ◌∷◌, ◌++◌, length, take, drop, slice_index, Result, Ok, Err}
+-- The bytes after those that Length counts are free.
+use Rattle.std.specs.Prelude.{◌≡◌, ℕ, ◌+◌, ◌<◌, ◌==◌, nat_lt, nat_le, Bool, true, not, ◌&&◌, ◌||◌, if◌then◌else◌, List, [], ◌∷◌, ◌++◌, length, take, drop, slice_index, Result}
 use Rattle.std.specs.Int.{w16, to_be_bytes, from_be_bytes}
 use Rattle.auc_attr.specs.declared.frame.FrameFault.{FrameFault}
 use Rattle.auc_attr.specs.declared.frame.FrameFault.TheVariants as faults
+use Rattle.auc_attr.specs.Conditions.{first_of, unless}
 
 -- Success or Failure; Identity with its text; a message of EAP-AKA (type 23) or EAP-AKA' (type 50) with its
 -- Subtype and its attributes
@@ -20,10 +21,6 @@ length_of bytes = from_be_bytes w16 (drop 2 bytes)
 abbrev pub is_code : ℕ → Bool
 is_code code = nat_le 1 code && nat_le code 4
 
--- more bytes than there are, or not the 4 of Success and Failure, or fewer than the 5 of Request and Response
-abbrev pub is_wrong_length : ℕ → ℕ → ℕ → Bool
-is_wrong_length code size given = nat_lt given size || (if nat_le 3 code then not (size == 4) else nat_lt size 5)
-
 -- EAP-AKA, EAP-AKA'
 abbrev pub is_method : ℕ → Bool
 is_method kind = kind == 23 || kind == 50
@@ -33,27 +30,59 @@ is_method kind = kind == 23 || kind == 50
 abbrev pub is_subtype : ℕ → Bool
 is_subtype n = n == 1 || n == 2 || n == 4 || n == 5 || n == 12 || n == 13 || n == 14
 
--- the bytes of a Request or Response, as many as Length says
-abbrev pub typed_at : Bool → ℕ → ℕ → List ℕ → Result Frame FrameFault
-typed_at request id kind bytes =
-    if kind == 1 then Ok (Named request id (drop 5 bytes))
-    else if not (is_method kind) then Err (faults.OtherType kind)
-    else if nat_lt (length bytes) 8 then Err faults.LengthDisagrees
-    else if not (is_subtype (slice_index bytes 5)) then Err (faults.UnknownSubtype (slice_index bytes 5))
-    else Ok (Message request id kind (slice_index bytes 5) (drop 8 bytes))
+-- code, Identifier, type and Subtype of a packet
+abbrev pub code_at : List ℕ → ℕ
+code_at bytes = slice_index bytes 0
 
-abbrev pub sized_at : ℕ → ℕ → ℕ → List ℕ → Result Frame FrameFault
-sized_at code id size bytes =
-    if is_wrong_length code size (length bytes) then Err faults.LengthDisagrees
-    else if nat_le 3 code then Ok (Ended (code == 3) id)
-    else typed_at (code == 1) id (slice_index bytes 4) (take size bytes)
+abbrev pub id_at : List ℕ → ℕ
+id_at bytes = slice_index bytes 1
 
--- what the bytes are before their attributes, or their first fault there
+abbrev pub type_at : List ℕ → ℕ
+type_at bytes = slice_index bytes 4
+
+abbrev pub subtype_at : List ℕ → ℕ
+subtype_at bytes = slice_index bytes 5
+
+-- whether a packet is Success or Failure
+abbrev pub is_ended : List ℕ → Bool
+is_ended bytes = nat_le 3 (code_at bytes)
+
+-- whether it is a Request or Response of a method
+abbrev pub is_message : List ℕ → Bool
+is_message bytes = not (is_ended bytes) && is_method (type_at bytes)
+
+-- Length counts more bytes than there are, or other than the 4 of Success and Failure, or fewer than the 5 of Request
+-- and Response
+abbrev pub has_bad_length : List ℕ → Bool
+has_bad_length bytes =
+    nat_lt (length bytes) (length_of bytes) || (if is_ended bytes then not (length_of bytes == 4) else nat_lt (length_of bytes) 5)
+
+-- it is a Request or Response of a type that is neither Identity nor a method
+abbrev pub has_other_type : List ℕ → Bool
+has_other_type bytes = not (is_ended bytes) && not (type_at bytes == 1) && not (is_method (type_at bytes))
+
+-- What can be wrong before the attributes: each fault beside a condition of its own, in the order in which they are
+-- reported. No standard orders them; this order is the project's.
+unfoldable pub frame_faults : List ℕ → List (Bool × FrameFault)
+frame_faults bytes =
+    (nat_lt (length bytes) 4, faults.Short)
+    ∷ (not (is_code (code_at bytes)), faults.BadCode)
+    ∷ (has_bad_length bytes, faults.LengthDisagrees)
+    ∷ (has_other_type bytes, faults.OtherType (type_at bytes))
+    ∷ (is_message bytes && nat_lt (length_of bytes) 8, faults.LengthDisagrees)
+    ∷ (is_message bytes && not (is_subtype (subtype_at bytes)), faults.UnknownSubtype (subtype_at bytes))
+    ∷ []
+
+-- what bytes without these faults are
+abbrev pub frame_in : List ℕ → Frame
+frame_in bytes =
+    if is_ended bytes then Ended (code_at bytes == 3) (id_at bytes)
+    else if type_at bytes == 1 then Named (code_at bytes == 1) (id_at bytes) (drop 5 (take (length_of bytes) bytes))
+    else Message (code_at bytes == 1) (id_at bytes) (type_at bytes) (subtype_at bytes) (drop 8 (take (length_of bytes) bytes))
+
+-- what bytes are before their attributes, or their first fault there
 unfoldable pub frame_at : List ℕ → Result Frame FrameFault
-frame_at bytes =
-    if nat_lt (length bytes) 4 then Err faults.Short
-    else if not (is_code (slice_index bytes 0)) then Err faults.BadCode
-    else sized_at (slice_index bytes 0) (slice_index bytes 1) (length_of bytes) bytes
+frame_at bytes = unless (first_of (frame_faults bytes)) (frame_in bytes)
 
 abbrev pub end_code : Bool → ℕ
 end_code success = if success then 3 else 4
@@ -67,7 +96,7 @@ pub record IsEnded (success : Bool) (id : ℕ) (bytes : List ℕ) : Type 0 where
   pub parts : bytes ≡ end_code success ∷ id ∷ 0 ∷ 4 ∷ past
 
 -- Identity, its text, and more bytes
-pub record IsIdentity (request : Bool) (id : ℕ) (text bytes : List ℕ) : Type 0 where
+pub record IsIdentityPacket (request : Bool) (id : ℕ) (text bytes : List ℕ) : Type 0 where
   pub size : 5 + length text < 65536
   pub past : List ℕ
   pub parts : bytes ≡ message_code request ∷ id ∷ (to_be_bytes w16 (5 + length text) ++ (1 ∷ (text ++ past)))
@@ -85,5 +114,5 @@ pub record IsMessage (request : Bool) (id kind subtype : ℕ) (attrs bytes : Lis
 -- the bytes are a frame and more bytes
 abbrev pub IsFramed : Frame → List ℕ → Type 0
 IsFramed (Ended success id) bytes = IsEnded success id bytes
-IsFramed (Named request id text) bytes = IsIdentity request id text bytes
+IsFramed (Named request id text) bytes = IsIdentityPacket request id text bytes
 IsFramed (Message request id kind subtype attrs) bytes = IsMessage request id kind subtype attrs bytes

@@ -1,5 +1,5 @@
 -- Bytes and the attributes that they are. Reserved bytes and fill are free.
-use Rattle.std.specs.Prelude.{◌≡◌, ℕ, ◌+◌, ◌*◌, ◌<◌, ◌≤◌, ◌⊎◌, true, false, ◌&&◌, nat_lt, if◌then◌else◌, List, [], ◌∷◌, ◌++◌, length, Option, Some, None, Err}
+use Rattle.std.specs.Prelude.{◌≡◌, ◌≢◌, ℕ, ◌+◌, ◌*◌, ◌<◌, ◌≤◌, ◌⊎◌, true, false, ◌&&◌, nat_lt, if◌then◌else◌, List, [], ◌∷◌, ◌++◌, length, Option, Some, None}
 use Rattle.std.specs.List.{list_all}
 use Rattle.std.specs.Int.{w16, to_be_bytes}
 use Rattle.auc_attr.specs.declared.attr.Attr.{Attr}
@@ -11,7 +11,8 @@ use Rattle.auc_attr.specs.declared.table.Shape.TheVariants as shape
 use Rattle.auc_attr.specs.Table.{row_of}
 use Rattle.auc_attr.specs.Item.{Item, items, is_named}
 use Rattle.auc_attr.specs.Spelling.{stands_in, is_zero}
-use Rattle.auc_attr.specs.Fault.{item_at}
+use Rattle.auc_attr.specs.Conditions.{first_of}
+use Rattle.auc_attr.specs.Fault.{attr_faults}
 
 -- two reserved bytes, and the value
 pub record IsAfterReserved (body value : List ℕ) : Type 0 where
@@ -34,7 +35,7 @@ pub record IsFlag (body value : List ℕ) : Type 0 where
   pub parts : body ≡ first ∷ second ∷ []
   pub top : value ≡ (if nat_lt first 128 then 0 else 1) ∷ []
 
--- what may stand behind type and length, and the value that it has
+-- what may stand after type and length, and the value that it has
 abbrev pub IsBody : Shape → List ℕ → List ℕ → Type 0
 IsBody (shape.Fixed n) body value = (length value ≡ n) × (body ≡ value)
 IsBody (shape.AfterReserved n) body value = (length value ≡ n) × IsAfterReserved body value
@@ -58,10 +59,10 @@ pub record IsAttr (seen : List ℕ) (i : Item) (bytes rest : List ℕ) : Type 0 
   pub parts : bytes ≡ i.kind ∷ units ∷ (body ++ rest)
   pub value : IsBody row.shape body i.value
 
--- no attribute stands at the front of bytes, for this cause and none that is tested before it
-abbrev pub IsFault : List ℕ → List ℕ → AttrRefusal → Type 0
-IsFault seen [] fault = ⊥
-IsFault seen (kind ∷ bytes) fault = item_at (stands_in seen kind) (kind ∷ bytes) ≡ Err fault
+-- there are bytes, and this is the first fault of the attribute at their front, before which these types stood
+pub record IsFault (seen bytes : List ℕ) (fault : AttrRefusal) : Type 0 where
+  pub some : bytes ≢ []
+  pub first : first_of (attr_faults seen bytes) ≡ Some fault
 
 -- the bytes are these attributes, and then they end, or have a fault there
 abbrev pub Ends : List ℕ → List ℕ → Option AttrRefusal → Type 0

@@ -22,7 +22,7 @@ is_value (attr.ClientErrorCode n) = nat_lt n 65536
 is_value (attr.Kdf n) = nat_lt n 65536
 is_value _ = true
 
--- bytes are one list of items and then end, or have one fault behind one list of them
+-- bytes are one list of items and then end, or one list of items and then one fault
 abbrev pub OneWalk : Type 0
 OneWalk = (bytes : List ℕ) (is js : List Item) (e f : Option AttrRefusal) → Walks [] bytes is e → Walks [] bytes js f → (is ≡ js) × (e ≡ f)
 
@@ -42,10 +42,10 @@ RefusedIsNotRead = (bytes : List ℕ) (list : List Attr) (f : AttrRefusal) → f
 abbrev pub WrittenIsRead : Type 0
 WrittenIsRead = (list : List Attr) → writable list ≡ true → ReadsAttrs (spelling list) list
 
--- what is read may be written, in as many bytes
+-- a list that was read may be written, in as many bytes
 abbrev pub ReadIsWritable : Type 0
 ReadIsWritable = (bytes : List ℕ) (list : List Attr) → AreBytes bytes → ReadsAttrs bytes list → (writable list ≡ true) × (length (spelling list) ≡ length bytes)
 
--- the tests of a packet before its attributes find what stands there
+-- bytes in which no fault stands before the attributes are what the grammar says, and the other way round
 abbrev pub FoundIsFramed : Type 0
 FoundIsFramed = (bytes : List ℕ) (f : Frame) → AreBytes bytes → (frame_at bytes ≡ Ok f) ↔ IsFramed f bytes

@@ -16,7 +16,7 @@ stands_in seen kind = list_any (λ other. other == kind) seen
 abbrev pub is_zero : ℕ → Bool
 is_zero byte = byte == 0
 
--- the values that a shape has a spelling for
+-- whether a shape has a spelling for a value
 unfoldable pub fits : Shape → List ℕ → Bool
 fits (shape.Fixed n) value = length value == n
 fits (shape.AfterReserved n) value = length value == n
@@ -39,7 +39,7 @@ abbrev pub may_stand_row : Option Row → Bool → Bool
 may_stand_row None stood = false
 may_stand_row (Some row) stood = not (row.once && stood)
 
--- whether an attribute may be written where its type stood before or not: its value has a spelling, it goes
+-- whether an attribute may be written, given whether its type stood before: its value has a spelling, it goes
 -- by its own name, and a type of the table other than KDF stands once
 abbrev pub may_follow : Attr → Bool → Bool
 may_follow a stood = fits_item (item_of a) && is_named a && may_stand_row (row_of (item_of a).kind) stood
@@ -48,11 +48,11 @@ abbrev pub writable_from : List ℕ → List Attr → Bool
 writable_from seen [] = true
 writable_from seen (a ∷ list) = may_follow a (stands_in seen (item_of a).kind) && writable_from (seen ++ (item_of a).kind ∷ []) list
 
--- whether a list has a spelling that reads
+-- whether a list has a spelling that can be read
 abbrev pub writable : List Attr → Bool
 writable list = writable_from [] list
 
--- how many bytes are missing to a multiple of 4
+-- how many bytes are missing to the next multiple of 4
 abbrev pub fill : ℕ → ℕ
 fill n = (4 - n % 4) % 4
 

@@ -12,7 +12,7 @@ pub enum Attr {
     Autn([u8; 16]),
     /// The response to the challenge, 4 to 16 bytes (RFC 4187 §10.8).
     Res(Octets),
-    /// The USIM's answer where the sequence number is out of order (RFC 4187 §10.9).
+    /// The USIM's answer to a sequence number that is out of order (RFC 4187 §10.9).
     Auts([u8; 14]),
     /// 2, 6 or 10 zero bytes at the end of encrypted attributes (RFC 4187 §10.12).
     Padding(Octets),
@@ -48,14 +48,14 @@ pub enum Attr {
     NextPseudonym(Octets),
     /// The next re-authentication identity, up to 1016 bytes (RFC 4187 §10.11).
     NextReauthId(Octets),
-    /// The hash of the AKA-Identity packets: 20 or 32 bytes, or none where there were none
+    /// The hash of the AKA-Identity packets: 20 or 32 bytes, or none if there were no such packets
     /// (RFC 4187 §10.13, RFC 9048 §3.4.3).
     Checkcode(Octets),
-    /// Result indications are wished for (RFC 4187 §10.14).
+    /// The sender supports result indications (RFC 4187 §10.14).
     ResultInd,
-    /// Whether the server would rather use EAP-AKA' (RFC 9048 §4).
+    /// The bit D: whether the server would rather use EAP-AKA' (RFC 9048 §4).
     Bidding(bool),
-    /// An attribute of a type from 128 on that isn't known, with all bytes behind its length
+    /// An attribute of an unknown type from 128 on, with all bytes after its length
     /// (RFC 4187 §8.2).
     Skipped(u8, Octets),
 }

@@ -34,7 +34,7 @@ impl AttrList {
         }
     }
 
-    /// The list of what was put into places that were taken before.
+    /// The list of the attributes that were put into places.
     pub fn from_places(places: Places<Attr>) -> AttrList
         ensures { result ≡ places.written }
     {
@@ -43,7 +43,7 @@ impl AttrList {
         }
     }
 
-    /// Puts an attribute behind the last. Where there is no memory for it, it is dropped and the list stays.
+    /// Appends an attribute. If memory runs out, the attribute is dropped and the list stays as it was.
     pub fn push(&mut self, attr: Attr) -> Result<(), NoMemory>
         ensures pushed { OnOk result (self.new ≡ self.old ++ attr ∷ []) }
         ensures kept { OnErr result (self.new ≡ self.old) }
@@ -58,7 +58,7 @@ impl AttrList {
         self.attrs.len()
     }
 
-    /// The attribute at a place, counted from 0, or `None` where there are not so many.
+    /// The attribute at a place, counted from 0, or `None` past the last.
     pub fn get(&self, place: usize) -> Option<&Attr>
         ensures { option_copied result ≡ slice_get self.now place }
     {

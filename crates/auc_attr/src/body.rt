@@ -1,16 +1,16 @@
-//! What stands behind an attribute's type and length.
+//! The bytes after an attribute's type and length.
 
 ghost use Rattle.std.specs.Prelude.{◌≡◌, ◌+◌, ◌-◌, ◌*◌, ◌≤◌, ◌<◌, [], ◌∷◌, length, nat_lt, if◌then◌else◌, IsTrue, ◌↔◌};
 ghost use Rattle.std.specs.List.{list_all};
 ghost use Rattle.std.specs.Int.{w16, from_be_bytes};
-ghost use Rattle.auc_attr.specs.Fault.{Gives, value_if, zeros_if, counted, counted_value, value_at};
+ghost use Rattle.auc_attr.specs.InnerFront.{Gives, value_if, zeros_if, counted, counted_value, value_at};
 ghost use Rattle.auc_attr.specs.Spelling.{is_zero, fill};
 
 use crate::refusal::AttrRefusal;
 use crate::table::Shape;
 
-/// The value in what stands behind type and length, where it has the length that its shape needs.
-#[tactic(auto, unfolding(crate::specs::Fault::value_at))]
+/// The value in the bytes after type and length, if they have a length that the shape allows.
+#[tactic(auto, unfolding(crate::specs::InnerFront::value_at))]
 pub fn value_at(shape: Shape, kind: u8, body: &[u8]) -> Result<&[u8], AttrRefusal>
     requires { 2 ≤ length body.now }
     ensures { Gives (λ v. v.now) result (value_at shape kind body.now) }
@@ -59,7 +59,7 @@ pub fn are_zeros(bytes: &[u8]) -> bool
     bytes.iter().all(|byte| *byte == 0)
 }
 
-/// A value behind its length.
+/// A value after its length.
 fn counted_at(
     unit: usize,
     least: usize,
@@ -78,7 +78,7 @@ fn counted_at(
     Ok(&body[2..2 + size])
 }
 
-/// Whether a body is no longer than the value behind its length needs.
+/// Whether a body is no longer than the value after its length needs.
 fn is_counted(unit: usize, least: usize, most: usize, body: &[u8]) -> bool
     requires unit { 0 < unit }
     requires long { 2 ≤ length body.now }

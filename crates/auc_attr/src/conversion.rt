@@ -3,12 +3,12 @@
 ghost use Rattle.std.specs.Prelude.{◌≡◌, true, IfOk};
 ghost use Rattle.auc_attr.specs.Item.{item, item_of, is_named, is_skipped_row};
 ghost use Rattle.auc_attr.specs.Spelling.{fits_item};
-ghost use Rattle.auc_attr.specs.Parts.{value_bytes};
+ghost use Rattle.auc_attr.specs.InnerParts.{value_bytes};
 
 use crate::attr::Attr;
 use crate::table::{Row, Shape, row_of};
-use crate::values::{auts_of, block_of, number_of, octets_of};
-use auc_edge::NoMemory;
+use crate::values::{auts_of, block_of, number_of};
+use auc_edge::{NoMemory, Octets};
 use std::alloc::Global;
 
 /// The attribute of a type with a value.
@@ -21,33 +21,33 @@ pub fn attr_of(alloc: Global, kind: u8, value: &[u8]) -> Result<Attr, NoMemory>
     match kind {
         1 => Ok(Attr::Rand(block_of(value))),
         2 => Ok(Attr::Autn(block_of(value))),
-        3 => Ok(Attr::Res(octets_of(alloc, value)?)),
+        3 => Ok(Attr::Res(Octets::copied_from(alloc, value)?)),
         4 => Ok(Attr::Auts(auts_of(value))),
-        6 => Ok(Attr::Padding(octets_of(alloc, value)?)),
+        6 => Ok(Attr::Padding(Octets::copied_from(alloc, value)?)),
         10 => Ok(Attr::PermanentIdReq),
         11 => Ok(Attr::Mac(block_of(value))),
         12 => Ok(Attr::Notification(number_of(value))),
         13 => Ok(Attr::AnyIdReq),
-        14 => Ok(Attr::Identity(octets_of(alloc, value)?)),
+        14 => Ok(Attr::Identity(Octets::copied_from(alloc, value)?)),
         17 => Ok(Attr::FullauthIdReq),
         19 => Ok(Attr::Counter(number_of(value))),
         20 => Ok(Attr::CounterTooSmall),
         21 => Ok(Attr::NonceS(block_of(value))),
         22 => Ok(Attr::ClientErrorCode(number_of(value))),
-        23 => Ok(Attr::KdfInput(octets_of(alloc, value)?)),
+        23 => Ok(Attr::KdfInput(Octets::copied_from(alloc, value)?)),
         24 => Ok(Attr::Kdf(number_of(value))),
         129 => Ok(Attr::Iv(block_of(value))),
-        130 => Ok(Attr::EncrData(octets_of(alloc, value)?)),
-        132 => Ok(Attr::NextPseudonym(octets_of(alloc, value)?)),
-        133 => Ok(Attr::NextReauthId(octets_of(alloc, value)?)),
-        134 => Ok(Attr::Checkcode(octets_of(alloc, value)?)),
+        130 => Ok(Attr::EncrData(Octets::copied_from(alloc, value)?)),
+        132 => Ok(Attr::NextPseudonym(Octets::copied_from(alloc, value)?)),
+        133 => Ok(Attr::NextReauthId(Octets::copied_from(alloc, value)?)),
+        134 => Ok(Attr::Checkcode(Octets::copied_from(alloc, value)?)),
         135 => Ok(Attr::ResultInd),
         136 => Ok(Attr::Bidding(value[0] == 1)),
-        _ => Ok(Attr::Skipped(kind, octets_of(alloc, value)?)),
+        _ => Ok(Attr::Skipped(kind, Octets::copied_from(alloc, value)?)),
     }
 }
 
-/// The value of an attribute as it is kept.
+/// The value of an attribute, as the list keeps it.
 #[derive(Clone, Copy)]
 pub enum Value<'a> {
     Slice(&'a [u8]),
@@ -110,7 +110,7 @@ pub fn parts_of(attr: &Attr) -> Parts<'_>
     Parts { kind, value }
 }
 
-/// Whether an attribute goes by its own name: only one of an unknown type is `Skipped`.
+/// Whether an attribute goes by its own name: only an attribute of an unknown type is `Skipped`.
 pub fn is_named(attr: &Attr) -> bool
     ensures { result ≡ is_named attr.now }
 {

@@ -1,8 +1,9 @@
 //! What stands before the attributes of a packet.
 
 ghost use Rattle.std.specs.Prelude.{◌≡◌, ◌≤◌, ◌<◌, ◌+◌, length, true, IfOk, IfErr, nat_lt, nat_le, not, ◌==◌, ◌||◌, if◌then◌else◌};
-ghost use Rattle.auc_attr.specs.Frame.{is_code, is_wrong_length, is_method, is_subtype, typed_at, sized_at, frame_at, length_of, IsFramed};
+ghost use Rattle.auc_attr.specs.Frame.{is_code, is_method, is_subtype, frame_at, length_of, IsFramed};
 ghost use Rattle.auc_attr.specs.FrameView.{Frames, frame_of, IsLongFor};
+ghost use Rattle.auc_attr.specs.InnerFrame.{is_wrong_length, typed_at, sized_at, frame_by_steps};
 
 /// The first fault of a packet's bytes before its attributes.
 #[derive(Clone, Copy, Debug, PartialEq, Eq)]
@@ -11,15 +12,15 @@ pub enum FrameFault {
     Short,
     /// The code isn't 1 to 4 (RFC 3748 §4).
     BadCode,
-    /// Length counts more bytes than there are, or none that the code or the type has.
+    /// Length counts more bytes than there are, or a number that the code or the type doesn't have.
     LengthDisagrees,
-    /// This type is none of 1, 23 and 50.
+    /// This type isn't 1, 23 or 50.
     OtherType(u8),
     /// The method has no such Subtype (RFC 4187 §11).
     UnknownSubtype(u8),
 }
 
-/// What stands before a packet's attributes, and its text or attributes. Bytes past Length are left out.
+/// What stands before a packet's attributes, and its text or attributes, without the bytes after Length.
 #[derive(Clone, Copy)]
 pub enum Framed<'a> {
     /// Success or Failure (RFC 3748 §4.2).
@@ -54,10 +55,17 @@ pub enum Framed<'a> {
 }
 
 /// What the bytes of a packet are before the attributes, or their first fault there. Takes no memory.
-#[tactic(auto, unfolding(crate::specs::Frame::frame_at))]
 pub fn read_frame(bytes: &[u8]) -> Result<Framed<'_>, FrameFault>
     ensures read { Frames result (frame_at bytes.now) }
     ensures framed { IfOk result (λ f. IsFramed (frame_of f) bytes.now) }
+    ensures long { IfErr result (λ fault. IsLongFor fault bytes.now) }
+{
+    frame_by_steps(bytes)
+}
+
+#[tactic(auto, unfolding(crate::specs::InnerFrame::frame_by_steps))]
+fn frame_by_steps(bytes: &[u8]) -> Result<Framed<'_>, FrameFault>
+    ensures steps { Frames result (frame_by_steps bytes.now) }
     ensures long { IfErr result (λ fault. IsLongFor fault bytes.now) }
 {
     if bytes.len() < 4 {

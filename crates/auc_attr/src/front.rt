@@ -1,14 +1,14 @@
 //! The attribute at the front of bytes.
 
 ghost use Rattle.std.specs.Prelude.{◌≡◌};
-ghost use Rattle.auc_attr.specs.Fault.{Gives, row_at, known_at, item_at};
+ghost use Rattle.auc_attr.specs.InnerFront.{Gives, row_at, known_at, item_at};
 ghost use Rattle.auc_attr.specs.Item.{item};
 
 use crate::body::value_at;
 use crate::refusal::AttrRefusal;
 use crate::table::{Row, row_of};
 
-/// An attribute's type and value, and the bytes behind it.
+/// An attribute's type and value, and the bytes after it.
 #[derive(Clone, Copy)]
 pub struct Found<'a> {
     pub kind: u8,
@@ -16,8 +16,8 @@ pub struct Found<'a> {
     pub rest: &'a [u8],
 }
 
-/// The attribute at the front, where its type stood before or not.
-#[tactic(auto, unfolding(crate::specs::Fault::item_at))]
+/// The attribute at the front, given whether its type stood before.
+#[tactic(auto, unfolding(crate::specs::InnerFront::item_at))]
 pub fn item_at(stood: bool, bytes: &[u8]) -> Result<Found<'_>, AttrRefusal>
     ensures { Gives (λ f. (item f.kind f.value.now, f.rest.now)) result (item_at stood bytes.now) }
 {

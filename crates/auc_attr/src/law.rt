@@ -2,7 +2,7 @@
 
 ghost use Rattle.auc_attr.specs.Laws.{OneWalk, OneList, OneFault, RefusedIsNotRead, WrittenIsRead, ReadIsWritable, FoundIsFramed};
 
-/// Bytes are one list of attributes and then end, or have one fault behind one list of them.
+/// Bytes are one list of attributes and then end, or one list of attributes and then one fault.
 pub fn bytes_have_one_reading_or_one_fault()
     ensures { OneWalk }
 {}
@@ -27,12 +27,12 @@ pub fn written_attributes_are_read()
     ensures { WrittenIsRead }
 {}
 
-/// A list that is read may be written, and takes as many bytes: only reserved bytes and fill differ.
+/// A list that was read may be written, and takes as many bytes: only reserved bytes and fill differ.
 pub fn read_attributes_may_be_written()
     ensures { ReadIsWritable }
 {}
 
-/// The tests of a packet before its attributes find what stands there, and nothing else.
+/// Bytes in which no fault stands before the attributes are what the grammar says, and the other way round.
 pub fn found_frames_stand_there()
     ensures { FoundIsFramed }
 {}

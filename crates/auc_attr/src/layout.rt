@@ -1,10 +1,10 @@
-//! How an attribute is laid out behind its type and its length.
+//! How an attribute is laid out after its type and its length.
 
 ghost use Rattle.std.specs.Prelude.{◌≡◌, ◌+◌, ◌*◌, ◌≤◌, ◌<◌, ℕ, length, true, replicate};
 ghost use Rattle.std.specs.Int.{w16, to_be_bytes};
 ghost use Rattle.auc_attr.specs.Item.{item};
 ghost use Rattle.auc_attr.specs.Spelling.{fill, fits, fits_item, item_text, shape_text};
-ghost use Rattle.auc_attr.specs.Parts.{front_bytes, layout_text};
+ghost use Rattle.auc_attr.specs.InnerParts.{front_bytes, layout_text};
 ghost use Rattle.auc_edge.specs.Reserved.{wrote};
 
 use crate::body::{are_zeros, fill};
@@ -19,7 +19,7 @@ pub struct Layout<'a> {
     pub zeros: usize,
 }
 
-/// Whether a value may stand in a shape.
+/// Whether a shape has a layout for a value.
 #[tactic(auto, unfolding(crate::specs::Spelling::fits))]
 pub fn fits(shape: Shape, value: &[u8]) -> bool
     ensures { result ≡ fits shape value.now }
@@ -38,7 +38,7 @@ pub fn fits(shape: Shape, value: &[u8]) -> bool
     }
 }
 
-/// How a value stands in a shape.
+/// The layout of a value in a shape.
 #[tactic(auto, unfolding(crate::specs::Spelling::fits, crate::specs::Spelling::shape_text))]
 pub fn layout_of(shape: Shape, value: &[u8]) -> Layout<'_>
     requires { fits shape value.now ≡ true }
@@ -48,10 +48,10 @@ pub fn layout_of(shape: Shape, value: &[u8]) -> Layout<'_>
 {
     match shape {
         Shape::Fixed(_) | Shape::Zeros | Shape::Skipped => bare(value),
-        Shape::AfterReserved(_) | Shape::Ciphertext | Shape::Hash => behind([0, 0], value),
+        Shape::AfterReserved(_) | Shape::Ciphertext | Shape::Hash => after([0, 0], value),
         Shape::BitCounted => counted(8, value),
         Shape::ByteCounted => counted(1, value),
-        Shape::Flag => behind([128 * value[0], 0], &[]),
+        Shape::Flag => after([128 * value[0], 0], &[]),
     }
 }
 
@@ -69,7 +69,7 @@ fn bare(value: &[u8]) -> Layout<'_>
 }
 
 /// Two bytes and a value.
-fn behind(front: [u8; 2], value: &[u8]) -> Layout<'_>
+fn after(front: [u8; 2], value: &[u8]) -> Layout<'_>
     ensures front { result.front ≡ Some front }
     ensures value { result.value.now ≡ value.now }
     ensures zeros { result.zeros ≡ 0 }
@@ -81,7 +81,7 @@ fn behind(front: [u8; 2], value: &[u8]) -> Layout<'_>
     }
 }
 
-/// A value behind its length, which is counted in this part of a byte, and fill.
+/// A value after its length, which is counted in this part of a byte, and fill.
 fn counted(unit: u16, value: &[u8]) -> Layout<'_>
     requires fits { unit * length value.now < 65536 }
     ensures front { result.front ≡ Some (to_be_bytes w16 (unit * length value.now)) }
@@ -96,7 +96,7 @@ fn counted(unit: u16, value: &[u8]) -> Layout<'_>
     }
 }
 
-/// How an attribute of a type is laid out with a value.
+/// The layout of an attribute of a type with a value.
 #[tactic(auto, unfolding(crate::specs::Spelling::fits_item, crate::specs::Spelling::item_text))]
 pub fn layout_of_item(kind: u8, value: &[u8]) -> Layout<'_>
     requires { fits_item (item kind value.now) ≡ true }
@@ -127,7 +127,7 @@ fn front_size(front: Option<[u8; 2]>) -> usize
     }
 }
 
-/// Writes an attribute behind what is written.
+/// Writes an attribute after what is written.
 pub fn put_layout(room: &mut Room, kind: u8, layout: Layout<'_>)
     requires size { length (front_bytes layout.front) + length layout.value.now + layout.zeros + 2 ≤ 1020 }
     requires zeros { layout.zeros < 4 }

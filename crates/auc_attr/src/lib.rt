@@ -1,13 +1,13 @@
 //! Attributes of EAP-AKA (RFC 4187 §8.1 and §10) and EAP-AKA' (RFC 9048 §3 and §4), read and written.
 //!
-//! [`read_attrs`] gives the attributes that bytes are, or their first fault in a stated order;
-//! [`write_attrs`] gives their one spelling, and [`put_attrs`] the same into memory that was taken before.
-//! [`read_frame`] tells what stands before the attributes of a packet, and [`mac_place`] where its AT_MAC
-//! is.
+//! [`read_attrs`] reads bytes as attributes, or reports their first fault: each fault has a condition of its
+//! own, and `specs/Fault` lists them in their order. [`write_attrs`] writes the one spelling of attributes, and
+//! [`put_attrs`] does so into memory that was taken before. [`read_frame`] reads what stands before the
+//! attributes of a packet, and [`mac_place`] finds its AT_MAC.
 //!
-//! Contracts see an [`AttrList`] as the list of its [`Attr`]s. What bytes are is a relation in which
-//! reserved bytes and fill are free; the table of attributes stands in `specs/Table`. Reading takes memory
-//! for the values, `read_frame`, `mac_place` and `put_attrs` take none.
+//! Contracts see an [`AttrList`] as the list of its [`Attr`]s. `specs/Grammar` relates bytes to attributes
+//! and leaves reserved bytes and fill free; `specs/Table` has the table of attributes. Reading takes memory
+//! for the values; `read_frame`, `mac_place` and `put_attrs` take none.
 #![tactic(auto)]
 
 mod attr;

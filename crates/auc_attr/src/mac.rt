@@ -2,13 +2,14 @@
 
 ghost use Rattle.std.specs.Prelude.{◌≡◌, ◌+◌, ◌^◌, ◌<◌, ◌≤◌, length, IfSome};
 ghost use Rattle.auc_attr.specs.Frame.{length_of};
-ghost use Rattle.auc_attr.specs.Mac.{place_or, IsMacIn, IsMacPlace};
+ghost use Rattle.auc_attr.specs.Inner.{place_or};
+ghost use Rattle.auc_attr.specs.Mac.{IsMacIn, IsMacPlace};
 
 use crate::frame::{Framed, read_frame};
 use crate::front::item_at;
 use crate::marks::{is_marked, mark, no_marks};
 
-/// The place of the first of the 16 bytes of AT_MAC's value (RFC 4187 §10.15) in a packet, or `None` where
+/// The place of the first of the 16 bytes of AT_MAC's value (RFC 4187 §10.15) in a packet, or `None` if
 /// the bytes have a fault or no AT_MAC. Takes no memory.
 pub fn mac_place(packet: &[u8]) -> Option<usize>
     ensures place { IsMacPlace packet.now result }

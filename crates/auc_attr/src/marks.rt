@@ -1,7 +1,7 @@
 //! Which types of attributes stood before.
 
 ghost use Rattle.std.specs.Prelude.{◌≡◌, ℕ, List, [], ◌∷◌, ◌++◌};
-ghost use Rattle.auc_attr.specs.Marks.{Marks};
+ghost use Rattle.auc_attr.specs.Inner.{Marks};
 ghost use Rattle.auc_attr.specs.Spelling.{stands_in};
 
 /// No type stood before.

@@ -1,4 +1,4 @@
-//! Why bytes are no attributes.
+//! Why bytes aren't attributes.
 
 ghost use Rattle.std.specs.Prelude.{◌≡◌};
 ghost use Rattle.auc_attr.specs.declared.refusal.AttrRefusal.TheVariants as refusal;
@@ -10,9 +10,9 @@ use auc_edge::NoMemory;
 pub enum AttrRefusal {
     /// The bytes end within an attribute.
     Truncated,
-    /// An attribute has length 0.
+    /// An attribute has the length 0.
     ZeroLength,
-    /// The attribute of this type has another length than its value needs.
+    /// The attribute of this type has a length that its value doesn't allow.
     BadLength(u8),
     /// This type is below 128 and isn't known (RFC 4187 §8.2).
     UnknownType(u8),
@@ -20,7 +20,7 @@ pub enum AttrRefusal {
     Twice(u8),
     /// A byte of the padding isn't zero (RFC 4187 §10.12).
     BadPadding,
-    /// Memory was wanted and was not to be had.
+    /// Memory ran out.
     NoMemory,
 }
 

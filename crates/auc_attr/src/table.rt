@@ -1,14 +1,14 @@
-//! The table of attributes: what stands behind type and length.
+//! The table of attributes: what follows type and length.
 
 ghost use Rattle.std.specs.Prelude.{◌≡◌};
-ghost use Rattle.auc_attr.specs.Table.{row_of, once, often};
+ghost use Rattle.auc_attr.specs.Table.{row_of, single, repeated};
 
-/// What stands in an attribute behind its type and its length.
+/// What follows an attribute's type and length.
 #[derive(Clone, Copy)]
 pub enum Shape {
-    /// So many bytes.
+    /// This many bytes.
     Fixed(u8),
-    /// Two reserved bytes, then so many.
+    /// Two reserved bytes, then this many.
     AfterReserved(u8),
     /// The length in bits in two bytes, 4 to 16 bytes, and fill.
     BitCounted,
@@ -29,42 +29,42 @@ pub enum Shape {
 /// A row of the table.
 #[derive(Clone, Copy)]
 pub struct Row {
-    /// What stands behind type and length.
+    /// What follows type and length.
     pub shape: Shape,
-    /// Whether a message has it once alone.
+    /// Whether a message may have it only once.
     pub once: bool,
 }
 
-/// The row of a type, or `None` where the type is unknown and may not be passed over.
+/// The row of a type, or `None` if the type is unknown and may not be skipped.
 #[tactic(auto, unfolding(crate::specs::Table::row_of))]
 pub fn row_of(kind: u8) -> Option<Row>
     ensures { result ≡ row_of kind }
 {
     match kind {
-        1 | 2 | 11 | 21 | 129 => once(Shape::AfterReserved(16)),
-        3 => once(Shape::BitCounted),
-        4 => once(Shape::Fixed(14)),
-        6 => once(Shape::Zeros),
-        10 | 13 | 17 | 20 | 135 => once(Shape::AfterReserved(0)),
-        12 | 19 | 22 => once(Shape::Fixed(2)),
-        14 | 23 | 132 | 133 => once(Shape::ByteCounted),
-        24 => often(Shape::Fixed(2)),
-        130 => once(Shape::Ciphertext),
-        134 => once(Shape::Hash),
-        136 => once(Shape::Flag),
+        1 | 2 | 11 | 21 | 129 => single(Shape::AfterReserved(16)),
+        3 => single(Shape::BitCounted),
+        4 => single(Shape::Fixed(14)),
+        6 => single(Shape::Zeros),
+        10 | 13 | 17 | 20 | 135 => single(Shape::AfterReserved(0)),
+        12 | 19 | 22 => single(Shape::Fixed(2)),
+        14 | 23 | 132 | 133 => single(Shape::ByteCounted),
+        24 => repeated(Shape::Fixed(2)),
+        130 => single(Shape::Ciphertext),
+        134 => single(Shape::Hash),
+        136 => single(Shape::Flag),
         0..=127 => None,
-        128.. => often(Shape::Skipped),
+        128.. => repeated(Shape::Skipped),
     }
 }
 
-fn once(shape: Shape) -> Option<Row>
-    ensures { result ≡ once shape }
+fn single(shape: Shape) -> Option<Row>
+    ensures { result ≡ single shape }
 {
     Some(Row { shape, once: true })
 }
 
-fn often(shape: Shape) -> Option<Row>
-    ensures { result ≡ often shape }
+fn repeated(shape: Shape) -> Option<Row>
+    ensures { result ≡ repeated shape }
 {
     Some(Row { shape, once: false })
 }

@@ -1,10 +1,7 @@
-//! Values as arrays, numbers and strings of bytes.
+//! Values as arrays and numbers.
 
-ghost use Rattle.std.specs.Prelude.{◌≡◌, length, IfOk};
+ghost use Rattle.std.specs.Prelude.{◌≡◌, length};
 ghost use Rattle.std.specs.Int.{w16, to_be_bytes};
-
-use auc_edge::{NoMemory, Octets};
-use std::alloc::Global;
 
 /// A value of 16 bytes.
 pub fn block_of(value: &[u8]) -> [u8; 16]
@@ -32,13 +29,4 @@ pub fn number_of(value: &[u8]) -> u16
     ensures { to_be_bytes w16 result ≡ value.now }
 {
     u16::from_be_bytes([value[0], value[1]])
-}
-
-/// A value of its own memory.
-pub fn octets_of(alloc: Global, value: &[u8]) -> Result<Octets, NoMemory>
-    ensures { IfOk result (λ octets. octets ≡ value.now) }
-{
-    let mut octets = Octets::new(alloc);
-    octets.append(value)?;
-    Ok(octets)
 }

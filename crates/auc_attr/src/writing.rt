@@ -14,8 +14,8 @@ use crate::marks::{is_marked, mark, no_marks};
 use crate::table::{Row, row_of};
 use auc_edge::{NoMemory, Octets, Room};
 
-/// Writes attributes behind the bytes of `out`, reserved bytes and fill as zero (RFC 4187 §8.1). Want of
-/// memory leaves `out` as it was.
+/// Appends attributes to `out`, with zeros as reserved bytes and fill (RFC 4187 §8.1). If memory runs out,
+/// `out` stays as it was.
 pub fn write_attrs(list: &AttrList, out: &mut Octets) -> Result<(), NoMemory>
     requires { writable list.now ≡ true }
 
@@ -30,7 +30,7 @@ pub fn write_attrs(list: &AttrList, out: &mut Octets) -> Result<(), NoMemory>
     out.append(room.as_slice())
 }
 
-/// Writes attributes into memory that was taken before.
+/// Writes attributes into memory that was taken before this call.
 pub fn put_attrs(list: &AttrList, room: &mut Room)
     requires writable { writable list.now ≡ true }
     requires room { length (spelling list.now) ≤ room.old.left }
@@ -51,7 +51,7 @@ fn put_attr(attr: &Attr, room: &mut Room)
     put_layout(room, parts.kind, layout);
 }
 
-/// How many bytes an attribute is written in.
+/// How many bytes a written attribute takes.
 fn size_of_attr(attr: &Attr) -> usize
     requires { fits_item (item_of attr.now) ≡ true }
     ensures { result ≡ length (item_text (item_of attr.now)) }
@@ -60,7 +60,7 @@ fn size_of_attr(attr: &Attr) -> usize
     size_of(layout_of_item(parts.kind, parts.value.as_slice()))
 }
 
-/// Whether an attribute may be written where its type stood before or not.
+/// Whether an attribute may be written, given whether its type stood before.
 #[tactic(auto, unfolding(crate::specs::Spelling::fits_item))]
 fn may_follow(attr: &Attr, stood: bool) -> bool
     ensures { result ≡ may_follow attr.now stood }
@@ -89,9 +89,8 @@ fn may_stand_row(row: Option<Row>, stood: bool) -> bool
 }
 
 impl AttrList {
-    /// Whether the list may be written: each attribute keeps to the length and the bytes that its value may
-    /// have, a `Skipped` has a type from 128 on that isn't known, and no known type other than AT_KDF stands
-    /// twice.
+    /// Whether the list may be written: each value has a length and bytes that its attribute allows, a
+    /// `Skipped` has an unknown type from 128 on, and no known type other than AT_KDF stands twice.
     pub fn writable(&self) -> bool
         ensures { result ≡ writable self.now }
     {
@@ -106,7 +105,7 @@ impl AttrList {
         true
     }
 
-    /// How many bytes the attributes are written in, or `None` where so many can't be counted.
+    /// How many bytes the written attributes take, or `None` if a `usize` can't count them.
     pub fn size(&self) -> Option<usize>
         requires { writable self.now ≡ true }
 

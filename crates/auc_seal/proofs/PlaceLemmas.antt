@@ -4,7 +4,7 @@ use Rattle.auc_attr.specs.declared.frame.FrameFault.{FrameFault}
 use Rattle.auc_attr.specs.declared.refusal.AttrRefusal.{AttrRefusal}
 use Rattle.auc_attr.specs.Frame.{Frame, Ended, Named, Message, frame_at}
 use Rattle.auc_attr.specs.Item.{Item}
-use Rattle.auc_attr.specs.Mac.{mac_of, IsMacIn, IsMacOf, IsMacPlace}
+use Rattle.auc_attr.specs.Mac.{mac_place_of as mac_of, IsMacIn, IsMacOf, IsMacPlace}
 use Rattle.auc_attr.proofs.Facts.{one_walk}
 use Rattle.auc_seal.specs.Laws.{OnePlace}
 

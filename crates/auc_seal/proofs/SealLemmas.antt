@@ -14,7 +14,7 @@ use Rattle.auc_attr.specs.Item.{Item, item}
 use Rattle.auc_attr.specs.Spelling.{item_text}
 use Rattle.auc_attr.specs.Grammar.{IsAfterReserved, IsBody, IsAttr, Walks}
 use Rattle.auc_attr.specs.Frame.{Frame, Ended, Named, Message, length_of, frame_at, message_code, IsMessage}
-use Rattle.auc_attr.specs.Mac.{mac_from, mac_of, IsMacIn, IsMacOf, IsMacPlace}
+use Rattle.auc_attr.specs.Mac.{mac_from, mac_place_of as mac_of, IsMacIn, IsMacOf, IsMacPlace}
 use Rattle.auc_attr.proofs.Facts.{IsBytes, some_is, attr_size, mac_within, frame_again, found_is_framed}
 use Rattle.auc_hmac.specs.declared.method.Method.{Method}
 use Rattle.auc_aes.specs.Bytes.{with_block}

@@ -1,4 +1,4 @@
--- An attribute as the code keeps it between its list and its bytes.
+-- Inner facts: what only private contracts of this crate cite. An attribute between its list and its bytes.
 use Rattle.std.specs.Prelude.{ℕ, List, [], Option, Some, None}
 use Rattle.auc_attr.specs.declared.conversion.Value.{Value}
 use Rattle.auc_attr.specs.declared.conversion.Value.TheVariants as values

@@ -1,0 +1,31 @@
+-- Inner facts: what only private contracts of this crate cite. The steps of reading what stands before the attributes.
+use Rattle.std.specs.Prelude.{ℕ, ◌==◌, nat_lt, nat_le, Bool, not, ◌||◌, if◌then◌else◌, List, length, take, drop, slice_index, Result, Ok, Err}
+use Rattle.auc_attr.specs.declared.frame.FrameFault.{FrameFault}
+use Rattle.auc_attr.specs.declared.frame.FrameFault.TheVariants as faults
+use Rattle.auc_attr.specs.Frame.{Frame, Ended, Named, Message, length_of, is_code, is_method, is_subtype}
+
+-- more bytes than there are, or not the 4 of Success and Failure, or fewer than the 5 of Request and Response
+abbrev pub is_wrong_length : ℕ → ℕ → ℕ → Bool
+is_wrong_length code size given = nat_lt given size || (if nat_le 3 code then not (size == 4) else nat_lt size 5)
+
+-- the bytes of a Request or Response, as many as Length says
+abbrev pub typed_at : Bool → ℕ → ℕ → List ℕ → Result Frame FrameFault
+typed_at request id kind bytes =
+    if kind == 1 then Ok (Named request id (drop 5 bytes))
+    else if not (is_method kind) then Err (faults.OtherType kind)
+    else if nat_lt (length bytes) 8 then Err faults.LengthDisagrees
+    else if not (is_subtype (slice_index bytes 5)) then Err (faults.UnknownSubtype (slice_index bytes 5))
+    else Ok (Message request id kind (slice_index bytes 5) (drop 8 bytes))
+
+abbrev pub sized_at : ℕ → ℕ → ℕ → List ℕ → Result Frame FrameFault
+sized_at code id size bytes =
+    if is_wrong_length code size (length bytes) then Err faults.LengthDisagrees
+    else if nat_le 3 code then Ok (Ended (code == 3) id)
+    else typed_at (code == 1) id (slice_index bytes 4) (take size bytes)
+
+-- what bytes are before their attributes, or the fault at the first step that fails
+unfoldable pub frame_by_steps : List ℕ → Result Frame FrameFault
+frame_by_steps bytes =
+    if nat_lt (length bytes) 4 then Err faults.Short
+    else if not (is_code (slice_index bytes 0)) then Err faults.BadCode
+    else sized_at (slice_index bytes 0) (slice_index bytes 1) (length_of bytes) bytes
