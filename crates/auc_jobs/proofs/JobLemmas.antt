@@ -16,8 +16,9 @@ use Rattle.auc_world.specs.declared.record.GiveVerdict.TheVariants as given
 use Rattle.auc_world.specs.declared.record.LineRecord.{LineRecord}
 use Rattle.auc_world.specs.declared.record.LineRecord.TheVariants.{Give}
 use Rattle.auc_jobs.specs.Numbers.{has, AreReleased}
-use Rattle.auc_jobs.specs.Usims.{AreBehind, Presents}
-use Rattle.auc_jobs.specs.Serving.{AreTold, IsTold, Stands, Adds, Serves, ServesJob, ServesJobs, IsAnswered, AddsGive, before_at}
+use Rattle.auc_jobs.specs.InnerUsims.{Presents}
+use Rattle.auc_jobs.specs.Usims.{AreBehind}
+use Rattle.auc_jobs.specs.InnerServing.{AreTold, IsTold, Stands, Adds, Serves, ServesJob, ServesJobs, IsAnswered, AddsGive, before_at}
 use Rattle.auc_jobs.proofs.LineLemmas.{accepted-append, withheld_of-append, entries_of_lines-append}
 use Rattle.auc_jobs.proofs.SayingLemmas.{told_quiet}
 
@@ -94,6 +95,30 @@ serves_adds goes rows early beside own new old kept released usims Gives s a = r
         (behind_quiet rows (early ++ beside ++ own) a.lines usims a.quiet s.pasts);
   };
 }
+
+-- lines of one request and of another that comes after it
+pub serves_more : (goes more whole : ℕ → List Entry → List ℕ → Type 0) (rows : List Row) (early beside own between new : List LineRecord) (mid kept : ℕ → Option ℕ)
+    (released : List (ℕ × ℕ)) (first_usims usims : List Memory) (First Second Whole : List LineRecord → Type 0)
+    → ((i : ℕ) (es fs : List Entry) (ws vs : List ℕ) → goes i es ws → more i fs vs → whole i (es ++ fs) (ws ++ vs))
+    → Serves goes rows (before_at early beside own) mid released first_usims First between
+    → (Stands rows (before_at early beside between) mid released first_usims → Serves more rows (before_at early beside between) kept released usims Second new)
+    → ((front rest : List LineRecord) → First front → Second rest → Whole (front ++ rest))
+    → Serves whole rows (before_at early beside own) kept released usims Whole new
+serves_more goes more whole rows early beside own between new mid kept released first_usims usims First Second Whole joins first then_more both = record {
+  lines = first.lines ++ second.lines;
+  added = second.added ∙ ap (λ (lines : List LineRecord). lines ++ second.lines) first.added ∙ append_assoc own first.lines second.lines;
+  given = both first.lines second.lines first.given second.given;
+  made = λ i. rw (entries_of_lines-append i (beside ++ own) first.lines second.lines, withheld_of-append i first.lines second.lines)
+      (joins i (entries_of_lines i (beside ++ own) first.lines) (entries_of_lines i ((beside ++ own) ++ first.lines) second.lines) (withheld_of i first.lines) (withheld_of i second.lines)
+      (first.made i) (subst (λ (lines : List LineRecord). more i (entries_of_lines i lines second.lines) (withheld_of i second.lines)) here (second.made i)));
+  stands = second.stands;
+}
+  where
+    second : Serves more rows (before_at early beside between) kept released usims Second new
+    second = then_more first.stands
+
+    here : beside ++ between ≡ (beside ++ own) ++ first.lines
+    here = ap (λ (lines : List LineRecord). beside ++ lines) first.added ∙ sym (append_assoc beside own first.lines)
 
 -- a presented vector
 pub serves_give : (goes : ℕ → List Entry → List ℕ → Type 0) (set : Setting) (early beside own new : List LineRecord) (kept : ℕ → Option ℕ)

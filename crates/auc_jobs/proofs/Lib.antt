@@ -2,8 +2,9 @@ mod LineLemmas
 mod SayingLemmas
 mod DrawingLemmas
 mod UsimLemmas
-mod SyncLemmas
 mod JobLemmas
+mod SyncLemmas
+mod WorkerLemmas
 mod CountLemmas
 mod StateLemmas
 mod RoundLemmas

@@ -26,10 +26,11 @@ use Rattle.auc_world.specs.declared.record.LineRecord.TheVariants.{Vector, Withh
 use Rattle.auc_world.specs.declared.record.SyncVerdict.{SyncVerdict}
 use Rattle.auc_world.specs.declared.record.SyncVerdict.TheVariants as verdict
 use Rattle.auc_jobs.specs.declared.counting.Count.{Count}
-use Rattle.auc_jobs.specs.Closings.{passed, passed_by, passed_in, capped, count_of, AreCounted, counted_closing, counted_closings}
+use Rattle.auc_jobs.specs.InnerClosings.{passed, passed_by, passed_in, capped, count_of, AreCounted, counted_closing, counted_closings}
 use Rattle.auc_jobs.specs.Numbers.{AreReleased}
 use Rattle.auc_jobs.specs.Usims.{AreOfRows, AreBehind}
-use Rattle.auc_jobs.specs.Serving.{IsTold, Stands, ServesJobs, before_at}
+use Rattle.auc_jobs.specs.InnerServing.{IsTold, Stands, ServesJobs, before_at}
+use Rattle.auc_jobs.specs.InnerWorker.{AreForRows, WorkerState, WorkerServesJobs}
 use Rattle.auc_jobs.specs.State.{Standing, StandsAt}
 use Rattle.auc_jobs.proofs.LineLemmas.{entries_of_lines-append}
 
@@ -209,25 +210,34 @@ pub record Ran (set : Setting) (early : List LineRecord) (state : Standing) (job
   pub served : ServesJobs (λ i es ws. IsStretch state.words i es ws words) set early (λ sub. kept_at (slice_index words sub)) state.released usims jobs records
   pub bound : All (λ word. word ≤ max_seq + 1) words
 
--- by what the centre over the pure core did
-pub ran_of : (set : Setting) (early : List LineRecord) (state : Standing) (jobs : List (List Line)) (records : List (List LineRecord)) (old usims : List Memory) (released : List (ℕ × ℕ)) (centre new words : List ℕ)
-    → centre ≡ state.words → old ≡ state.usims → released ≡ state.released → words ≡ new → All (λ word. word ≤ max_seq + 1) words → StandsAt set early state
-    → (Stands set.rows (before_at early [] []) (λ sub. kept_at (slice_index centre sub)) released old
-    → ServesJobs (λ i es ws. IsStretch centre i es ws new) set early (λ sub. kept_at (slice_index new sub)) released usims jobs records)
-    → Ran set early state jobs records usims words
-ran_of set early state jobs records old usims released centre new words is same_usims same_released words_are bound stands serves = record {
-  served = subst (λ (ws : List ℕ). ServesJobs (λ i es vs. IsStretch state.words i es vs ws) set early (λ sub. kept_at (slice_index ws sub)) state.released usims jobs records) (sym words_are)
-      (subst (λ (ws : List ℕ). ServesJobs (λ i es vs. IsStretch ws i es vs new) set early (λ sub. kept_at (slice_index new sub)) state.released usims jobs records) is
-      (subst (λ (rs : List (ℕ × ℕ)). ServesJobs (λ i es vs. IsStretch centre i es vs new) set early (λ sub. kept_at (slice_index new sub)) rs usims jobs records) same_released
-      (serves begins)));
+-- the centre and the USIMs with which a round begins are those of the rows
+pub rows_first : (set : Setting) (early : List LineRecord) (state inside : Standing) (centre : List ℕ) → inside ≡ state → centre ≡ inside.words → StandsAt set early state
+    → AreForRows set.rows (length centre) (λ sub. max_seq) inside.usims
+rows_first set early state inside centre same is stands = record {
+  is_centre = record {
+    size = ap (λ (ws : List ℕ). length ws) is ∙ ap (λ (s : Standing). length s.words) same ∙ stands.subscribers.size;
+    greatest = λ sub. refl;
+  };
+  of_rows = subst (λ (s : Standing). AreOfRows set.rows s.usims) (sym same) stands.subscribers.secrets;
+}
+
+-- by what a worker with a centre over the pure core did
+pub ran_of : (set : Setting) (early : List LineRecord) (state inside : Standing) (jobs : List (List Line)) (records : List (List LineRecord)) (centre : List ℕ) (begun ended : WorkerState (List ℕ))
+    (usims : List Memory) (words : List ℕ) → inside ≡ state → centre ≡ inside.words
+    → begun ≡ record { centre = centre; set = set; released = inside.released; usims = inside.usims; lines = [] } → usims ≡ ended.usims → words ≡ ended.centre
+    → All (λ word. word ≤ max_seq + 1) words → StandsAt set early state
+    → WorkerServesJobs (λ ws sub. kept_at (slice_index ws sub)) IsStretch begun ended jobs records → Ran set early state jobs records usims words
+ran_of set early state inside jobs records centre begun ended usims words same is begins usims_are words_are bound stands serves = record {
+  served = subst (λ (s : Standing). ServesJobs (λ i es vs. IsStretch s.words i es vs words) set early (λ sub. kept_at (slice_index words sub)) s.released usims jobs records) same
+      (subst (λ (ws : List ℕ). ServesJobs (λ i es vs. IsStretch ws i es vs words) set early (λ sub. kept_at (slice_index words sub)) inside.released usims jobs records) is
+      (subst (λ (ws : List ℕ). ServesJobs (λ i es vs. IsStretch centre i es vs ws) set early (λ sub. kept_at (slice_index ws sub)) inside.released usims jobs records) (sym words_are)
+      (subst (λ (us : List Memory). ServesJobs (λ i es vs. IsStretch centre i es vs ended.centre) set early (λ sub. kept_at (slice_index ended.centre sub)) inside.released us jobs records)
+      (sym usims_are) (from early (stands_at_first set early inside centre is (subst (StandsAt set early) (sym same) stands))))));
   bound = bound;
 }
   where
-    begins : Stands set.rows (before_at early [] []) (λ sub. kept_at (slice_index centre sub)) released old
-    begins =
-        subst (λ (rs : List (ℕ × ℕ)). Stands set.rows (before_at early [] []) (λ sub. kept_at (slice_index centre sub)) rs old) (sym same_released)
-        (subst (λ (us : List Memory). Stands set.rows (before_at early [] []) (λ sub. kept_at (slice_index centre sub)) state.released us) (sym same_usims)
-        (stands_at_first set early state centre is stands))
+    from : WorkerServesJobs (λ ws sub. kept_at (slice_index ws sub)) IsStretch (record { centre = centre; set = set; released = inside.released; usims = inside.usims; lines = [] }) ended jobs records
+    from = subst (λ (w : WorkerState (List ℕ)). WorkerServesJobs (λ ws sub. kept_at (slice_index ws sub)) IsStretch w ended jobs records) begins serves
 
 -- each subscriber's calls
 pub makes : (set : Setting) (early : List LineRecord) (state : Standing) (jobs : List (List Line)) (records : List (List LineRecord)) (usims : List Memory) (words : List ℕ) (sub : ℕ)

@@ -25,7 +25,8 @@ use Rattle.auc_world.specs.declared.record.GiveVerdict.{GiveVerdict}
 use Rattle.auc_world.specs.declared.record.GiveVerdict.TheVariants as given
 use Rattle.auc_world.specs.declared.record.LineRecord.{LineRecord}
 use Rattle.auc_world.specs.declared.record.LineRecord.TheVariants.{Give}
-use Rattle.auc_jobs.specs.Usims.{AreOfRows, AreBehind, Challenges, Presents}
+use Rattle.auc_jobs.specs.InnerUsims.{Challenges, Presents}
+use Rattle.auc_jobs.specs.Usims.{AreOfRows, AreBehind}
 use Rattle.auc_jobs.proofs.LineLemmas.{accepted-append}
 
 -- ---- lists of which one element changes or is added

@@ -1,175 +1,20 @@
--- Serving the lines of a round by one centre: what the lines that were added give, and what stands behind them.
-use Rattle.std.specs.Prelude.{◌≡◌, ℕ, ◌≤◌, ◌<◌, Bool, true, false, List, [], ◌∷◌, ◌++◌, All, Option, Some, None, slice_get}
-use Rattle.auc_history.specs.declared.entry.Entry.{Entry}
+-- The lines of a job that may be served.
+use Rattle.std.specs.Prelude.{ℕ, ◌≤◌, ◌<◌, List, All}
 use Rattle.auc_script.specs.declared.part.Line.{Line}
 use Rattle.auc_script.specs.declared.part.Line.TheVariants as line
 use Rattle.auc_sqn.specs.Number.{max_seq}
-use Rattle.auc_subs.specs.declared.row.Row.{Row}
-use Rattle.auc_subs.specs.Subscriber.{IsRow}
-use Rattle.auc_vector.specs.Auts.{read_auts_of}
-use Rattle.auc_vector.specs.declared.auts.Auts.{Auts}
-use Rattle.auc_vector.specs.Random.{rand_of}
-use Rattle.auc_world.specs.declared.record.SyncVerdict.{SyncVerdict}
-use Rattle.auc_world.specs.declared.record.SyncVerdict.TheVariants as verdict
-use Rattle.auc_vector.specs.Vector.{vector_of, Source}
-use Rattle.auc_vector.specs.declared.parts.Vector.{Vector as AuthVector}
-use Rattle.auc_transcript.specs.Entries.{is_reported, entries_of_line, entries_of_lines}
-use Rattle.auc_transcript.specs.Given.{Setting, Before, IsVector, IsGiven, is_released, past_before, GiveGives, JobGives, JobsGive, auts_for}
-use Rattle.auc_transcript.specs.Lines.{withheld_by, withheld_of, accepted, all_lines}
-use Rattle.auc_usim.specs.Usim.{Memory}
-use Rattle.auc_world.specs.declared.record.GiveVerdict.{GiveVerdict}
-use Rattle.auc_world.specs.declared.record.LineRecord.{LineRecord}
-use Rattle.auc_world.specs.declared.record.LineRecord.TheVariants.{Vector, Withheld, Exhausted, Sync, Give}
-use Rattle.auc_jobs.specs.Numbers.{AreReleased}
-use Rattle.auc_jobs.specs.Usims.{AreBehind}
+pub use Rattle.auc_script.specs.Limits.{IsBit}
 
--- a centre has so many subscribers, whose greatest number is max_seq
-pub record IsCentreOf (count subs : ℕ) (top : ℕ → ℕ) : Type 0 where
-  pub size : subs ≡ count
-  pub greatest : (sub : ℕ) → top sub ≡ max_seq
-
--- vectors are those of a subscriber's row, with the subscriber's RANDs
-pub record AreOfRow (key : List ℕ) (rows : List Row) (sub : ℕ) (source : Source) : Type 0 where
-  pub row : Row
-  pub there : slice_get rows sub ≡ Some row
-  pub is_row : IsRow row
-  pub made : source ≡ record { secret = row.secret; amf = row.amf; rands = record { key = key; sub = sub } }
-
--- the vector of a subscriber's number is the one of its row
-pub record IsOfRow (key : List ℕ) (rows : List Row) (sub n : ℕ) (vector : AuthVector) : Type 0 where
-  pub row : Row
-  pub there : slice_get rows sub ≡ Some row
-  pub is_row : IsRow row
-  pub made : vector ≡ vector_of row.secret row.amf n (rand_of key sub n)
-
--- ---- lines that may be served
-
--- a bit of the 112 of an AUTS, or none
-abbrev pub IsBit : Option ℕ → Type 0
-IsBit None = Unit {0}
-IsBit (Some bit) = bit < 112
-
--- the subscriber of a line is one of so many, and its numbers are such
+-- the subscriber of a line is one of so many, and its numbers are within their ranges
 abbrev pub IsKnownLine : ℕ → Line → Type 0
 IsKnownLine subs (line.Draw sub count) = sub < subs
 IsKnownLine subs (line.Sync sub seq bit count) = (sub < subs) × (seq ≤ max_seq) × IsBit bit
 IsKnownLine subs (line.Give sub n) = (sub < subs) × (1 ≤ n) × (n ≤ max_seq)
 
+-- the lines of a job
 abbrev pub AreKnown : ℕ → List Line → Type 0
 AreKnown subs job = All (IsKnownLine subs) job
 
+-- the jobs of a round
 abbrev pub AreAllKnown : ℕ → List (List Line) → Type 0
 AreAllKnown subs jobs = All (AreKnown subs) jobs
-
--- ---- the calls of the centre
-
--- some lines of the round report the word that the centre keeps of a subscriber, and none where it keeps none
-abbrev pub IsTold : ℕ → Option ℕ → List LineRecord → Type 0
-IsTold sub None lines = (word : ℕ) → is_reported sub word lines ≡ false
-IsTold sub (Some kept) lines = is_reported sub kept lines ≡ true
-
--- the same of each subscriber
-abbrev pub AreTold : (ℕ → Option ℕ) → List LineRecord → Type 0
-AreTold kept lines = (sub : ℕ) → IsTold sub (kept sub) lines
-
--- the calls behind some lines made the entries that a further line stands for, and what the centre keeps then is told.
--- `goes` says which entries the calls made of a subscriber, and which of its numbers they withheld
-pub record Says (goes : ℕ → List Entry → List ℕ → Type 0) (kept : ℕ → Option ℕ) (before : List LineRecord) (line : LineRecord) : Type 0 where
-  pub made : (sub : ℕ) → goes sub (entries_of_line sub before line) (withheld_by sub line)
-  pub told : AreTold kept (before ++ line ∷ [])
-
--- the same of further lines
-pub record Say (goes : ℕ → List Entry → List ℕ → Type 0) (kept : ℕ → Option ℕ) (before lines : List LineRecord) : Type 0 where
-  pub made : (sub : ℕ) → goes sub (entries_of_lines sub before lines) (withheld_of sub lines)
-  pub told : AreTold kept (before ++ lines)
-
--- ---- a drawn line
-
--- a line is what one draw of a subscriber comes to
-abbrev pub IsDrawn : Setting → ℕ → LineRecord → Type 0
-IsDrawn set sub (Vector s vector) = (s ≡ sub) × IsVector set sub vector
-IsDrawn set sub (Withheld s n stop) = (s ≡ sub) × (1 ≤ n) × (n ≤ max_seq)
-IsDrawn set sub (Exhausted s word) = (s ≡ sub) × (max_seq ≤ word)
-IsDrawn set sub (Sync s answer) = ⊥
-IsDrawn set sub (Give s n answer) = ⊥
-
--- whether a line is a vector
-abbrev pub is_vector : LineRecord → Bool
-is_vector (Vector s vector) = true
-is_vector (Withheld s n stop) = false
-is_vector (Exhausted s word) = false
-is_vector (Sync s answer) = false
-is_vector (Give s n answer) = false
-
--- ---- a resynchronisation
-
--- what the AUTS of a subscriber's USIM says, for the RAND of number 0
-pub record IsReported (set : Setting) (sub seq : ℕ) (bit : Option ℕ) (auts : Auts) : Type 0 where
-  pub row : Row
-  pub there : slice_get set.rows sub ≡ Some row
-  pub read : auts ≡ read_auts_of row.secret (rand_of set.key sub 0) (auts_for set row sub seq bit)
-
--- whether vectors follow a verdict
-abbrev pub is_accepted_next : SyncVerdict → Bool
-is_accepted_next (verdict.Moved from to) = true
-is_accepted_next (verdict.InRange seen seq_ms) = true
-is_accepted_next (verdict.Beyond seen seq_ms) = false
-is_accepted_next verdict.WrongMac = false
-
--- ---- what stands, and what is added
-
--- what stands behind the lines before a line: the centre's words are told, the released numbers are those of the
--- earlier rounds, and the USIMs are where all lines left them
-pub record Stands (rows : List Row) (before : Before) (kept : ℕ → Option ℕ) (released : List (ℕ × ℕ)) (usims : List Memory) : Type 0 where
-  pub told : AreTold kept (before.beside ++ before.own)
-  pub earlier : AreReleased released before.early
-  pub pasts : AreBehind rows (before.early ++ before.beside ++ before.own) usims
-
--- to the lines of a job those were added that a request gives
-pub record Adds (goes : ℕ → List Entry → List ℕ → Type 0) (kept : ℕ → Option ℕ) (beside old new : List LineRecord) (Gives : List LineRecord → Type 0) : Type 0 where
-  pub lines : List LineRecord
-  pub added : new ≡ old ++ lines
-  pub given : Gives lines
-  pub said : Say goes kept (beside ++ old) lines
-  pub quiet : (sub : ℕ) → accepted sub lines ≡ []
-
--- the lines before a line of a job, which has had some lines
-abbrev pub before_at : List LineRecord → List LineRecord → List LineRecord → Before
-before_at early beside own = record { early = early; beside = beside; own = own }
-
--- what a line of a job added, and what stands behind it
-pub record Serves (goes : ℕ → List Entry → List ℕ → Type 0) (rows : List Row) (before : Before) (kept : ℕ → Option ℕ) (released : List (ℕ × ℕ)) (usims : List Memory)
-    (Gives : List LineRecord → Type 0) (new : List LineRecord) : Type 0 where
-  pub lines : List LineRecord
-  pub added : new ≡ before.own ++ lines
-  pub given : Gives lines
-  pub made : (sub : ℕ) → goes sub (entries_of_lines sub (before.beside ++ before.own) lines) (withheld_of sub lines)
-  pub stands : Stands rows (before_at before.early before.beside new) kept released usims
-
--- what a job gave, behind earlier rounds and earlier jobs
-pub record ServesJob (goes : ℕ → List Entry → List ℕ → Type 0) (set : Setting) (early beside : List LineRecord) (kept : ℕ → Option ℕ) (released : List (ℕ × ℕ)) (usims : List Memory)
-    (job : List Line) (lines : List LineRecord) : Type 0 where
-  pub given : JobGives set (before_at early beside []) job lines
-  pub made : (sub : ℕ) → goes sub (entries_of_lines sub beside lines) (withheld_of sub lines)
-  pub stands : Stands set.rows (before_at early beside lines) kept released usims
-
--- what the jobs of a round gave, behind earlier rounds
-pub record ServesJobs (goes : ℕ → List Entry → List ℕ → Type 0) (set : Setting) (early : List LineRecord) (kept : ℕ → Option ℕ) (released : List (ℕ × ℕ)) (usims : List Memory)
-    (jobs : List (List Line)) (records : List (List LineRecord)) : Type 0 where
-  pub given : JobsGive set early [] jobs records
-  pub made : (sub : ℕ) → goes sub (entries_of_lines sub [] (all_lines records)) (withheld_of sub (all_lines records))
-  pub stands : Stands set.rows (before_at early (all_lines records) []) kept released usims
-
--- ---- a presented vector
-
--- what a USIM answers where a number's vector is presented, if the centre has released it, and the USIMs behind the line
-pub record IsAnswered (rows : List Row) (before : Before) (sub n : ℕ) (answer : GiveVerdict) (usims : List Memory) : Type 0 where
-  pub given : (row : Row) → slice_get rows sub ≡ Some row → IsGiven (is_released before sub n) (past_before before row sub) n answer
-  pub behind : AreBehind rows (before.early ++ before.beside ++ before.own ++ Give sub n answer ∷ []) usims
-
--- what the line of a presented vector adds
-pub record AddsGive (set : Setting) (before : Before) (sub n : ℕ) (usims : List Memory) (new : List LineRecord) : Type 0 where
-  pub answer : GiveVerdict
-  pub added : new ≡ before.own ++ Give sub n answer ∷ []
-  pub given : GiveGives set before sub n (Give sub n answer ∷ [])
-  pub behind : AreBehind set.rows (before.early ++ before.beside ++ new) usims

@@ -1,16 +1,11 @@
 -- The USIMs of the subscribers, as a round's lines leave them.
-use Rattle.std.specs.Prelude.{◌≡◌, ℕ, List, [], ◌∷◌, ◌++◌, length, Some, slice_get, slice_set}
-use Rattle.auc_sqn.specs.Past.{Past, Remembers}
+use Rattle.std.specs.Prelude.{◌≡◌, ℕ, List, length, Some, slice_get}
+use Rattle.auc_sqn.specs.Past.{Remembers}
 use Rattle.auc_subs.specs.declared.row.Row.{Row}
-use Rattle.auc_transcript.specs.Given.{Answers, past_of}
+use Rattle.auc_transcript.specs.Given.{past_of}
 use Rattle.auc_transcript.specs.Lines.{accepted}
-use Rattle.auc_sqn.specs.Past.{verdict_of}
-use Rattle.std.specs.Prelude.{◌%◌}
-use Rattle.auc_usim.specs.Usim.{Memory, IsAnswer, past_after_answer}
-use Rattle.auc_usim.specs.declared.answer.Answer.{Answer}
-use Rattle.auc_world.specs.declared.record.GiveVerdict.{GiveVerdict}
+use Rattle.auc_usim.specs.Usim.{Memory}
 use Rattle.auc_world.specs.declared.record.LineRecord.{LineRecord}
-use Rattle.auc_world.specs.declared.record.LineRecord.TheVariants.{Give}
 
 -- there is a USIM for each row, with the row's secret
 pub record AreOfRows (rows : List Row) (usims : List Memory) : Type 0 where
@@ -21,20 +16,3 @@ pub record AreOfRows (rows : List Row) (usims : List Memory) : Type 0 where
 abbrev pub AreBehind : List Row → List LineRecord → List Memory → Type 0
 AreBehind rows lines usims = (sub : ℕ) (row : Row) (usim : Memory) → slice_get rows sub ≡ Some row → slice_get usims sub ≡ Some usim
     → Remembers usim.array (past_of row.usim (accepted sub lines))
-
--- one of the USIMs answers a challenge
-pub record Challenges (old : List Memory) (sub : ℕ) (rand autn : List ℕ) (answer : Answer) (new : List Memory) : Type 0 where
-  pub before : Memory
-  pub there : slice_get old sub ≡ Some before
-  pub after : Memory
-  pub set : new ≡ slice_set old sub after
-  pub answers : (past : Past) → Remembers before.array past → IsAnswer before.secret past rand autn answer
-  pub past : (past : Past) → Remembers before.array past → Remembers after.array (past_after_answer past answer)
-  pub secret : after.secret ≡ before.secret
-
--- the vector of a number is presented to its subscriber's USIM behind some lines: what it answers, by all that
--- it accepted, and the USIMs behind the line that says so
-pub record Presents (rows : List Row) (lines : List LineRecord) (sub n : ℕ) (answer : GiveVerdict) (new : List Memory) : Type 0 where
-  pub answered : (row : Row) → slice_get rows sub ≡ Some row
-      → Answers (verdict_of (past_of row.usim (accepted sub lines)) n (n % 32)) (past_of row.usim (accepted sub lines)) answer
-  pub behind : AreBehind rows (lines ++ Give sub n answer ∷ []) new

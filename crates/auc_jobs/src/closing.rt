@@ -5,7 +5,7 @@ ghost use Rattle.std.specs.Option.{option_to_list};
 ghost use Rattle.auc_sqn.specs.Number.{max_seq};
 ghost use Rattle.auc_transcript.specs.Transcript.{reopened as reopened_by};
 ghost use Rattle.auc_jobs.specs.declared.counting.Count.{Count};
-ghost use Rattle.auc_jobs.specs.Closings.{counted_closing, counted_closings};
+ghost use Rattle.auc_jobs.specs.InnerClosings.{counted_closing, counted_closings};
 
 use crate::counting::Count;
 use auc_edge::{Items, NoMemory};

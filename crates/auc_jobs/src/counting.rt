@@ -4,7 +4,7 @@ ghost use Rattle.std.specs.Prelude.{◌≡◌, ◌++◌, ◌∷◌, [], List, le
 ghost use Rattle.auc_world.specs.declared.record.LineRecord.{LineRecord};
 ghost use Rattle.auc_world.specs.Record.{subscriber_of};
 ghost use Rattle.auc_transcript.specs.Lines.{all_lines};
-ghost use Rattle.auc_jobs.specs.Closings.{passed, count_with, AreCounted};
+ghost use Rattle.auc_jobs.specs.InnerClosings.{passed, count_with, AreCounted};
 
 use auc_edge::NoMemory;
 use auc_world::{JobRecord, LineRecord, SyncVerdict};

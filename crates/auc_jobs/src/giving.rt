@@ -3,19 +3,23 @@
 ghost use Rattle.std.specs.Prelude.{◌≡◌, ◌≤◌, ◌<◌, ◌||◌, ◌++◌, List, length, IfOk, OnOk};
 ghost use Rattle.auc_sqn.specs.Number.{max_seq};
 ghost use Rattle.auc_world.specs.declared.record.LineRecord.{LineRecord};
-ghost use Rattle.auc_transcript.specs.Given.{is_in};
+ghost use Rattle.auc_transcript.specs.Given.{is_in, GiveGives};
 ghost use Rattle.auc_transcript.specs.Lines.{numbers_of};
 ghost use Rattle.auc_jobs.specs.Numbers.{has, AreReleased};
-ghost use Rattle.auc_jobs.specs.Serving.{before_at, IsAnswered, AddsGive};
-ghost use Rattle.auc_jobs.specs.Usims.{AreOfRows, AreBehind, Presents};
+ghost use Rattle.auc_jobs.specs.InnerServing.{before_at, IsAnswered};
+ghost use Rattle.auc_jobs.specs.InnerUsims.{Presents};
+ghost use Rattle.auc_jobs.specs.InnerWorker.{GoesOnWith, WorkerServes};
+ghost use Rattle.auc_jobs.specs.Usims.{AreOfRows, AreBehind};
 
 use crate::drawing::vector_at;
 use crate::job_lines::JobLines;
 use crate::numbers::Numbers;
 use crate::setting::Setting;
 use crate::usims::Usims;
+use crate::worker::Worker;
 use auc_edge::NoMemory;
 use auc_usim::Answer;
+use auc_vector::Centre;
 use auc_world::{GiveVerdict, LineRecord};
 
 /// Presents the vector of a subscriber's number, made again, to the subscriber's USIM.
@@ -49,53 +53,37 @@ fn is_released(released: &Numbers, lines: &mut JobLines, sub: u32, n: u64) -> Re
     lines.releases(sub, n)
 }
 
-/// What the subscriber's USIM answers to the vector of a number, if it was released.
-fn answered(
-    set: &Setting,
-    released: &Numbers,
-    usims: &mut Usims,
-    sub: u32,
-    n: u64,
-    lines: &mut JobLines,
-) -> Result<GiveVerdict, NoMemory>
-    requires usims { AreOfRows set.now.rows usims.old }
-    requires known { sub < length set.now.rows }
-    requires first { 1 ≤ n }
-    requires last { n ≤ max_seq }
+impl<C: Centre> Worker<'_, C> {
+    /// What the subscriber's USIM answers to the vector of a number, if it was released.
+    fn answered(&mut self, sub: u32, n: u64) -> Result<GiveVerdict, NoMemory>
+        requires known { sub < length self.old.set.rows }
+        requires first { 1 ≤ n }
+        requires last { n ≤ max_seq }
 
-    ensures answered { IfOk result (λ verdict. (early : List LineRecord) (beside : List LineRecord)
-        → AreReleased released.now early
-        → AreBehind set.now.rows (early ++ beside ++ lines.old) usims.old
-        → IsAnswered set.now.rows (before_at early beside lines.old) sub n verdict usims.new) }
-    ensures lines { lines.new ≡ lines.old }
-    ensures usims { AreOfRows set.now.rows usims.new }
-{
-    if is_released(released, lines, sub, n)? {
-        Ok(present(set, usims, sub, n))
-    } else {
-        Ok(GiveVerdict::Absent)
+        ensures answered { IfOk result (λ verdict. (early : List LineRecord) (beside : List LineRecord)
+            → AreReleased self.old.released early
+            → AreBehind self.old.set.rows (early ++ beside ++ self.old.lines) self.old.usims
+            → IsAnswered self.old.set.rows (before_at early beside self.old.lines) sub n verdict self.new.usims) }
+        ensures rest { self.new ≡ record self.old { usims = self.new.usims } }
+    {
+        if is_released(self.released, &mut self.lines, sub, n)? {
+            Ok(present(self.set, &mut self.usims, sub, n))
+        } else {
+            Ok(GiveVerdict::Absent)
+        }
     }
-}
 
-/// Presents the vector of a number to the subscriber's USIM, if it was released in an earlier round or by the job.
-pub(crate) fn give(
-    set: &Setting,
-    released: &Numbers,
-    usims: &mut Usims,
-    sub: u32,
-    n: u64,
-    lines: &mut JobLines,
-) -> Result<(), NoMemory>
-    requires usims { AreOfRows set.now.rows usims.old }
-    requires known { sub < length set.now.rows }
-    requires first { 1 ≤ n }
-    requires last { n ≤ max_seq }
+    /// Presents the vector of a number to the subscriber's USIM, if it was released in an earlier round or by the job.
+    pub(crate) fn give(&mut self, sub: u32, n: u64) -> Result<(), NoMemory>
+        requires known { sub < length self.old.set.rows }
+        requires first { 1 ≤ n }
+        requires last { n ≤ max_seq }
 
-    ensures given { OnOk result ((early : List LineRecord) (beside : List LineRecord) → AreReleased released.now early
-        → AreBehind set.now.rows (early ++ beside ++ lines.old) usims.old
-        → AddsGive set.now (before_at early beside lines.old) sub n usims.new lines.new) }
-    ensures usims { AreOfRows set.now.rows usims.new }
-{
-    let verdict = answered(set, released, usims, sub, n, lines)?;
-    lines.push(LineRecord::Give { sub, n, verdict })
+        ensures given { OnOk result (WorkerServes C.kept C.goes self.old self.new
+            (λ before. GiveGives self.old.set before sub n)) }
+        ensures same { GoesOnWith (C.name self.old.centre) (C.name self.new.centre) self.old self.new }
+    {
+        let verdict = self.answered(sub, n)?;
+        self.lines.push(LineRecord::Give { sub, n, verdict })
+    }
 }

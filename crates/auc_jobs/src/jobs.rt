@@ -1,18 +1,11 @@
-//! Serving the jobs of a round, one after the other, by one centre.
+//! Serving the jobs of a round, one after the other, by one worker.
 
-ghost use Rattle.std.specs.Prelude.{◌≡◌, [], List, length, OnOk, IfOk};
-ghost use Rattle.auc_world.specs.declared.record.LineRecord.{LineRecord};
+ghost use Rattle.std.specs.Prelude.{◌≡◌, [], length, OnOk, IfOk};
 ghost use Rattle.auc_transcript.specs.Given.{LineGives};
-ghost use Rattle.auc_jobs.specs.Serving.{before_at, IsCentreOf, IsKnownLine, AreKnown, AreAllKnown, Stands, Serves, ServesJob, ServesJobs};
-ghost use Rattle.auc_jobs.specs.Usims.{AreOfRows};
+ghost use Rattle.auc_jobs.specs.Serving.{IsKnownLine, AreKnown, AreAllKnown};
+ghost use Rattle.auc_jobs.specs.InnerWorker.{GoesOnWith, WorkerServes, WorkerServesJob, WorkerServesJobs};
 
-use crate::drawing::draw;
-use crate::giving::give;
-use crate::job_lines::JobLines;
-use crate::numbers::Numbers;
-use crate::setting::Setting;
-use crate::syncing::sync;
-use crate::usims::Usims;
+use crate::worker::Worker;
 use auc_edge::{Items, NoMemory};
 use auc_script::{JobPart, Line};
 use auc_vector::Centre;
@@ -20,95 +13,63 @@ use auc_world::JobRecord;
 use std::alloc::Global;
 use std::sync::Wait;
 
-/// Serves a line of a job.
-fn serve_line<C: Centre, R: Wait>(
-    rt: &R,
-    centre: &mut C,
-    set: &Setting,
-    released: &Numbers,
-    usims: &mut Usims,
-    line: &Line,
-    lines: &mut JobLines,
-) -> Result<(), NoMemory>
-    requires centre { IsCentreOf (length set.now.rows) (C.subs centre.old) (C.top centre.old) }
-    requires usims { AreOfRows set.now.rows usims.old }
-    requires known { IsKnownLine (length set.now.rows) line.now }
-
-    ensures served { OnOk result ((early : List LineRecord) (beside : List LineRecord)
-        → Stands set.now.rows (before_at early beside lines.old) (C.kept centre.old) released.now usims.old
-        → Serves (λ i es ws. C.goes centre.old i es ws centre.new) set.now.rows (before_at early beside lines.old)
-        (C.kept centre.new) released.now usims.new
-        (LineGives set.now (before_at early beside lines.old) line.now) lines.new) }
-    ensures centre { IsCentreOf (length set.now.rows) (C.subs centre.new) (C.top centre.new) }
-    ensures name { C.name centre.new ≡ C.name centre.old }
-    ensures usims { AreOfRows set.now.rows usims.new }
-{
-    match *line {
-        Line::Draw { sub, count } => draw(rt, centre, set, sub, count, lines),
-        Line::Sync {
-            sub,
-            seq,
-            bit,
-            count,
-        } => sync(rt, centre, set, sub, seq, bit, count, lines),
-        Line::Give { sub, n } => give(set, released, usims, sub, n, lines),
+impl<C: Centre> Worker<'_, C> {
+    /// Serves a line of a job.
+    fn serve_line<R: Wait>(&mut self, rt: &R, line: &Line) -> Result<(), NoMemory>
+        requires { IsKnownLine (length self.old.set.rows) line.now }
+        ensures served { OnOk result (WorkerServes C.kept C.goes self.old self.new
+            (λ before. LineGives self.old.set before line.now)) }
+        ensures same { GoesOnWith (C.name self.old.centre) (C.name self.new.centre) self.old self.new }
+    {
+        match *line {
+            Line::Draw { sub, count } => self.draw(rt, sub, count),
+            Line::Sync {
+                sub,
+                seq,
+                bit,
+                count,
+            } => self.sync(rt, sub, seq, bit, count),
+            Line::Give { sub, n } => self.give(sub, n),
+        }
     }
-}
 
-/// Serves the lines of a job.
-fn serve_job<C: Centre, R: Wait>(
-    rt: &R,
-    alloc: Global,
-    centre: &mut C,
-    set: &Setting,
-    released: &Numbers,
-    usims: &mut Usims,
-    job: &[Line],
-) -> Result<JobRecord, NoMemory>
-    requires centre { IsCentreOf (length set.now.rows) (C.subs centre.old) (C.top centre.old) }
-    requires usims { AreOfRows set.now.rows usims.old }
-    requires known { AreKnown (length set.now.rows) job.now }
+    /// Serves the lines of a job.
+    fn serve_job<R: Wait>(
+        &mut self,
+        rt: &R,
+        alloc: Global,
+        job: &[Line],
+    ) -> Result<JobRecord, NoMemory>
+        requires known { AreKnown (length self.old.set.rows) job.now }
+        requires none { self.old.lines ≡ [] }
 
-    ensures served { IfOk result (λ lines. (early : List LineRecord) (beside : List LineRecord)
-        → Stands set.now.rows (before_at early beside []) (C.kept centre.old) released.now usims.old
-        → ServesJob (λ i es ws. C.goes centre.old i es ws centre.new) set.now early beside
-        (C.kept centre.new) released.now usims.new job.now lines) }
-    ensures centre { IsCentreOf (length set.now.rows) (C.subs centre.new) (C.top centre.new) }
-    ensures name { C.name centre.new ≡ C.name centre.old }
-    ensures usims { AreOfRows set.now.rows usims.new }
-{
-    let mut lines = JobLines::new(alloc);
-    for line in job {
-        serve_line(rt, centre, set, released, usims, line, &mut lines)?;
+        ensures served { IfOk result (WorkerServesJob C.kept C.goes self.old self.new job.now) }
+        ensures none { OnOk result (self.new.lines ≡ []) }
+        ensures same { GoesOnWith (C.name self.old.centre) (C.name self.new.centre) self.old self.new }
+    {
+        for line in job {
+            self.serve_line(rt, line)?;
+        }
+        Ok(self.take_lines(alloc))
     }
-    Ok(lines.into_lines())
-}
 
-/// Serves the jobs of a round.
-pub(crate) fn serve_jobs<C: Centre, R: Wait>(
-    rt: &R,
-    alloc: Global,
-    centre: &mut C,
-    set: &Setting,
-    released: &Numbers,
-    usims: &mut Usims,
-    jobs: &[JobPart],
-) -> Result<Items<JobRecord>, NoMemory>
-    requires centre { IsCentreOf (length set.now.rows) (C.subs centre.old) (C.top centre.old) }
-    requires usims { AreOfRows set.now.rows usims.old }
-    requires known { AreAllKnown (length set.now.rows) jobs.now }
+    /// Serves the jobs of a round.
+    pub(crate) fn serve_jobs<R: Wait>(
+        &mut self,
+        rt: &R,
+        alloc: Global,
+        jobs: &[JobPart],
+    ) -> Result<Items<JobRecord>, NoMemory>
+        requires known { AreAllKnown (length self.old.set.rows) jobs.now }
+        requires none { self.old.lines ≡ [] }
 
-    ensures served { IfOk result (λ records. (early : List LineRecord)
-        → Stands set.now.rows (before_at early [] []) (C.kept centre.old) released.now usims.old
-        → ServesJobs (λ i es ws. C.goes centre.old i es ws centre.new) set.now early
-        (C.kept centre.new) released.now usims.new jobs.now records) }
-    ensures centre { IsCentreOf (length set.now.rows) (C.subs centre.new) (C.top centre.new) }
-    ensures name { C.name centre.new ≡ C.name centre.old }
-    ensures usims { AreOfRows set.now.rows usims.new }
-{
-    let mut records = Items::new(alloc);
-    for job in jobs {
-        records.push(serve_job(rt, alloc, centre, set, released, usims, job.as_slice())?)?;
+        ensures served { IfOk result (WorkerServesJobs C.kept C.goes self.old self.new jobs.now) }
+        ensures same { GoesOnWith (C.name self.old.centre) (C.name self.new.centre) self.old self.new }
+    {
+        let mut records = Items::new(alloc);
+        for job in jobs {
+            records.push(self.serve_job(rt, alloc, job.as_slice())?)?;
+        }
+        Ok(records)
     }
-    Ok(records)
 }

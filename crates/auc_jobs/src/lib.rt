@@ -25,6 +25,7 @@ mod syncing;
 #[cfg(test)]
 mod tests;
 mod usims;
+mod worker;
 
 pub use round::{Served, serve};
 pub use setting::Setting;

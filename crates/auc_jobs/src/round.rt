@@ -10,9 +10,9 @@ ghost use Rattle.auc_jobs.specs.State.{StandsAt};
 
 use crate::closing::{closings, reopened, words};
 use crate::counting::counts;
-use crate::jobs::serve_jobs;
 use crate::setting::Setting;
 use crate::state::State;
+use crate::worker::Worker;
 use auc_core::Core;
 use auc_edge::NoMemory;
 use auc_script::JobPart;
@@ -54,12 +54,14 @@ pub fn serve<R: Wait>(
 {
     let State {
         words: openings,
-        mut usims,
+        usims,
         mut released,
     } = state;
     let count = set.subs.len();
-    let mut centre = CoreCentre::new(Core::new(alloc, openings.as_slice())?);
-    let jobs = serve_jobs(rt, alloc, &mut centre, set, &released, &mut usims, jobs)?;
+    let centre = CoreCentre::new(Core::new(alloc, openings.as_slice())?);
+    let mut worker = Worker::new(alloc, centre, set, &released, usims);
+    let jobs = worker.serve_jobs(rt, alloc, jobs)?;
+    let (centre, usims) = worker.into_parts();
     let words = words(alloc, &centre, count)?;
     let counts = counts(alloc, openings.len(), jobs.as_slice())?;
     let closings = closings(alloc, openings.as_slice(), words.as_slice(), &counts)?;

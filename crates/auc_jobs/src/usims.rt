@@ -1,7 +1,8 @@
 //! The USIMs of the subscribers.
 
 ghost use Rattle.std.specs.Prelude.{◌≡◌, ◌<◌, [], length, IfOk};
-ghost use Rattle.auc_jobs.specs.Usims.{AreOfRows, AreBehind, Challenges};
+ghost use Rattle.auc_jobs.specs.InnerUsims.{Challenges};
+ghost use Rattle.auc_jobs.specs.Usims.{AreOfRows, AreBehind};
 
 use auc_edge::NoMemory;
 use auc_subs::Subscribers;

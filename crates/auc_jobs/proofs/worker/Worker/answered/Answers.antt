@@ -1,0 +1,24 @@
+use Rattle.std.proofs.Common.{◌++◌, sym, subst, ◌∙◌}
+use Rattle.auc_jobs.specs.InnerServing.{before_at, IsAnswered}
+use Rattle.auc_jobs.specs.InnerWorker.{WorkerState}
+use Rattle.auc_jobs.specs.Numbers.{AreReleased}
+use Rattle.auc_jobs.specs.Usims.{AreBehind}
+use Rattle.auc_jobs.proofs.JobLemmas.{answered_present, answered_absent}
+use Rattle.auc_world.specs.declared.record.GiveVerdict.TheVariants as given
+use Rattle.auc_jobs.proofs.worker.Worker.answered.Goals as goal
+
+pub returns-then-branch-clause-answered : goal.returns-then-branch-clause-answered
+returns-then-branch-clause-answered g c = λ early beside.
+    subst (λ (w : WorkerState g.row.C.Denot). AreReleased w.released early → AreBehind w.set.rows (early ++ beside ++ w.lines) w.usims
+    → IsAnswered w.set.rows (before_at early beside w.lines) c.args.sub c.args.n c.present.result c.present.new.usims) c.self.view_is
+    (λ released behind.
+    answered_present c.self.inside.set.now.rows c.self.inside.released.now early beside c.self.inside.lines c.args.sub c.args.n c.present.result c.present.new.usims
+    released (sym c.in_ok-is_released.ensures.value ∙ c.if-branch.true) (c.present.ensures.presented (early ++ beside ++ c.self.inside.lines) behind))
+
+pub returns-else-branch-clause-answered : goal.returns-else-branch-clause-answered
+returns-else-branch-clause-answered g c = λ early beside.
+    subst (λ (w : WorkerState g.row.C.Denot). AreReleased w.released early → AreBehind w.set.rows (early ++ beside ++ w.lines) w.usims
+    → IsAnswered w.set.rows (before_at early beside w.lines) c.args.sub c.args.n given.Absent c.self.inside.usims) c.self.view_is
+    (λ released behind.
+    answered_absent c.self.inside.set.now.rows c.self.inside.released.now early beside c.self.inside.lines c.args.sub c.args.n c.self.inside.usims
+    released (sym c.in_ok-is_released.ensures.value ∙ c.if-branch.false) behind)

@@ -1,0 +1,15 @@
+use Rattle.std.proofs.Common.{◌≡◌, List, drop}
+use Rattle.auc_world.specs.declared.record.LineRecord.{LineRecord}
+use Rattle.auc_jobs.specs.InnerWorker.{WorkerStands}
+use Rattle.auc_jobs.proofs.JobLemmas.{ServingJob}
+use Rattle.auc_jobs.proofs.worker.Worker.serve_job.Given as goal
+
+abbrev pub invariant-loop-line : goal.invariant-loop-line
+invariant-loop-line g l = record {
+  name : g.C.Centre.name l.self.centre ≡ g.C.Centre.name l.fn.self.centre;
+  set : l.self.set ≡ l.fn.self.set;
+  released : l.self.released ≡ l.fn.self.released;
+  serving : (early : List LineRecord) (beside : List LineRecord) → WorkerStands g.C.Centre.kept early beside l.fn.self
+      → ServingJob (λ i es ws. g.C.Centre.goes l.fn.self.centre i es ws l.self.centre) l.fn.self.set early beside (g.C.Centre.kept l.self.centre) l.fn.self.released l.self.usims
+      (drop l.line-index l.job) l.job l.self.lines;
+}
