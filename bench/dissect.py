@@ -5,8 +5,8 @@ attribute types that we wrote, in their order.
     bench/dissect.py [FILE]      FILE: crates/auc_packet_cli/stdout, unless it is given
 
 FILE is what the program printed; its lines 'written HEX' are the packets. A packet with an AT_IDENTITY of no bytes is
-left out, since tshark calls it malformed. Needs tshark and text2pcap (Debian's package tshark); says so and ends where
-they are missing.
+left out, because tshark calls it malformed. The script needs tshark and text2pcap (Debian's package tshark); if they are
+missing, it says so and ends.
 """
 import shutil
 import subprocess

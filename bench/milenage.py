@@ -4,9 +4,9 @@
 
     bench/milenage.py [PROGRAM]     PROGRAM: crates/auc_vector_rate/out/auc_vector_rate, unless it is given
 
-`rt run` in crates/auc_vector_rate builds PROGRAM. Each side makes two counts of vectors, and the difference of
-their processor times is taken, so that starting up doesn't count. The goal is 2.9: a table AES in C with one key
-schedule and five blocks a vector. Without libosmocore-dev or a C compiler it says so and ends.
+`rt run` in crates/auc_vector_rate builds PROGRAM. Each side makes two different numbers of vectors, and the difference of
+the processor times is taken, so that the time to start doesn't count. The goal is 2.9: an AES by tables in C with one key
+schedule and five blocks a vector. If libosmocore-dev or a C compiler is missing, the script says so and ends.
 """
 import resource
 import shutil

@@ -4,9 +4,9 @@ built program, and shows that the time grows linearly.
 
     bench/reading.py [PROGRAM]      PROGRAM: crates/auc_cli/out/auc_cli, unless it is given
 
-The subscribers are read before an empty scenario. The scenario's last line is wrong, so it is read whole and nothing
-is served; each of its jobs draws a vector of one of 100 subscribers and presents number 1 to it, where no earlier job
-did. The figures are those of one run: the program's own processor time, and its ratio to the row before. A run on four
+The subscribers are read before an empty scenario. The last line of the scenario of jobs is wrong, so the whole scenario
+is read and nothing is served. Each of its jobs draws a vector of one of 100 subscribers, and the first job of each
+subscriber presents number 1. The figures are those of one run: the program's own processor time, and its ratio to the row before. A run on four
 cores with other work beside it gave 0.013, 0.025 and 0.049 seconds for the subscribers and 0.013, 0.024 and 0.048 for
 the jobs, so ratios of 1.9 to 2.0.
 """

@@ -1,7 +1,7 @@
 #!/usr/bin/env python3
-"""Draws and prints 10,000, 100,000 and 1,000,000 vectors with the built program, brief and full, and shows that the
-time grows linearly and that a vector's record and the text of its round stay within 200 bytes a vector in the brief
-print, and within 400 in the full one.
+"""Draws and prints 10,000, 100,000 and 1,000,000 vectors with the built program, brief and full. It shows that the time
+grows linearly, and that the records and the text of a round take at most 200 bytes a vector in the brief print and 400
+in the full one.
 
     bench/vectors.py [PROGRAM]      PROGRAM: crates/auc_cli/out/auc_cli, unless it is given
 
