@@ -3,13 +3,15 @@
 how many seconds of processor time its try took.
 
     bench/edits.py [--gate] [--jobs N] [NAME ..]
+    bench/edits.py --applies
 
 Without NAME the edits of every crate are tried. It works in a temporary clone of the last commit: there `rt check`
 proves the crate, over what earlier checks on this machine kept, and then `rt must-fail` tries one edit at a time. The
 time of a try has the two short checks of the crate in it that rt makes around the edit's own. An edit that an earlier
 run tried on the same files is kept by rt, and isn't tried again. --gate tries the edits of the gate instead,
 crates/NAME/must-fail/*.edit. --jobs says how many crates are worked on side by side: half of the processors, unless it
-is given.
+is given. --applies tries nothing: it only tests that each edit of both kinds can be applied to the files as they are,
+which takes no time. The gate calls it so, since rt ci passes an edit that can't be applied.
 
 The exit status is 0 if each edit was refused, 1 if one was not or could not be applied, read or tried, and 2 if there
 is no such crate.
@@ -26,13 +28,14 @@ from pathlib import Path
 
 TOP = Path(__file__).resolve().parent.parent
 REFUSED, KEPT = "refused", "refused, by an earlier run"
-VERDICTS = {"NOT REFUSED": "NOT REFUSED", "BAD EDIT": "BAD EDIT", "NOT TRIED": "NOT TRIED", "refused, as it must be": REFUSED}
+VERDICTS = {it: it for it in ("NOT REFUSED", "BAD EDIT", "NOT TRIED")} | {"refused, as it must be": REFUSED}
 
 
 def options():
     parser = argparse.ArgumentParser(description=__doc__, formatter_class=argparse.RawDescriptionHelpFormatter)
     parser.add_argument("names", nargs="*", metavar="NAME", help="a crate")
     parser.add_argument("--gate", action="store_true", help="try the edits of the gate instead")
+    parser.add_argument("--applies", action="store_true", help="only test that each edit can be applied")
     parser.add_argument("--jobs", type=int, default=max(1, (os.cpu_count() or 2) // 2), help="crates side by side")
     return parser.parse_args()
 
@@ -48,9 +51,54 @@ def crates_with_edits(top, of_gate):
     return sorted(it.name for it in folders if any(folder_of(top, it.name, of_gate).glob("*.edit")))
 
 
+def pairs_of(text):
+    """The changes of an edit: the file, the text that must stand there once, and the text that replaces it."""
+    path = old = None
+    for line in text.splitlines():
+        if line.startswith("file: "):
+            path = line[len("file: "):].strip()
+        elif line.startswith("old: "):
+            old = line[len("old: "):]
+        elif line.startswith("new:") and path and old:
+            yield path, old, line[len("new:"):].removeprefix(" ")
+            old = None
+
+
+def why_not(crate, edit):
+    """Why an edit can't be applied to its crate; nothing if it can."""
+    texts, changed = {}, False
+    for path, old, new in pairs_of(edit.read_text()):
+        if path not in texts:
+            if not (crate / path).is_file():
+                return f"there is no file {path}"
+            texts[path] = (crate / path).read_text()
+        count = texts[path].count(old)
+        if count != 1:
+            return f"an 'old:' text is in {path} {count} times, and not once"
+        texts[path], changed = texts[path].replace(old, new), changed or old != new
+    return "" if changed else "it changes nothing"
+
+
+def test_that_all_apply():
+    """Prints each edit that can't be applied, and ends the script."""
+    count = faults = 0
+    for of_gate in (True, False):
+        for name in crates_with_edits(TOP, of_gate):
+            for edit in sorted(folder_of(TOP, name, of_gate).glob("*.edit")):
+                why, count = why_not(TOP / "crates" / name, edit), count + 1
+                if why:
+                    faults += 1
+                    print(f"edits: {edit.relative_to(TOP)}: {why}", file=sys.stderr)
+    if faults:
+        sys.exit(1)
+    print(f"edits: each of {count} can be applied")
+    sys.exit(0)
+
+
 def ran(words, folder):
     """Runs a command: its exit status, what it printed, and its seconds of processor time."""
-    child = subprocess.Popen(words, cwd=folder, stdin=subprocess.DEVNULL, stdout=subprocess.PIPE, stderr=subprocess.STDOUT, text=True, errors="replace")
+    how = {"stdin": subprocess.DEVNULL, "stdout": subprocess.PIPE, "stderr": subprocess.STDOUT, "errors": "replace"}
+    child = subprocess.Popen(words, cwd=folder, **how)
     said = child.stdout.read()
     _, status, usage = os.wait4(child.pid, 0)
     child.returncode = os.waitstatus_to_exitcode(status)
@@ -95,7 +143,7 @@ def try_crate(clone, name, of_gate):
 
 
 def tried(clone, names, given):
-    """Proves each crate, one after the other since they share libraries, and then tries the edits, crates side by side."""
+    """Proves each crate, one after the other since they share libraries; then tries the edits, crates side by side."""
     proved = []
     for name in names:
         why = prove(clone, name)
@@ -110,10 +158,13 @@ def tried(clone, names, given):
 
 def main():
     given = options()
+    if given.applies:
+        test_that_all_apply()
     names = crates_with_edits(TOP, given.gate)
     unknown = [it for it in given.names if it not in names]
     if unknown:
-        print(f"there are no edits of {' '.join(unknown)} in {'crates/NAME/must-fail' if given.gate else 'edits/NAME'}", file=sys.stderr)
+        where = "crates/NAME/must-fail" if given.gate else "edits/NAME"
+        print(f"there are no edits of {' '.join(unknown)} in {where}", file=sys.stderr)
         sys.exit(2)
     if shutil.which("rt") is None:
         sys.exit("the command rt of the Rattle kit isn't on the PATH")

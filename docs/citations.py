@@ -23,15 +23,15 @@ TOP = Path(__file__).resolve().parent.parent
 PAGES = ["README.md", "CONTRIBUTING.md", *sorted(str(it.relative_to(TOP)) for it in (TOP / "docs").glob("*.md"))]
 QUOTED = r"`([^`]+)`"
 NAME = re.compile(r"[\w*'-]+(?:::[\w-]+)?")
-DEFINED = r"(?m)^\s*(?:pub(?:\(crate\))?\s+|abbrev\s+|unfoldable\s+|data\s+|record\s+|fn\s+|struct\s+|enum\s+|trait\s+|const\s+)+{}(?![\w'-])"
+KIND = r"(?:pub(?:\(crate\))?|abbrev|unfoldable|data|record|fn|struct|enum|trait|const)"
+DEFINED = rf"(?m)^\s*(?:{KIND}\s+)+{{}}(?![\w'-])"
 
 
 @functools.lru_cache(maxsize=None)
 def text_of(crate):
     """The sources and the definitions of a crate, as one text."""
-    folder = TOP / "crates" / crate
-    files = [it for part in ("src", "specs") for it in sorted((folder / part).rglob("*")) if it.suffix in (".rt", ".antt")]
-    return "\n".join(it.read_text() for it in files)
+    files = [it for part in ("src", "specs") for it in sorted((TOP / "crates" / crate / part).rglob("*"))]
+    return "\n".join(it.read_text() for it in files if it.suffix in (".rt", ".antt"))
 
 
 def file_of(place):

@@ -7,7 +7,7 @@
 
 In crates.txt a comment right above crates begins a layer, the highest layer first. The rules:
 
-- Each folder of crates/ is listed once, and each listed crate has its folder.
+- Each folder of crates/ is listed once, and each listed crate has its folder; a folder of edits/ is that of a crate.
 - A crate uses only crates of lower layers.
 - A .rt or .antt file of a crate names each library that crates.txt lists for it, and names no other own crate.
 - A crate imports of another crate's proofs only the module Facts, and no other module of proofs/Lib.antt is public.
@@ -134,6 +134,8 @@ def broken_folders(uses):
     folders = {path.name for path in (TOP / "crates").iterdir() if path.is_dir()}
     yield from (f"crates/{it} isn't listed in crates.txt" for it in sorted(folders - set(uses)))
     yield from (f"crates.txt lists {it}, and there is no folder crates/{it}" for it in sorted(set(uses) - folders))
+    edits = {path.name for path in (TOP / "edits").glob("*")}
+    yield from (f"edits/{it} is no folder of a crate's edits" for it in sorted(edits - set(uses)))
 
 
 def parts_of_page():
