@@ -7,8 +7,8 @@ use std::marker::Model;
 // The leading digit and the 15 digits of an IMSI.
 pub(crate) const MOST: usize = 16;
 
-/// A permanent identity: 7 to 16 decimal digits, the first of which tells the method. Contracts see it as
-/// the list of its bytes.
+/// A permanent identity: 7 to 16 decimal digits. The first digit tells the method. Contracts see it as the
+/// list of its bytes.
 #[derive(Drop)]
 pub struct Permanent {
     text: [u8; 16],

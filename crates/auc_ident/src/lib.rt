@@ -1,4 +1,4 @@
-//! The identities that subscribers go by in EAP-AKA (RFC 4187 §4.1) and EAP-AKA' (RFC 9048).
+//! The identities of subscribers in EAP-AKA (RFC 4187 §4.1) and EAP-AKA' (RFC 9048).
 //!
 //! [`permanent`] gives the permanent identity of an IMSI. Contracts see a [`Permanent`] as the list of its
 //! bytes. Nothing here takes memory, waits or fails.

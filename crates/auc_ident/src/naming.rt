@@ -8,8 +8,8 @@ use crate::identity::{MOST, Permanent};
 use auc_edge::Imsi;
 use auc_hmac::Method;
 
-/// The permanent identity of an IMSI: `0` for EAP-AKA (RFC 4187 §4.1.1.6) or `6` for EAP-AKA'
-/// (RFC 9048 §5.1), and then all digits of the IMSI. It has no realm.
+/// The permanent identity of an IMSI: `0` for EAP-AKA (RFC 4187 §4.1.1.6) or `6` for EAP-AKA' (RFC 9048
+/// §5.1), followed by all digits of the IMSI. It has no realm.
 pub fn permanent(method: Method, imsi: Imsi) -> Permanent
     ensures { result ≡ permanent_text method imsi }
 {
@@ -19,7 +19,7 @@ pub fn permanent(method: Method, imsi: Imsi) -> Permanent
     Permanent::front_of(text, size)
 }
 
-// The ASCII digit that an identity of the method begins with.
+// The ASCII code of the first digit of an identity of the method.
 fn leading(method: Method) -> u8
     ensures { result ≡ leading method }
 {
