@@ -1,6 +1,6 @@
-//! Makes so many authentication vectors of one subscriber, the numbers 1, 2, 3 and so on, and prints the
-//! exclusive or of their XRES and of their AUTN. It is what measures of speed run; no number is printed
-//! but by what all vectors are.
+//! Makes the authentication vectors of one subscriber with the numbers 1, 2, 3 and so on, as many as the
+//! argument says, and prints the exclusive or of their XRES and that of their AUTN. Measurements of speed
+//! run it; only a digest of all vectors is printed.
 #![tactic(auto)]
 
 mod folding;
@@ -21,7 +21,7 @@ fn main(rt: HostRuntime) -> io::Result<()> {
     println!(rt; "autn {:032x}", folded.autn)
 }
 
-/// The number that some digits are, and 0 where they are none.
+/// The number that decimal digits spell, or 0 if the text is no number.
 fn read_count(digits: &[u8]) -> u64 {
     match str::from_utf8(digits) {
         Ok(text) => text.parse::<u64>().unwrap_or(0),
