@@ -51,7 +51,7 @@ IsSyncFailure s past rand answer =
 abbrev pub verdict_on : Secret → Past → List ℕ → List ℕ → Verdict
 verdict_on s past rand autn = verdict_of past (seq_of (sqn_in s rand autn)) (ind_of (sqn_in s rand autn))
 
--- the answer where the MAC is right, by the verdict
+-- the answer if the MAC is right, by the verdict
 abbrev pub FollowsVerdict : Secret → Past → List ℕ → List ℕ → Verdict → Answer → Type 0
 FollowsVerdict s past rand autn Fresh answer = answer ≡ acceptance s rand autn
 FollowsVerdict s past rand autn (Old entry) answer = IsSyncFailure s past rand answer

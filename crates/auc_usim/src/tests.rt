@@ -61,7 +61,7 @@ fn forged_autn_gets_no_auts_and_changes_nothing(rt: HostRuntime) {
     }
 }
 
-// The openings by hand: SEQ is 2^28 + 1 above the first, and SEQ + 23 is the number behind it whose remainder by 32 is
+// The openings by hand: SEQ is 2^28 + 1 above the first, and SEQ + 23 is the next number whose remainder by 32 is the SQN's
 // IND. The AUTS by the equations of TS 35.206 over the AES of Python's `cryptography` 48; it begins with SQN_MS masked
 // by the test set's f5*, 451e8beca43b.
 #[test]
@@ -80,6 +80,40 @@ fn stale_and_far_numbers_get_the_auts_of_sqn_ms(rt: HostRuntime) {
         let answer = usim.challenge(RAND.to_be_bytes(), AUTN.to_be_bytes());
         assert_eq!(rt; answer, failure(auts, sqn), "at {opening}");
         assert!(rt; usim == before, "at {opening}");
+    }
+}
+
+// By hand: a new USIM has entry 0 for each IND, so that SEQ 0 is old, 2^28 is within reach and 2^28 + 1 is far. The
+// AUTNs and the AUTS by the equations of TS 35.206 over the AES of Python's `cryptography` 48, under K, OPc, RAND and AMF
+// of TS 35.208, test set 1; the AUTS is that of SQN_MS 000000000000. SQN, AUTN, whether it is accepted.
+#[test]
+fn new_usim_refuses_seq_0_and_accepts_up_to_its_reach(rt: HostRuntime) {
+    let refused = failure(0x451e8beca43bc1611f30a9efd73c, [0; 6]);
+    let cases: [([u8; 6], u128, bool); 6] = [
+        ([0; 6], 0xaa689c648370b9b9cf0a0ab33e78137c, false),
+        (
+            [0, 0, 0, 0, 0, 0x1f],
+            0xaa689c64836fb9b9fedc1d5ec75dc854,
+            false,
+        ),
+        (
+            [0, 0, 0, 0, 0, 0x20],
+            0xaa689c648350b9b9a4a8043ac07aa7e0,
+            true,
+        ),
+        ([0, 2, 0, 0, 0, 0], 0xaa6a9c648370b9b94e3aa9c0d4171d35, true),
+        (
+            [0, 2, 0, 0, 0, 0x20],
+            0xaa6a9c648350b9b98906f36d441f64de,
+            false,
+        ),
+        ([0xff; 6], 0x5597639b7c8fb9b9c18606e57f0a73f3, false),
+    ];
+    for (sqn, autn, accepts) in cases {
+        let answer = usim(0).challenge(RAND.to_be_bytes(), autn.to_be_bytes());
+        let accepted = matches!(answer, Answer::Accepted { sqn: found, .. } if found == sqn);
+        assert_eq!(rt; accepted, accepts, "at {autn:x}");
+        assert_eq!(rt; answer == refused, !accepts, "at {autn:x}");
     }
 }
 
