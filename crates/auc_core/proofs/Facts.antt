@@ -1,2 +1,2 @@
 -- What other crates may cite of the proofs here; every other module is private.
-pub use Rattle.auc_core.proofs.RunLemmas.{answer_is_legal, beyond_names, in_range_names, known_subscriber}
+pub use Rattle.auc_core.proofs.RunLemmas.{answer_is_legal, known_subscriber}

@@ -6,10 +6,12 @@ ghost use Rattle.auc_sqn.specs.Number.{max_seq};
 
 use crate::event::{Event, Reply};
 use auc_edge::NoMemory;
-use auc_history::{Resynchronisation, resynchronise};
 use auc_sqn::MAX_SEQ;
 use std::alloc::Global;
 use std::marker::Model;
+
+// How far above the SEQ that a USIM reported the next number is accepted (TS 33.102 Annex C.2.1).
+const RANGE: u64 = 1 << 28;
 
 /// The subscribers' numbers. Contracts see the list of words: the last number that was drawn or passed
 /// over, or `MAX_SEQ + 1` after a draw was refused.
@@ -30,7 +32,8 @@ impl Model for Core {
 }
 
 impl Core {
-    /// A core whose subscribers have drawn their numbers up to `openings`, one for each subscriber.
+    /// A core whose subscribers have drawn their numbers up to `openings`, one for each subscriber. If memory runs out,
+    /// there is no core.
     pub fn new(alloc: Global, openings: &[u64]) -> Result<Core, NoMemory>
         requires count { length openings.now ≤ 65536 }
         requires numbers { All (λ number. number ≤ max_seq) openings.now }
@@ -49,7 +52,7 @@ impl Core {
         // No word is ever above the mark.
         ensures bound { All (λ word. word ≤ max_seq + 1) self.old }
     {
-        // The bound on the words is known where the field is used.
+        // The check knows the bound on the words once the field is read.
         let _ = &self.words;
         match e {
             Event::Draw(sub) => self.draw(sub),
@@ -85,13 +88,14 @@ impl Core {
         ensures { Steps self.old (Event.Resync sub seq_ms) result self.new }
     {
         let word = &mut self.words[sub as usize];
-        match resynchronise((*word).min(MAX_SEQ), seq_ms) {
-            Resynchronisation::Moved(from, to) => {
-                *word = to;
-                Reply::Moved(from, to)
-            }
-            Resynchronisation::InRange(seen, seq) => Reply::InRange(seen, seq),
-            Resynchronisation::Beyond(seen, seq) => Reply::Beyond(seen, seq),
+        let seen = (*word).min(MAX_SEQ);
+        if seen < seq_ms {
+            *word = seq_ms;
+            Reply::Moved(seen, seq_ms)
+        } else if seen - seq_ms < RANGE {
+            Reply::InRange(seen, seq_ms)
+        } else {
+            Reply::Beyond(seen, seq_ms)
         }
     }
 }

@@ -16,7 +16,7 @@ pub enum Reply {
     Number(u64),
     /// The subscriber has no further number; the greatest one was drawn or passed over before.
     Exhausted(u64),
-    /// The number was moved from the first to the second, which is the SEQ that the USIM reported.
+    /// The number moved from the first to the second, which is the SEQ that the USIM reported.
     Moved(u64, u64),
     /// The number stands, and the USIM accepts the next one: the number, then the SEQ that the USIM reported.
     InRange(u64, u64),

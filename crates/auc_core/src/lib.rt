@@ -6,11 +6,11 @@
 //! core as the list of its words: a subscriber's word is the last number that was drawn or passed over, or
 //! `MAX_SEQ + 1` after a draw was refused.
 //!
-//! It departs from TS 33.102 §6.3.5 in one case: where the number is too far above the SEQ it isn't set back,
+//! It departs from TS 33.102 §6.3.5 in one case: if the number is too far above the SEQ, it isn't set back,
 //! since numbers would be drawn again.
 //!
-//! The laws say that the events on each subscriber, whichever they are and in whichever order, leave a
-//! legal history of its numbers, and that no number comes twice. Only [`Core::new`] takes memory.
+//! The laws say of every list of events that it leaves a legal history of each subscriber's numbers, and that
+//! no number comes twice. Only [`Core::new`] takes memory.
 #![tactic(auto)]
 
 mod centre;

@@ -31,7 +31,7 @@ fn resync(core: &mut Core, sub: u32, seq_ms: u64) -> Reply
 }
 
 // TS 33.102 §6.3.5 and Annex C.2.1 with a range of 2^28 = 268435456; the sums are by hand: 268435456 + 1 - 1 is
-// in range, and 268435456 + 1 - 0 isn't. Subscriber, SEQ, answer, the subscriber's word after it.
+// in range, and 268435456 + 1 - 0 isn't. Subscriber, SEQ, reply, the subscriber's word after it.
 #[test]
 fn a_resynchronisation_moves_the_number_up_and_never_back(rt: HostRuntime) -> Result<(), Fail> {
     let mut core = Core::new(rt.alloc(), &[0, 268435456, MAX_SEQ])?;

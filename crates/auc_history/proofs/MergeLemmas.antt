@@ -7,7 +7,7 @@ use Rattle.auc_history.specs.declared.entry.Entry.{Entry}
 use Rattle.auc_history.specs.declared.entry.Entry.TheVariants.{Drawn, Moved, Look}
 use Rattle.auc_history.specs.History.{numbers_after, reach_of}
 use Rattle.auc_history.specs.Split.{all_entries}
-use Rattle.auc_history.specs.Merge.{is_last, is_look_at, entries_at, history, SplitIsMerged}
+use Rattle.auc_history.specs.Merge.{is_last, is_look_at, entries_at, merged, SplitIsMerged}
 use Rattle.auc_history.proofs.ListLemmas.{filter_none, filter_all, filter_apart}
 use Rattle.auc_history.proofs.Walk.{IsLegal-from_goes}
 use Rattle.auc_history.proofs.CoverLemmas.{once-permutation, IsCovering, reach_between}
@@ -88,9 +88,9 @@ split_is_merged top opening closing lists splits =
       looks = splits.looks;
     } in
     let same = merged_same top opening closing entries split in record {
-      legal = IsLegal-from_goes top opening closing (history opening closing lists)
-          (goes-from_climbs top opening closing (history opening closing lists)
-          (once-permutation opening closing entries (history opening closing lists) same splits.once)
+      legal = IsLegal-from_goes top opening closing (merged opening closing lists)
+          (goes-from_climbs top opening closing (merged opening closing lists)
+          (once-permutation opening closing entries (merged opening closing lists) same splits.once)
           (climbs-merged top opening closing entries split));
       same = same;
     }

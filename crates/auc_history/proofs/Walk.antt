@@ -5,7 +5,7 @@ use Rattle.std.proofs.lemmas.List.Elements.{All-nil, All-cons, All-head, All-tai
 use Rattle.auc_history.specs.declared.entry.Entry.{Entry}
 use Rattle.auc_history.specs.declared.entry.Entry.TheVariants.{Drawn, Moved, Look}
 use Rattle.auc_history.specs.History.{numbers_after, covers, covered, last_of, IsMove, IsFound, reach_of, IsBefore, IsInOrder, IsLegal}
-use Rattle.auc_history.specs.Walk.{word_after}
+use Rattle.auc_history.specs.Inner.{next_number}
 use Rattle.std.proofs.lemmas.Bool.Decides.{nat_tests}
 use Rattle.auc_history.proofs.ListLemmas.{AllPairs-cons, AllPairs-head, AllPairs-tail, Any-cons, Any-head, Any-cases}
 
@@ -290,26 +290,26 @@ IsLegal-look top opening closing entries legal =
     (IsLegal-from_goes top closing closing (Look closing ∷ []) (refl, refl))
 
 -- which draw can't come
-no_draw : (top word n : ℕ) → word_after top word (Drawn n) ≡ None → n ≡ word + 1 → ⊥
+no_draw : (top word n : ℕ) → next_number top word (Drawn n) ≡ None → n ≡ word + 1 → ⊥
 no_draw top word n = grind (arith, nat_tests)
 
 -- which move
-no_move : (top word from to : ℕ) → word_after top word (Moved from to) ≡ None → from ≡ word → from < to → to ≤ top → ⊥
+no_move : (top word from to : ℕ) → next_number top word (Moved from to) ≡ None → from ≡ word → from < to → to ≤ top → ⊥
 no_move top word from to = grind (arith, nat_tests)
 
 -- which look
-no_look : (top word seen : ℕ) → word_after top word (Look seen) ≡ None → seen ≡ word → ⊥
+no_look : (top word seen : ℕ) → next_number top word (Look seen) ≡ None → seen ≡ word → ⊥
 no_look top word seen = grind (arith, nat_tests)
 
 -- an entry that can't come ends each walk
-goes-stops : (top word closing : ℕ) (e : Entry) (entries : List Entry) → word_after top word e ≡ None → Goes top word (e ∷ entries) closing → ⊥
+goes-stops : (top word closing : ℕ) (e : Entry) (entries : List Entry) → next_number top word e ≡ None → Goes top word (e ∷ entries) closing → ⊥
 goes-stops top word closing (Drawn n) entries none (next, more) = no_draw top word n none next
 goes-stops top word closing (Moved from to) entries none (here, up, within, more) = no_move top word from to none here up within
 goes-stops top word closing (Look seen) entries none (here, more) = no_look top word seen none here
 
 -- where the rest of a list begins with an entry that can't come, the list is no legal history
 pub no_history : (top opening word closing i : ℕ) (d : Entry) (entries : List Entry) → i < length entries
-    → word_after top word (get_or entries i d) ≡ None
+    → next_number top word (get_or entries i d) ≡ None
     → ((c : ℕ) → Goes top word (drop i entries) c ↔ Goes top opening entries c)
     → IsLegal top opening closing entries → ⊥
 no_history top opening word closing i d entries i<n none same legal =

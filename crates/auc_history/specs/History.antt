@@ -4,12 +4,12 @@ use Rattle.std.specs.Prelude.{◌≡◌, ℕ, zero, suc, ◌+◌, ◌-◌, ◌<�
 use Rattle.auc_history.specs.declared.entry.Entry.{Entry}
 use Rattle.auc_history.specs.declared.entry.Entry.TheVariants.{Drawn, Moved, Look}
 
--- so many numbers, rising from the one after `from`
+-- `count` numbers, rising from the one after `from`
 abbrev pub numbers_after : ℕ → ℕ → List ℕ
 numbers_after from zero = []
 numbers_after from (suc count) = (from + 1) ∷ numbers_after (from + 1) count
 
--- the numbers that an entry covers: the drawn one, or those that a move passed over with its last
+-- the numbers that an entry covers: the drawn one, or those after a move's first up to its second
 abbrev pub covers : Entry → List ℕ
 covers (Drawn n) = n ∷ []
 covers (Moved from to) = numbers_after from (to - from)
@@ -37,20 +37,20 @@ IsFound opening entries (Drawn n) = Unit {0}
 IsFound opening entries (Moved from to) = Unit {0}
 IsFound opening entries (Look seen) = (seen ≡ opening) ⊎ Any (λ e. last_of e ≡ Some seen) entries
 
--- how far an entry got: the last number that it covers, or the one that it looked at
+-- how far an entry reaches: the last number that it covers, or the one that it looked at
 abbrev pub reach_of : Entry → ℕ
 reach_of (Drawn n) = n
 reach_of (Moved from to) = to
 reach_of (Look seen) = seen
 
--- the second entry goes on from the first: it covers only numbers above all that the first covered or
+-- the second entry continues the first: it covers only numbers above all that the first covered or
 -- looked at, and a look finds no less
 abbrev pub IsBefore : Entry → Entry → Type 0
 IsBefore e (Drawn n) = reach_of e < n
 IsBefore e (Moved from to) = reach_of e ≤ from
 IsBefore e (Look seen) = reach_of e ≤ seen
 
--- each entry goes on from all before it
+-- each entry continues all before it
 abbrev pub IsInOrder : List Entry → Type 0
 IsInOrder entries = AllPairs IsBefore entries
 
@@ -60,14 +60,14 @@ pub record IsLegal (top opening closing : ℕ) (entries : List Entry) : Type 0 w
   pub forward : opening ≤ closing
   -- the entries cover the numbers above the opening up to the closing, rising, each exactly once
   pub rising : covered entries ≡ numbers_after opening (closing - opening)
-  -- each entry goes on from those before it, the looks too
+  -- each entry continues those before it, the looks too
   pub ordered : IsInOrder entries
   -- each move goes up, and to a number
   pub moves : All (IsMove top) entries
-  -- each look found what stood
+  -- each look found the number that stood
   pub looks : All (IsFound opening entries) entries
 
--- the number that an entry drew, if it is a draw
+-- the number that an entry drew, or none if it is no draw
 abbrev pub drawn_by : Entry → List ℕ
 drawn_by (Drawn n) = n ∷ []
 drawn_by (Moved from to) = []

@@ -1,5 +1,5 @@
 pub mod History
+pub mod Inner
 pub mod Merge
 pub mod Resynchronise
 pub mod Split
-pub mod Walk

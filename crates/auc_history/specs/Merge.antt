@@ -22,15 +22,15 @@ abbrev pub entries_at : List Entry → ℕ → List Entry
 entries_at entries n = filter (is_last n) entries ++ filter (is_look_at n) entries
 
 -- the merge of callers' lists: number by number, from the opening to the closing
-abbrev pub history : ℕ → ℕ → List (List Entry) → List Entry
-history opening closing lists = flat_map (entries_at (all_entries lists)) (opening ∷ numbers_after opening (closing - opening))
+abbrev pub merged : ℕ → ℕ → List (List Entry) → List Entry
+merged opening closing lists = flat_map (entries_at (all_entries lists)) (opening ∷ numbers_after opening (closing - opening))
 
 -- the merge of callers' lists is a legal history of their entries
 pub record Merges (top opening closing : ℕ) (lists : List (List Entry)) : Type 0 where
   -- it is legal from the opening to the closing
-  pub legal : IsLegal top opening closing (history opening closing lists)
+  pub legal : IsLegal top opening closing (merged opening closing lists)
   -- each entry stands in it as often as in the lists: nothing is invented, nothing is lost
-  pub same : IsPermutation (all_entries lists) (history opening closing lists)
+  pub same : IsPermutation (all_entries lists) (merged opening closing lists)
 
 -- the merge of a split is a legal history of its entries
 abbrev pub SplitIsMerged : Type 0
@@ -40,4 +40,4 @@ SplitIsMerged = (top opening closing : ℕ) (lists : List (List Entry))
 -- a legal history that is cut into lists is their merge
 abbrev pub CutHistoryMergesToItself : Type 0
 CutHistoryMergesToItself = (top opening closing : ℕ) (lists : List (List Entry))
-    → IsLegal top opening closing (all_entries lists) → history opening closing lists ≡ all_entries lists
+    → IsLegal top opening closing (all_entries lists) → merged opening closing lists ≡ all_entries lists

@@ -17,7 +17,7 @@ pub record Splits (top opening closing : ℕ) (lists : List (List Entry)) : Type
   pub forward : opening ≤ closing
   -- each number above the opening up to the closing is covered once, and no other is covered
   pub once : (n : ℕ) → times n (covered (all_entries lists)) ≡ (if nat_lt opening n && nat_le n closing then 1 else 0)
-  -- in each list each entry goes on from those before it
+  -- in each list each entry continues those before it
   pub ordered : All IsInOrder lists
   -- each move goes up, and to a number
   pub moves : All (IsMove top) (all_entries lists)

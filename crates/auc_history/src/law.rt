@@ -3,7 +3,7 @@
 ghost use Rattle.auc_history.specs.Merge.{CutHistoryMergesToItself, SplitIsMerged};
 ghost use Rattle.auc_history.specs.Split.{CutHistoryIsASplit, SplitDrawsNoNumberTwice, SplitCountsItsNumbers};
 
-/// A legal history that is cut into lists, one behind the other, is split by them.
+/// Lists that a legal history is cut into, one after the other, split it.
 pub fn cut_history_is_a_split()
     ensures { CutHistoryIsASplit }
 {}
@@ -24,7 +24,7 @@ pub fn split_is_merged()
     ensures { SplitIsMerged }
 {}
 
-/// A legal history that is cut into lists is their merge again.
+/// Lists that a legal history is cut into merge to it again.
 pub fn cut_history_merges_to_itself()
     ensures { CutHistoryMergesToItself }
 {}

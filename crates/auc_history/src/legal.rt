@@ -2,12 +2,12 @@
 
 ghost use Rattle.std.specs.Prelude.{◌↔◌, ◌≡◌, IsTrue};
 ghost use Rattle.auc_history.specs.History.{IsLegal};
-ghost use Rattle.auc_history.specs.Walk.{word_after};
+ghost use Rattle.auc_history.specs.Inner.{next_number};
 
 use crate::entry::Entry;
 
-/// Whether the entries are a legal history from the opening to the closing, where `top` is the
-/// subscriber's greatest number.
+/// Whether the entries are a legal history from the opening to the closing; `top` is the subscriber's
+/// greatest number.
 pub fn is_legal(top: u64, opening: u64, closing: u64, entries: &[Entry]) -> bool
     ensures { IsTrue result ↔ IsLegal top opening closing entries.now }
 {
@@ -21,9 +21,9 @@ pub fn is_legal(top: u64, opening: u64, closing: u64, entries: &[Entry]) -> bool
     word == closing
 }
 
-/// Where the number stands after an entry, or `None` where the entry can't come at this number.
+/// The number after an entry, or `None` if the entry can't come at this number.
 fn after(top: u64, word: u64, entry: Entry) -> Option<u64>
-    ensures { result ≡ word_after top word entry }
+    ensures { result ≡ next_number top word entry }
 {
     match entry {
         Entry::Drawn(n) if n > word && n - word == 1 => Some(n),

@@ -2,10 +2,10 @@
 //!
 //! An [`Entry`] is what one atomic step did to the subscriber's number: a draw, a resynchronisation
 //! that moved it, or one that found it high enough (TS 33.102 §6.3.5). The definitions in `specs/` say
-//! when entries one after the other are a legal history, when the lists of several callers split one,
-//! which history such lists merge to, and which verdict a resynchronisation has. The merge of a split
-//! is a legal history of the same entries ([`split_is_merged`]). [`is_legal`] tests a history slowly,
-//! for tests.
+//! when a list of entries is a legal history, when the lists of several callers split one, which
+//! history such lists merge to, and which verdict a resynchronisation has. The merge of a split is a
+//! legal history of the same entries ([`split_is_merged`]). [`is_legal`] tests a history slowly, for
+//! tests.
 //!
 //! A subscriber's greatest number is a parameter of all definitions. Nothing here takes memory, waits
 //! or fails.
@@ -14,7 +14,6 @@
 mod entry;
 mod law;
 mod legal;
-mod resynchronisation;
 #[cfg(test)]
 mod tests;
 
@@ -24,4 +23,3 @@ pub use law::{
     split_draws_no_number_twice, split_is_merged,
 };
 pub use legal::is_legal;
-pub use resynchronisation::{Resynchronisation, resynchronise};

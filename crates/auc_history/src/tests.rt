@@ -1,10 +1,10 @@
-//! Histories and verdicts by hand.
+//! Histories by hand. The verdicts of a resynchronisation are tested where they are given, in `auc_core`.
 
-use crate::{Entry, Resynchronisation, is_legal, resynchronise};
+use crate::{Entry, is_legal};
 
 const TOP: u64 = 8796093022207;
 
-// By hand: what the entries cover stands beside each.
+// By hand: beside each list stands what its entries cover.
 #[test]
 fn legal_histories_are_told_from_others(rt: HostRuntime) {
     use Entry::{Drawn, Look, Moved};
@@ -75,28 +75,5 @@ fn legal_histories_are_told_from_others(rt: HostRuntime) {
     ];
     for (what, opening, closing, entries, legal) in cases {
         assert_eq!(rt; is_legal(TOP, opening, closing, entries), legal, "{what}");
-    }
-}
-
-// TS 33.102 Annex C.2.1 leaves the limit to the profile: 2^28 = 268435456.
-#[test]
-fn each_verdict_comes_where_it_should(rt: HostRuntime) {
-    use Resynchronisation::{Beyond, InRange, Moved};
-    let cases = [
-        (0, 500, Moved(0, 500)),
-        (499, 500, Moved(499, 500)),
-        (500, 500, InRange(500, 500)),
-        (541, 500, InRange(541, 500)),
-        (268435455, 0, InRange(268435455, 0)),
-        (268435456, 0, Beyond(268435456, 0)),
-        (268435457, 0, Beyond(268435457, 0)),
-        (TOP, TOP, InRange(TOP, TOP)),
-    ];
-    for (seen, seq_ms, verdict) in cases {
-        assert_eq!(rt;
-            resynchronise(seen, seq_ms),
-            verdict,
-            "at {seen} and {seq_ms}"
-        );
     }
 }

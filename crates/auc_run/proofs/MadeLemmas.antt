@@ -3,7 +3,7 @@ use Rattle.std.proofs.Common.{◌≡◌, ℕ, zero, suc, ◌%◌, ◌^◌, ◌<�
 use Rattle.std.specs.Prelude.{◌+◌, ◌-◌, nat_lt, nat_le, if◌then◌else◌, slice_get}
 use Rattle.std.proofs.lemmas.Option.{get_or_from_slice_get}
 use Rattle.std.proofs.lemmas.List.Elements.{All-nil, All-cons, All-append, All-same}
-use Rattle.auc_history.specs.declared.resynchronisation.Resynchronisation.TheVariants as found
+use Rattle.auc_history.specs.Resynchronise as found
 use Rattle.auc_aes.specs.Bytes.{IsBytes}
 use Rattle.auc_jobs.specs.Serving.{IsKnownLine, AreAllKnown}
 use Rattle.auc_print.specs.OneText.{GiveFits}

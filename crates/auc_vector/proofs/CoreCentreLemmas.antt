@@ -1,5 +1,6 @@
 -- The steps of the pure core as the calls of a centre, for `CoreCentre`.
-use Rattle.std.proofs.Common.{◌≡◌, ℕ, ◌+◌, ◌<◌, ◌≤◌, nat_le, Bool, true, false, if◌then◌else◌, List, [], ◌∷◌, length, slice_index, Result, Ok, Err, Some, None, All, arith, refl, sym, ap, ◌∙◌, subst, get_or-set_same}
+use Rattle.std.proofs.Common.{◌≡◌, ℕ, ◌+◌, ◌^◌, ◌<◌, ◌≤◌, nat_le, Bool, true, false, if◌then◌else◌, List, [], ◌∷◌, length, slice_index, Result, Ok, Err, Some, None, All, arith, refl, sym, ap, ◌∙◌, subst, get_or-set_same}
+use Rattle.std.proofs.lemmas.Bool.{leb-false}
 use Rattle.std.proofs.lemmas.Bool.Decides.{nat_tests}
 use Rattle.std.proofs.lemmas.List.Elements.{All-get_or}
 use Rattle.auc_sqn.specs.Number.{max_seq}
@@ -10,27 +11,28 @@ use Rattle.auc_core.specs.declared.event.Event.{Event}
 use Rattle.auc_core.specs.declared.event.Event.TheVariants.{Draw, Resync}
 use Rattle.auc_core.specs.declared.event.Reply.{Reply}
 use Rattle.auc_core.specs.declared.event.Reply.TheVariants.{Number, Exhausted as exhausted, Moved as moved, InRange as in_range, Beyond as beyond}
-use Rattle.auc_core.specs.Step.{Knows, Steps, subscriber_of, standing, word_after, entries_of}
-use Rattle.auc_core.proofs.Facts.{answer_is_legal, known_subscriber, in_range_names, beyond_names}
+use Rattle.auc_core.specs.Step.{Knows, Steps, RepliesToResync, event_subscriber, standing, word_after, entries_made}
+use Rattle.auc_core.proofs.Facts.{answer_is_legal, known_subscriber}
 use Rattle.auc_vector.specs.declared.centre.Resynced.{Resynced}
 use Rattle.auc_vector.specs.declared.centre.Resynced.TheVariants.{Moved, InRange}
 use Rattle.auc_vector.specs.declared.centre.CentreRefusal.{CentreRefusal}
 use Rattle.auc_vector.specs.declared.centre.CentreRefusal.TheVariants.{Exhausted, Beyond}
-use Rattle.auc_vector.specs.Centre.{unless_spent, entries_of_next, withheld_of_next, entries_of_resync}
+use Rattle.auc_vector.specs.Centre.{unless_spent, entries_of_next, withheld_of_next, entries_of_resync, IsWordKept, AnswersResync}
+use Rattle.auc_history.specs.Resynchronise.{resynchronise_of, Moved as moved_to, InRange as found_in_range, Beyond as found_beyond}
 use Rattle.auc_vector.specs.Stretch.{kept_at, IsStretch}
 
 -- a step is a stretch of its subscriber, with the step's entries
 pub step_stretches : (words : List ℕ) (event : Event) (reply : Reply) (new : List ℕ) → All (λ word. word ≤ max_seq + 1) words
     → Knows words event → Steps words event reply new
-    → IsStretch words (subscriber_of event) (entries_of (slice_index words (subscriber_of event)) reply) [] new
+    → IsStretch words (event_subscriber event) (entries_made (slice_index words (event_subscriber event)) reply) [] new
 step_stretches words event reply new bound knows (answers, is) =
-    let sub = subscriber_of event in
+    let sub = event_subscriber event in
     let word = slice_index words sub in
     let known = known_subscriber words event knows in
     let here : slice_index new sub ≡ word_after word reply =
     ap (λ (ws : List ℕ). slice_index ws sub) is ∙ get_or-set_same words sub (word_after word reply) 0 known in
     let legal = answer_is_legal word event reply words knows answers (All-get_or (λ w. w ≤ max_seq + 1) words sub 0 known bound) in
-    let P : ℕ → Type 0 = λ w. IsLegal max_seq word w (entries_of word reply) in
+    let P : ℕ → Type 0 = λ w. IsLegal max_seq word w (entries_made word reply) in
     (subst P (sym here) legal, refl)
 
 -- what is left out after a refused draw, by the word and by the number that stands
@@ -83,7 +85,7 @@ pub record Resyncs (core words new : List ℕ) (sub seq_ms : ℕ) (reply : Reply
 
 -- it is a stretch, with the step's entries
 resync_stretches : (core words new : List ℕ) (sub seq_ms : ℕ) (reply : Reply) → Resyncs core words new sub seq_ms reply
-    → IsStretch words sub (entries_of (slice_index words sub) reply) [] new
+    → IsStretch words sub (entries_made (slice_index words sub) reply) [] new
 resync_stretches core words new sub seq_ms reply r =
     step_stretches words (Resync sub seq_ms) reply new (subst (All (λ w. w ≤ max_seq + 1)) r.seen_as r.bound) (r.known, r.number)
     (subst (λ (ws : List ℕ). Steps ws (Resync sub seq_ms) reply new) r.seen_as r.steps)
@@ -101,7 +103,7 @@ pub in_range_goes : (core words new : List ℕ) (sub seq_ms at seq : ℕ) (answe
 in_range_goes core words new sub seq_ms at seq answer r is =
     let word = slice_index words sub in
     let there : Steps words (Resync sub seq_ms) (in_range at seq) new = subst (λ (ws : List ℕ). Steps ws (Resync sub seq_ms) (in_range at seq) new) r.seen_as r.steps in
-    rw is (subst (λ (es : List Entry). IsStretch words sub es [] new) (entries_are word at (Look at ∷ []) (in_range_names (standing word) seq_ms at seq there.0))
+    rw is (subst (λ (es : List Entry). IsStretch words sub es [] new) (entries_are word at (Look at ∷ []) there.0.0.0)
     (resync_stretches core words new sub seq_ms (in_range at seq) r))
 
 -- and one that finds it beyond
@@ -111,5 +113,58 @@ pub beyond_goes : (core words new : List ℕ) (sub seq_ms at seq : ℕ) (answer 
 beyond_goes core words new sub seq_ms at seq answer r is =
     let word = slice_index words sub in
     let there : Steps words (Resync sub seq_ms) (beyond at seq) new = subst (λ (ws : List ℕ). Steps ws (Resync sub seq_ms) (beyond at seq) new) r.seen_as r.steps in
-    rw is (subst (λ (es : List Entry). IsStretch words sub es [] new) (entries_are word at (Look at ∷ []) (beyond_names (standing word) seq_ms at seq there.0))
+    rw is (subst (λ (es : List Entry). IsStretch words sub es [] new) (entries_are word at (Look at ∷ []) there.0.0.0)
     (resync_stretches core words new sub seq_ms (beyond at seq) r))
+
+-- the number that stands is the word that is kept, if one is
+stands_kept : (b : Bool) (word seen : ℕ) → seen ≡ standing word → nat_le word max_seq ≡ b → IsWordKept (if b then None else Some max_seq) seen
+stands_kept true word seen is below = tt
+stands_kept false word seen is above = let high = leb-false word max_seq above in grind arith
+
+-- the verdicts by their conditions
+verdict_moves : (seen seq_ms : ℕ) → seen < seq_ms → resynchronise_of seen seq_ms ≡ moved_to seen seq_ms
+verdict_moves seen seq_ms = grind (arith, nat_tests)
+
+verdict_in_range : (seen seq_ms : ℕ) → seq_ms ≤ seen → seen + 1 ≤ seq_ms + 2 ^ 28 → resynchronise_of seen seq_ms ≡ found_in_range seen seq_ms
+verdict_in_range seen seq_ms = grind (arith, nat_tests)
+
+verdict_beyond : (seen seq_ms : ℕ) → seq_ms + 2 ^ 28 < seen + 1 → resynchronise_of seen seq_ms ≡ found_beyond seen seq_ms
+verdict_beyond seen seq_ms = grind (arith, nat_tests)
+
+-- what the core replies to a resynchronisation, of a core that the centre is seen as
+resync_replies : (core words new : List ℕ) (sub seq_ms : ℕ) (reply : Reply) → Resyncs core words new sub seq_ms reply
+    → RepliesToResync (slice_index words sub) seq_ms reply
+resync_replies core words new sub seq_ms reply r =
+    (subst (λ (ws : List ℕ). Steps ws (Resync sub seq_ms) reply new) r.seen_as r.steps).0
+
+-- its answer if the number moves
+pub moved_answers : (core words new : List ℕ) (sub seq_ms from to : ℕ) (answer : Result Resynced CentreRefusal)
+    → Resyncs core words new sub seq_ms (moved from to) → answer ≡ Ok (Moved from to)
+    → AnswersResync (kept_at (slice_index words sub)) seq_ms answer
+moved_answers core words new sub seq_ms from to answer r is =
+    let word = slice_index words sub in
+    let ((names, same), up) = resync_replies core words new sub seq_ms (moved from to) r in
+    let number = r.number in
+    let low : word ≤ max_seq = grind arith in
+    let verdict = verdict_moves from seq_ms (omega arith) in
+    rw is (kept_at_number word low, verdict ∙ ap (moved_to from) (sym same))
+
+-- if it is in range
+pub in_range_answers : (core words new : List ℕ) (sub seq_ms at seq : ℕ) (answer : Result Resynced CentreRefusal)
+    → Resyncs core words new sub seq_ms (in_range at seq) → answer ≡ Ok (InRange at seq)
+    → AnswersResync (kept_at (slice_index words sub)) seq_ms answer
+in_range_answers core words new sub seq_ms at seq answer r is =
+    let word = slice_index words sub in
+    let ((names, same), low, near) = resync_replies core words new sub seq_ms (in_range at seq) r in
+    let verdict = verdict_in_range at seq_ms (omega arith) (omega arith) in
+    rw is (stands_kept (nat_le word max_seq) word at names refl, verdict ∙ ap (found_in_range at) (sym same))
+
+-- and if it is beyond the range
+pub beyond_answers : (core words new : List ℕ) (sub seq_ms at seq : ℕ) (answer : Result Resynced CentreRefusal)
+    → Resyncs core words new sub seq_ms (beyond at seq) → answer ≡ Err (Beyond at seq)
+    → AnswersResync (kept_at (slice_index words sub)) seq_ms answer
+beyond_answers core words new sub seq_ms at seq answer r is =
+    let word = slice_index words sub in
+    let ((names, same), far) = resync_replies core words new sub seq_ms (beyond at seq) r in
+    let verdict = verdict_beyond at seq_ms (omega arith) in
+    rw is (stands_kept (nat_le word max_seq) word at names refl, verdict ∙ ap (found_beyond at) (sym same))

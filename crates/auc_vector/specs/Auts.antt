@@ -20,7 +20,7 @@ mac_s_in answer = drop 6 answer
 unfoldable pub xmac_s : Secret → List ℕ → List ℕ → List ℕ
 xmac_s s rand answer = f1_star s.k s.opc rand (sqn_ms_in s rand answer) (0 ∷ 0 ∷ [])
 
--- what AUTS says, in answer to a RAND: the SEQ of SQN_MS where MAC-S is right
+-- what AUTS says, in answer to a RAND: the SEQ of SQN_MS if MAC-S is right
 abbrev pub read_auts_of : Secret → List ℕ → List ℕ → Auts
 read_auts_of s rand answer =
     if bytes_eq (xmac_s s rand answer) (mac_s_in answer) then SeqMs (seq_of (sqn_ms_in s rand answer)) else WrongMac

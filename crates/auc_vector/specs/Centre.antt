@@ -1,17 +1,16 @@
 -- What the calls of an authentication centre answer, and which entries of a subscriber's history they make (TS 33.102
--- §6.3.2 and §6.3.5). `top` is the subscriber's greatest number. `kept` is the word of the first draw that was refused,
--- from then on for good: a subscriber of which a word is kept is spent.
+-- §6.3.2 and §6.3.5). `top` is the subscriber's greatest number. `kept` is the word of the first draw that was refused:
+-- once it is kept, it stays, and the subscriber is spent.
 use Rattle.std.specs.Prelude.{◌≡◌, ℕ, ◌+◌, ◌≤◌, List, [], ◌∷◌, Option, Some, None, Result, Ok, Err}
 use Rattle.auc_history.specs.declared.entry.Entry.{Entry}
 use Rattle.auc_history.specs.declared.entry.Entry.TheVariants.{Drawn, Moved as moved, Look}
-use Rattle.auc_history.specs.declared.resynchronisation.Resynchronisation.TheVariants.{Moved as moved_to, InRange as in_range, Beyond as beyond}
-use Rattle.auc_history.specs.Resynchronise.{resynchronise_of}
+use Rattle.auc_history.specs.Resynchronise.{resynchronise_of, Moved as moved_to, InRange as in_range, Beyond as beyond}
 use Rattle.auc_vector.specs.declared.centre.Resynced.{Resynced}
 use Rattle.auc_vector.specs.declared.centre.Resynced.TheVariants.{Moved, InRange}
 use Rattle.auc_vector.specs.declared.centre.CentreRefusal.{CentreRefusal}
 use Rattle.auc_vector.specs.declared.centre.CentreRefusal.TheVariants.{Exhausted, Withheld, Beyond}
 
--- a word that is kept is this one
+-- if a word is kept, it is this one
 abbrev pub IsWordKept : Option ℕ → ℕ → Type 0
 IsWordKept None word = Unit {0}
 IsWordKept (Some w) word = word ≡ w
@@ -24,7 +23,7 @@ unless_spent (Some w) entries = []
 -- ---- a draw
 
 -- the answer to a draw: a number that is released or withheld is one of the subscriber's, and none is drawn for a spent
--- one; the word of a refused draw is no lower than the greatest number
+-- subscriber; the word of a refused draw is no lower than the greatest number
 abbrev pub AnswersNext : ℕ → Option ℕ → Result ℕ CentreRefusal → Type 0
 AnswersNext top kept (Ok n) = (kept ≡ None) × (1 ≤ n) × (n ≤ top)
 AnswersNext top kept (Err (Exhausted w)) = (top ≤ w) × IsWordKept kept w
@@ -54,8 +53,8 @@ kept_after_next kept (Err (Beyond seen seq_ms)) = kept
 
 -- ---- a resynchronisation
 
--- the answer to a resynchronisation: the verdict on the number that stood, which of a spent subscriber is the word that is
--- kept, and which no SEQ moves
+-- the answer to a resynchronisation: the verdict on the number that stood. If the subscriber is spent, that is the word
+-- that is kept, and no SEQ moves it
 abbrev pub AnswersResync : Option ℕ → ℕ → Result Resynced CentreRefusal → Type 0
 AnswersResync kept seq_ms (Ok (Moved seen seq)) = (kept ≡ None) × (resynchronise_of seen seq_ms ≡ moved_to seen seq)
 AnswersResync kept seq_ms (Ok (InRange seen seq)) = IsWordKept kept seen × (resynchronise_of seen seq_ms ≡ in_range seen seq)

@@ -2,5 +2,4 @@ pub mod Auts
 pub mod Centre
 pub mod Random
 pub mod Stretch
-pub mod StretchLaws
 pub mod Vector

@@ -7,7 +7,7 @@ use auc_aes::xor;
 use auc_milenage::{Secret, f1_star, f5_star};
 use auc_sqn::split;
 
-/// What AUTS says, the USIM's answer where the SQN was out of range (TS 33.102 §6.3.3).
+/// What AUTS says, which a USIM answers if the SQN is out of range (TS 33.102 §6.3.3).
 #[derive(Clone, Copy, Debug, PartialEq, Eq)]
 pub enum Auts {
     /// MAC-S is right: the SEQ of SQN_MS, at most `MAX_SEQ`.
@@ -17,7 +17,7 @@ pub enum Auts {
 }
 
 /// Reads AUTS, which a USIM answered to a RAND: SQN_MS masked by f5*, 6 bytes, and MAC-S, 8 bytes. MAC-S is f1* over
-/// SQN_MS, RAND and an AMF of two zero bytes, and is checked always (TS 33.102 §6.3.3 and §6.3.5).
+/// SQN_MS, RAND and an AMF of two zero bytes, and is always checked (TS 33.102 §6.3.3 and §6.3.5).
 pub fn read_auts(s: &Secret, rand: [u8; 16], auts: [u8; 14]) -> Auts
     ensures value { result ≡ read_auts_of s.now rand auts }
     ensures bound { IsNumber result }

@@ -9,7 +9,7 @@ ghost use Rattle.auc_sqn.specs.Number.{max_seq};
 use auc_edge::Stop;
 use std::sync::Wait;
 
-/// What a resynchronisation comes to where the USIM accepts the next number. Each names the number that stood at the
+/// What a resynchronisation comes to if the USIM accepts the next number. Each names the number that stood at the
 /// centre, then the SEQ that the USIM reported.
 #[derive(Clone, Copy, Debug, PartialEq, Eq)]
 pub enum Resynced {
@@ -24,10 +24,10 @@ pub enum Resynced {
 pub enum CentreRefusal {
     /// The subscriber has no further number: this word, no lower than its greatest number, stood there.
     Exhausted(u64),
-    /// This number was drawn and isn't released, for its reservation ended for this reason.
+    /// This number was drawn and isn't released, because reservations ended for this reason.
     Withheld(u64, Stop),
     /// The number that stands at the centre, and the SEQ that the USIM reported, which is too far below it. The number
-    /// stands.
+    /// stays.
     Beyond(u64, u64),
 }
 
@@ -39,11 +39,10 @@ pub trait Centre {
     /// A subscriber's greatest number.
     ghost top: { Self → ℕ → ℕ };
 
-    /// The word of a subscriber's first draw that was refused: from then on it is kept for good, and the subscriber is
-    /// spent.
+    /// The word of a subscriber's first refused draw. Once it is kept, it stays, and the subscriber is spent.
     ghost kept: { Self → ℕ → Option ℕ };
 
-    /// The name of the borrow that the centre holds, and 0 where it owns what it works on.
+    /// The name of the borrow that the centre holds, or 0 if it owns what it works on.
     ghost name: { Self → ℕ };
 
     /// The centre before some calls; a subscriber; the entries that these calls made of its history, in order; which of
@@ -90,12 +89,12 @@ pub trait Centre {
     /// No call makes no entry.
     ghost stays: { (a : Self) (i : ℕ) → goes a i [] [] a };
 
-    /// Two stretches of calls one after the other are one, with both lists.
+    /// Two stretches of calls, one after the other, are one stretch with both lists.
     ghost joins: { (a : Self) (b : Self) (c : Self) (i : ℕ)
         (es : List Entry) (fs : List Entry) (ws : List ℕ) (vs : List ℕ)
         → goes a i es ws b → goes b i fs vs c → goes a i (es ++ fs) (ws ++ vs) c };
 
-    /// In a stretch of calls each entry goes on from those before it, so that it covers rising numbers.
+    /// In a stretch of calls each entry continues those before it, so that the covered numbers rise.
     ghost rises: { (a : Self) (b : Self) (i : ℕ) (es : List Entry) (ws : List ℕ)
         → goes a i es ws b → IsInOrder es };
 }

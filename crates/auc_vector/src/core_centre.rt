@@ -42,10 +42,11 @@ impl CoreCentre {
 }
 
 impl Centre for CoreCentre {
-    ghost use Rattle.std.specs.Prelude.{length, slice_index};
+    ghost use Rattle.std.specs.Prelude.{ℕ, List, ◌++◌, length, slice_index};
+    ghost use Rattle.std.proofs.Common.{refl, ap, ◌∙◌};
     ghost use Rattle.auc_sqn.specs.Number.{max_seq};
+    ghost use Rattle.auc_history.proofs.Facts.{IsLegal-append, IsLegal-nil};
     ghost use Rattle.auc_vector.specs.Stretch.{kept_at, IsStretch};
-    ghost use Rattle.auc_vector.specs.StretchLaws.{stretch_stays, stretch_joins, stretch_rises};
 
     ghost subs = { λ words. length words };
 
@@ -57,11 +58,14 @@ impl Centre for CoreCentre {
 
     ghost goes = { IsStretch };
 
-    ghost stays = { stretch_stays };
+    ghost stays = { λ a i. (IsLegal-nil max_seq (slice_index a i), refl) };
 
-    ghost joins = { stretch_joins };
+    ghost joins = { λ a b c i es fs ws vs first second. (
+      IsLegal-append max_seq (slice_index a i) (slice_index b i) (slice_index c i) es fs first.0 second.0,
+      ap (λ (xs : List ℕ). xs ++ vs) first.1 ∙ second.1,
+    ) };
 
-    ghost rises = { stretch_rises };
+    ghost rises = { λ a b i es ws stretch. stretch.0.ordered };
 
     fn next<R: Wait>(&mut self, _rt: &R, sub: u32) -> Result<u64, CentreRefusal> {
         match self.core.apply(Event::Draw(sub)) {

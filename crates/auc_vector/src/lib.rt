@@ -2,8 +2,8 @@
 //! authentication centre whose numbers they are of.
 //!
 //! [`vector`] makes the [`Vector`] of a number under a secret, and [`Rands`] gives its RAND by subscriber and
-//! number, as words of ChaCha20: the same key gives the same bytes again. Where many vectors of one subscriber are
-//! wanted, [`Vectors`] makes them with one key schedule and one generator. [`read_auts`] reads a USIM's AUTS.
+//! number, as words of ChaCha20: the same key gives the same bytes again. For many vectors of one subscriber, [`Vectors`]
+//! makes them with one key schedule and one generator. [`read_auts`] reads a USIM's AUTS.
 //!
 //! A [`Centre`] gives numbers and resynchronises them; its ghost members say which entries of a subscriber's history
 //! each call made. [`CoreCentre`] is the one over the pure core.

@@ -11,7 +11,7 @@ use rand_core::utils::NextWord;
 use std::marker::Model;
 
 /// The RANDs of one subscriber, with the generator kept from number to number. The cipher makes those of 16 numbers at a
-/// time, so numbers in a row cost least. Contracts see the key's 32 bytes and the subscriber.
+/// time, so consecutive numbers cost least. Contracts see the key's 32 bytes and the subscriber.
 #[derive(Drop)]
 pub struct RandStream {
     key: [u8; 32],

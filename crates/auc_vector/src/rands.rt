@@ -39,7 +39,7 @@ impl Rands {
         self.stream(sub).rand_of(n)
     }
 
-    /// The RANDs of a subscriber, of which many are wanted.
+    /// The RANDs of a subscriber, with one generator for many of them.
     pub fn stream(&self, sub: u32) -> RandStream
         ensures { result ≡ record { key = self.now; sub = sub } }
     {

@@ -37,7 +37,7 @@ fn rand_is_the_key_stream_of_the_subscriber_at_the_number(rt: HostRuntime) {
     }
 }
 
-// The same key stream, of subscriber 7: number, RAND. The generator goes on, ahead, back and stays.
+// The same key stream, of subscriber 7: number, RAND. The generator steps on, jumps ahead, jumps back and repeats.
 #[test]
 fn stream_gives_the_rand_of_each_number_in_any_order(rt: HostRuntime) {
     let cases: [(u64, u128); 10] = [
@@ -170,7 +170,7 @@ fn secret() -> Secret {
     }
 }
 
-/// What a centre answers to an AUTS of one of its subscribers, or `None` where MAC-S is wrong.
+/// What a centre answers to an AUTS of one of its subscribers, or `None` if MAC-S is wrong.
 fn hear<C: Centre, R: Wait>(
     rt: &R,
     centre: &mut C,
