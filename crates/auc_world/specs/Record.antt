@@ -1,4 +1,4 @@
--- What the records of a round name and count.
+-- The subscribers that the records of a round name.
 use Rattle.std.specs.Prelude.{ℕ, ◌<◌, All}
 use Rattle.auc_world.specs.declared.record.LineRecord.{LineRecord}
 use Rattle.auc_world.specs.declared.record.LineRecord.TheVariants.{Vector, Withheld, Exhausted, Sync, Give}
@@ -12,7 +12,7 @@ subscriber_of (Exhausted sub word) = sub
 subscriber_of (Sync sub verdict) = sub
 subscriber_of (Give sub n verdict) = sub
 
--- each subscriber that a round's record names is one of the first `count`
+-- each subscriber that a round's record names is one of the first `count` subscribers
 pub record NamesBelow (count : ℕ) (round : RoundRecord) : Type 0 where
   pub jobs : All (All (λ line. subscriber_of line < count)) round.jobs
   pub closings : All (λ closing. closing.sub < count) round.closings

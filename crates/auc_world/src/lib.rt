@@ -1,4 +1,4 @@
-//! The records of a round: what its jobs' lines were answered, and how each subscriber's numbers closed.
+//! The records of a round: the answers to the lines of its jobs, and how each subscriber's numbers closed.
 #![tactic(auto)]
 
 mod record;

@@ -17,8 +17,8 @@ pub enum LineRecord {
         n: u64,
         stop: Stop,
     },
-    /// A request for a vector ended because the subscriber's numbers are spent. The word is what was
-    /// read in place of a number, and is at least the greatest number.
+    /// A request for a vector ended because the subscriber's numbers are spent. The word was read in place
+    /// of a number, and is at least the greatest number.
     Exhausted {
         sub: u32,
         word: u64,
@@ -28,7 +28,7 @@ pub enum LineRecord {
         sub: u32,
         verdict: SyncVerdict,
     },
-    /// The vector of the number was given to the subscriber's USIM, with what the USIM answered.
+    /// The vector of the number was presented to the subscriber's USIM, with the USIM's answer.
     Give {
         sub: u32,
         n: u64,
@@ -39,15 +39,15 @@ pub enum LineRecord {
 /// What the home network makes of an AUTS (TS 33.102 §6.3.5).
 #[derive(Clone, Copy, Debug, PartialEq, Eq)]
 pub enum SyncVerdict {
-    /// The word of the subscriber's numbers moved up from the first value to the second, which is SEQ_MS.
+    /// The word of the subscriber's numbers rose from the first value to the second, which is SEQ_MS.
     Moved(u64, u64),
-    /// The word, the first value, is at least SEQ_MS, the second, and a next number is in the USIM's
-    /// range: the word stands.
+    /// The word (first value) is at least SEQ_MS (second value), and the next number is in the USIM's range.
+    /// The word stays.
     InRange(u64, u64),
-    /// The word, the first value, is so far above SEQ_MS, the second, that a next number is out of the
-    /// USIM's range: the word stands.
+    /// The word (first value) is so far above SEQ_MS (second value) that the next number is out of the
+    /// USIM's range. The word stays.
     Beyond(u64, u64),
-    /// The AUTS has a wrong MAC-S: the word was not looked at.
+    /// The AUTS has a wrong MAC-S. The word wasn't read.
     WrongMac,
 }
 
@@ -59,7 +59,7 @@ pub enum GiveVerdict {
     /// The USIM answered a synchronisation failure: the 6 bytes are SQN_MS, the SQN of the greatest entry
     /// of its index array.
     Sync([u8; 6]),
-    /// No vector of the number was released for the subscriber, so the USIM was not asked.
+    /// No vector of the number was released for the subscriber, so the USIM wasn't asked.
     Absent,
 }
 
