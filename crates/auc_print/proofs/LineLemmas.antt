@@ -1,4 +1,4 @@
--- What a line's words tell of it, and a list of lines' text of them.
+-- The words of a line determine what the line tells, and the text of lines determines what they tell.
 use Rattle.std.proofs.Common.{ℕ, ◌^◌, ◌<◌, ◌≡◌, ◌∙◌, refl, sym, ap, Bool, true, false, List, [], ◌∷◌, ◌++◌, map, drop, length, get_or, slice_index_or, flat_map, if◌then◌else◌, codes, bytes_eq, Ok, arith, inl, inr}
 use Rattle.std.specs.List.{AllByRecursion}
 use Rattle.std.proofs.lemmas.Bool.{cases_order}
@@ -19,11 +19,11 @@ use Rattle.auc_world.specs.declared.record.SyncVerdict.TheVariants.{Moved, InRan
 use Rattle.auc_world.specs.declared.record.GiveVerdict.{GiveVerdict}
 use Rattle.auc_world.specs.declared.record.GiveVerdict.TheVariants.{Accepted, Sync as SyncFailure, Absent}
 use Rattle.auc_world.specs.declared.record.Closing.{Closing}
-use Rattle.auc_print.specs.Text.{Line, RoundLine, JobLine, RecordLine, ClosedLine, imsi_of, stop_word, sync_words, give_words, record_words, closing_words, words_of, bytes_words, spaced, line_text}
+use Rattle.auc_print.specs.Text.{Line, RoundLine, JobLine, RecordLine, ClosedLine, imsi_of, stop_word, sync_words, give_words, record_words, closing_words, line_words, bytes_words, spaced, line_text}
 use Rattle.auc_print.specs.OneText.{AreIdentities, SyncFits, GiveFits, AnswerFits, ClosingFits, told}
 use Rattle.auc_print.proofs.SpacedLemmas.{IsWord, AllWords, AreWords, AreLines, lines_cut, word_from_test, decimal_word, last_digits_word, hex_word}
 
--- a line that names subscribers with an identity alone, and whose values have their sizes
+-- each subscriber that a line names has an identity, and the values in the line fit their types
 abbrev pub LineFits : List Identity → Line → Type 0
 LineFits identities (RoundLine number) = number < 2 ^ 64
 LineFits identities (JobLine number) = number < 2 ^ 64
@@ -37,7 +37,7 @@ line_told (JobLine number) = JobLine number
 line_told (RecordLine answer) = RecordLine (told answer)
 line_told (ClosedLine closing) = ClosedLine closing
 
--- subscribers with one IMSI are one
+-- subscribers with the same IMSI are the same
 imsi_injective : (identities : List Identity) (s t : ℕ) → AreIdentities identities → s < length identities → t < length identities
     → imsi_of identities s ≡ imsi_of identities t → s ≡ t
 imsi_injective identities s t are a b e =
@@ -92,7 +92,7 @@ answer_words_are identities (Give sub n verdict) fits =
     (word_from_test (codes "give") refl, (imsi_word identities sub, (decimal_word n fits.0, give_words_are verdict)))
 
 -- the words of a line are words
-words_are : (identities : List Identity) (line : Line) → LineFits identities line → AreWords (words_of identities line)
+words_are : (identities : List Identity) (line : Line) → LineFits identities line → AreWords (line_words identities line)
 words_are identities (RoundLine number) fits = (word_from_test (codes "round") refl, (decimal_word number fits, tt))
 words_are identities (JobLine number) fits = (word_from_test (codes "job") refl, (decimal_word number fits, tt))
 words_are identities (RecordLine answer) fits = answer_words_are identities answer fits.1
@@ -113,14 +113,14 @@ words_are identities (ClosedLine closing) fits = (
   ),
 )
 
--- the lines that a full print adds behind a line
+-- the lines that a full print adds after a line
 abbrev further : Bool → Line → List (List (List ℕ))
 further full (RecordLine (Vector sub vector)) = if full then bytes_words vector ∷ [] else []
 further full line = []
 
 -- the printed lines of a line
 abbrev printed : List Identity → Bool → Line → List (List (List ℕ))
-printed identities full line = words_of identities line ∷ further full line
+printed identities full line = line_words identities line ∷ further full line
 
 -- a line's text is that of its printed lines
 text_is : (identities : List Identity) (full : Bool) (line : Line) → line_text identities full line ≡ flat_map spaced (printed identities full line)
@@ -129,7 +129,7 @@ text_is identities true (RecordLine (Vector sub vector)) =
 text_is identities false (RecordLine (Vector sub vector)) = refl
 text_is identities full line = refl
 
--- and so is that of lines
+-- the text of lines is that of their printed lines
 texts_are : (identities : List Identity) (full : Bool) (lines : List Line)
     → flat_map (line_text identities full) lines ≡ flat_map spaced (flat_map (printed identities full) lines)
 texts_are identities full [] = refl
@@ -164,9 +164,9 @@ abbrev own : List (List (List ℕ)) → List (List (List ℕ))
 own [] = []
 own (words ∷ lines) = if bytes_eq (word_at words 0) (codes "bytes") then own lines else words ∷ own lines
 
--- of the printed lines of a line its own is left
+-- without what a full print adds, only the line itself is left of its printed lines
 own_of_line : (identities : List Identity) (full : Bool) (line : Line) (rest : List (List (List ℕ)))
-    → own (printed identities full line ++ rest) ≡ words_of identities line ∷ own rest
+    → own (printed identities full line ++ rest) ≡ line_words identities line ∷ own rest
 own_of_line identities full (RoundLine number) rest = refl
 own_of_line identities full (JobLine number) rest = refl
 own_of_line identities full (ClosedLine closing) rest = refl
@@ -177,13 +177,13 @@ own_of_line identities full (RecordLine (Exhausted sub word)) rest = refl
 own_of_line identities full (RecordLine (Sync sub verdict)) rest = refl
 own_of_line identities full (RecordLine (Give sub n verdict)) rest = refl
 
--- of those of lines their own are left
+-- the same for several lines
 own_of_lines : (identities : List Identity) (full : Bool) (lines : List Line)
-    → own (flat_map (printed identities full) lines) ≡ map (words_of identities) lines
+    → own (flat_map (printed identities full) lines) ≡ map (line_words identities) lines
 own_of_lines identities full [] = refl
 own_of_lines identities full (line ∷ lines) =
     own_of_line identities full line (flat_map (printed identities full) lines)
-    ∙ ap (λ rest. words_of identities line ∷ rest) (own_of_lines identities full lines)
+    ∙ ap (λ rest. line_words identities line ∷ rest) (own_of_lines identities full lines)
 
 -- a number for each kind of line, by its first word
 abbrev kind_of_word : List ℕ → ℕ
@@ -200,7 +200,7 @@ kind_of (ClosedLine closing) = 2
 kind_of (RecordLine answer) = 3
 
 -- the first word says the kind of line
-kind_is : (identities : List Identity) (line : Line) → kind_of line ≡ kind_of_word (word_at (words_of identities line) 0)
+kind_is : (identities : List Identity) (line : Line) → kind_of line ≡ kind_of_word (word_at (line_words identities line) 0)
 kind_is identities (RoundLine number) = refl
 kind_is identities (JobLine number) = refl
 kind_is identities (ClosedLine closing) = refl
@@ -334,7 +334,7 @@ answer_told identities a b are p q e =
     = record_is identities a ∙ ap (λ ws. record_of_word (word_at ws 0)) e ∙ sym (record_is identities b) in
     absurd (omega arith)
 
--- closings with the same fields are one
+-- closings with the same fields are the same
 closing_is : (a b : Closing) → a.sub ≡ b.sub → a.first ≡ b.first → a.last ≡ b.last → a.drawn ≡ b.drawn → a.skipped ≡ b.skipped
     → a.released ≡ b.released → a.withheld ≡ b.withheld → a ≡ b
 closing_is a b sub first last drawn skipped released withheld =
@@ -365,7 +365,7 @@ closing_injective identities a b are p q e =
 
 -- what a line tells is determined by its words
 line_is_told : (identities : List Identity) (l m : Line) → AreIdentities identities → LineFits identities l → LineFits identities m
-    → words_of identities l ≡ words_of identities m → line_told l ≡ line_told m
+    → line_words identities l ≡ line_words identities m → line_told l ≡ line_told m
 line_is_told identities (RoundLine m) (RoundLine n) are p q e = ap RoundLine (decimal_injective m n p q (ap (λ ws. word_at ws 1) e))
 line_is_told identities (JobLine m) (JobLine n) are p q e = ap JobLine (decimal_injective m n p q (ap (λ ws. word_at ws 1) e))
 line_is_told identities (RecordLine a) (RecordLine b) are p q e = ap RecordLine (answer_told identities a b are p q e)
@@ -377,13 +377,13 @@ line_is_told identities l m are p q e =
 -- what lines tell is determined by their words
 words_tell : (identities : List Identity) (ls ms : List Line) → AreIdentities identities
     → AllByRecursion (LineFits identities) ls → AllByRecursion (LineFits identities) ms
-    → map (words_of identities) ls ≡ map (words_of identities) ms → map line_told ls ≡ map line_told ms
+    → map (line_words identities) ls ≡ map (line_words identities) ms → map line_told ls ≡ map line_told ms
 words_tell identities [] [] are p q e = refl
 words_tell identities [] (m ∷ ms) are p q e = absurd (cc)
 words_tell identities (l ∷ ls) [] are p q e = absurd (cc)
 words_tell identities (l ∷ ls) (m ∷ ms) are p q e =
-    let first : words_of identities l ≡ words_of identities m = cc in
-    let others : map (words_of identities) ls ≡ map (words_of identities) ms = cc in
+    let first : line_words identities l ≡ line_words identities m = cc in
+    let others : map (line_words identities) ls ≡ map (line_words identities) ms = cc in
     let line : line_told l ≡ line_told m = line_is_told identities l m are p.0 q.0 first in
     let rest : map line_told ls ≡ map line_told ms = words_tell identities ls ms are p.1 q.1 others in (cc)
 

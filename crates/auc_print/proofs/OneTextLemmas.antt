@@ -1,4 +1,4 @@
--- A text is the text of one transcript alone, but for the bytes of its vectors.
+-- A text determines its transcript, except the bytes of the vectors.
 use Rattle.std.proofs.Common.{ℕ, ◌+◌, ◌^◌, ◌<◌, ◌≤◌, ◌≡◌, ◌≢◌, ◌∙◌, refl, sym, ap, Bool, List, [], ◌∷◌, ◌++◌, length, map, flat_map, All, arith}
 use Rattle.std.proofs.lemmas.List.{get_or-map, length-map}
 use Rattle.std.specs.List.{AllPairs}
@@ -12,7 +12,7 @@ use Rattle.auc_world.specs.Record.{NamesBelow, subscriber_of}
 use Rattle.auc_world.specs.declared.record.LineRecord.{LineRecord}
 use Rattle.auc_world.specs.declared.record.LineRecord.TheVariants.{Vector, Withheld, Exhausted, Sync, Give}
 use Rattle.auc_world.specs.declared.record.RoundRecord.{RoundRecord}
-use Rattle.auc_print.specs.Text.{RoundLine, JobLine, RecordLine, ClosedLine, job_lines, jobs_lines, lines_of, identities_of, line_text, round_text, transcript_text}
+use Rattle.auc_print.specs.Text.{RoundLine, JobLine, RecordLine, ClosedLine, job_lines, jobs_lines, round_lines, identities_of, line_text, round_text, transcript_text}
 use Rattle.auc_print.specs.OneText.{AreIdentities, AnswerFits, RoundFits, OneTranscript, numbered, told, heard, HasVector, HasVectors, NumbersTellVectors}
 use Rattle.auc_print.proofs.LineLemmas.{LineFits, lines_tell}
 use Rattle.auc_print.proofs.RoundLemmas.{round_is, rounds_tell}
@@ -23,13 +23,13 @@ IsNamed identities answer = subscriber_of answer < length identities
 
 -- the text of rounds is the text of their lines
 text_of_lines : (identities : List Identity) (full : Bool) (rounds : List RoundRecord)
-    → transcript_text identities full rounds ≡ flat_map (line_text identities full) (flat_map lines_of rounds)
+    → transcript_text identities full rounds ≡ flat_map (line_text identities full) (flat_map round_lines rounds)
 text_of_lines identities full [] = refl
 text_of_lines identities full (round ∷ rounds) =
     ap (λ rest. round_text identities full round ++ rest) (text_of_lines identities full rounds)
-    ∙ sym (flat_map-append (line_text identities full) (lines_of round) (flat_map lines_of rounds))
+    ∙ sym (flat_map-append (line_text identities full) (round_lines round) (flat_map round_lines rounds))
 
--- the lines of jobs fit where their records do and their numbers have 64 bits
+-- the lines of jobs fit if their records do and their numbers have 64 bits
 jobs_fit : (identities : List Identity) (number : ℕ) (jobs : List (List LineRecord)) → number + length jobs ≤ 2 ^ 64
     → All (All (IsNamed identities)) jobs → All (All AnswerFits) jobs → All (LineFits identities) (jobs_lines number jobs)
 jobs_fit identities number [] within named fits = All-nil (LineFits identities)
@@ -46,7 +46,7 @@ jobs_fit identities number (job ∷ jobs) within named fits =
 
 -- the lines of a round fit
 round_fits : (identities : List Identity) (round : RoundRecord) → NamesBelow (length identities) round → RoundFits round
-    → All (LineFits identities) (lines_of round)
+    → All (LineFits identities) (round_lines round)
 round_fits identities round named fits =
     let jobs : All (LineFits identities) (jobs_lines 1 round.jobs)
     = let count : length round.jobs < 2 ^ 64 = fits.count in
@@ -58,22 +58,22 @@ round_fits identities round named fits =
 
 -- the lines of printable rounds fit
 rounds_fit : (identities : List Identity) (rounds : List RoundRecord) → All (NamesBelow (length identities)) rounds → All RoundFits rounds
-    → All (LineFits identities) (flat_map lines_of rounds)
+    → All (LineFits identities) (flat_map round_lines rounds)
 rounds_fit identities [] named fits = All-nil (LineFits identities)
 rounds_fit identities (round ∷ rounds) named fits =
-    All-append (LineFits identities) (lines_of round) (flat_map lines_of rounds)
+    All-append (LineFits identities) (round_lines round) (flat_map round_lines rounds)
     (round_fits identities round (All-head (NamesBelow (length identities)) round rounds named) (All-head RoundFits round rounds fits))
     (rounds_fit identities rounds (All-tail (NamesBelow (length identities)) round rounds named) (All-tail RoundFits round rounds fits))
 
--- two transcripts with one text are one, but for the bytes of their vectors
+-- two transcripts with the same text are the same, except the bytes of their vectors
 pub one_transcript : OneTranscript
 one_transcript identities full rounds others are p q e =
-    rounds_tell rounds others (lines_tell identities full (flat_map lines_of rounds) (flat_map lines_of others) are
-    (recursion_from_All (LineFits identities) (flat_map lines_of rounds) (rounds_fit identities rounds p.named p.fit))
-    (recursion_from_All (LineFits identities) (flat_map lines_of others) (rounds_fit identities others q.named q.fit))
+    rounds_tell rounds others (lines_tell identities full (flat_map round_lines rounds) (flat_map round_lines others) are
+    (recursion_from_All (LineFits identities) (flat_map round_lines rounds) (rounds_fit identities rounds p.named p.fit))
+    (recursion_from_All (LineFits identities) (flat_map round_lines others) (rounds_fit identities others q.named q.fit))
     (sym (text_of_lines identities full rounds) ∙ e ∙ text_of_lines identities full others))
 
--- where a map takes different values apart, it takes lists of them apart
+-- if a map is injective on values, it is injective on lists of them
 map_injective : {A B : Type 0} (f : A → B) (P : A → Type 0) → ((x y : A) → f x ≡ f y → P x → P y → x ≡ y)
     → (xs ys : List A) → map f xs ≡ map f ys → All P xs → All P ys → xs ≡ ys
 map_injective f P same [] [] e p q = refl
@@ -86,7 +86,7 @@ map_injective f P same (x ∷ xs) (y ∷ ys) e p q =
     let tail : xs ≡ ys = map_injective f P same xs ys tails (All-tail P x xs p) (All-tail P y ys q) in
     (cc)
 
--- two records that tell the same, with the vectors of their subscribers and numbers, are one
+-- two records that tell the same and have the vectors of their subscribers and numbers are the same
 records_same : (vector_of : ℕ → ℕ → AuthenticationVector) (a b : LineRecord) → told a ≡ told b → HasVector vector_of a → HasVector vector_of b → a ≡ b
 records_same vector_of (Vector s v) (Vector t w) e p q =
     let sub : s ≡ t = cc in
@@ -100,7 +100,7 @@ records_same vector_of (Sync s a) (Sync t b) e p q = e
 records_same vector_of (Give s m a) (Give t n b) e p q = e
 records_same vector_of a b e p q = cc
 
--- two such rounds are one
+-- two such rounds are the same
 pub rounds_same : (vector_of : ℕ → ℕ → AuthenticationVector) (a b : RoundRecord) → heard a ≡ heard b → HasVectors vector_of a → HasVectors vector_of b → a ≡ b
 rounds_same vector_of a b e p q =
     round_is a b (ap (λ (r : RoundRecord). r.number) e)
@@ -108,7 +108,7 @@ rounds_same vector_of a b e p q =
     (ap (λ (r : RoundRecord). r.jobs) e) p q)
     (ap (λ (r : RoundRecord). r.closings) e)
 
--- and two such transcripts
+-- two such transcripts are the same
 pub numbers_tell_vectors : NumbersTellVectors
 numbers_tell_vectors vector_of rounds others p q e =
     map_injective heard (HasVectors vector_of) (rounds_same vector_of) rounds others e p q
@@ -122,7 +122,7 @@ rows_differ (row ∷ rows) differ i j d before within same =
     differ i j row before second
     (sym (get_or-map (λ r. r.imsi) (row ∷ rows) i row d first) ∙ same ∙ get_or-map (λ r. r.imsi) (row ∷ rows) j row d second)
 
--- subscribers have identities of which no two are the same, for whoever cites the law of them
+-- no two subscribers have the same identity; this is the premise of the law on texts
 pub are_identities : (rows : List Row) → AreSubscribers rows → AreIdentities (identities_of rows)
 are_identities rows are = record {
   each = All-map (λ identity. IsIdentity identity.digits identity.number) (λ row. row.imsi) rows (λ k d within. (are.each k d within).identity);

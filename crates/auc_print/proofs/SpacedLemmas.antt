@@ -1,4 +1,4 @@
--- A text of spaced words is cut into its words in one way, for the lemmas on lines.
+-- A text of spaced words is cut into words in only one way, for the lemmas on lines.
 use Rattle.std.proofs.Common.{ℕ, zero, suc, ◌+◌, ◌/◌, ◌%◌, ◌^◌, ◌<◌, ◌≡◌, ◌∙◌, refl, sym, ap, List, [], ◌∷◌, ◌++◌, get_or, flat_map, append_assoc, Bool, true, false, ◌&&◌, ◌||◌, not, eqb, decimal, arith}
 use Rattle.std.proofs.lemmas.Bool.{and_parts}
 use Rattle.std.proofs.lemmas.Bool.Decides.{nat_tests}
@@ -55,12 +55,12 @@ cut (x ∷ v) (y ∷ w) c d r s a b p q e =
     let word : v ≡ w = rest.0 in
     ((cc), rest.1, rest.2)
 
--- what stands behind the first word of a line, and behind the line
+-- what comes after the first word of a line, with what comes after the line
 abbrev after_word : List (List ℕ) → List ℕ → List ℕ
 after_word [] r = 10 ∷ r
 after_word (word ∷ words) r = 32 ∷ (word ++ after_word words r)
 
--- a line is its first word and what stands behind that
+-- a line is its first word and what comes after it
 spaced_is : (word : List ℕ) (words : List (List ℕ)) (r : List ℕ) → spaced (word ∷ words) ++ r ≡ word ++ after_word words r
 spaced_is word words r =
     append_assoc (word ++ behind words) (10 ∷ []) r ∙ append_assoc word (behind words) (10 ∷ r) ∙ ap (λ t. word ++ t) (behind_is words)
@@ -88,7 +88,7 @@ words_end v w (after ∷ vs) (next ∷ ws) r s a b e =
     let words : after ∷ vs ≡ next ∷ ws = rest.0 in
     ((cc), rest.1)
 
--- the text of a line, with any rest behind it, gives the words and the rest
+-- the text of a line followed by a rest determines the words and the rest
 words_cut : (vs ws : List (List ℕ)) (r s : List ℕ) → AreWords vs → AreWords ws
     → spaced vs ++ r ≡ spaced ws ++ s → (vs ≡ ws) × (r ≡ s)
 words_cut [] ws r s a b e = absurd a
@@ -108,7 +108,7 @@ line_nonempty (w ∷ ws) r a e = in_words w ws (e ∙ spaced_is w ws r)
     in_words v [] e = in_word v 10 r e
     in_words v (next ∷ vs) e = in_word v 32 (next ++ after_word vs r) e
 
--- lines with one text are the same
+-- lines with the same text are the same
 pub lines_cut : (ls ms : List (List (List ℕ))) → AreLines ls → AreLines ms → flat_map spaced ls ≡ flat_map spaced ms → ls ≡ ms
 lines_cut [] [] a b e = refl
 lines_cut [] (m ∷ ms) a b e = absurd (line_nonempty m (flat_map spaced ms) b.0 e)

@@ -1,4 +1,4 @@
--- The text of a round, piece by piece, for the functions that print it.
+-- The text of a round in pieces, for the functions that print it.
 use Rattle.std.proofs.Common.{ℕ, Bool, List, [], ◌∷◌, ◌++◌, map, flat_map, decimal, codes, ◌≡◌, refl, ap, sym, ◌∙◌, append_assoc}
 use Rattle.std.proofs.lemmas.List.{append-nil}
 use Rattle.std.proofs.lemmas.List.Concat.{flat_map-append}
@@ -17,7 +17,7 @@ job_text_is identities full number job =
     ap (λ own. own ++ flat_map (λ answer. line_text identities full (RecordLine answer)) job) (sym (append-nil (spaced (codes "job" ∷ decimal number ∷ []))))
     ∙ ap (λ rest. line_text identities full (JobLine number) ++ rest) (sym (flat_map-map (line_text identities full) RecordLine job))
 
--- what the printing of a job appends, piece by piece, is the job's text
+-- the pieces that are appended for a job are the job's text
 pub job_printed : (identities : List Identity) (full : Bool) (number : ℕ) (job : List LineRecord) (old first second : List ℕ)
     → first ≡ old ++ spaced (codes "job" ∷ decimal number ∷ [])
     → second ≡ first ++ flat_map (λ answer. line_text identities full (RecordLine answer)) job
@@ -49,7 +49,7 @@ round_text_is identities full round =
     ∙ ap (λ rest. line_text identities full (RoundLine round.number) ++ rest)
     (sym (flat_map-append (line_text identities full) (jobs_lines 1 round.jobs) (map ClosedLine round.closings)))
 
--- what the printing of a round appends, piece by piece, is the round's text
+-- the pieces that are appended for a round are the round's text
 pub round_printed : (identities : List Identity) (full : Bool) (round : RoundRecord) (jobs : List (List LineRecord)) (closings : List Closing)
     (old first second third : List ℕ) → jobs ≡ round.jobs → closings ≡ round.closings
     → first ≡ old ++ spaced (codes "round" ∷ decimal round.number ∷ [])

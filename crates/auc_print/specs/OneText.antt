@@ -1,4 +1,4 @@
--- That a text is the text of one transcript alone, but for the bytes of its vectors, which a brief print leaves out.
+-- A text determines its transcript, except the bytes of the vectors, which a brief print leaves out.
 use Rattle.std.specs.Prelude.{ℕ, ◌^◌, ◌<◌, ◌≡◌, ◌≢◌, Bool, List, [], length, map, All, AllPairs}
 use Rattle.hex.specs.Hex.{IsBytes}
 use Rattle.auc_edge.specs.Identity.{Identity, IsIdentity}
@@ -14,7 +14,7 @@ use Rattle.auc_world.specs.declared.record.Closing.{Closing}
 use Rattle.auc_world.specs.declared.record.RoundRecord.{RoundRecord}
 use Rattle.auc_print.specs.Text.{transcript_text}
 
--- identities of which no two are the same
+-- valid identities, no two of which are the same
 pub record AreIdentities (identities : List Identity) : Type 0 where
   pub each : All (λ identity. IsIdentity identity.digits identity.number) identities
   pub differ : AllPairs ◌≢◌ identities
@@ -26,13 +26,13 @@ SyncFits (InRange seen seq_ms) = (seen < 2 ^ 64) × (seq_ms < 2 ^ 64)
 SyncFits (Beyond seen seq_ms) = (seen < 2 ^ 64) × (seq_ms < 2 ^ 64)
 SyncFits WrongMac = Unit {0}
 
--- the SQN_MS of a USIM's answer is made of bytes
+-- the SQN_MS in a USIM's answer consists of bytes
 abbrev pub GiveFits : GiveVerdict → Type 0
 GiveFits Accepted = Unit {0}
 GiveFits (SyncFailure sqn_ms) = IsBytes sqn_ms
 GiveFits Absent = Unit {0}
 
--- the numbers of a job's record have 64 bits, and its SQN_MS is made of bytes
+-- the numbers in a job's record have 64 bits, and its SQN_MS consists of bytes
 abbrev pub AnswerFits : LineRecord → Type 0
 AnswerFits (Vector sub vector) = vector.n < 2 ^ 64
 AnswerFits (Withheld sub n stop) = n < 2 ^ 64
@@ -49,23 +49,23 @@ pub record ClosingFits (closing : Closing) : Type 0 where
   pub released : closing.released < 2 ^ 64
   pub withheld : closing.withheld < 2 ^ 64
 
--- the values of a round and the count of its jobs have their sizes
+-- the values in a round and the count of its jobs fit their types
 pub record RoundFits (round : RoundRecord) : Type 0 where
   pub number : round.number < 2 ^ 64
   pub count : length round.jobs < 2 ^ 64
   pub jobs : All (All AnswerFits) round.jobs
   pub closings : All ClosingFits round.closings
 
--- rounds of which each named subscriber has an identity, and whose values have their sizes
+-- each subscriber that the rounds name has an identity, and the values in them fit their types
 pub record IsPrintable (identities : List Identity) (rounds : List RoundRecord) : Type 0 where
   pub named : All (NamesBelow (length identities)) rounds
   pub fit : All RoundFits rounds
 
--- a vector with its number alone
+-- a vector of which only the number is left
 abbrev pub numbered : AuthenticationVector → AuthenticationVector
 numbered vector = record { n = vector.n; rand = []; autn = []; xres = []; ck = []; ik = [] }
 
--- what a brief print tells of a job's record: of a vector its subscriber and its number, of all else everything
+-- what a brief print tells of a job's record: of a vector only the subscriber and the number, of any other record all
 abbrev pub told : LineRecord → LineRecord
 told (Vector sub vector) = Vector sub (numbered vector)
 told (Withheld sub n stop) = Withheld sub n stop
@@ -77,13 +77,13 @@ told (Give sub n verdict) = Give sub n verdict
 abbrev pub heard : RoundRecord → RoundRecord
 heard round = record { number = round.number; jobs = map (map told) round.jobs; closings = round.closings }
 
--- two transcripts with one text are one, but for the bytes of their vectors
+-- two transcripts with the same text are the same, except the bytes of their vectors
 abbrev pub OneTranscript : Type 0
 OneTranscript = (identities : List Identity) (full : Bool) (rounds others : List RoundRecord) → AreIdentities identities
     → IsPrintable identities rounds → IsPrintable identities others
     → transcript_text identities full rounds ≡ transcript_text identities full others → map heard rounds ≡ map heard others
 
--- the vector of a record is the one that a function gives for its subscriber and number
+-- the vector in a record is the one that a function gives for its subscriber and number
 abbrev pub HasVector : (ℕ → ℕ → AuthenticationVector) → LineRecord → Type 0
 HasVector vector_of (Vector sub vector) = vector ≡ vector_of sub vector.n
 HasVector vector_of (Withheld sub n stop) = Unit {0}
@@ -91,11 +91,11 @@ HasVector vector_of (Exhausted sub word) = Unit {0}
 HasVector vector_of (Sync sub verdict) = Unit {0}
 HasVector vector_of (Give sub n verdict) = Unit {0}
 
--- each vector of a round is that of its subscriber and number
+-- each vector in a round is the one that the function gives for its subscriber and number
 abbrev pub HasVectors : (ℕ → ℕ → AuthenticationVector) → RoundRecord → Type 0
 HasVectors vector_of round = All (All (HasVector vector_of)) round.jobs
 
--- where a vector is a function of its subscriber and number, two transcripts that are one but for its bytes are one
+-- if each vector is a function of its subscriber and number, two transcripts that agree except in the vectors' bytes are the same
 abbrev pub NumbersTellVectors : Type 0
 NumbersTellVectors = (vector_of : ℕ → ℕ → AuthenticationVector) (rounds others : List RoundRecord)
     → All (HasVectors vector_of) rounds → All (HasVectors vector_of) others → map heard rounds ≡ map heard others → rounds ≡ others

@@ -1,6 +1,6 @@
--- The text of rounds: lines of words, with one space between two words and a line feed at the end.
+-- The text of rounds: lines of words. One space stands between two words, and a line feed ends the line.
 -- The first word says which kind of line it is.
-use Rattle.std.specs.Prelude.{ℕ, ◌≡◌, ◌+◌, Bool, if◌then◌else◌, List, [], ◌∷◌, ◌++◌, map, slice_index_or, flat_map, codes, decimal}
+use Rattle.std.specs.Prelude.{ℕ, ◌+◌, Bool, if◌then◌else◌, List, [], ◌∷◌, ◌++◌, map, slice_index_or, flat_map, codes, decimal}
 use Rattle.hex.specs.Hex.{encode_lower}
 use Rattle.auc_edge.specs.Identity.{Identity, digits_of}
 use Rattle.auc_edge.specs.declared.stop.Stop.{Stop}
@@ -33,14 +33,14 @@ jobs_lines number [] = []
 jobs_lines number (job ∷ jobs) = job_lines number job ++ jobs_lines (number + 1) jobs
 
 -- a round's lines: its number, its jobs, numbered from 1, and its closings
-abbrev pub lines_of : RoundRecord → List Line
-lines_of round = RoundLine round.number ∷ (jobs_lines 1 round.jobs ++ map ClosedLine round.closings)
+abbrev pub round_lines : RoundRecord → List Line
+round_lines round = RoundLine round.number ∷ (jobs_lines 1 round.jobs ++ map ClosedLine round.closings)
 
 -- the identities of subscribers, in the order of their rows
 abbrev pub identities_of : List Row → List Identity
 identities_of rows = map (λ row. row.imsi) rows
 
--- the IMSI of a subscriber, who is named by a place in the list of identities
+-- the IMSI of a subscriber, which is named by its place in the list of identities
 abbrev pub imsi_of : List Identity → ℕ → List ℕ
 imsi_of identities sub = digits_of (slice_index_or identities sub (record { digits = 0; number = 0 }))
 
@@ -49,14 +49,14 @@ abbrev pub stop_word : Stop → List ℕ
 stop_word Fault = codes "fault"
 stop_word Full = codes "full"
 
--- the words of what the home network made of an AUTS
+-- the words that say what the home network made of an AUTS
 abbrev pub sync_words : SyncVerdict → List (List ℕ)
 sync_words (Moved seen seq_ms) = codes "moved" ∷ decimal seen ∷ decimal seq_ms ∷ []
 sync_words (InRange seen seq_ms) = codes "inrange" ∷ decimal seen ∷ decimal seq_ms ∷ []
 sync_words (Beyond seen seq_ms) = codes "beyond" ∷ decimal seen ∷ decimal seq_ms ∷ []
 sync_words WrongMac = codes "wrongmac" ∷ []
 
--- the words of what a USIM answered to a vector
+-- the words that say what a USIM answered to a vector
 abbrev pub give_words : GiveVerdict → List (List ℕ)
 give_words Accepted = codes "accepted" ∷ []
 give_words (SyncFailure sqn_ms) = codes "sync" ∷ encode_lower sqn_ms ∷ []
@@ -77,11 +77,11 @@ closing_words identities closing =
     ∷ decimal closing.drawn ∷ decimal closing.skipped ∷ decimal closing.released ∷ decimal closing.withheld ∷ []
 
 -- the words of a line
-abbrev pub words_of : List Identity → Line → List (List ℕ)
-words_of identities (RoundLine number) = codes "round" ∷ decimal number ∷ []
-words_of identities (JobLine number) = codes "job" ∷ decimal number ∷ []
-words_of identities (RecordLine answer) = record_words identities answer
-words_of identities (ClosedLine closing) = closing_words identities closing
+abbrev pub line_words : List Identity → Line → List (List ℕ)
+line_words identities (RoundLine number) = codes "round" ∷ decimal number ∷ []
+line_words identities (JobLine number) = codes "job" ∷ decimal number ∷ []
+line_words identities (RecordLine answer) = record_words identities answer
+line_words identities (ClosedLine closing) = closing_words identities closing
 
 -- the words of a vector's bytes
 abbrev pub bytes_words : AuthenticationVector → List (List ℕ)
@@ -94,24 +94,19 @@ abbrev pub spaced : List (List ℕ) → List ℕ
 spaced [] = codes "\n"
 spaced (word ∷ words) = word ++ flat_map (λ next. 32 ∷ next) words ++ codes "\n"
 
--- what a full print adds behind a line: the bytes of a vector that was released
+-- what a full print adds after a line: the bytes of a vector that was released
 abbrev pub full_text : Bool → Line → List ℕ
 full_text full (RecordLine (Vector sub vector)) = if full then spaced (bytes_words vector) else []
 full_text full line = []
 
 -- the text of a line
 abbrev pub line_text : List Identity → Bool → Line → List ℕ
-line_text identities full line = spaced (words_of identities line) ++ full_text full line
+line_text identities full line = spaced (line_words identities line) ++ full_text full line
 
 -- the text of a round
 abbrev pub round_text : List Identity → Bool → RoundRecord → List ℕ
-round_text identities full round = flat_map (line_text identities full) (lines_of round)
+round_text identities full round = flat_map (line_text identities full) (round_lines round)
 
--- the text of a transcript, which is a list of rounds
+-- the text of a transcript; a transcript is a list of rounds
 abbrev pub transcript_text : List Identity → Bool → List RoundRecord → List ℕ
 transcript_text identities full rounds = flat_map (round_text identities full) rounds
-
--- a text begins with a front
-pub record BeginsWith (front text : List ℕ) : Type 0 where
-  pub rest : List ℕ
-  pub is : text ≡ front ++ rest

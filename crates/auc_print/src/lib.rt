@@ -1,13 +1,14 @@
 //! The text of a round.
 //!
 //! [`print_round`] appends the lines of a round's record: one for the round, one for each job and each
-//! of its records, and one for each closing; in full a further one for the bytes of each vector. A line
-//! is words with a space between each two, the first of which says its kind, and ends with LF. Numbers
-//! are decimal, and bytes lower-case hexadecimal digits. That a text is the text of one list of rounds
-//! alone, but for the bytes of its vectors, is [`each_text_has_one_transcript`].
+//! of its records, and one for each closing. A full print adds the bytes of each vector on a line of
+//! their own. The words of a line have a space between them, the first word says which kind of line it
+//! is, and LF ends the line. Numbers are decimal; bytes are lower-case hexadecimal digits, which
+//! [`append_hex_digits`] writes. A text determines its rounds, except the bytes of their vectors
+//! ([`each_text_has_one_transcript`]).
 //!
 //! Contracts see a round as its record and the text as a list of bytes. Printing takes memory for the
-//! bytes alone.
+//! text alone. If memory runs out, the text stays as it was.
 #![tactic(auto)]
 
 mod law;
@@ -19,3 +20,4 @@ mod word;
 
 pub use law::each_text_has_one_transcript;
 pub use round::print_round;
+pub use word::append_hex_digits;

@@ -3,7 +3,8 @@
 ghost use Rattle.std.specs.Prelude.{◌≡◌, ◌++◌, ◌∷◌, [], ◌<◌, length, decimal, flat_map, OnOk};
 ghost use Rattle.hex.specs.Hex.{encode_lower};
 ghost use Rattle.auc_world.specs.Record.{subscriber_of};
-ghost use Rattle.auc_print.specs.Text.{BeginsWith, RecordLine, bytes_words, closing_words, give_words, identities_of, imsi_of, line_text, record_words, spaced, stop_word, sync_words};
+ghost use Rattle.auc_print.specs.Inner.{IsFrontOf};
+ghost use Rattle.auc_print.specs.Text.{RecordLine, bytes_words, closing_words, give_words, identities_of, imsi_of, line_text, record_words, spaced, stop_word, sync_words};
 
 use crate::word::{
     print_bytes, print_number, print_numbered, print_numbers, print_subject, print_word,
@@ -16,14 +17,14 @@ use auc_world::{Closing, GiveVerdict, LineRecord, SyncVerdict};
 /// Appends a line of a word and a number.
 pub fn print_heading(word: &[u8], number: u64, out: &mut Octets) -> Result<(), NoMemory>
     ensures printed { OnOk result (out.new ≡ out.old ++ spaced (word.now ∷ decimal number ∷ [])) }
-    ensures grows { BeginsWith out.old out.new }
+    ensures grows { IsFrontOf out.old out.new }
 {
     out.append(word)?;
     print_number(number, out)?;
     out.append(b"\n")
 }
 
-/// Appends the line of a job's record, and in full the bytes of its vector.
+/// Appends the line of a job's record. A full print adds the line of its vector's bytes.
 pub fn print_answer(
     answer: &LineRecord,
     subs: &Subscribers,
@@ -34,7 +35,7 @@ pub fn print_answer(
 
     ensures printed { OnOk result
         (out.new ≡ out.old ++ line_text (identities_of subs.now) full (RecordLine answer.now)) }
-    ensures grows { BeginsWith out.old out.new }
+    ensures grows { IsFrontOf out.old out.new }
 {
     match *answer {
         LineRecord::Vector { sub, vector } => print_vector(sub, &vector, subs, full, out),
@@ -55,7 +56,7 @@ pub fn print_closing(
 
     ensures printed { OnOk result
         (out.new ≡ out.old ++ spaced (closing_words (identities_of subs.now) closing.now)) }
-    ensures grows { BeginsWith out.old out.new }
+    ensures grows { IsFrontOf out.old out.new }
 {
     let Closing {
         sub,
@@ -71,7 +72,7 @@ pub fn print_closing(
     out.append(b"\n")
 }
 
-/// Appends the line of a vector that was released, and in full that of its bytes.
+/// Appends the line of a vector that was released. A full print adds the line of its bytes.
 fn print_vector(
     sub: u32,
     vector: &Vector,
@@ -83,7 +84,7 @@ fn print_vector(
 
     ensures printed { OnOk result (out.new ≡ out.old
         ++ line_text (identities_of subs.now) full (RecordLine (LineRecord.Vector sub vector.now))) }
-    ensures grows { BeginsWith out.old out.new }
+    ensures grows { IsFrontOf out.old out.new }
 {
     print_request(b"vector", sub, vector.n, subs, out)?;
     if full {
@@ -96,7 +97,7 @@ fn print_vector(
 /// Appends the line of a vector's bytes.
 fn print_parts(vector: &Vector, out: &mut Octets) -> Result<(), NoMemory>
     ensures printed { OnOk result (out.new ≡ out.old ++ spaced (bytes_words vector.now)) }
-    ensures grows { BeginsWith out.old out.new }
+    ensures grows { IsFrontOf out.old out.new }
 {
     out.append(b"bytes")?;
     print_challenge(vector, out)?;
@@ -104,22 +105,22 @@ fn print_parts(vector: &Vector, out: &mut Octets) -> Result<(), NoMemory>
     out.append(b"\n")
 }
 
-/// Appends RAND and AUTN, a space before each.
+/// Appends RAND and AUTN, each after a space.
 fn print_challenge(vector: &Vector, out: &mut Octets) -> Result<(), NoMemory>
     ensures printed { OnOk result (out.new ≡ out.old ++ flat_map (λ word. 32 ∷ word)
         (encode_lower vector.now.rand ∷ encode_lower vector.now.autn ∷ [])) }
-    ensures grows { BeginsWith out.old out.new }
+    ensures grows { IsFrontOf out.old out.new }
 {
     print_bytes(&vector.rand, out)?;
     print_bytes(&vector.autn, out)
 }
 
-/// Appends XRES, CK and IK, a space before each.
+/// Appends XRES, CK and IK, each after a space.
 fn print_response_and_keys(vector: &Vector, out: &mut Octets) -> Result<(), NoMemory>
     ensures printed { OnOk result (out.new ≡ out.old ++ flat_map (λ word. 32 ∷ word)
         (encode_lower vector.now.xres ∷ encode_lower vector.now.ck ∷ encode_lower vector.now.ik
         ∷ [])) }
-    ensures grows { BeginsWith out.old out.new }
+    ensures grows { IsFrontOf out.old out.new }
 {
     print_bytes(&vector.xres, out)?;
     print_bytes(&vector.ck, out)?;
@@ -138,7 +139,7 @@ fn print_withheld(
 
     ensures printed { OnOk result (out.new ≡ out.old
         ++ spaced (record_words (identities_of subs.now) (LineRecord.Withheld sub n stop))) }
-    ensures grows { BeginsWith out.old out.new }
+    ensures grows { IsFrontOf out.old out.new }
 {
     print_numbered(b"withheld", sub, n, subs, out)?;
     print_word(word_of(stop), out)?;
@@ -166,18 +167,18 @@ fn print_sync(
 
     ensures printed { OnOk result (out.new ≡ out.old
         ++ spaced (record_words (identities_of subs.now) (LineRecord.Sync sub verdict))) }
-    ensures grows { BeginsWith out.old out.new }
+    ensures grows { IsFrontOf out.old out.new }
 {
     print_subject(b"sync", sub, subs, out)?;
     print_sync_verdict(verdict, out)?;
     out.append(b"\n")
 }
 
-/// Appends the words of what the home network made of an AUTS, a space before each.
+/// Appends the words that say what the home network made of an AUTS, each after a space.
 fn print_sync_verdict(verdict: SyncVerdict, out: &mut Octets) -> Result<(), NoMemory>
     ensures printed { OnOk result
         (out.new ≡ out.old ++ flat_map (λ word. 32 ∷ word) (sync_words verdict)) }
-    ensures grows { BeginsWith out.old out.new }
+    ensures grows { IsFrontOf out.old out.new }
 {
     match verdict {
         SyncVerdict::Moved(seen, seq_ms) => print_pair(b"moved", seen, seq_ms, out),
@@ -187,11 +188,11 @@ fn print_sync_verdict(verdict: SyncVerdict, out: &mut Octets) -> Result<(), NoMe
     }
 }
 
-/// Appends a word and two numbers, a space before each.
+/// Appends a word and two numbers, each after a space.
 fn print_pair(word: &[u8], first: u64, second: u64, out: &mut Octets) -> Result<(), NoMemory>
     ensures printed { OnOk result (out.new ≡ out.old
         ++ flat_map (λ word. 32 ∷ word) (word.now ∷ decimal first ∷ decimal second ∷ [])) }
-    ensures grows { BeginsWith out.old out.new }
+    ensures grows { IsFrontOf out.old out.new }
 {
     print_word(word, out)?;
     print_number(first, out)?;
@@ -210,18 +211,18 @@ fn print_give(
 
     ensures printed { OnOk result (out.new ≡ out.old
         ++ spaced (record_words (identities_of subs.now) (LineRecord.Give sub n verdict))) }
-    ensures grows { BeginsWith out.old out.new }
+    ensures grows { IsFrontOf out.old out.new }
 {
     print_numbered(b"give", sub, n, subs, out)?;
     print_give_verdict(verdict, out)?;
     out.append(b"\n")
 }
 
-/// Appends the words of what a USIM answered to a vector, a space before each.
+/// Appends the words that say what a USIM answered to a vector, each after a space.
 fn print_give_verdict(verdict: GiveVerdict, out: &mut Octets) -> Result<(), NoMemory>
     ensures printed { OnOk result
         (out.new ≡ out.old ++ flat_map (λ word. 32 ∷ word) (give_words verdict)) }
-    ensures grows { BeginsWith out.old out.new }
+    ensures grows { IsFrontOf out.old out.new }
 {
     match verdict {
         GiveVerdict::Accepted => print_word(b"accepted", out),
@@ -230,11 +231,11 @@ fn print_give_verdict(verdict: GiveVerdict, out: &mut Octets) -> Result<(), NoMe
     }
 }
 
-/// Appends the word of a synchronisation failure and its SQN_MS, a space before each.
+/// Appends the word of a synchronisation failure and its SQN_MS, each after a space.
 fn print_sqn_ms(sqn_ms: [u8; 6], out: &mut Octets) -> Result<(), NoMemory>
     ensures printed { OnOk result
         (out.new ≡ out.old ++ flat_map (λ word. 32 ∷ word) (give_words (GiveVerdict.Sync sqn_ms))) }
-    ensures grows { BeginsWith out.old out.new }
+    ensures grows { IsFrontOf out.old out.new }
 {
     print_word(b"sync", out)?;
     print_bytes(&sqn_ms, out)
@@ -252,7 +253,7 @@ fn print_request(
 
     ensures printed { OnOk result (out.new ≡ out.old
         ++ spaced (word.now ∷ imsi_of (identities_of subs.now) sub ∷ decimal number ∷ [])) }
-    ensures grows { BeginsWith out.old out.new }
+    ensures grows { IsFrontOf out.old out.new }
 {
     print_numbered(word, sub, number, subs, out)?;
     out.append(b"\n")

@@ -1,8 +1,9 @@
 //! The words of a line.
 
-ghost use Rattle.std.specs.Prelude.{◌≡◌, ◌*◌, ◌++◌, ◌∷◌, ◌<◌, ◌≤◌, length, decimal, flat_map, OnOk};
+ghost use Rattle.std.specs.Prelude.{◌≡◌, ◌*◌, ◌++◌, ◌∷◌, ◌<◌, ◌≤◌, length, decimal, flat_map, OnOk, OnErr};
 ghost use Rattle.hex.specs.Hex.{encode_lower};
-ghost use Rattle.auc_print.specs.Text.{BeginsWith, identities_of, imsi_of};
+ghost use Rattle.auc_print.specs.Inner.{IsFrontOf};
+ghost use Rattle.auc_print.specs.Text.{identities_of, imsi_of};
 
 use auc_edge::{NoMemory, Octets};
 use auc_subs::Subscribers;
@@ -18,7 +19,7 @@ pub fn print_subject(
 
     ensures printed { OnOk result
         (out.new ≡ out.old ++ (word.now ++ 32 ∷ imsi_of (identities_of subs.now) sub)) }
-    ensures grows { BeginsWith out.old out.new }
+    ensures grows { IsFrontOf out.old out.new }
 {
     out.append(word)?;
     out.append(b" ")?;
@@ -37,7 +38,7 @@ pub fn print_numbered(
 
     ensures printed { OnOk result (out.new ≡ out.old
         ++ (word.now ++ 32 ∷ imsi_of (identities_of subs.now) sub ++ 32 ∷ decimal number)) }
-    ensures grows { BeginsWith out.old out.new }
+    ensures grows { IsFrontOf out.old out.new }
 {
     print_subject(word, sub, subs, out)?;
     print_number(number, out)
@@ -46,17 +47,17 @@ pub fn print_numbered(
 /// Appends a space and a word.
 pub fn print_word(word: &[u8], out: &mut Octets) -> Result<(), NoMemory>
     ensures printed { OnOk result (out.new ≡ out.old ++ 32 ∷ word.now) }
-    ensures grows { BeginsWith out.old out.new }
+    ensures grows { IsFrontOf out.old out.new }
 {
     out.append(b" ")?;
     out.append(word)
 }
 
-/// Appends numbers, a space before each.
+/// Appends numbers, each after a space.
 pub fn print_numbers(numbers: &[u64], out: &mut Octets) -> Result<(), NoMemory>
     ensures printed { OnOk result
         (out.new ≡ out.old ++ flat_map (λ number. 32 ∷ decimal number) numbers.now) }
-    ensures grows { BeginsWith out.old out.new }
+    ensures grows { IsFrontOf out.old out.new }
 {
     for number in numbers {
         print_number(*number, out)?;
@@ -67,7 +68,7 @@ pub fn print_numbers(numbers: &[u64], out: &mut Octets) -> Result<(), NoMemory>
 /// Appends a space and a number.
 pub fn print_number(number: u64, out: &mut Octets) -> Result<(), NoMemory>
     ensures printed { OnOk result (out.new ≡ out.old ++ 32 ∷ decimal number) }
-    ensures grows { BeginsWith out.old out.new }
+    ensures grows { IsFrontOf out.old out.new }
 {
     out.append(b" ")?;
     out.append_number(number)
@@ -78,12 +79,24 @@ pub fn print_bytes(bytes: &[u8], out: &mut Octets) -> Result<(), NoMemory>
     requires { length bytes.now ≤ 16 }
 
     ensures printed { OnOk result (out.new ≡ out.old ++ 32 ∷ encode_lower bytes.now) }
-    ensures grows { BeginsWith out.old out.new }
+    ensures grows { IsFrontOf out.old out.new }
+{
+    out.append(b" ")?;
+    append_hex_digits(bytes, out)
+}
+
+/// Appends up to 16 bytes in lower-case hexadecimal digits, two for each. If memory runs out, `out` stays
+/// as it was.
+pub fn append_hex_digits(bytes: &[u8], out: &mut Octets) -> Result<(), NoMemory>
+    requires { length bytes.now ≤ 16 }
+
+    ensures appended { OnOk result (out.new ≡ out.old ++ encode_lower bytes.now) }
+    ensures kept { OnErr result (out.new ≡ out.old) }
 {
     let mut room = [0; 32];
     let digits = &mut room[..2 * bytes.len()];
     write_digits(bytes, digits);
-    print_word(digits, out)
+    out.append(digits)
 }
 
 /// Writes bytes as their lower-case hexadecimal digits, two for each.

@@ -1,4 +1,4 @@
--- The lines of a text determine the rounds, but for their vectors' bytes, which the numbers determine.
+-- The lines of a text determine the rounds, except the vectors' bytes, which the numbers determine.
 use Rattle.auc_print.proofs.OneTextLemmas.{one_transcript, numbers_tell_vectors}
 use Rattle.auc_print.proofs.law.each_text_has_one_transcript.Goals as goal
 

@@ -1,4 +1,4 @@
--- The lines of the records before this one were appended.
+-- The lines of the previous records were appended.
 use Rattle.std.proofs.Common.{◌≡◌, ◌++◌, flat_map, take}
 use Rattle.auc_print.specs.Text.{identities_of, line_text, RecordLine}
 use Rattle.auc_print.proofs.round.print_answers.Given as goal

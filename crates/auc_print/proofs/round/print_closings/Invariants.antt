@@ -1,4 +1,4 @@
--- The lines of the closings before this one were appended.
+-- The lines of the previous closings were appended.
 use Rattle.std.proofs.Common.{◌≡◌, ◌++◌, flat_map, take}
 use Rattle.auc_print.specs.Text.{identities_of, closing_words, spaced}
 use Rattle.auc_print.proofs.round.print_closings.Given as goal

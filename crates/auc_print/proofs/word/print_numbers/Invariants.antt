@@ -1,4 +1,4 @@
--- The numbers before this one were appended.
+-- The previous numbers were appended.
 use Rattle.std.proofs.Common.{◌≡◌, ◌++◌, ◌∷◌, decimal, flat_map, take}
 use Rattle.auc_print.proofs.word.print_numbers.Given as goal
 

@@ -2,7 +2,7 @@
 use Rattle.std.proofs.lemmas.Result.{on_ok_weaker}
 use Rattle.auc_print.specs.Text.{identities_of}
 use Rattle.auc_print.proofs.TextLemmas.{round_printed}
-use Rattle.auc_print.proofs.round.print_round.Goals as goal
+use Rattle.auc_print.proofs.round.print_lines.Goals as goal
 
 pub returns-clause-printed : goal.returns-clause-printed
 returns-clause-printed c =
