@@ -6,7 +6,7 @@
 
 - A path such as docs/keys.md, examples/first.scenario or crates/auc_run/specs names a file or a folder, and
   auc_run/specs/Output one of definitions. A path with NAME or * in it stands for many, and isn't checked.
-- In `auc_core` (`AnswersDraw`) each name in the brackets stands in that crate's sources or definitions; in
+- In `auc_core` (`RepliesToDraw`) each name in the brackets stands in that crate's sources or definitions; in
   `auc_run/specs/Output` (`IsOutput`) it is a definition of that file.
 - In a table whose first column is Definition or Call, the second column says where: each name in the first column is
   defined there.
