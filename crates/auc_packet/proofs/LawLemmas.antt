@@ -23,17 +23,17 @@ use Rattle.auc_packet.specs.declared.refusal.PacketRefusal.TheVariants as refusa
 use Rattle.auc_packet.specs.declared.subtype.Subtype.{Subtype}
 use Rattle.auc_packet.specs.declared.subtype.Subtype.TheVariants as subtype
 use Rattle.auc_packet.specs.Laws.{has_values, OnePacket, OneFault, RefusedIsNotRead, WrittenIsRead, ReadIsWritable}
-use Rattle.auc_packet.specs.Packet.{kind_of, number_of, ReadsPacket, FirstPacketFault}
+use Rattle.auc_packet.specs.Packet.{method_type, subtype_number, ReadsPacket, FirstPacketFault}
 
 -- ---- what is written is read
 
 -- each method has its type
-method_known : (m : Method) → is_method (kind_of m) ≡ true
+method_known : (m : Method) → is_method (method_type m) ≡ true
 method_known method.Aka = refl
 method_known method.Prime = refl
 
 -- each Subtype has its number
-subtype_known : (s : Subtype) → is_subtype (number_of s) ≡ true
+subtype_known : (s : Subtype) → is_subtype (subtype_number s) ≡ true
 subtype_known subtype.Challenge = refl
 subtype_known subtype.AuthenticationReject = refl
 subtype_known subtype.SynchronizationFailure = refl
@@ -61,7 +61,7 @@ written_is_read (packet.Aka request id m s list) past w =
         reserved = 0 ∷ 0 ∷ [];
         two = refl;
         past = past;
-        parts = ap (λ (n : ℕ). message_code request ∷ id ∷ (to_be_bytes w16 n ++ (kind_of m ∷ number_of s ∷ 0 ∷ 0 ∷ (attrs ++ past)))) (omega arith);
+        parts = ap (λ (n : ℕ). message_code request ∷ id ∷ (to_be_bytes w16 n ++ (method_type m ∷ subtype_number s ∷ 0 ∷ 0 ∷ (attrs ++ past)))) (omega arith);
       },
       written_attributes_are_read list w.attrs,
     )
@@ -92,12 +92,12 @@ subtype_from n =
     else subtype.ClientError
 
 -- a method is that of its type
-from_kind : (m : Method) → method_from (kind_of m) ≡ m
+from_kind : (m : Method) → method_from (method_type m) ≡ m
 from_kind method.Aka = refl
 from_kind method.Prime = refl
 
 -- a Subtype is that of its number
-from_number : (s : Subtype) → subtype_from (number_of s) ≡ s
+from_number : (s : Subtype) → subtype_from (subtype_number s) ≡ s
 from_number subtype.Challenge = refl
 from_number subtype.AuthenticationReject = refl
 from_number subtype.SynchronizationFailure = refl
@@ -122,7 +122,7 @@ abbrev frame_of : Packet → List ℕ → Frame
 frame_of (packet.Success id) attrs = Ended true id
 frame_of (packet.Failure id) attrs = Ended false id
 frame_of (packet.Identity request id text) attrs = Named request id text
-frame_of (packet.Aka request id m s list) attrs = Message request id (kind_of m) (number_of s) attrs
+frame_of (packet.Aka request id m s list) attrs = Message request id (method_type m) (subtype_number s) attrs
 
 -- a frame's bytes of attributes
 abbrev attrs_of : Frame → List ℕ
@@ -135,7 +135,7 @@ from_frame (packet.Success id) attrs = refl
 from_frame (packet.Failure id) attrs = refl
 from_frame (packet.Identity request id text) attrs = refl
 from_frame (packet.Aka request id m s list) attrs =
-    ap (λ n. packet.Aka request id n (subtype_from (number_of s)) list) (from_kind m) ∙ ap (λ t. packet.Aka request id m t list) (from_number s)
+    ap (λ n. packet.Aka request id n (subtype_from (subtype_number s)) list) (from_kind m) ∙ ap (λ t. packet.Aka request id m t list) (from_number s)
 
 -- a packet's frame stands in the bytes, and its list in the attributes
 record IsRead (bytes : List ℕ) (p : Packet) : Type 0 where
@@ -272,6 +272,6 @@ read_may_be_written bytes (packet.Identity request id text) fits r =
     let number : length_of bytes ≡ 5 + length text = ap (λ (b : List ℕ). length_of b) r.parts ∙ from_be_bytes-to_be_bytes_2 (5 + length text) r.size in
     (refl, omega (arith, number), omega (arith, number, ap length r.parts, length-append text r.past))
 read_may_be_written bytes (packet.Aka request id m s list) fits r =
-    let w = read_is_writable r.0 list (attrs_are_bytes request id (kind_of m) (number_of s) r.0 bytes fits r.1) r.2 in
-    let within = attrs_within request id (kind_of m) (number_of s) r.0 bytes r.1 in
+    let w = read_is_writable r.0 list (attrs_are_bytes request id (method_type m) (subtype_number s) r.0 bytes fits r.1) r.2 in
+    let within = attrs_within request id (method_type m) (subtype_number s) r.0 bytes r.1 in
     (w.0, omega (arith, w.1, within.0), within.1)

@@ -14,7 +14,7 @@ head_of_frame (Ended success id) = head_as (end_code success) id None
 head_of_frame (Named request id text) = head_as (message_code request) id (Some 1)
 head_of_frame (Message request id kind number attrs) = head_as (message_code request) id (Some kind)
 
--- none where the first fault is Short, BadCode or LengthDisagrees
+-- none if the first fault is Short, BadCode or LengthDisagrees
 abbrev pub head_from : Result Frame FrameFault → List ℕ → Option Head
 head_from (Ok frame) bytes = Some (head_of_frame frame)
 head_from (Err faults.Short) bytes = None

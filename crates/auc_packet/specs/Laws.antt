@@ -23,14 +23,15 @@ OnePacket = (bytes : List ℕ) (p q : Packet) → has_values p ≡ true → has_
 abbrev pub OneFault : Type 0
 OneFault = (bytes : List ℕ) (f g : PacketRefusal) → f ≢ refusal.NoMemory → g ≢ refusal.NoMemory → FirstPacketFault bytes f → FirstPacketFault bytes g → f ≡ g
 
--- bytes with a fault are no packet
+-- bytes with a fault aren't a packet
 abbrev pub RefusedIsNotRead : Type 0
 RefusedIsNotRead = (bytes : List ℕ) (p : Packet) (f : PacketRefusal) → f ≢ refusal.NoMemory → FirstPacketFault bytes f → ReadsPacket bytes p → ⊥
 
--- what is written is read, whatever follows it
+-- a written packet is read as itself, whatever follows it
 abbrev pub WrittenIsRead : Type 0
 WrittenIsRead = (p : Packet) (past : List ℕ) → MayBeWritten p → ReadsPacket (packet_text p ++ past) p
 
--- what is read has attributes that may be written, and is written in as many bytes as Length says, no more than there are
+-- a packet that was read has attributes that may be written, and takes as many bytes as Length says, no more than there
+-- are
 abbrev pub ReadIsWritable : Type 0
 ReadIsWritable = (bytes : List ℕ) (p : Packet) → AreBytes bytes → ReadsPacket bytes p → (writable_attrs p ≡ true) × (length (packet_text p) ≡ length_of bytes) × (length_of bytes ≤ length bytes)

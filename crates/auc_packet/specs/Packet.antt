@@ -1,5 +1,5 @@
 -- Bytes and the packet that they are: EAP (RFC 3748 §4 and §5.1), EAP-AKA (RFC 4187 §8.1) and EAP-AKA'
--- (RFC 9048 §3). Reserved bytes, fill and what follows the bytes that Length counts are free.
+-- (RFC 9048 §3). Reserved bytes, fill and the bytes after Length are free.
 use Rattle.std.specs.Prelude.{ℕ, true, false, List}
 use Rattle.auc_hmac.specs.declared.method.Method.{Method}
 use Rattle.auc_hmac.specs.declared.method.Method.TheVariants as method
@@ -15,19 +15,19 @@ use Rattle.auc_packet.specs.declared.subtype.Subtype.{Subtype}
 use Rattle.auc_packet.specs.declared.subtype.Subtype.TheVariants as subtype
 
 -- the type of a method
-abbrev pub kind_of : Method → ℕ
-kind_of method.Aka = 23
-kind_of method.Prime = 50
+abbrev pub method_type : Method → ℕ
+method_type method.Aka = 23
+method_type method.Prime = 50
 
 -- the number of a Subtype (RFC 4187 §11)
-abbrev pub number_of : Subtype → ℕ
-number_of subtype.Challenge = 1
-number_of subtype.AuthenticationReject = 2
-number_of subtype.SynchronizationFailure = 4
-number_of subtype.Identity = 5
-number_of subtype.Notification = 12
-number_of subtype.Reauthentication = 13
-number_of subtype.ClientError = 14
+abbrev pub subtype_number : Subtype → ℕ
+subtype_number subtype.Challenge = 1
+subtype_number subtype.AuthenticationReject = 2
+subtype_number subtype.SynchronizationFailure = 4
+subtype_number subtype.Identity = 5
+subtype_number subtype.Notification = 12
+subtype_number subtype.Reauthentication = 13
+subtype_number subtype.ClientError = 14
 
 -- the bytes are the packet
 abbrev pub ReadsPacket : List ℕ → Packet → Type 0
@@ -35,9 +35,9 @@ ReadsPacket bytes (packet.Success id) = IsFramed (Ended true id) bytes
 ReadsPacket bytes (packet.Failure id) = IsFramed (Ended false id) bytes
 ReadsPacket bytes (packet.Identity request id text) = IsFramed (Named request id text) bytes
 ReadsPacket bytes (packet.Aka request id m s list) =
-    (attrs : List ℕ) × IsFramed (Message request id (kind_of m) (number_of s) attrs) bytes × ReadsAttrs attrs list
+    (attrs : List ℕ) × IsFramed (Message request id (method_type m) (subtype_number s) attrs) bytes × ReadsAttrs attrs list
 
--- the refusal names the first fault of the bytes; want of memory is none of theirs
+-- the refusal names the first fault of the bytes; a lack of memory isn't a fault of theirs
 abbrev pub FirstPacketFault : List ℕ → PacketRefusal → Type 0
 FirstPacketFault bytes refusal.Short = IsFirstFault bytes (Before faults.Short)
 FirstPacketFault bytes refusal.BadCode = IsFirstFault bytes (Before faults.BadCode)

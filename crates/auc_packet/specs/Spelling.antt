@@ -5,7 +5,7 @@ use Rattle.auc_attr.specs.Frame.{end_code, message_code}
 use Rattle.auc_attr.specs.Spelling.{spelling, writable}
 use Rattle.auc_packet.specs.declared.packet.Packet.{Packet}
 use Rattle.auc_packet.specs.declared.packet.Packet.TheVariants as packet
-use Rattle.auc_packet.specs.Packet.{kind_of, number_of}
+use Rattle.auc_packet.specs.Packet.{method_type, subtype_number}
 
 -- code, Identifier and Length, and what follows them
 abbrev pub whole : ℕ → ℕ → List ℕ → List ℕ
@@ -15,7 +15,7 @@ abbrev pub packet_text : Packet → List ℕ
 packet_text (packet.Success id) = whole (end_code true) id []
 packet_text (packet.Failure id) = whole (end_code false) id []
 packet_text (packet.Identity request id text) = whole (message_code request) id (1 ∷ text)
-packet_text (packet.Aka request id m s list) = whole (message_code request) id (kind_of m ∷ number_of s ∷ 0 ∷ 0 ∷ spelling list)
+packet_text (packet.Aka request id m s list) = whole (message_code request) id (method_type m ∷ subtype_number s ∷ 0 ∷ 0 ∷ spelling list)
 
 abbrev pub writable_attrs : Packet → Bool
 writable_attrs (packet.Aka request id m s list) = writable list

@@ -7,8 +7,8 @@ ghost use Rattle.auc_attr.specs.FrameView.{frame_of};
 use crate::packet::Head;
 use auc_attr::{FrameFault, Framed, read_frame};
 
-/// Code, Identifier and type, or `None` where there are too few bytes, the code isn't one or Length
-/// disagrees. Takes no memory.
+/// Code, Identifier and type, or `None` if there are too few bytes, no such code exists or Length disagrees.
+/// Takes no memory.
 pub fn head(bytes: &[u8]) -> Option<Head>
     ensures { result ≡ head_at bytes.now }
 {

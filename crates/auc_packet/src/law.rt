@@ -12,7 +12,7 @@ pub fn bytes_have_one_first_fault()
     ensures { OneFault }
 {}
 
-/// Bytes with a fault are no packet.
+/// Bytes with a fault aren't a packet.
 pub fn refused_bytes_are_no_packet()
     ensures { RefusedIsNotRead }
 {}
@@ -22,8 +22,8 @@ pub fn written_packets_are_read()
     ensures { WrittenIsRead }
 {}
 
-/// A packet that is read may be written where it isn't too long, and takes as many bytes as Length says, no
-/// more than there are: only reserved bytes and fill differ.
+/// A packet that was read may be written if it isn't too long, and takes as many bytes as Length says, no more
+/// than there are: only reserved bytes and fill differ.
 pub fn read_packets_may_be_written()
     ensures { ReadIsWritable }
 {}

@@ -1,11 +1,12 @@
 //! Packets of EAP (RFC 3748 §4), EAP-AKA (RFC 4187 §8 and §9) and EAP-AKA' (RFC 9048), read and written.
 //!
-//! [`read_packet`] gives the packet that bytes are, or their first fault in a stated order; [`head`] gives
-//! code, Identifier and type alone. [`write_packet`] gives a packet's one spelling, and [`put_packet`] the
-//! same into memory that was taken before.
+//! [`read_packet`] reads bytes as a packet, or reports their first fault: each fault has a condition of its own,
+//! listed in their order in `auc_attr`'s `specs/Frame` and `specs/Fault`. [`head`] reads code, Identifier and
+//! type alone. [`write_packet`] writes the one spelling of a packet, and [`put_packet`] does so into memory that
+//! was taken before.
 //!
-//! What bytes are is a relation in which reserved bytes, fill and what follows the bytes that Length counts
-//! are free. What is written is read again, whatever follows it. Reading takes memory for texts and
+//! `specs/Packet` relates bytes to packets and leaves reserved bytes, fill and the bytes after Length free. A
+//! written packet is read as the same packet, whatever follows it. Reading takes memory for texts and
 //! attributes; `head` and `put_packet` take none.
 #![tactic(auto)]
 

@@ -11,12 +11,11 @@ use crate::packet::Packet;
 use crate::refusal::PacketRefusal;
 use crate::subtype::{method_of, subtype_of};
 use auc_attr::{AttrRefusal, FrameFault, Framed, read_attrs, read_frame};
-use auc_edge::{NoMemory, Octets};
+use auc_edge::Octets;
 use std::alloc::Global;
 
-/// The packet that bytes are, or their first fault: those of EAP (RFC 3748 §4), then those of the method
-/// (RFC 4187 §8.1), then those of the attributes. Reserved bytes, fill and bytes past Length are passed
-/// over.
+/// The packet that bytes are, or their first fault: one of EAP (RFC 3748 §4), else one of the method (RFC 4187
+/// §8.1), else one of the attributes. Reserved bytes, fill and the bytes after Length are skipped.
 pub fn read_packet(alloc: Global, bytes: &[u8]) -> Result<Packet, PacketRefusal>
     ensures read { IfOk result (λ packet. ReadsPacket bytes.now packet) }
     ensures fault { IfErr result (λ fault. FirstPacketFault bytes.now fault) }
@@ -28,7 +27,7 @@ pub fn read_packet(alloc: Global, bytes: &[u8]) -> Result<Packet, PacketRefusal>
         Ok(Framed::Named { request, id, text }) => Ok(Packet::Identity {
             request,
             id,
-            text: octets_of(alloc, text)?,
+            text: Octets::copied_from(alloc, text)?,
         }),
         Ok(
             Framed::Message {
@@ -49,14 +48,6 @@ pub fn read_packet(alloc: Global, bytes: &[u8]) -> Result<Packet, PacketRefusal>
             Err(fault) => Err(refusal_within(fault)),
         },
     }
-}
-
-fn octets_of(alloc: Global, text: &[u8]) -> Result<Octets, NoMemory>
-    ensures { IfOk result (λ octets. octets ≡ text.now) }
-{
-    let mut octets = Octets::new(alloc);
-    octets.append(text)?;
-    Ok(octets)
 }
 
 /// The refusal of a packet with a fault before its attributes.

@@ -1,4 +1,4 @@
-//! Why bytes are no packet.
+//! Why bytes aren't a packet.
 
 ghost use Rattle.std.specs.Prelude.{◌≡◌, ℕ, List};
 ghost use Rattle.auc_packet.specs.declared.refusal.PacketRefusal.TheVariants as refusal;
@@ -13,15 +13,15 @@ pub enum PacketRefusal {
     Short,
     /// The code isn't 1 to 4 (RFC 3748 §4).
     BadCode,
-    /// Length counts more bytes than there are, or none that the code or the type has.
+    /// Length counts more bytes than there are, or a number that the code or the type doesn't have.
     LengthDisagrees,
-    /// This type is none of Identity, EAP-AKA and EAP-AKA'.
+    /// This type isn't Identity, EAP-AKA or EAP-AKA'.
     OtherType(u8),
     /// The method has no such Subtype (RFC 4187 §11).
     UnknownSubtype(u8),
     /// The attributes have this fault, which isn't `NoMemory`.
     Attr(AttrRefusal),
-    /// Memory was wanted and was not to be had.
+    /// Memory ran out.
     NoMemory,
 }
 

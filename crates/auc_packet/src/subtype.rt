@@ -2,7 +2,7 @@
 
 ghost use Rattle.std.specs.Prelude.{◌≡◌, true};
 ghost use Rattle.auc_attr.specs.Frame.{is_method, is_subtype};
-ghost use Rattle.auc_packet.specs.Packet.{kind_of, number_of};
+ghost use Rattle.auc_packet.specs.Packet.{method_type, subtype_number};
 
 use auc_hmac::Method;
 
@@ -28,7 +28,7 @@ pub enum Subtype {
 /// The Subtype of a number.
 pub fn subtype_of(number: u8) -> Subtype
     requires { is_subtype number ≡ true }
-    ensures { number_of result ≡ number }
+    ensures { subtype_number result ≡ number }
 {
     match number {
         1 => Subtype::Challenge,
@@ -43,8 +43,8 @@ pub fn subtype_of(number: u8) -> Subtype
 }
 
 /// The number of a Subtype.
-pub fn number_of(subtype: Subtype) -> u8
-    ensures { result ≡ number_of subtype }
+pub fn subtype_number(subtype: Subtype) -> u8
+    ensures { result ≡ subtype_number subtype }
 {
     match subtype {
         Subtype::Challenge => 1,
@@ -60,7 +60,7 @@ pub fn number_of(subtype: Subtype) -> u8
 /// The method of a type.
 pub fn method_of(kind: u8) -> Method
     requires { is_method kind ≡ true }
-    ensures { kind_of result ≡ kind }
+    ensures { method_type result ≡ kind }
 {
     match kind {
         23 => Method::Aka,
@@ -69,9 +69,9 @@ pub fn method_of(kind: u8) -> Method
     }
 }
 
-/// The type of a method.
-pub fn kind_of(method: Method) -> u8
-    ensures { result ≡ kind_of method }
+/// The type of a method in a packet.
+pub fn method_type(method: Method) -> u8
+    ensures { result ≡ method_type method }
 {
     match method {
         Method::Aka => 23,

@@ -8,12 +8,11 @@ ghost use Rattle.auc_edge.specs.Reserved.{wrote};
 ghost use Rattle.auc_packet.specs.Spelling.{packet_text, whole, MayBeWritten};
 
 use crate::packet::Packet;
-use crate::subtype::{kind_of, number_of};
+use crate::subtype::{method_type, subtype_number};
 use auc_attr::{AttrList, put_attrs};
 use auc_edge::{NoMemory, Octets, Room};
 
-/// Writes a packet behind the bytes of `out`, reserved bytes and fill as zero. Want of memory leaves `out`
-/// as it was.
+/// Appends a packet to `out`, with zeros as reserved bytes and fill. If memory runs out, `out` stays as it was.
 pub fn write_packet(packet: &Packet, out: &mut Octets) -> Result<(), NoMemory>
     requires { MayBeWritten packet.now }
 
@@ -25,7 +24,7 @@ pub fn write_packet(packet: &Packet, out: &mut Octets) -> Result<(), NoMemory>
     out.append(room.as_slice())
 }
 
-/// Writes a packet into memory that was taken before.
+/// Writes a packet into memory that was taken before this call.
 pub fn put_packet(packet: &Packet, room: &mut Room)
     requires writable { MayBeWritten packet.now }
     requires room { length (packet_text packet.now) ≤ room.old.left }
@@ -48,13 +47,13 @@ pub fn put_packet(packet: &Packet, room: &mut Room)
             attrs,
         } => {
             put_head(room, message_code(*request), *id, size);
-            room.put(&[kind_of(*method), number_of(*subtype), 0, 0]);
+            room.put(&[method_type(*method), subtype_number(*subtype), 0, 0]);
             put_attrs(attrs, room);
         }
     }
 }
 
-/// How many bytes a packet is written in.
+/// How many bytes a written packet takes.
 pub fn size_of(packet: &Packet) -> usize
     requires { MayBeWritten packet.now }
     ensures { result ≡ length (packet_text packet.now) }

@@ -1,4 +1,4 @@
--- What bytes are that are read as a packet.
+-- What reading bytes as a packet gives.
 use Rattle.std.specs.Prelude.{◌≡◌, ◌≢◌, ℕ, List}
 use Rattle.auc_packet.specs.declared.refusal.PacketRefusal.TheVariants as refusal
 use Rattle.auc_packet.specs.Packet.{ReadsPacket, FirstPacketFault}

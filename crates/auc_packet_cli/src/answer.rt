@@ -1,4 +1,4 @@
-//! What bytes are.
+//! Bytes and the packet that they are.
 
 ghost use Rattle.std.specs.Prelude.{◌≤◌, length, IfOk};
 ghost use Rattle.auc_packet_cli.specs.Answer.{IsAnswer};
@@ -7,16 +7,16 @@ use auc_edge::{NoMemory, Octets};
 use auc_packet::{Packet, PacketRefusal, read_packet, write_packet};
 use std::alloc::Global;
 
-/// What bytes are that are read as a packet.
+/// What reading bytes as a packet gives.
 #[derive(Drop)]
 pub enum Answer {
-    /// A packet, and the bytes that it is written in.
+    /// A packet, and its spelling.
     Read(Packet, Octets),
     /// No packet, for this cause.
     Refused(PacketRefusal),
 }
 
-/// What bytes are. A packet of as many bytes may be written.
+/// Reads bytes as a packet, and writes it again.
 pub fn answer_of(alloc: Global, bytes: &[u8]) -> Result<Answer, NoMemory>
     requires { length bytes.now ≤ 4096 }
     ensures { IfOk result (λ answer. IsAnswer bytes.now answer) }

@@ -3,8 +3,8 @@
 use auc_attr::Attr;
 use std::alloc::{AllocError, Global};
 
-/// Puts a space, the name of an attribute and its value behind a text: bytes in hexadecimal digits, numbers
-/// in decimal.
+/// Appends a space, the name of an attribute and its value to a text: bytes in hexadecimal digits, numbers in
+/// decimal.
 pub fn push_attr(alloc: Global, text: &mut String, attr: &Attr) -> Result<(), AllocError> {
     match attr {
         Attr::Rand(value) => push_bytes(alloc, text, "RAND", value),

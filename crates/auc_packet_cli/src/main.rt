@@ -1,5 +1,5 @@
-//! Reads packets, a line of hexadecimal digits each, and prints what each is and the bytes that writing it
-//! gives, or why it is none.
+//! Reads packets, each a line of hexadecimal digits, and prints what each is and the bytes that writing it gives,
+//! or why it is refused.
 #![tactic(auto)]
 
 mod answer;

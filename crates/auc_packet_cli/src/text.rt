@@ -8,7 +8,7 @@ use auc_packet::{Packet, PacketRefusal, Subtype};
 use hex::FromHexError;
 use std::alloc::{AllocError, Global};
 
-/// What is printed of a line: what its packet is and the bytes that it is written in, or why it is none.
+/// What is printed of a line: what its packet is and the bytes that writing it gives, or why it is refused.
 pub fn text_of_line(alloc: Global, line: &str) -> Result<String, AllocError> {
     match hex::decode(alloc, line) {
         Ok(bytes) => text_of_bytes(alloc, bytes.as_slice()),
