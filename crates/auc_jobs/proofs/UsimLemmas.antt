@@ -12,7 +12,7 @@ use Rattle.auc_sqn.specs.declared.verdict.Verdict.{Verdict}
 use Rattle.auc_sqn.specs.declared.verdict.Verdict.TheVariants.{Fresh, Old, Far}
 use Rattle.auc_sqn.proofs.Facts.{seq_of-sqn_bytes, ind_of-sqn_bytes}
 use Rattle.auc_subs.specs.declared.row.Row.{Row}
-use Rattle.auc_transcript.specs.Given.{Answers, past_of}
+use Rattle.auc_transcript.specs.Given.{UsimAnswers as Answers, past_of}
 use Rattle.auc_transcript.specs.Lines.{accepted, accepted_by}
 use Rattle.auc_usim.specs.Usim.{Memory, sqn_in, mac_in, xmac, acceptance, verdict_on, FollowsVerdict, IsAnswer, past_after_answer}
 use Rattle.auc_usim.specs.declared.answer.Answer.{Answer}

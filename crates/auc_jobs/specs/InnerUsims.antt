@@ -2,7 +2,7 @@
 use Rattle.std.specs.Prelude.{◌≡◌, ℕ, ◌%◌, List, [], ◌∷◌, ◌++◌, Some, slice_get, slice_set}
 use Rattle.auc_sqn.specs.Past.{Past, Remembers, verdict_of}
 use Rattle.auc_subs.specs.declared.row.Row.{Row}
-use Rattle.auc_transcript.specs.Given.{Answers, past_of}
+use Rattle.auc_transcript.specs.Given.{UsimAnswers, past_of}
 use Rattle.auc_transcript.specs.Lines.{accepted}
 use Rattle.auc_usim.specs.Usim.{Memory, IsAnswer, past_after_answer}
 use Rattle.auc_usim.specs.declared.answer.Answer.{Answer}
@@ -25,5 +25,5 @@ pub record Challenges (old : List Memory) (sub : ℕ) (rand autn : List ℕ) (an
 -- it accepted, and the USIMs behind the line that says so
 pub record Presents (rows : List Row) (lines : List LineRecord) (sub n : ℕ) (answer : GiveVerdict) (new : List Memory) : Type 0 where
   pub answered : (row : Row) → slice_get rows sub ≡ Some row
-      → Answers (verdict_of (past_of row.usim (accepted sub lines)) n (n % 32)) (past_of row.usim (accepted sub lines)) answer
+      → UsimAnswers (verdict_of (past_of row.usim (accepted sub lines)) n (n % 32)) (past_of row.usim (accepted sub lines)) answer
   pub behind : AreBehind rows (lines ++ Give sub n answer ∷ []) new

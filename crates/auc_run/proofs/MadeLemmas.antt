@@ -15,7 +15,7 @@ use Rattle.auc_sqn.specs.declared.verdict.Verdict.{Verdict}
 use Rattle.auc_sqn.specs.declared.verdict.Verdict.TheVariants.{Fresh, Old, Far}
 use Rattle.auc_subs.specs.declared.row.Row.{Row}
 use Rattle.auc_subs.specs.Subscriber.{AreSubscribers, IsRow}
-use Rattle.auc_transcript.specs.Given.{Setting, Before, DrawGives, SyncGives, JobGives, JobsGive, LineGives, IsVector, IsVerdict, IsGiven, Answers, FollowsVerdict, auts_for, is_released, past_before, behind, verdict_for}
+use Rattle.auc_transcript.specs.Given.{Setting, Before, DrawGives, SyncGives, JobGives, JobsGive, LineGives, IsVector, IsVerdict, IsGiven, UsimAnswers as Answers, VectorsFollow as FollowsVerdict, auts_for, is_released, past_before, behind, verdict_for}
 use Rattle.auc_transcript.specs.Lines.{all_lines}
 use Rattle.auc_vector.specs.Auts.{read_auts_of}
 use Rattle.auc_vector.specs.Random.{rand_of}

@@ -10,7 +10,7 @@ use Rattle.auc_script.specs.declared.script.Script.{Script}
 use Rattle.auc_subs.specs.declared.row.Row.{Row}
 use Rattle.auc_transcript.specs.Given.{Setting}
 use Rattle.auc_transcript.specs.Lines.{all_lines}
-use Rattle.auc_transcript.specs.Transcript.{AreLawful, IsLawful, lines_of}
+use Rattle.auc_transcript.specs.Transcript.{AreLawful, IsLawful, lines_of_rounds as lines_of}
 use Rattle.auc_world.specs.declared.record.LineRecord.{LineRecord}
 use Rattle.auc_world.specs.declared.record.RoundRecord.{RoundRecord}
 use Rattle.auc_run.specs.Output.{WritesPart, WritesScript, setting_of}

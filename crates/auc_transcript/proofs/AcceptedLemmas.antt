@@ -14,7 +14,7 @@ use Rattle.auc_world.specs.declared.record.LineRecord.TheVariants.{Vector, Withh
 use Rattle.auc_world.specs.declared.record.RoundRecord.{RoundRecord}
 use Rattle.auc_transcript.specs.Lines.{numbers_of, accepted, taken}
 use Rattle.auc_transcript.specs.Given.{Setting}
-use Rattle.auc_transcript.specs.Transcript.{IsLawful, lines_of}
+use Rattle.auc_transcript.specs.Transcript.{IsLawful, lines_of_rounds}
 use Rattle.auc_transcript.specs.Headline.{EachUsimAcceptsNoneTwice}
 use Rattle.auc_transcript.proofs.LineLemmas.{All-times, times-numbers-append, times-accepted-append}
 use Rattle.auc_transcript.proofs.ServedLemmas.{IsAnswered, IsServed, AreServed}
@@ -64,7 +64,7 @@ accepting_given set sub n s m given.Accepted true before mine count served is =
       | inr other ↦ accepting_quiet sub n before (Give s m given.Accepted) (let none : times n (accepted sub (Give s m given.Accepted ∷ [])) ≡ 0 = grind (arith, nat_tests, count, one) in none) is
     ]
 
--- any line
+-- the same for any line
 accepting_line : (set : Setting) (sub n : ℕ) (before : List LineRecord) (line : LineRecord) → IsServed set before line → IsAccepting sub n before → IsAccepting sub n (before ++ line ∷ [])
 accepting_line set sub n before (Vector s vector) served is = accepting_quiet sub n before (Vector s vector) refl is
 accepting_line set sub n before (Withheld s m stop) served is = accepting_quiet sub n before (Withheld s m stop) refl is
@@ -73,24 +73,24 @@ accepting_line set sub n before (Sync s answer) served is = accepting_quiet sub 
 accepting_line set sub n before (Give s m answer) served is =
     accepting_given set sub n s m answer (s == sub) before refl (ap (times n) (append-nil (if s == sub then taken m answer else []))) served is
 
--- and all lines
+-- the same for all lines
 accepting_lines : (set : Setting) (sub n : ℕ) (before lines : List LineRecord) → AreServed set before lines → IsAccepting sub n before → IsAccepting sub n (before ++ lines)
 accepting_lines set sub n before [] served is = subst (λ (ls : List LineRecord). IsAccepting sub n ls) (sym (append-nil before)) is
 accepting_lines set sub n before (line ∷ lines) (first, more) is =
     subst (λ (ls : List LineRecord). IsAccepting sub n ls) (append_assoc before (line ∷ []) lines)
     (accepting_lines set sub n (before ++ line ∷ []) lines more (accepting_line set sub n before line first is))
 
--- so it is in a lawful transcript
-pub transcript_accepts : (set : Setting) (parts : List Part) (rounds : List RoundRecord) (sub n : ℕ) → IsLawful set parts rounds → IsAccepting sub n (lines_of rounds)
+-- the same in a lawful transcript
+pub transcript_accepts : (set : Setting) (parts : List Part) (rounds : List RoundRecord) (sub n : ℕ) → IsLawful set parts rounds → IsAccepting sub n (lines_of_rounds rounds)
 transcript_accepts set parts rounds sub n lawful =
-    accepting_lines set sub n [] (lines_of rounds) (transcript_served set parts rounds lawful) (record { once = omega arith; released = λ some. absurd (omega arith) })
+    accepting_lines set sub n [] (lines_of_rounds rounds) (transcript_served set parts rounds lawful) (record { once = omega arith; released = λ some. absurd (omega arith) })
 
 -- no USIM accepts an SQN twice
 pub accepts_none_twice : EachUsimAcceptsNoneTwice
 accepts_none_twice set parts rounds known lawful sub inside =
-    let within = numbers_within set sub [] (lines_of rounds) (transcript_served set parts rounds lawful) in
-    let numbers = accepted sub (lines_of rounds) in
+    let within = numbers_within set sub [] (lines_of_rounds rounds) (transcript_served set parts rounds lawful) in
+    let numbers = accepted sub (lines_of_rounds rounds) in
     sqns_differ numbers
-    (λ k d k<n. All-times (λ n. n ≤ max_seq) (get_or numbers k d) (numbers_of sub (lines_of rounds)) within
+    (λ k d k<n. All-times (λ n. n ≤ max_seq) (get_or numbers k d) (numbers_of sub (lines_of_rounds rounds)) within
     ((transcript_accepts set parts rounds sub (get_or numbers k d) lawful).released (times_at numbers k d k<n)))
     (differ_from_times numbers (λ n. (transcript_accepts set parts rounds sub n lawful).once))

@@ -7,3 +7,4 @@ mod PlaceLemmas
 mod VectorLemmas
 mod AcceptedLemmas
 mod FailureLemmas
+mod BitLemmas

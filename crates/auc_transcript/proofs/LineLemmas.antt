@@ -1,4 +1,4 @@
--- For the laws: the numbers of a subscriber that lines tell, counted.
+-- For the laws: how often lines name a number of a subscriber.
 use Rattle.std.proofs.Common.{◌≡◌, ℕ, zero, suc, ◌+◌, ◌≤◌, ◌==◌, ◌||◌, Bool, true, false, cond, List, [], ◌∷◌, ◌++◌, All, Contains, ◌∙◌, ap, subst, arith, inl, inr}
 use Rattle.std.specs.Prelude.{if◌then◌else◌}
 use Rattle.std.proofs.lemmas.Bool.{cases_eq}
@@ -30,7 +30,7 @@ Contains-from_times n (x ∷ xs) there =
     later : Contains xs n → Contains (x ∷ xs) n
     later (k, k<n, at) = (suc k, omega arith, at)
 
--- and the other way round
+-- an element of a list stands in it
 pub times-from_contains : (n : ℕ) (xs : List ℕ) → Contains xs n → 1 ≤ times n xs
 times-from_contains n xs (k, k<n, at) = subst (λ (m : ℕ). 1 ≤ times m xs) at (times_at xs k n k<n)
 
@@ -52,11 +52,11 @@ times-from_is_in n (x ∷ xs) found =
 
 -- ---- released numbers are drawn
 
--- a number that stands at most as often before as after a further one
+-- a number doesn't stand more often in a list than in a longer one
 times-further : (n m : ℕ) (xs ys : List ℕ) → times n xs ≤ times n ys → times n (m ∷ xs) ≤ times n (m ∷ ys)
 times-further n m xs ys rest = let these = times-cons n m xs in let those = times-cons n m ys in omega (arith, these, those)
 
--- further entries draw no less
+-- further entries draw no fewer numbers
 drawn-further : (n : ℕ) (numbers : List ℕ) (xs ys : List Entry) → times n numbers ≤ times n (drawn ys) → times n numbers ≤ times n (drawn (xs ++ ys))
 drawn-further n numbers xs ys rest =
     let cut = ap (times n) (flat_map-append drawn_by xs ys) ∙ times-append n (drawn xs) (drawn ys) in omega (arith, cut, rest)
@@ -86,10 +86,10 @@ times-numbers n sub before (Give s m answer ∷ lines) = times-numbers n sub (be
 
 -- ---- lines and further lines
 
--- how often a number is released by lines and further ones
+-- how often a number is released by lines and further lines
 pub times-numbers-append : (n sub : ℕ) (xs ys : List LineRecord) → times n (numbers_of sub (xs ++ ys)) ≡ times n (numbers_of sub xs) + times n (numbers_of sub ys)
 times-numbers-append n sub xs ys = ap (times n) (flat_map-append (released_by sub) xs ys) ∙ times-append n (numbers_of sub xs) (numbers_of sub ys)
 
--- and accepted
+-- how often it is accepted by them
 pub times-accepted-append : (n sub : ℕ) (xs ys : List LineRecord) → times n (accepted sub (xs ++ ys)) ≡ times n (accepted sub xs) + times n (accepted sub ys)
 times-accepted-append n sub xs ys = ap (times n) (flat_map-append (accepted_by sub) xs ys) ∙ times-append n (accepted sub xs) (accepted sub ys)

@@ -16,7 +16,7 @@ use Rattle.auc_world.specs.declared.record.RoundRecord.{RoundRecord}
 use Rattle.auc_transcript.specs.Lines.{numbers_of, all_lines}
 use Rattle.auc_transcript.specs.Entries.{entries_of_lines, entries_of_jobs}
 use Rattle.auc_transcript.specs.Given.{Setting}
-use Rattle.auc_transcript.specs.Transcript.{reopened, AreLawful, lines_of, entries_of}
+use Rattle.auc_transcript.specs.Transcript.{reopened, AreLawful, lines_of_rounds, entries_of_rounds}
 use Rattle.auc_transcript.proofs.LineLemmas.{times-numbers, times-numbers-append}
 
 -- a subscriber's entries cover each number above a low one up to a high one once, and no other number that a
@@ -34,16 +34,16 @@ times-covered-append n xs ys = ap (times n) (flat_map-append covers xs ys) ∙ t
 times-drawn-append : (n : ℕ) (xs ys : List Entry) → times n (drawn (xs ++ ys)) ≡ times n (drawn xs) + times n (drawn ys)
 times-drawn-append n xs ys = ap (times n) (flat_map-append drawn_by xs ys) ∙ times-append n (drawn xs) (drawn ys)
 
--- two ranges, one behind the other
+-- two ranges, one after the other
 ranges_joined : (n low closing next high : ℕ) → n ≤ max_seq → next ≡ min closing max_seq → low ≤ closing → low ≤ max_seq → next ≤ high
     → (if nat_lt low n && nat_le n closing then 1 else 0) + (if nat_lt next n && nat_le n high then 1 else 0) ≡ (if nat_lt low n && nat_le n high then 1 else 0)
 ranges_joined n low closing next high = grind (arith, nat_tests)
 
--- where a subscriber is opened again
+-- the word at which a subscriber is opened again
 get_or-reopened : (words : List ℕ) (sub : ℕ) → get_or (reopened words) sub 0 ≡ min (get_or words sub 0) max_seq
 get_or-reopened words sub = get_or-map (λ (word : ℕ). min word max_seq) words sub 0
 
--- a range that a round covers, and the range of the rounds behind it
+-- the range that a round covers, and the range of the rounds after it
 round_joined : (low closing next high : ℕ) (xs ys : List Entry) → next ≡ min closing max_seq → low ≤ closing → low ≤ max_seq
     → ((n : ℕ) → times n (covered xs) ≡ (if nat_lt low n && nat_le n closing then 1 else 0)) → CoversRange next high ys → CoversRange low high (xs ++ ys)
 round_joined low closing next high xs ys again forward below once covers =
@@ -60,10 +60,10 @@ round_joined low closing next high xs ys again forward below once covers =
 
 -- what the rounds of a lawful transcript cover
 pub rounds_cover : (set : Setting) (sub number : ℕ) (early : List LineRecord) (openings : List ℕ) (parts : List Part) (rounds : List RoundRecord) → sub < length openings
-    → get_or openings sub 0 ≤ max_seq → AreLawful set number early openings parts rounds → (high : ℕ) × CoversRange (get_or openings sub 0) high (entries_of sub rounds)
+    → get_or openings sub 0 ≤ max_seq → AreLawful set number early openings parts rounds → (high : ℕ) × CoversRange (get_or openings sub 0) high (entries_of_rounds sub rounds)
 rounds_cover set sub number early openings [] rounds inside below lawful = (
   get_or openings sub 0,
-  subst (λ (rs : List RoundRecord). CoversRange (get_or openings sub 0) (get_or openings sub 0) (entries_of sub rs)) (sym lawful)
+  subst (λ (rs : List RoundRecord). CoversRange (get_or openings sub 0) (get_or openings sub 0) (entries_of_rounds sub rs)) (sym lawful)
       (record { forward = omega arith; within = below; once = λ n within. nothing n (get_or openings sub 0) }),
 )
   where
@@ -77,7 +77,7 @@ rounds_cover set sub number early openings (Round jobs ∷ parts) (round ∷ rou
     let splits = lawful.split sub inside in
     let (high, covers) = rounds_cover set sub (number + 1) (early ++ all_lines round.jobs) (reopened words) parts rounds known (omega (arith, again)) more in (
       high,
-      round_joined (get_or openings sub 0) (get_or words sub 0) (get_or (reopened words) sub 0) high (all_entries (entries_of_jobs sub [] round.jobs)) (entries_of sub rounds)
+      round_joined (get_or openings sub 0) (get_or words sub 0) (get_or (reopened words) sub 0) high (all_entries (entries_of_jobs sub [] round.jobs)) (entries_of_rounds sub rounds)
           again splits.forward below splits.once covers,
     )
 
@@ -92,12 +92,12 @@ jobs_drawn n sub before (job ∷ jobs) =
     let those = times-drawn-append n (entries_of_lines sub before job) (all_entries (entries_of_jobs sub (before ++ job) jobs)) in
     omega (arith, first, others, these, those)
 
--- and those of all rounds
-pub rounds_drawn : (n sub : ℕ) (rounds : List RoundRecord) → times n (numbers_of sub (lines_of rounds)) ≤ times n (drawn (entries_of sub rounds))
+-- the same for all rounds
+pub rounds_drawn : (n sub : ℕ) (rounds : List RoundRecord) → times n (numbers_of sub (lines_of_rounds rounds)) ≤ times n (drawn (entries_of_rounds sub rounds))
 rounds_drawn n sub [] = omega arith
 rounds_drawn n sub (round ∷ rounds) =
     let first = jobs_drawn n sub [] round.jobs in
     let others = rounds_drawn n sub rounds in
-    let these = times-numbers-append n sub (all_lines round.jobs) (lines_of rounds) in
-    let those = times-drawn-append n (all_entries (entries_of_jobs sub [] round.jobs)) (entries_of sub rounds) in
+    let these = times-numbers-append n sub (all_lines round.jobs) (lines_of_rounds rounds) in
+    let those = times-drawn-append n (all_entries (entries_of_jobs sub [] round.jobs)) (entries_of_rounds sub rounds) in
     omega (arith, first, others, these, those)

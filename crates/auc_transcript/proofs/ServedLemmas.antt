@@ -18,18 +18,18 @@ use Rattle.auc_world.specs.declared.record.RoundRecord.{RoundRecord}
 use Rattle.auc_world.specs.declared.record.SyncVerdict.{SyncVerdict}
 use Rattle.auc_world.specs.declared.record.SyncVerdict.TheVariants as verdict
 use Rattle.auc_transcript.specs.Lines.{numbers_of, accepted, all_lines}
-use Rattle.auc_transcript.specs.Given.{Setting, Before, DrawGives, FollowsVerdict, is_released, past_of, past_before, Answers, IsGiven, LineGives, behind, JobGives, JobsGive}
-use Rattle.auc_transcript.specs.Transcript.{AreLawful, lines_of}
+use Rattle.auc_transcript.specs.Given.{Setting, Before, DrawGives, VectorsFollow, is_released, past_of, past_before, UsimAnswers, IsGiven, LineGives, behind, JobGives, JobsGive}
+use Rattle.auc_transcript.specs.Transcript.{AreLawful, lines_of_rounds}
 use Rattle.auc_transcript.proofs.LineLemmas.{times-from_is_in, times-numbers-append}
 
--- a presented vector was released, and its USIM answered by all that it had accepted
+-- a presented vector was released, and its USIM answered by all numbers that it had accepted
 pub record IsAnswered (set : Setting) (before : List LineRecord) (sub n : ℕ) (answer : GiveVerdict) : Type 0 where
   pub row : Row
   pub there : slice_get set.rows sub ≡ Some row
   pub released : 1 ≤ times n (numbers_of sub before)
-  pub answers : Answers (verdict_of (past_of row.usim (accepted sub before)) n (n % 32)) (past_of row.usim (accepted sub before)) answer
+  pub answers : UsimAnswers (verdict_of (past_of row.usim (accepted sub before)) n (n % 32)) (past_of row.usim (accepted sub before)) answer
 
--- what a line is, behind the lines before it: a vector has a number, and a presented vector was answered
+-- what a line is, after the earlier lines: a vector has a number, and a presented vector was answered
 abbrev pub IsServed : Setting → List LineRecord → LineRecord → Type 0
 IsServed set before (Vector s vector) = vector.n ≤ max_seq
 IsServed set before (Withheld s n stop) = Unit {0}
@@ -37,7 +37,7 @@ IsServed set before (Exhausted s word) = Unit {0}
 IsServed set before (Sync s answer) = Unit {0}
 IsServed set before (Give s n answer) = answer ≢ given.Absent → IsAnswered set before s n answer
 
--- and what further lines are, one after the other
+-- what further lines are, one after the other
 abbrev pub AreServed : Setting → List LineRecord → List LineRecord → Type 0
 AreServed set before [] = Unit {0}
 AreServed set before (line ∷ lines) = IsServed set before line × AreServed set (before ++ line ∷ []) lines
@@ -74,17 +74,17 @@ draw_served set before sub (suc count) (Give s n answer ∷ lines) gives = absur
 
 -- what follows a verdict
 follows_served : (set : Setting) (before : List LineRecord) (sub count : ℕ) (answer : SyncVerdict) (lines : List LineRecord)
-    → FollowsVerdict set sub count answer lines → AreServed set before lines
+    → VectorsFollow set sub count answer lines → AreServed set before lines
 follows_served set before sub count (verdict.Moved seen seq_ms) lines follows = draw_served set before sub count lines follows
 follows_served set before sub count (verdict.InRange seen seq_ms) lines follows = draw_served set before sub count lines follows
 follows_served set before sub count (verdict.Beyond seen seq_ms) lines follows = subst (λ (ls : List LineRecord). AreServed set before ls) (sym follows) tt
 follows_served set before sub count verdict.WrongMac lines follows = subst (λ (ls : List LineRecord). AreServed set before ls) (sym follows) tt
 
--- all lines before
+-- all earlier lines
 abbrev all_before : Before → List LineRecord
 all_before place = place.early ++ place.beside ++ place.own
 
--- a released number stands among the numbers of all lines before
+-- a released number stands among the numbers of all earlier lines
 released_before : (place : Before) (sub n : ℕ) → is_released place sub n ≡ true → 1 ≤ times n (numbers_of sub (all_before place))
 released_before place sub n released =
     let outer = times-numbers-append n sub (place.early ++ place.beside) place.own in
@@ -132,11 +132,11 @@ jobs_served set early beside (job ∷ jobs) (lines ∷ records) (gives, more) =
 
 -- what the rounds of a lawful transcript have
 pub rounds_served : (set : Setting) (number : ℕ) (early : List LineRecord) (openings : List ℕ) (parts : List Part) (rounds : List RoundRecord)
-    → AreLawful set number early openings parts rounds → AreServed set early (lines_of rounds)
-rounds_served set number early openings [] rounds lawful = subst (λ (rs : List RoundRecord). AreServed set early (lines_of rs)) (sym lawful) tt
+    → AreLawful set number early openings parts rounds → AreServed set early (lines_of_rounds rounds)
+rounds_served set number early openings [] rounds lawful = subst (λ (rs : List RoundRecord). AreServed set early (lines_of_rounds rs)) (sym lawful) tt
 rounds_served set number early openings (part ∷ parts) [] lawful = absurd lawful
 rounds_served set number early openings (Round jobs ∷ parts) (round ∷ rounds) (next, (is_number, words, lawful, is_next), rest) =
     let first = jobs_served set early [] jobs round.jobs lawful.given in
-    AreServed-append set early (all_lines round.jobs) (lines_of rounds)
+    AreServed-append set early (all_lines round.jobs) (lines_of_rounds rounds)
     (subst (λ (ls : List LineRecord). AreServed set ls (all_lines round.jobs)) (append-nil early) first)
     (rounds_served set (number + 1) (early ++ all_lines round.jobs) next parts rounds rest)

@@ -1,4 +1,4 @@
--- The law of vectors: no two of a subscriber have the same SQN.
+-- The law of vectors: no two vectors of a subscriber have the same SQN.
 use Rattle.std.proofs.Common.{◌≢◌, ℕ, ◌<◌, ◌≤◌, ◌==◌, ◌&&◌, nat_lt, nat_le, Bool, true, false, List, [], ◌∷◌, ◌++◌, length, get_or, map, All, AllPairs, arith, inl, inr}
 use Rattle.std.specs.Prelude.{if◌then◌else◌}
 use Rattle.std.proofs.Math.ListN.{length-map}
@@ -17,7 +17,7 @@ use Rattle.auc_world.specs.declared.record.LineRecord.TheVariants.{Vector, Withh
 use Rattle.auc_world.specs.declared.record.RoundRecord.{RoundRecord}
 use Rattle.auc_transcript.specs.Lines.{numbers_of}
 use Rattle.auc_transcript.specs.Given.{Setting}
-use Rattle.auc_transcript.specs.Transcript.{IsLawful, lines_of, entries_of}
+use Rattle.auc_transcript.specs.Transcript.{IsLawful, lines_of_rounds, entries_of_rounds}
 use Rattle.auc_transcript.specs.Headline.{EachTranscriptKeepsNumbersApart}
 use Rattle.auc_transcript.proofs.LineLemmas.{All-times}
 use Rattle.auc_transcript.proofs.ServedLemmas.{AreServed, rounds_served}
@@ -34,7 +34,7 @@ sqns_differ (n ∷ numbers) within differ =
     (λ k d k<n same. AllPairs-head ◌≢◌ n numbers differ k d k<n (each_number_has_its_own_sqn n (get_or numbers k d) first (others k d k<n) same)))
     (sqns_differ numbers others (AllPairs-tail ◌≢◌ n numbers differ))
 
--- a vector's number, where the line is a subscriber's
+-- a vector's number, if the line is the subscriber's
 within_one : (there : Bool) (n : ℕ) → n ≤ max_seq → All (λ m. m ≤ max_seq) (if there then n ∷ [] else [])
 within_one true n within = All-cons (λ m. m ≤ max_seq) n [] within (All-nil (λ m. m ≤ max_seq))
 within_one false n within = All-nil (λ m. m ≤ max_seq)
@@ -51,12 +51,12 @@ numbers_within set sub before (Sync s answer ∷ lines) (is, more) = numbers_wit
 numbers_within set sub before (Give s n answer ∷ lines) (is, more) = numbers_within set sub (before ++ Give s n answer ∷ []) lines more
 
 -- what the lines of a lawful transcript are
-pub transcript_served : (set : Setting) (parts : List Part) (rounds : List RoundRecord) → IsLawful set parts rounds → AreServed set [] (lines_of rounds)
+pub transcript_served : (set : Setting) (parts : List Part) (rounds : List RoundRecord) → IsLawful set parts rounds → AreServed set [] (lines_of_rounds rounds)
 transcript_served set parts rounds lawful = rounds_served set 1 [] (map (λ (row : Row). row.seq) set.rows) parts rounds lawful
 
 -- what the entries of a subscriber cover in a lawful transcript
 pub transcript_covers : (set : Setting) (parts : List Part) (rounds : List RoundRecord) (sub : ℕ) → AreSubscribers set.rows → IsLawful set parts rounds → sub < length set.rows
-    → (low : ℕ) × (high : ℕ) × CoversRange low high (entries_of sub rounds)
+    → (low : ℕ) × (high : ℕ) × CoversRange low high (entries_of_rounds sub rounds)
 transcript_covers set parts rounds sub known lawful inside =
     let openings = map (λ (row : Row). row.seq) set.rows in
     let size = length-map set.rows (λ (row : Row). row.seq) in
@@ -73,16 +73,16 @@ range_once often n low high = grind (arith, nat_tests)
 -- no vector of a subscriber comes twice
 pub keeps_numbers_apart : EachTranscriptKeepsNumbersApart
 keeps_numbers_apart set parts rounds known lawful sub inside =
-    let within = numbers_within set sub [] (lines_of rounds) (transcript_served set parts rounds lawful) in
+    let within = numbers_within set sub [] (lines_of_rounds rounds) (transcript_served set parts rounds lawful) in
     let (low, high, covers) = transcript_covers set parts rounds sub known lawful inside in
-    sqns_differ (numbers_of sub (lines_of rounds)) within (differ_from_times (numbers_of sub (lines_of rounds))
+    sqns_differ (numbers_of sub (lines_of_rounds rounds)) within (differ_from_times (numbers_of sub (lines_of_rounds rounds))
     (λ n. elim (cases_lt max_seq n) [
-      | inl above ↦ at_most_none n (numbers_of sub (lines_of rounds)) within above
+      | inl above ↦ at_most_none n (numbers_of sub (lines_of_rounds rounds)) within above
       | inr below ↦
           let first = rounds_drawn n sub rounds in
-          let second = times-drawn n (entries_of sub rounds) in
+          let second = times-drawn n (entries_of_rounds sub rounds) in
           let third = covers.once n below in
-          range_once (times n (numbers_of sub (lines_of rounds))) n low high (omega (arith, first, second, third))
+          range_once (times n (numbers_of sub (lines_of_rounds rounds))) n low high (omega (arith, first, second, third))
     ]))
   where
     at_most_none : (n : ℕ) (numbers : List ℕ) → All (λ m. m ≤ max_seq) numbers → max_seq < n → times n numbers ≤ 1

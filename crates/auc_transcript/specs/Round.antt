@@ -1,5 +1,5 @@
--- A lawful round: what its jobs demand of the records, and what they say of each subscriber's history.
--- Nothing here speaks of an order between the jobs' steps.
+-- A lawful round: what its jobs ask of its records, and what the records say of each subscriber's history.
+-- Nothing here speaks of an order between the steps of different jobs.
 use Rattle.std.specs.Prelude.{◌≡◌, ℕ, ◌+◌, ◌^◌, ◌<◌, ◌==◌, List, [], ◌∷◌, ◌++◌, length, slice_index, if◌then◌else◌}
 use Rattle.auc_sqn.specs.Number.{max_seq}
 use Rattle.auc_history.specs.History.{drawn, skipped}
@@ -12,8 +12,8 @@ use Rattle.auc_transcript.specs.Lines.{numbers_of, withheld_of, all_lines}
 use Rattle.auc_transcript.specs.Entries.{entries_of_jobs}
 use Rattle.auc_transcript.specs.Given.{Setting, JobsGive}
 
--- the closing of a subscriber whose word moved from an opening to a closing, with the counts of its
--- entries and of its vectors; none where the word stood
+-- the closing of a subscriber whose word moved from an opening to a closing, with the counts of its entries and of
+-- its vectors; there is none if the word stood
 abbrev pub closing_of : ℕ → ℕ → ℕ → List (List LineRecord) → List Closing
 closing_of sub opening closing jobs =
     if opening == closing then [] else record {
@@ -33,9 +33,9 @@ closings_from sub (opening ∷ openings) [] jobs = []
 closings_from sub (opening ∷ openings) (word ∷ words) jobs =
     closing_of sub opening word jobs ++ closings_from (sub + 1) openings words jobs
 
--- a round that opens each subscriber at a word and closes it at a word, behind the lines of earlier rounds:
--- its records are what its jobs give, and the jobs' entries of each subscriber split a legal history from
--- the one word to the other
+-- a round that opens each subscriber at a word and closes it at a word, after the lines of earlier rounds: its
+-- records are what its jobs give, and the jobs' entries of each subscriber split a legal history from the one word
+-- to the other
 pub record IsLawfulRound (set : Setting) (early : List LineRecord) (openings : List ℕ) (jobs : List (List Line)) (round : RoundRecord) (words : List ℕ) : Type 0 where
   pub sizes : length words ≡ length openings
   pub fits : (sub : ℕ) → sub < length words → slice_index words sub < 2 ^ 64
@@ -43,5 +43,5 @@ pub record IsLawfulRound (set : Setting) (early : List LineRecord) (openings : L
   pub split : (sub : ℕ) → sub < length openings
       → Splits max_seq (slice_index openings sub) (slice_index words sub) (entries_of_jobs sub [] round.jobs)
   pub closings : round.closings ≡ closings_from 0 openings words round.jobs
-  -- a drawn number that is no mark was released
+  -- each drawn number that isn't a mark was released
   pub released : (sub : ℕ) → withheld_of sub (all_lines round.jobs) ≡ []

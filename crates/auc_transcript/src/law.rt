@@ -12,7 +12,7 @@ pub fn each_usim_accepts_none_twice()
     ensures { EachUsimAcceptsNoneTwice }
 {}
 
-/// Between resynchronisations a released vector gets a synchronisation failure exactly where it, or one drawn
+/// Between resynchronisations a released vector gets a synchronisation failure if and only if it, or one drawn
 /// a positive multiple of 32 places later, was accepted before.
 pub fn each_failure_is_by_place()
     ensures { EachFailureIsByPlace }

@@ -1,13 +1,13 @@
 //! What a lawful transcript of a scenario is, and what every one promises.
 //!
-//! A transcript is the records of a scenario's rounds. It is lawful where each round's records are what
-//! its jobs ask for, and where the jobs' entries of each subscriber split a legal history of its numbers
-//! (`specs/Round`, `specs/Transcript`). The centre's answers are free within that; no definition speaks
-//! of an order between the jobs' steps.
+//! A transcript is the records of a scenario's rounds. It is lawful if each round's records are what its
+//! jobs ask for, and if the jobs' entries of each subscriber split a legal history of its numbers
+//! (`specs/Round`, `specs/Transcript`). The centre's answers are free within that. No definition speaks
+//! of an order between the steps of different jobs.
 //!
-//! The laws hold of every lawful transcript: no two vectors of a subscriber have the same SQN, its USIM
-//! accepts none twice, and between resynchronisations a vector gets a synchronisation failure exactly
-//! where it, or one drawn a positive multiple of 32 places later, was accepted before (TS 33.102 Annex C).
+//! The laws hold for every lawful transcript. No two vectors of a subscriber have the same SQN. Its USIM
+//! accepts no SQN twice. Between resynchronisations a vector gets a synchronisation failure if and only
+//! if it, or one drawn a positive multiple of 32 places later, was accepted before (TS 33.102 Annex C).
 #![tactic(auto)]
 
 mod law;

@@ -1,7 +1,7 @@
 use Rattle.std.proofs.Common.{ℕ, ◌+◌, List, ◌∷◌, drop, ◌∙◌, sym, ap, subst, refl}
 use Rattle.std.proofs.lemmas.List.{drop_more, drop_all}
 use Rattle.auc_script.specs.declared.part.Part.{Part}
-use Rattle.auc_transcript.specs.Transcript.{lines_of}
+use Rattle.auc_transcript.specs.Transcript.{lines_of_rounds as lines_of}
 use Rattle.auc_run.proofs.OutputLemmas.{Serving, Serving-none, Serving-part, Serving-all}
 use Rattle.auc_run.proofs.rounds.serve_parts.Goals as goal
 
