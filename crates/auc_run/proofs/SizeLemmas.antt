@@ -2,7 +2,7 @@
 use Rattle.std.proofs.Common.{◌≡◌, ℕ, zero, suc, ◌+◌, ◌*◌, ◌%◌, ◌-◌, ◌^◌, ◌<◌, ◌≤◌, Bool, true, false, List, [], ◌∷◌, ◌++◌, length, take, bit_xor, Option, Some, None, refl, sym, ap, subst, arith}
 use Rattle.std.specs.Prelude.{if◌then◌else◌}
 use Rattle.std.specs.Str.{bytes_eq}
-use Rattle.std.specs.Int.{w64, w128, to_be_bytes, byte_at, bytes_high_first}
+use Rattle.std.specs.Int.{w64, to_be_bytes, byte_at, bytes_high_first}
 use Rattle.std.proofs.lemmas.List.{length-take-le, take-append-le}
 use Rattle.auc_aes.specs.Bytes.{xor, IsBytes, IsBlock}
 use Rattle.auc_aes.proofs.Facts.{bytes_xor, bytes_take, bytes_drop, length_xor}
@@ -12,6 +12,7 @@ use Rattle.auc_sqn.specs.Number.{seq_of, value_of, sqn_with, sqn_bytes}
 use Rattle.auc_subs.specs.declared.row.Row.{Row}
 use Rattle.auc_subs.specs.Subscriber.{IsRow}
 use Rattle.auc_transcript.specs.Given.{Setting, auts_for, turned, bit_mask}
+use Rattle.auc_transcript.proofs.Facts.{bit_mask_is_bytes}
 use Rattle.auc_vector.specs.Auts.{read_auts_of, sqn_ms_in, mac_s_in, xmac_s}
 use Rattle.auc_vector.specs.Random.{rand_of}
 use Rattle.auc_vector.specs.declared.auts.Auts.{Auts}
@@ -89,8 +90,7 @@ turned_bytes : (bit : Option ℕ) (bytes : List ℕ) → IsBytes (take 6 bytes) 
 turned_bytes None bytes are = are
 turned_bytes (Some bit) bytes are =
     subst IsBytes (sym (take-xor 6 bytes (bit_mask bit)))
-    (bytes_xor (take 6 bytes) (take 6 (bit_mask bit)) are
-    (bytes_take 6 (bit_mask bit) (bytes_drop 2 (to_be_bytes w128 (2 ^ (111 - bit))) (bytes_are 16 (2 ^ (111 - bit))))))
+    (bytes_xor (take 6 bytes) (take 6 (bit_mask bit)) are (bytes_take 6 (bit_mask bit) (bit_mask_is_bytes bit)))
 
 -- the number that an AUTS tells has 64 bits
 abbrev pub AutsFits : Auts → Type 0
