@@ -26,7 +26,7 @@ use Rattle.auc_world.specs.declared.record.LineRecord.TheVariants.{Vector, Withh
 use Rattle.auc_world.specs.declared.record.SyncVerdict.{SyncVerdict}
 use Rattle.auc_world.specs.declared.record.SyncVerdict.TheVariants as verdict
 use Rattle.auc_jobs.specs.declared.counting.Count.{Count}
-use Rattle.auc_jobs.specs.InnerClosings.{passed, passed_by, passed_in, capped, count_of, AreCounted, counted_closing, counted_closings}
+use Rattle.auc_jobs.specs.InnerClosings.{passed, passed_by, passed_in, capped, counted_in, AreCounted, counted_closing, counted_closings}
 use Rattle.auc_jobs.specs.Numbers.{AreReleased}
 use Rattle.auc_jobs.specs.Usims.{AreOfRows, AreBehind}
 use Rattle.auc_jobs.specs.InnerServing.{IsTold, Stands, ServesJobs, before_at}
@@ -149,7 +149,7 @@ closing_is : (sub opening closing : ℕ) (jobs : List (List LineRecord)) (count 
 closing_is sub opening closing jobs count draws passes releases withholds = rw (draws, passes, releases, withholds) refl
 
 pub closing_counted : (sub opening closing : ℕ) (jobs : List (List LineRecord)) → Makes sub opening closing (all_lines jobs)
-    → closing_of sub opening closing jobs ≡ counted_closing sub opening closing (count_of sub (all_lines jobs))
+    → closing_of sub opening closing jobs ≡ counted_closing sub opening closing (counted_in sub (all_lines jobs))
 closing_counted sub opening closing jobs m =
     let c = counts_made sub opening closing (all_lines jobs) m in
     let whole = c.whole in let skips = c.skips in
@@ -158,7 +158,7 @@ closing_counted sub opening closing jobs m =
     ap (λ (es : List Entry). length (drawn es)) entries ∙ omega (arith, whole, skips) in
     let passes : skipped (all_entries (entries_of_jobs sub [] jobs)) ≡ capped (passed_in sub (all_lines jobs)) =
     ap skipped entries ∙ passes_lines sub [] (all_lines jobs) ∙ sym skips in
-    closing_is sub opening closing jobs (count_of sub (all_lines jobs)) draws passes (sym c.releases) (sym c.withholds)
+    closing_is sub opening closing jobs (counted_in sub (all_lines jobs)) draws passes (sym c.releases) (sym c.withholds)
 
 -- all closings are the counted ones where each is
 pub closings_counted : (sub : ℕ) (openings words : List ℕ) (counts : List Count) (jobs : List (List LineRecord)) → length counts ≡ length openings
@@ -251,7 +251,7 @@ pub closes_above : (set : Setting) (early : List LineRecord) (state : Standing) 
     → slice_index state.words k + count.skipped ≤ slice_index words k
 closes_above set early state jobs records usims words counts k count r counted there =
     let c = counts_made k (slice_index state.words k) (slice_index words k) (all_lines records) (makes set early state jobs records usims words k r) in
-    let is : count ≡ count_of k (all_lines records) = some_is count (count_of k (all_lines records)) (sym there ∙ counted.each k (slice_get_within counts k count there)) in
+    let is : count ≡ counted_in k (all_lines records) = some_is count (counted_in k (all_lines records)) (sym there ∙ counted.each k (slice_get_within counts k count there)) in
     let whole = c.whole in let skips = c.skips in let same = ap (λ (n : Count). n.skipped) is in
     omega (arith, whole, skips, same)
   where
@@ -271,7 +271,7 @@ lawful_round set early state jobs records usims words counts number closings r s
       (subst (IsLegal max_seq (slice_index state.words sub) (slice_index words sub)) (sym (all_entries-of_jobs sub [] records)) ((r.served.made sub).0));
   closings = is ∙ sym (closings_counted 0 state.words words counts records sizes (λ k count inside there.
       let here : k ≡ 0 + k = omega arith in
-      let same : count_of k (all_lines records) ≡ count = some_is (count_of k (all_lines records)) count (sym (counted.each k (omega arith)) ∙ there) in
+      let same : counted_in k (all_lines records) ≡ count = some_is (counted_in k (all_lines records)) count (sym (counted.each k (omega arith)) ∙ there) in
       subst (λ (s : ℕ). closing_of s (get_or state.words k 0) (get_or words k 0) records ≡ counted_closing s (get_or state.words k 0) (get_or words k 0) count) here
       (closing_counted k (slice_index state.words k) (slice_index words k) records (makes set early state jobs records usims words k r)
       ∙ ap (counted_closing k (slice_index state.words k) (slice_index words k)) same)));

@@ -38,7 +38,7 @@ pub record IsOfRow (key : List ℕ) (rows : List Row) (sub n : ℕ) (vector : Au
 
 -- ---- the calls of the centre
 
--- some lines of the round report the word that the centre keeps of a subscriber, and none where it keeps none
+-- some lines of the round report the word that the centre keeps of a subscriber, or no word if it keeps none
 abbrev pub IsTold : ℕ → Option ℕ → List LineRecord → Type 0
 IsTold sub None lines = (word : ℕ) → is_reported sub word lines ≡ false
 IsTold sub (Some kept) lines = is_reported sub kept lines ≡ true
@@ -47,7 +47,8 @@ IsTold sub (Some kept) lines = is_reported sub kept lines ≡ true
 abbrev pub AreTold : (ℕ → Option ℕ) → List LineRecord → Type 0
 AreTold kept lines = (sub : ℕ) → IsTold sub (kept sub) lines
 
--- the calls behind some lines made the entries that a further line stands for, and what the centre keeps then is told.
+-- the calls after some lines made the entries that a further line stands for, and the word that the centre keeps then is
+-- reported.
 -- `goes` says which entries the calls made of a subscriber, and which of its numbers they withheld
 pub record Says (goes : ℕ → List Entry → List ℕ → Type 0) (kept : ℕ → Option ℕ) (before : List LineRecord) (line : LineRecord) : Type 0 where
   pub made : (sub : ℕ) → goes sub (entries_of_line sub before line) (withheld_by sub line)
@@ -91,16 +92,16 @@ is_accepted_next (verdict.InRange seen seq_ms) = true
 is_accepted_next (verdict.Beyond seen seq_ms) = false
 is_accepted_next verdict.WrongMac = false
 
--- ---- what stands, and what is added
+-- ---- what holds, and what is added
 
--- what stands behind the lines before a line: the centre's words are told, the released numbers are those of the
--- earlier rounds, and the USIMs are where all lines left them
+-- what holds after the lines before a line: the words that the centre keeps are reported, the released numbers are those of
+-- the earlier rounds, and each USIM remembers what all lines say that it accepted
 pub record Stands (rows : List Row) (before : Before) (kept : ℕ → Option ℕ) (released : List (ℕ × ℕ)) (usims : List Memory) : Type 0 where
   pub told : AreTold kept (before.beside ++ before.own)
   pub earlier : AreReleased released before.early
   pub pasts : AreBehind rows (before.early ++ before.beside ++ before.own) usims
 
--- to the lines of a job those were added that a request gives
+-- a request added lines that it gives to those of a job
 pub record Adds (goes : ℕ → List Entry → List ℕ → Type 0) (kept : ℕ → Option ℕ) (beside old new : List LineRecord) (Gives : List LineRecord → Type 0) : Type 0 where
   pub lines : List LineRecord
   pub added : new ≡ old ++ lines
@@ -112,7 +113,7 @@ pub record Adds (goes : ℕ → List Entry → List ℕ → Type 0) (kept : ℕ 
 abbrev pub before_at : List LineRecord → List LineRecord → List LineRecord → Before
 before_at early beside own = record { early = early; beside = beside; own = own }
 
--- what a line of a job added, and what stands behind it
+-- what a line of a job added, and what holds after it
 pub record Serves (goes : ℕ → List Entry → List ℕ → Type 0) (rows : List Row) (before : Before) (kept : ℕ → Option ℕ) (released : List (ℕ × ℕ)) (usims : List Memory)
     (Gives : List LineRecord → Type 0) (new : List LineRecord) : Type 0 where
   pub lines : List LineRecord
@@ -121,14 +122,14 @@ pub record Serves (goes : ℕ → List Entry → List ℕ → Type 0) (rows : Li
   pub made : (sub : ℕ) → goes sub (entries_of_lines sub (before.beside ++ before.own) lines) (withheld_of sub lines)
   pub stands : Stands rows (before_at before.early before.beside new) kept released usims
 
--- what a job gave, behind earlier rounds and earlier jobs
+-- what a job gave, after earlier rounds and earlier jobs
 pub record ServesJob (goes : ℕ → List Entry → List ℕ → Type 0) (set : Setting) (early beside : List LineRecord) (kept : ℕ → Option ℕ) (released : List (ℕ × ℕ)) (usims : List Memory)
     (job : List Line) (lines : List LineRecord) : Type 0 where
   pub given : JobGives set (before_at early beside []) job lines
   pub made : (sub : ℕ) → goes sub (entries_of_lines sub beside lines) (withheld_of sub lines)
   pub stands : Stands set.rows (before_at early beside lines) kept released usims
 
--- what the jobs of a round gave, behind earlier rounds
+-- what the jobs of a round gave, after earlier rounds
 pub record ServesJobs (goes : ℕ → List Entry → List ℕ → Type 0) (set : Setting) (early : List LineRecord) (kept : ℕ → Option ℕ) (released : List (ℕ × ℕ)) (usims : List Memory)
     (jobs : List (List Line)) (records : List (List LineRecord)) : Type 0 where
   pub given : JobsGive set early [] jobs records
@@ -137,7 +138,7 @@ pub record ServesJobs (goes : ℕ → List Entry → List ℕ → Type 0) (set :
 
 -- ---- a presented vector
 
--- what a USIM answers where a number's vector is presented, if the centre has released it, and the USIMs behind the line
+-- what a USIM answers to the vector of a number, if the centre has released it, and the USIMs after the line
 pub record IsAnswered (rows : List Row) (before : Before) (sub n : ℕ) (answer : GiveVerdict) (usims : List Memory) : Type 0 where
   pub given : (row : Row) → slice_get rows sub ≡ Some row → IsGiven (is_released before sub n) (past_before before row sub) n answer
   pub behind : AreBehind rows (before.early ++ before.beside ++ before.own ++ Give sub n answer ∷ []) usims

@@ -21,8 +21,8 @@ pub record Challenges (old : List Memory) (sub : ℕ) (rand autn : List ℕ) (an
   pub past : (past : Past) → Remembers before.array past → Remembers after.array (past_after_answer past answer)
   pub secret : after.secret ≡ before.secret
 
--- the vector of a number is presented to its subscriber's USIM behind some lines: what it answers, by all that
--- it accepted, and the USIMs behind the line that says so
+-- the vector of a number is presented to its subscriber's USIM after some lines: what it answers, by all that
+-- it accepted, and the USIMs after the line that says so
 pub record Presents (rows : List Row) (lines : List LineRecord) (sub n : ℕ) (answer : GiveVerdict) (new : List Memory) : Type 0 where
   pub answered : (row : Row) → slice_get rows sub ≡ Some row
       → UsimAnswers (verdict_of (past_of row.usim (accepted sub lines)) n (n % 32)) (past_of row.usim (accepted sub lines)) answer

@@ -21,7 +21,7 @@ pub record IsStateOf (rows : List Row) (state : Standing) : Type 0 where
   pub numbers : All (λ word. word ≤ max_seq) state.words
   pub secrets : AreOfRows rows state.usims
 
--- a state is the one behind the lines of all rounds so far
+-- a state is the one after the lines of all rounds so far
 pub record StandsAt (set : Setting) (early : List LineRecord) (state : Standing) : Type 0 where
   pub subscribers : IsStateOf set.rows state
   pub pasts : AreBehind set.rows early state.usims

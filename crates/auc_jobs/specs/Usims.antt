@@ -12,7 +12,7 @@ pub record AreOfRows (rows : List Row) (usims : List Memory) : Type 0 where
   pub sizes : length usims ≡ length rows
   pub secrets : (sub : ℕ) (row : Row) (usim : Memory) → slice_get rows sub ≡ Some row → slice_get usims sub ≡ Some usim → usim.secret ≡ row.secret
 
--- behind some lines each USIM remembers its opening, and what they say that it accepted
+-- after some lines each USIM remembers its opening, and what they say that it accepted
 abbrev pub AreBehind : List Row → List LineRecord → List Memory → Type 0
 AreBehind rows lines usims = (sub : ℕ) (row : Row) (usim : Memory) → slice_get rows sub ≡ Some row → slice_get usims sub ≡ Some usim
     → Remembers usim.array (past_of row.usim (accepted sub lines))

@@ -39,7 +39,7 @@ pub(crate) fn reopened(alloc: Global, words: &[u64]) -> Result<Items<u64>, NoMem
     Ok(openings)
 }
 
-/// The closing of a subscriber, or `None` where its word stood.
+/// The closing of a subscriber, or `None` if its word is where the round opened it.
 fn closing(sub: u32, first: u64, last: u64, count: Count) -> Option<Closing>
     requires { first + count.skipped ≤ last }
     ensures { option_to_list result ≡ counted_closing sub first last count }

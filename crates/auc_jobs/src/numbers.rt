@@ -1,13 +1,12 @@
 //! Numbers of subscribers.
 
-ghost use Rattle.std.specs.Prelude.{◌≡◌, ◌==◌, ◌&&◌, ◌||◌, ◌++◌, ℕ, List, [], OnOk, OnErr};
+ghost use Rattle.std.specs.Prelude.{◌≡◌, ◌==◌, ◌&&◌, ◌||◌, ℕ, [], OnOk, OnErr};
 ghost use Rattle.auc_transcript.specs.Given.{is_in};
-ghost use Rattle.auc_transcript.specs.Lines.{released_by, all_lines};
-ghost use Rattle.auc_world.specs.declared.record.LineRecord.{LineRecord};
-ghost use Rattle.auc_jobs.specs.Numbers.{has, AreReleased};
+ghost use Rattle.auc_transcript.specs.Lines.{released_by};
+ghost use Rattle.auc_jobs.specs.Numbers.{has};
 
 use auc_edge::NoMemory;
-use auc_world::{JobRecord, LineRecord};
+use auc_world::LineRecord;
 use indexmap::IndexSet;
 use std::alloc::Global;
 use std::marker::Model;
@@ -63,27 +62,5 @@ impl Numbers {
             LineRecord::Vector { sub, vector } => self.add(*sub, vector.n),
             _ => Ok(()),
         }
-    }
-
-    /// Adds the numbers that the lines of a job release.
-    fn note_lines(&mut self, lines: &[LineRecord]) -> Result<(), NoMemory>
-        ensures { OnOk result ((before : List LineRecord) → AreReleased self.old before
-            → AreReleased self.new (before ++ lines.now)) }
-    {
-        for line in lines {
-            self.note(line)?;
-        }
-        Ok(())
-    }
-
-    /// Adds the numbers that the jobs of a round release.
-    pub(crate) fn note_jobs(&mut self, jobs: &[JobRecord]) -> Result<(), NoMemory>
-        ensures { OnOk result ((before : List LineRecord) → AreReleased self.old before
-            → AreReleased self.new (before ++ all_lines jobs.now)) }
-    {
-        for job in jobs {
-            self.note_lines(job.as_slice())?;
-        }
-        Ok(())
     }
 }

@@ -21,7 +21,7 @@ use auc_world::RoundRecord;
 use std::alloc::Global;
 use std::sync::Wait;
 
-/// A round's record, and the state behind the round.
+/// A round's record, and the state after the round.
 #[derive(Drop)]
 pub struct Served {
     /// What the next round begins with.
@@ -63,9 +63,8 @@ pub fn serve<R: Wait>(
     let jobs = worker.serve_jobs(rt, alloc, jobs)?;
     let (centre, usims) = worker.into_parts();
     let words = words(alloc, &centre, count)?;
-    let counts = counts(alloc, openings.len(), jobs.as_slice())?;
+    let counts = counts(alloc, openings.len(), jobs.as_slice(), &mut released)?;
     let closings = closings(alloc, openings.as_slice(), words.as_slice(), &counts)?;
-    released.note_jobs(jobs.as_slice())?;
     let words = reopened(alloc, words.as_slice())?;
     Ok(Served {
         state: State {

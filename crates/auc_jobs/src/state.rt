@@ -30,7 +30,7 @@ impl Model for State {
 }
 
 impl State {
-    /// The state before the first round: the numbers stand where the rows say, and no vector is released.
+    /// The state before the first round: the numbers are those of the rows, and no vector is released.
     pub fn new(alloc: Global, subs: &Subscribers) -> Result<State, NoMemory>
         ensures words { IfOk result (λ state. state.words ≡ map (λ row. row.seq) subs.now) }
         ensures stands { IfOk result (λ state. (set : Setting) → set.rows ≡ subs.now → StandsAt set [] state) }

@@ -1,4 +1,4 @@
-//! Rounds by hand.
+//! Rounds by hand. The index array over 32 numbers, and each line as it is printed, are shown by the tests of `auc_run`.
 
 ghost use Rattle.std.specs.Prelude.{All, IsTrue, IfOk, length};
 ghost use Rattle.auc_jobs.specs.Serving.{IsKnownLine, AreKnown, AreAllKnown};
@@ -15,13 +15,13 @@ use std::process::Abort;
 use std::sync::Wait;
 use std::test::Fail;
 
-/// Whether a line's subscriber is one of so many, and its numbers are such.
+/// Whether a line's subscriber is one of so many, and its numbers are within their ranges.
 fn is_known(subs: u32, line: &Line) -> bool
     ensures { IsTrue result → IsKnownLine subs line.now }
 {
     match *line {
         Line::Draw { sub, .. } => sub < subs,
-        Line::Sync { sub, seq, bit, .. } => sub < subs && seq <= MAX_SEQ && bit.unwrap_or(0) < 112,
+        Line::Sync { sub, seq, bit, .. } => sub < subs && seq <= MAX_SEQ && bit.unwrap_or(0) <= 111,
         Line::Give { sub, n } => sub < subs && n >= 1 && n <= MAX_SEQ,
     }
 }
@@ -50,7 +50,7 @@ fn round_of(alloc: Global, subs: u32, jobs: &[&[Line]]) -> Result<RoundPart, NoM
     Ok(round)
 }
 
-/// Serves a round, and then another one behind it.
+/// Serves a round, and then another one.
 fn serve_rounds<R: Wait>(
     rt: &R,
     alloc: Global,
@@ -72,7 +72,7 @@ fn serve_rounds<R: Wait>(
     Ok((round, next.round))
 }
 
-/// The lines of a round that are no vectors.
+/// The lines of a round that are not vectors.
 fn answers(alloc: Global, round: &RoundRecord) -> Result<Items<LineRecord>, NoMemory> {
     let mut answers = Items::new(alloc);
     for job in round.jobs.as_slice() {
@@ -81,7 +81,7 @@ fn answers(alloc: Global, round: &RoundRecord) -> Result<Items<LineRecord>, NoMe
     Ok(answers)
 }
 
-/// Adds the lines of a job that are no vectors.
+/// Adds the lines of a job that are not vectors.
 fn add_answers(answers: &mut Items<LineRecord>, lines: &[LineRecord]) -> Result<(), NoMemory> {
     for line in lines {
         if !matches!(line, LineRecord::Vector { .. }) {
@@ -91,7 +91,7 @@ fn add_answers(answers: &mut Items<LineRecord>, lines: &[LineRecord]) -> Result<
     Ok(())
 }
 
-/// Checks the lines that are no vectors, and the closings.
+/// Checks the lines that are not vectors, and the closings.
 fn check_round<R: Abort>(
     rt: &R,
     alloc: Global,
@@ -113,7 +113,7 @@ fn subscribers<R: Abort>(rt: &R, alloc: Global, lines: &[&[u8]]) -> Subscribers 
     subs
 }
 
-/// Checks a round of the subscribers of these lines, and a round behind it that has no jobs.
+/// Checks a round of the subscribers of these lines, and then a round that has no jobs.
 fn check<R: Wait + Abort>(
     rt: &R,
     alloc: Global,
@@ -130,7 +130,7 @@ fn check<R: Wait + Abort>(
     check_round(rt, alloc, &next, &[], &[])
 }
 
-/// A subscriber whose numbers begin behind 0.
+/// A subscriber whose first number is 1.
 const A: &[u8] =
     b"001010000000001 465b5ce8b199b49faa5f0a2ee238a6bc opc cd63cb71954a9f4e48a5994e37a02baf 8000 0 0";
 
@@ -154,57 +154,9 @@ fn closing(sub: u32, first: u64, last: u64, drawn: u64, skipped: u64, released: 
     }
 }
 
-// By hand (TS 33.102 Annex C.2): 33 is 32 places behind 1 and shares its entry; SQN_MS is 33 * 32 + 1.
-#[test]
-fn a_vector_fails_where_one_32_places_later_was_accepted(rt: HostRuntime) -> Result<(), Fail> {
-    let alloc = rt.alloc();
-    let mut lines = Items::new(alloc);
-    let mut gave_all = Items::new(alloc);
-    lines.push(Line::Draw { sub: 0, count: 33 })?;
-    lines.push(give(33))?;
-    gave_all.push(gave(33, GiveVerdict::Accepted))?;
-    for n in 2..33 {
-        lines.push(give(n))?;
-        gave_all.push(gave(n, GiveVerdict::Accepted))?;
-    }
-    lines.push(give(1))?;
-    gave_all.push(gave(1, GiveVerdict::Sync([0, 0, 0, 0, 4, 0x21])))?;
-    check(
-        &rt,
-        alloc,
-        &[A],
-        &[lines.as_slice()],
-        gave_all.as_slice(),
-        &[closing(0, 0, 33, 33, 0, 33)],
-    )?;
-    Ok(())
-}
-
-// By hand (TS 33.102 Annex C.2): each of the 32 has an entry of its own.
-#[test]
-fn vectors_of_32_places_are_accepted_in_any_order(rt: HostRuntime) -> Result<(), Fail> {
-    let alloc = rt.alloc();
-    let mut lines = Items::new(alloc);
-    let mut gave_all = Items::new(alloc);
-    lines.push(Line::Draw { sub: 0, count: 32 })?;
-    for n in 0..32 {
-        lines.push(give(32 - n))?;
-        gave_all.push(gave(32 - n, GiveVerdict::Accepted))?;
-    }
-    check(
-        &rt,
-        alloc,
-        &[A],
-        &[lines.as_slice()],
-        gave_all.as_slice(),
-        &[closing(0, 0, 32, 32, 0, 32)],
-    )?;
-    Ok(())
-}
-
 // By hand: a number is absent until it is released, also to a job beside the one that released it.
 #[test]
-fn a_number_is_given_behind_its_vector_alone(rt: HostRuntime) -> Result<(), Fail> {
+fn a_number_is_given_only_after_its_vector(rt: HostRuntime) -> Result<(), Fail> {
     let alloc = rt.alloc();
     check(
         &rt,
@@ -228,7 +180,7 @@ fn a_number_is_given_behind_its_vector_alone(rt: HostRuntime) -> Result<(), Fail
 
 // By hand: the reach is 2^28 = 268435456, and the next number of the second subscriber is one further.
 #[test]
-fn a_number_beyond_the_reach_fails_and_stands(rt: HostRuntime) -> Result<(), Fail> {
+fn a_number_beyond_the_reach_is_refused(rt: HostRuntime) -> Result<(), Fail> {
     let alloc = rt.alloc();
     check(
         &rt,
@@ -313,7 +265,7 @@ fn a_right_auts_moves_the_number(rt: HostRuntime) -> Result<(), Fail> {
     Ok(())
 }
 
-// By hand: one number is left, and the word of a spent subscriber is its greatest number; the mark counts as drawn.
+// By hand: one number is left, and the word of a spent subscriber is its greatest number. The refused draw counts as drawn.
 #[test]
 fn a_spent_subscriber_ends_each_request(rt: HostRuntime) -> Result<(), Fail> {
     let alloc = rt.alloc();
@@ -337,7 +289,7 @@ fn a_spent_subscriber_ends_each_request(rt: HostRuntime) -> Result<(), Fail> {
     Ok(())
 }
 
-// By hand: what was released and accepted in a round stands in the next one.
+// By hand: what was released and accepted in a round is known in the next one.
 #[test]
 fn a_state_passes_from_round_to_round(rt: HostRuntime) -> Result<(), Fail> {
     let alloc = rt.alloc();

@@ -50,7 +50,7 @@ returns-clause-lawful g c = λ early stands.
       c.in_ok-words.words,
       lawful_round c.args.set.now early c.args.state c.args.jobs.now c.in_ok-jobs.jobs c.into_parts-centre.result.1 c.in_ok-words.words c.in_ok-counts.counts.items
           c.args.number c.in_ok-closings.closings ran words counts counted closed,
-      c.in_ok-words-2.ensures.value ∙ ap reopened c.as_slice-6.ensures,
+      c.in_ok-words-2.ensures.value ∙ ap reopened c.as_slice-5.ensures,
     )
 
 pub returns-clause-next : goal.returns-clause-next
@@ -63,8 +63,8 @@ returns-clause-next g c = λ early stands.
     let words : length c.in_ok-words.words ≡ length c.args.state.words =
     ap (λ (ws : List ℕ). length ws) c.in_ok-words.ensures.value ∙ c.into_parts-centre.ensures.rows.is_centre.size ∙ ap (λ (s : Setting). length s.rows) same ∙ sym stands.subscribers.size in
     let of_rows : AreOfRows c.args.set.now.rows c.into_parts-centre.result.1 = subst (λ (s : Setting). AreOfRows s.rows c.into_parts-centre.result.1) same c.into_parts-centre.ensures.rows.of_rows in
-    let released : (before : List LineRecord) → AreReleased c.args.state.released before → AreReleased c.note_jobs.new.self (before ++ all_lines c.in_ok-jobs.jobs) =
-    λ before are. subst (λ (records : List (List LineRecord)). AreReleased c.note_jobs.new.self (before ++ all_lines records)) c.as_slice-5.ensures
-    (c.in_ok-note_jobs.ensures before (subst (λ (pairs : List (ℕ × ℕ)). AreReleased pairs before) (sym (ap (λ (s : Standing). s.released) c.state.view_is)) are)) in
+    let released : (before : List LineRecord) → AreReleased c.args.state.released before → AreReleased c.counts.new.released (before ++ all_lines c.in_ok-jobs.jobs) =
+    λ before are. subst (λ (records : List (List LineRecord)). AreReleased c.counts.new.released (before ++ all_lines records)) c.as_slice-2.ensures
+    (c.in_ok-counts.ensures.noted before (subst (λ (pairs : List (ℕ × ℕ)). AreReleased pairs before) (sym (ap (λ (s : Standing). s.released) c.state.view_is)) are)) in
     stands_behind c.args.set.now early c.args.state _ c.args.jobs.now c.in_ok-jobs.jobs c.into_parts-centre.result.1 c.in_ok-words.words
-    stands ran words (c.in_ok-words-2.ensures.value ∙ ap reopened c.as_slice-6.ensures) c.in_ok-words-2.ensures.bound refl of_rows released
+    stands ran words (c.in_ok-words-2.ensures.value ∙ ap reopened c.as_slice-5.ensures) c.in_ok-words-2.ensures.bound refl of_rows released
