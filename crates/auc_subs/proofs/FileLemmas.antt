@@ -17,7 +17,8 @@ use Rattle.auc_subs.specs.declared.row.Row.{Row}
 use Rattle.auc_subs.specs.declared.refusal.SubsRefusal.{SubsRefusal}
 use Rattle.auc_subs.specs.declared.refusal.SubsRefusal.TheVariants as refusal
 use Rattle.auc_subs.specs.declared.refusal.SubsWhy.TheVariants as why
-use Rattle.auc_subs.specs.File.{is_header, rows_of, with_record, IsBefore, WentOn}
+use Rattle.auc_subs.specs.File.{is_header, rows_of, with_record}
+use Rattle.auc_subs.specs.InnerFile.{IsBefore, WentOn}
 
 -- where a record has no field, the one there is empty
 pub field_missing : (fields : List (List ℕ)) (place : ℕ) → field_at fields place ≡ None → get_or fields place [] ≡ []
@@ -198,7 +199,7 @@ same_refusal rows a b is same = cc
 -- ---- the rows
 
 -- a refusal stays to the end
-refused_stays : (refused : SubsRefusal) (records : List (List (List ℕ))) → fold with_record (Err refused) records ≡ Err refused
+pub refused_stays : (refused : SubsRefusal) (records : List (List (List ℕ))) → fold with_record (Err refused) records ≡ Err refused
 refused_stays refused [] = refl
 refused_stays refused (first ∷ rest) = refused_stays refused rest
 

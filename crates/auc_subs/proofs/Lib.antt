@@ -1,3 +1,5 @@
+mod FaultLemmas
 mod FileLemmas
+mod LawLemmas
 mod LookupLemmas
 mod RowLemmas

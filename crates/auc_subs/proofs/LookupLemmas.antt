@@ -9,9 +9,8 @@ use Rattle.indexmap.proofs.MapLemmas.{absent_from_lookup, insert_entry-absent, s
 use Rattle.auc_edge.specs.Identity.{Identity}
 use Rattle.auc_subs.specs.declared.row.Row.{Row}
 use Rattle.auc_subs.specs.declared.subscribers.IdentityKey.{IdentityKey}
-use Rattle.auc_subs.specs.declared.subscribers.TheConstants.{MAX_SUBSCRIBERS}
-use Rattle.auc_subs.specs.Lookup.{key_of, IsLookup}
-use Rattle.auc_subs.specs.Subscriber.{is_identity, place_of, IsRow}
+use Rattle.auc_subs.specs.Subscriber.{most_subscribers, same_identity, place_of, IsRow}
+use Rattle.auc_subs.specs.InnerLookup.{key_of, IsLookup}
 use Rattle.auc_subs.proofs.RowLemmas.{one_more}
 
 -- whether two keys are one, as the map compares them
@@ -19,11 +18,11 @@ abbrev pub is_key : IdentityKey → IdentityKey → Bool
 is_key a b = (a.digits == b.digits) && (a.number == b.number)
 
 -- keys are one where their identities are
-same_test : (a b : Identity) → is_key (key_of b) (key_of a) ≡ is_identity a b
+same_test : (a b : Identity) → is_key (key_of b) (key_of a) ≡ same_identity a b
 same_test a b = grind (arith, nat_tests)
 
 first_place : (rows : List Row) (imsi : Identity)
-    → position_or_len (is_key (key_of imsi)) (map (λ row. key_of row.imsi) rows) ≡ position_or_len (λ row. is_identity row.imsi imsi) rows
+    → position_or_len (is_key (key_of imsi)) (map (λ row. key_of row.imsi) rows) ≡ position_or_len (λ row. same_identity row.imsi imsi) rows
 first_place [] imsi = refl
 first_place (row ∷ rows) imsi = rw (same_test row.imsi imsi, first_place rows imsi) refl
 
@@ -56,7 +55,7 @@ module _ (old new : List (IdentityKey × Row)) (row : Row) (before : IsLookup (k
   keys_put = rw behind (map-append (λ e. e.0) old ((key_of row.imsi, row) ∷ []))
 
   -- and the rows stay subscribers under their keys
-  pub lookup_put : IsRow row → length (values_of old) < MAX_SUBSCRIBERS → IsLookup (keys_of new) (values_of new)
+  pub lookup_put : IsRow row → length (values_of old) < most_subscribers → IsLookup (keys_of new) (values_of new)
   lookup_put is_row room = record {
     subscribers = rw values_put (one_more (values_of old) row before.subscribers is_row none room);
     keyed = rw (keys_put, values_put, map-append (λ row. key_of row.imsi) (values_of old) (row ∷ [])) (ap (λ keys. keys ++ key_of row.imsi ∷ []) before.keyed);

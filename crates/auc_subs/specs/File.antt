@@ -2,12 +2,8 @@
 -- double quotes, doubled inside; CR, LF or both end a record, and so does the file's end; an empty line is
 -- no record; a byte order mark at the start is dropped. Record 0 is the header, and each further record is
 -- one subscriber.
-use Rattle.std.specs.Prelude.{◌≡◌, ℕ, ◌+◌, ◌<◌, ◌==◌, ◌&&◌, Bool, false, List, [], ◌∷◌, length, codes, fold, Some, Result, Ok, Err, if◌then◌else◌}
-use Rattle.std.specs.Borrow.{Bor}
-use Rattle.csv.specs.Machine.{ends_at_end}
-use Rattle.csv.specs.Reading.{Ready, default_config, reader_config, reader_state, reader_trim, records, records_from, source_of, strip_bom}
-use Rattle.csv.specs.declared.reader.Reader.{Reader}
-use Rattle.csv.specs.declared.reader.Trim.TheVariants as trim
+use Rattle.std.specs.Prelude.{ℕ, ◌+◌, ◌==◌, ◌&&◌, Bool, List, [], ◌∷◌, length, codes, fold, Result, Ok, Err, if◌then◌else◌}
+use Rattle.csv.specs.Reading.{default_config, records, strip_bom}
 use Rattle.auc_subs.specs.declared.row.Row.{Row}
 use Rattle.auc_subs.specs.declared.refusal.SubsRefusal.{SubsRefusal}
 use Rattle.auc_subs.specs.declared.refusal.SubsRefusal.TheVariants as refusal
@@ -46,19 +42,3 @@ rows_of (first ∷ rest) = if is_header first then fold with_record (Ok []) rest
 -- the subscribers that a file tells, or its first wrong record with its first fault
 abbrev pub subscribers_in : List ℕ → Result (List Row) SubsRefusal
 subscribers_in bytes = rows_of (records_of bytes)
-
--- a reader of a file stands between two records, before these
-pub record IsBefore (reader : Reader (Bor (List ℕ))) (left : List (List (List ℕ))) : Type 0 where
-  pub untrimmed : reader_trim reader ≡ trim.None
-  pub ready : Ready reader
-  pub config : reader_config reader ≡ default_config
-  pub between : ends_at_end (reader_state reader) ≡ false
-  pub bytes : List ℕ
-  pub source : source_of (λ s. Some s.now) reader ≡ Some bytes
-  pub count : ℕ
-  pub enough : length bytes < count
-  pub told : left ≡ records_from default_config count (reader_state reader) bytes
-
--- the reader went on by one record with these fields
-abbrev pub WentOn : Reader (Bor (List ℕ)) → List (List (List ℕ)) → List (List ℕ) → Type 0
-WentOn reader left fields = (rest : List (List (List ℕ))) × (left ≡ fields ∷ rest) × IsBefore reader rest

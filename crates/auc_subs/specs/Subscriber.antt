@@ -1,5 +1,5 @@
--- Subscribers: what a line of seven fields says of one, with its first fault, and the rows that a list
--- of subscribers has. The fields in the order of their tests, behind the test that there are seven:
+-- Subscribers: the row that a line of seven fields says, or its first fault, and what the rows of a list
+-- of subscribers are. After the test that there are seven, the fields in the order of their tests:
 --
 --   IMSI   6 to 15 decimal digits                       Imsi
 --   K      32 hexadecimal digits                        Key
@@ -19,16 +19,14 @@ use Rattle.auc_sqn.specs.Number.{max_seq}
 use Rattle.auc_subs.specs.declared.row.Row.{Row}
 use Rattle.auc_subs.specs.declared.refusal.SubsWhy.{SubsWhy}
 use Rattle.auc_subs.specs.declared.refusal.SubsWhy.TheVariants as why
-use Rattle.auc_subs.specs.declared.subscribers.TheConstants.{MAX_SUBSCRIBERS}
 use Rattle.auc_text.specs.Field.{number_in, octets_in}
 use Rattle.auc_text.specs.Text.{is_text}
 use Rattle.auc_subs.specs.Field.{fields_of}
+use Rattle.auc_subs.specs.Steps.{◌>>=◌}
 
--- one test after another: the first that fails gives its fault
-infixl 10 ◌>>=◌
-abbrev pub ◌>>=◌ : {A B : Type 0} → Result A SubsWhy → (A → Result B SubsWhy) → Result B SubsWhy
-(Ok x) >>= next = next x
-(Err fault) >>= next = Err fault
+-- the greatest number of subscribers
+abbrev pub most_subscribers : ℕ
+most_subscribers = 65536
 
 -- OPc under a key, from the operator's field: the word `op` and OP, or the word `opc` and OPc itself (TS 35.206 §4.1)
 abbrev pub opc_in : List ℕ → List ℕ → List ℕ → Result (List ℕ) SubsWhy
@@ -59,26 +57,26 @@ row_of fields =
     then row_in (field fields 0) (field fields 1) (field fields 2) (field fields 3) (field fields 4) (field fields 5) (field fields 6)
     else Err why.FieldCount
 
--- whether two identities are one
-abbrev pub is_identity : Identity → Identity → Bool
-is_identity a b = (a.digits == b.digits) && (a.number == b.number)
+-- whether two identities are the same
+abbrev pub same_identity : Identity → Identity → Bool
+same_identity a b = (a.digits == b.digits) && (a.number == b.number)
 
 -- the place of the first row with an identity, from 0
 abbrev pub place_of : List Row → Identity → Option ℕ
-place_of rows imsi = position (λ row. is_identity row.imsi imsi) rows
+place_of rows imsi = position (λ row. same_identity row.imsi imsi) rows
 
 -- the row at a place has an identity
 abbrev pub HasIdentity : List Row → ℕ → Identity → Type 0
 HasIdentity rows sub imsi = (row : Row) × (slice_get rows sub ≡ Some row) × (row.imsi ≡ imsi)
 
--- the rows with a subscriber behind the last, where its identity is new and there is room
+-- the rows with a subscriber after the last, if its identity is new and there is room
 abbrev pub rows_with : List Row → Row → Result (List Row) SubsWhy
 rows_with rows row =
     if is_some (place_of rows row.imsi) then Err why.Twice
-    else if nat_le MAX_SUBSCRIBERS (length rows) then Err why.TooMany
+    else if nat_le most_subscribers (length rows) then Err why.TooMany
     else Ok (rows ++ row ∷ [])
 
--- the rows with the subscriber that fields are, or the first fault
+-- the rows with the subscriber that some fields are, or the first fault
 abbrev pub rows_with_fields : List Row → List (List ℕ) → Result (List Row) SubsWhy
 rows_with_fields rows fields = do
   row ← row_of fields
@@ -88,7 +86,7 @@ rows_with_fields rows fields = do
 abbrev pub rows_after : List Row → List ℕ → Result (List Row) SubsWhy
 rows_after rows line = rows_with_fields rows (fields_of line)
 
--- a row of an identity, whose byte strings and numbers are such
+-- a row: an identity, byte strings of the right lengths, and numbers of vectors
 pub record IsRow (row : Row) : Type 0 where
   pub identity : IsIdentity row.imsi.digits row.imsi.number
   pub key : IsBlock row.secret.k
@@ -98,8 +96,8 @@ pub record IsRow (row : Row) : Type 0 where
   pub drawn : row.seq ≤ max_seq
   pub accepted : row.usim ≤ max_seq
 
--- what rows of subscribers are: not too many, and of different identities
+-- the rows of subscribers: not too many, and with different identities
 pub record AreSubscribers (rows : List Row) : Type 0 where
-  pub limit : length rows ≤ MAX_SUBSCRIBERS
+  pub limit : length rows ≤ most_subscribers
   pub differ : AllPairs (λ a b. a.imsi ≢ b.imsi) rows
   pub each : All IsRow rows

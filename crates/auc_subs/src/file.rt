@@ -2,15 +2,16 @@
 
 ghost use Rattle.std.specs.Prelude.{◌≡◌, ℕ, ◌+◌, ◌<◌, [], ◌∷◌, List, length, fold, OnOk, IfOk, MatchBool, slice_index_or};
 ghost use Rattle.csv.specs.Records.{fields_of as record_fields};
-ghost use Rattle.auc_subs.specs.Subscriber.{field as field_of, row_of, rows_with_fields, IsRow};
-ghost use Rattle.auc_subs.specs.File.{is_header as is_header_of, rows_of, subscribers_in, with_record, records_of, IsBefore, WentOn};
+ghost use Rattle.auc_subs.specs.Subscriber.{field as field_of, most_subscribers, row_of, rows_with_fields, IsRow};
+ghost use Rattle.auc_subs.specs.File.{is_header as is_header_of, rows_of, subscribers_in, with_record, records_of};
+ghost use Rattle.auc_subs.specs.InnerFile.{IsBefore, WentOn};
 ghost use Rattle.auc_subs.specs.declared.refusal.AddRefusal.TheVariants as add_refusal;
 ghost use Rattle.auc_subs.specs.declared.refusal.SubsRefusal.TheVariants as refusal;
 
 use crate::refusal::{AddRefusal, SubsRefusal, SubsWhy};
 use crate::row::Row;
 use crate::row_reading::read_row;
-use crate::subscribers::{MAX_SUBSCRIBERS, Subscribers};
+use crate::subscribers::Subscribers;
 use auc_edge::NoMemory;
 use csv::{ByteRecord, Reader, ReaderBuilder};
 use std::alloc::Global;
@@ -18,7 +19,7 @@ use std::alloc::Global;
 impl Subscribers {
     /// The subscribers of a file of comma-separated records, as the crate `csv` reads them: a field may
     /// stand between double quotes, which are doubled inside; LF, CR and CRLF end a record; an empty line
-    /// is none; a byte order mark at the start is dropped; nothing is trimmed.
+    /// is no record; a byte order mark at the start is dropped; nothing is trimmed.
     ///
     /// The first record, of number 0, is the header `imsi,k,kind,op,amf,seq,usim`. Each further record is
     /// a subscriber, by the seven fields of [`Subscribers::add`]. A wrong file is refused with its first
@@ -109,7 +110,7 @@ fn read_rows(
 fn put_record(subs: &mut Subscribers, fields: &ByteRecord) -> Result<(), SubsRefusal>
     ensures added { OnOk result (with_record (Ok subs.old) (record_fields fields.now) ≡ Ok subs.new) }
     ensures grown { OnOk result (length subs.new ≡ length subs.old + 1) }
-    ensures room { OnOk result (length subs.old < MAX_SUBSCRIBERS) }
+    ensures room { OnOk result (length subs.old < most_subscribers) }
     ensures refused { (number : ℕ) (why : SubsWhy) → result ≡ Err (refusal.Row number why)
         → with_record (Ok subs.old) (record_fields fields.now) ≡ Err (refusal.Row number why) }
 {
@@ -125,7 +126,7 @@ fn put_record(subs: &mut Subscribers, fields: &ByteRecord) -> Result<(), SubsRef
 fn add_record(subs: &mut Subscribers, fields: &ByteRecord) -> Result<(), AddRefusal>
     ensures added { OnOk result (rows_with_fields subs.old (record_fields fields.now) ≡ Ok subs.new) }
     ensures grown { OnOk result (length subs.new ≡ length subs.old + 1) }
-    ensures room { OnOk result (length subs.old < MAX_SUBSCRIBERS) }
+    ensures room { OnOk result (length subs.old < most_subscribers) }
     ensures refused { (why : SubsWhy) → result ≡ Err (add_refusal.Why why)
         → rows_with_fields subs.old (record_fields fields.now) ≡ Err why }
 {
@@ -153,7 +154,7 @@ fn row_in(fields: &ByteRecord) -> Result<Row, SubsWhy>
     )
 }
 
-/// The field at a place, empty where the record has none there.
+/// The field at a place, empty if the record has none there.
 fn field(fields: &ByteRecord, place: usize) -> &[u8]
     ensures { result.now ≡ field_of (record_fields fields.now) place }
 {

@@ -5,11 +5,13 @@
 //! and its USIM has accepted them. [`Subscribers`] are rows with different identities; contracts see
 //! them as the list of their rows. [`Subscribers::read`] reads a file of comma-separated records and
 //! tells the first wrong one, [`Subscribers::add`] a line of seven fields, each by its first fault, a
-//! [`SubsWhy`]. Where OP is given, OPc is computed of it.
+//! [`SubsWhy`]. If OP is given, OPc is computed from it. [`refused_record_is_the_first_wrong`] and the
+//! other laws say what each fault is by itself.
 #![tactic(auto)]
 
 mod field;
 mod file;
+mod law;
 mod refusal;
 mod row;
 mod row_reading;
@@ -17,6 +19,10 @@ mod subscribers;
 #[cfg(test)]
 mod tests;
 
+pub use law::{
+    file_that_is_read_is_right, line_that_is_added_is_a_subscriber,
+    refused_line_has_the_first_fault, refused_record_is_the_first_wrong,
+};
 pub use refusal::{AddRefusal, SubsRefusal, SubsWhy};
 pub use row::Row;
 pub use subscribers::{MAX_SUBSCRIBERS, Subscribers};

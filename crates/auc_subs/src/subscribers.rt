@@ -1,7 +1,7 @@
 //! The list of subscribers.
 
 ghost use Rattle.std.specs.Prelude.{◌≡◌, ◌≢◌, ◌<◌, ◌↔◌, [], length, All, IsTrue, OnOk, OnErr, IfOk, IfSome, IfNone, slice_get};
-ghost use Rattle.auc_subs.specs.Lookup.{key_of};
+ghost use Rattle.auc_subs.specs.InnerLookup.{key_of};
 
 use crate::field::{fields, has_seven_fields};
 use crate::refusal::{AddRefusal, SubsWhy};
@@ -35,7 +35,7 @@ impl Model for Subscribers {
 
     ghost Value = { List Row };
 
-    ghost use Rattle.auc_subs.specs.Lookup.{IsLookup};
+    ghost use Rattle.auc_subs.specs.InnerLookup.{IsLookup};
 
     ghost view = { λ s. values s.rows };
 
@@ -55,7 +55,7 @@ impl Subscribers {
         }
     }
 
-    /// How many subscribers there are. What holds of all lists of subscribers is told here.
+    /// How many subscribers there are. The clauses also say what holds of all lists of subscribers.
     pub fn len(&self) -> u32
         ensures count { result ≡ length self.now }
         ensures subscribers { AreSubscribers self.now }
@@ -78,7 +78,7 @@ impl Subscribers {
         &self.rows[sub as usize]
     }
 
-    /// The place of the row with an identity, or `None` where no row has it.
+    /// The place of the row with an identity, or `None` if no row has it.
     pub fn find(&self, imsi: Imsi) -> Option<u32>
         ensures place { result ≡ place_of self.now imsi }
         ensures within { IfSome result (λ sub. sub < length self.now) }
@@ -91,7 +91,7 @@ impl Subscribers {
         }
     }
 
-    /// Adds the subscriber that a line is, and answers its place, which is the last. The line is
+    /// Adds the subscriber of a line, and answers its place, which is the last. The line is
     /// `IMSI K KIND OP AMF SEQ USIM`, seven fields with one space between each two: 6 to 15 decimal
     /// digits, 32 hexadecimal digits, `op` or `opc`, 32 and 4 hexadecimal digits, and two numbers of 1
     /// to 13 decimal digits, at most `MAX_SEQ`. A refusal leaves the subscribers as they were.
@@ -109,7 +109,7 @@ impl Subscribers {
         self.admit(row)
     }
 
-    /// Puts a row behind the last.
+    /// Puts a row after the last.
     pub(crate) fn admit(&mut self, row: Row) -> Result<u32, AddRefusal>
         requires { IsRow row }
 

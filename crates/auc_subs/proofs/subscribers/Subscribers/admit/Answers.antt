@@ -1,8 +1,7 @@
 use Rattle.std.proofs.Common.{◌≡◌, ◌<◌, ◌∙◌, ap, sym, false, is_some, length, arith}
 use Rattle.std.proofs.lemmas.List.{length-map}
 use Rattle.indexmap.specs.IndexMap.{values}
-use Rattle.auc_subs.specs.declared.subscribers.TheConstants.{MAX_SUBSCRIBERS}
-use Rattle.auc_subs.specs.Subscriber.{place_of}
+use Rattle.auc_subs.specs.Subscriber.{most_subscribers, place_of}
 use Rattle.auc_subs.proofs.LookupLemmas.{values_put, lookup_put}
 use Rattle.auc_subs.proofs.RowLemmas.{rows_with_new}
 use Rattle.auc_subs.proofs.subscribers.Subscribers.admit.Goals as goal
@@ -12,7 +11,7 @@ new_identity : (c : goal.In_ok-insert) → is_some (place_of (values c.self.insi
 new_identity c = rw c.self.view_is (sym (ap is_some c.find.ensures.place) ∙ sym c.is_some.ensures ∙ c.if-is_some.false)
 
 -- there was room for one more row
-room : (c : goal.In_ok-insert) → length (values c.self.inside.rows) < MAX_SUBSCRIBERS
+room : (c : goal.In_ok-insert) → length (values c.self.inside.rows) < most_subscribers
 room c = rw (length-map c.self.inside.rows.entries (λ e. e.1)) (omega (arith, c.len-sub.ensures.len))
 
 pub returns-clause-added : goal.returns-clause-added

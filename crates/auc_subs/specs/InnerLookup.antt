@@ -1,4 +1,5 @@
--- How rows are looked up by identity: each under the key of its own, in their order.
+-- Inner facts: what only private contracts of this crate cite. How rows are looked up by identity: each
+-- under the key of its own, in their order.
 use Rattle.std.specs.Prelude.{◌≡◌, List, map}
 use Rattle.auc_edge.specs.Identity.{Identity}
 use Rattle.auc_subs.specs.declared.row.Row.{Row}
