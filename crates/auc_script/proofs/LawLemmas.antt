@@ -14,12 +14,12 @@ use Rattle.auc_script.specs.declared.refusal.ScriptWhy.{ScriptWhy}
 use Rattle.auc_text.specs.Text.{ended, lines_of, without_cr}
 use Rattle.auc_script.specs.Scenario.{Scenario, after_line}
 use Rattle.auc_script.specs.Reading.{AreRight, after, beginning, read_lines, script_from, script_in}
-use Rattle.auc_script.specs.Law.{EachRefusedLineIsTheFirstWrong, EachRightTextIsReadWhole, EachTextThatIsReadIsRight, Ended, IsEnded, IsFirstWrong, IsLine, all_lines, ended_text, text_of}
+use Rattle.auc_script.specs.Law.{EachRefusedLineIsTheFirstWrong, EachRightTextIsReadWhole, EachTextThatIsReadIsRight, Ended, IsEnded, IsFirstWrong, HasNoLf, all_lines, ended_text, whole_text}
 use Rattle.auc_script.proofs.ReadingLemmas.{read_on}
 use Rattle.auc_text.proofs.Facts.{has_part, line_first, line_last}
 
 -- a line has no byte at which a text is cut
-no_mark : (line : List ℕ) → IsLine line → All (λ byte. nat_eq byte 10 ≡ false) line
+no_mark : (line : List ℕ) → HasNoLf line → All (λ byte. nat_eq byte 10 ≡ false) line
 no_mark line none k d within = let other = none k d within in grind (arith, nat_tests)
 
 -- the place of the last byte
@@ -40,24 +40,24 @@ other_kept line other =
     differs byte other = grind (arith, nat_tests)
 
 -- the first line of a text that goes on behind an LF
-cut_line : (line rest : List ℕ) → IsLine line → lines_of (line ++ 10 ∷ rest) ≡ without_cr line ∷ lines_of rest
+cut_line : (line rest : List ℕ) → HasNoLf line → lines_of (line ++ 10 ∷ rest) ≡ without_cr line ∷ lines_of rest
 cut_line line rest is = line_first (line ++ 10 ∷ rest) line rest (slice_split_at (λ byte. nat_eq byte 10) line 10 rest (no_mark line is) refl)
 
 -- the first line of a text that goes on behind its end
 line_ended : (line : List ℕ) (crlf : Bool) (rest : List ℕ) → IsEnded (record { line = line; crlf = crlf }) → lines_of (ended_text (record { line = line; crlf = crlf }) ++ rest) ≡ line ∷ lines_of rest
 line_ended line true rest is =
     let text : (line ++ 13 ∷ 10 ∷ []) ++ rest ≡ (line ++ 13 ∷ []) ++ 10 ∷ rest = append_assoc line (13 ∷ 10 ∷ []) rest ∙ sym (append_assoc line (13 ∷ []) (10 ∷ rest)) in
-    let none : IsLine (line ++ 13 ∷ []) = All-push (λ byte. byte ≢ 10) line 13 is.line (λ same. cc) in
+    let none : HasNoLf (line ++ 13 ∷ []) = All-push (λ byte. byte ≢ 10) line 13 is.line (λ same. cc) in
     ap lines_of text ∙ cut_line (line ++ 13 ∷ []) rest none ∙ ap (λ first. first ∷ lines_of rest) (cr_cut line)
 line_ended line false rest is =
     ap lines_of (append_assoc line (10 ∷ []) rest) ∙ cut_line line rest is.line ∙ ap (λ first. first ∷ lines_of rest) (other_kept line (is.cr refl))
 
 -- the lines of a text of lines
-lines_of_text : (lines : List Ended) (last : List ℕ) → All IsEnded lines → IsLine last → lines_of (text_of lines last) ≡ all_lines lines last
+lines_of_text : (lines : List Ended) (last : List ℕ) → All IsEnded lines → HasNoLf last → lines_of (whole_text lines last) ≡ all_lines lines last
 lines_of_text [] last all rest = line_last last (slice_split_none (λ byte. nat_eq byte 10) last (no_mark last rest))
 lines_of_text (e ∷ more) last all rest =
     ap lines_of (append_assoc (ended_text e) (flat_map ended_text more) last)
-    ∙ line_ended e.line e.crlf (text_of more last) (All-head IsEnded e more all)
+    ∙ line_ended e.line e.crlf (whole_text more last) (All-head IsEnded e more all)
     ∙ ap (λ lines. e.line ∷ lines) (lines_of_text more last (All-tail IsEnded e more all) rest)
 
 -- right lines are read
@@ -67,21 +67,21 @@ read_all number s lines t right = let reads = read_on number s lines t [] right 
 -- lines that are each right are read whole
 pub right_text_is_read_whole : EachRightTextIsReadWhole
 right_text_is_read_whole rows lines last s all rest right =
-    let reads : read_lines 1 (beginning rows) (lines_of (text_of lines last)) ≡ Ok s =
+    let reads : read_lines 1 (beginning rows) (lines_of (whole_text lines last)) ≡ Ok s =
     rw (lines_of_text lines last all rest) (read_all 1 (beginning rows) (all_lines lines last) s right)
     in rw reads refl
 
 -- the parts of a text have no LF
-parts_are_lines : (text : List ℕ) → All IsLine (slice_split (λ byte. nat_eq byte 10) text)
-parts_are_lines [] = All-cons IsLine [] [] (All-nil (λ byte. byte ≢ 10)) (All-nil IsLine)
+parts_are_lines : (text : List ℕ) → All HasNoLf (slice_split (λ byte. nat_eq byte 10) text)
+parts_are_lines [] = All-cons HasNoLf [] [] (All-nil (λ byte. byte ≢ 10)) (All-nil HasNoLf)
 parts_are_lines (x ∷ xs) = which (nat_eq x 10) refl (parts_are_lines xs)
   where
-    onto : (parts : List (List ℕ)) → x ≢ 10 → All IsLine parts → All IsLine (onto_first x parts)
-    onto [] other all = All-cons IsLine (x ∷ []) [] (All-cons (λ byte. byte ≢ 10) x [] other (All-nil (λ byte. byte ≢ 10))) (All-nil IsLine)
-    onto (part ∷ parts) other all = All-cons IsLine (x ∷ part) parts (All-cons (λ byte. byte ≢ 10) x part other (All-head IsLine part parts all)) (All-tail IsLine part parts all)
+    onto : (parts : List (List ℕ)) → x ≢ 10 → All HasNoLf parts → All HasNoLf (onto_first x parts)
+    onto [] other all = All-cons HasNoLf (x ∷ []) [] (All-cons (λ byte. byte ≢ 10) x [] other (All-nil (λ byte. byte ≢ 10))) (All-nil HasNoLf)
+    onto (part ∷ parts) other all = All-cons HasNoLf (x ∷ part) parts (All-cons (λ byte. byte ≢ 10) x part other (All-head HasNoLf part parts all)) (All-tail HasNoLf part parts all)
 
-    which : (b : Bool) → nat_eq x 10 ≡ b → All IsLine (slice_split (λ byte. nat_eq byte 10) xs) → All IsLine (slice_split (λ byte. nat_eq byte 10) (x ∷ xs))
-    which true is others = rw (slice_split-cons_yes (λ byte. nat_eq byte 10) x xs is) (All-cons IsLine [] (slice_split (λ byte. nat_eq byte 10) xs) (All-nil (λ byte. byte ≢ 10)) others)
+    which : (b : Bool) → nat_eq x 10 ≡ b → All HasNoLf (slice_split (λ byte. nat_eq byte 10) xs) → All HasNoLf (slice_split (λ byte. nat_eq byte 10) (x ∷ xs))
+    which true is others = rw (slice_split-cons_yes (λ byte. nat_eq byte 10) x xs is) (All-cons HasNoLf [] (slice_split (λ byte. nat_eq byte 10) xs) (All-nil (λ byte. byte ≢ 10)) others)
     which false is others = rw (slice_split-cons_no (λ byte. nat_eq byte 10) x xs is) (onto (slice_split (λ byte. nat_eq byte 10) xs) (λ same. grind (arith, nat_tests)) others)
 
 -- a part of a text as a line with its end
@@ -99,7 +99,7 @@ ends_with (x ∷ xs) byte last =
     let none : drop (length (x ∷ xs) - 1 + 1) (x ∷ xs) ≡ [] = drop_all (length (x ∷ xs) - 1 + 1) (x ∷ xs) (omega arith) in
     sym (take-append-drop (length (x ∷ xs) - 1) (x ∷ xs)) ∙ ap (λ behind. take (length (x ∷ xs) - 1) (x ∷ xs) ++ behind) (rw (last, none) at rest)
 
-as_ended : (part : List ℕ) → IsLine part → AsEnded part
+as_ended : (part : List ℕ) → HasNoLf part → AsEnded part
 as_ended part is = which (nat_eq (get_or part (length part - 1) 0) 13) refl
   where
     which : (b : Bool) → nat_eq (get_or part (length part - 1) 0) 13 ≡ b → AsEnded part
@@ -124,24 +124,24 @@ record AsText (parts : List (List ℕ)) : Type 0 where
   lines : List Ended
   last : List ℕ
   all : All IsEnded lines
-  rest : IsLine last
-  text_is : join_with_byte 10 parts ≡ text_of lines last
+  rest : HasNoLf last
+  text_is : join_with_byte 10 parts ≡ whole_text lines last
   lines_are : ended parts ≡ all_lines lines last
 
-as_text : (parts : List (List ℕ)) → All IsLine parts → 0 < length parts → AsText parts
+as_text : (parts : List (List ℕ)) → All HasNoLf parts → 0 < length parts → AsText parts
 as_text [] all some = absurd (omega arith)
-as_text (last ∷ []) all some = record { lines = []; last = last; all = All-nil IsEnded; rest = All-head IsLine last [] all; text_is = refl; lines_are = refl }
+as_text (last ∷ []) all some = record { lines = []; last = last; all = All-nil IsEnded; rest = All-head HasNoLf last [] all; text_is = refl; lines_are = refl }
 as_text (part ∷ next ∷ more) all some =
-    let first = as_ended part (All-head IsLine part (next ∷ more) all) in
-    let others = as_text (next ∷ more) (All-tail IsLine part (next ∷ more) all) (omega arith) in
+    let first = as_ended part (All-head HasNoLf part (next ∷ more) all) in
+    let others = as_text (next ∷ more) (All-tail HasNoLf part (next ∷ more) all) (omega arith) in
     record {
       lines = first.e ∷ others.lines;
       last = others.last;
       all = All-cons IsEnded first.e others.lines first.is others.all;
       rest = others.rest;
       text_is = ap (λ text. part ++ 10 ∷ text) others.text_is
-          ∙ sym (append_assoc part (10 ∷ []) (text_of others.lines others.last))
-          ∙ ap (λ text. text ++ text_of others.lines others.last) (sym first.text_is)
+          ∙ sym (append_assoc part (10 ∷ []) (whole_text others.lines others.last))
+          ∙ ap (λ text. text ++ whole_text others.lines others.last) (sym first.text_is)
           ∙ sym (append_assoc (ended_text first.e) (flat_map ended_text others.lines) others.last);
       lines_are = rw (others.lines_are, first.line_is) refl;
     }

@@ -7,7 +7,7 @@ use Rattle.auc_script.specs.declared.refusal.ScriptRefusal.TheVariants as refusa
 use Rattle.auc_script.specs.declared.refusal.ScriptWhy.{ScriptWhy}
 use Rattle.auc_script.specs.declared.refusal.LineRefusal.{LineRefusal}
 use Rattle.auc_script.specs.declared.refusal.LineRefusal.TheVariants as of
-use Rattle.auc_script.specs.Refusal.{Becomes, refusal_at}
+use Rattle.auc_script.specs.InnerRefusal.{Becomes, refusal_at}
 use Rattle.auc_script.specs.Scenario.{Scenario, after_line}
 use Rattle.auc_text.specs.Text.{lines_of}
 use Rattle.auc_script.specs.Reading.{AreAfter, AreRight, Keeps, after, beginning, read_lines, script_from, script_of}

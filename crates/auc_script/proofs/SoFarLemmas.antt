@@ -16,14 +16,14 @@ use Rattle.auc_script.specs.declared.part.Line.{Line}
 use Rattle.auc_script.specs.declared.part.Line.TheVariants.{Draw, Give, Sync}
 use Rattle.auc_script.specs.declared.part.Part.{Part}
 use Rattle.auc_script.specs.declared.part.Part.TheVariants.{Round}
-use Rattle.auc_script.specs.declared.part.TheConstants.{MAX_JOBS, MAX_ROUNDS, MAX_VECTORS}
+use Rattle.auc_script.specs.Numbers.{most_jobs, most_rounds, most_vectors}
 use Rattle.auc_script.specs.declared.round_so_far.RoundSoFar.{RoundSoFar}
 use Rattle.auc_script.specs.declared.word.JobWord.{JobWord}
 use Rattle.auc_script.specs.Limits.{AreApart, AreJobs, AreWithin, IsLine, IsPart}
-use Rattle.auc_script.specs.Scenario.{Scenario, asked, count_of, gives_to, is_busy, is_give_to, jobs_in, job_line, jobs_of, line_of, no_jobs, of_job_line, parts_of, round_line, with_round}
+use Rattle.auc_script.specs.Scenario.{Scenario, asked, asked_by, gives_to, is_busy, is_give_to, jobs_in, job_line, jobs_of, line_of, no_jobs, of_job_line, parts_of, round_line, with_round}
 use Rattle.auc_script.specs.declared.refusal.ScriptWhy.TheVariants.{Limit}
 use Rattle.auc_script.specs.Field.{no_field}
-use Rattle.auc_script.specs.SoFar.{AreMarks, IsBetween, IsMark, IsSoFar, marked, with_line}
+use Rattle.auc_script.specs.InnerSoFar.{AreMarks, IsBetween, IsMark, IsSoFar, marked, with_line}
 
 -- the jobs of parts with one more round
 pub jobs_with : (ended : List Part) (jobs : List (List Line)) → jobs_of (ended ++ Round jobs ∷ []) ≡ jobs_of ended ++ jobs
@@ -35,11 +35,11 @@ pub length-jobs : (ended : List Part) (jobs : List (List Line)) → length (jobs
 length-jobs ended jobs = rw (jobs_with ended jobs) (length-append (jobs_of ended) jobs)
 
 pub asked-jobs : (ended : List Part) (jobs : List (List Line)) → asked (jobs_of (ended ++ Round jobs ∷ [])) ≡ asked (jobs_of ended) + asked jobs
-asked-jobs ended jobs = rw (jobs_with ended jobs) (sum_by-append (λ job. sum_by count_of job) (jobs_of ended) jobs)
+asked-jobs ended jobs = rw (jobs_with ended jobs) (sum_by-append (λ job. sum_by asked_by job) (jobs_of ended) jobs)
 
 -- other jobs in the present round
 pub within_with : (rows : List Row) (ended : List Part) (old new : List (List Line)) → AreWithin rows (ended ++ Round old ∷ []) → AreJobs rows new
-    → length (jobs_of (ended ++ Round new ∷ [])) ≤ MAX_JOBS → asked (jobs_of (ended ++ Round new ∷ [])) ≤ MAX_VECTORS → AreWithin rows (ended ++ Round new ∷ [])
+    → length (jobs_of (ended ++ Round new ∷ [])) ≤ most_jobs → asked (jobs_of (ended ++ Round new ∷ [])) ≤ most_vectors → AreWithin rows (ended ++ Round new ∷ [])
 within_with rows ended old new within jobs count vectors = record {
   each = All-push (IsPart rows) ended (Round new) (All-pop (IsPart rows) (ended ++ Round old ∷ []) ended (Some (Round old)) refl within.each).0 jobs;
   rounds = omega (arith, within.rounds, length-append ended (Round old ∷ []), length-append ended (Round new ∷ []));
@@ -52,7 +52,7 @@ pub present_jobs : (rows : List Row) (ended : List Part) (jobs : List (List Line
 present_jobs rows ended jobs within = (All-pop (IsPart rows) (ended ++ Round jobs ∷ []) ended (Some (Round jobs)) refl within.each).1
 
 -- a round without jobs
-pub no_jobs_more : (rows : List Row) (ended : List Part) → AreWithin rows ended → length ended < MAX_ROUNDS → AreWithin rows (ended ++ Round [] ∷ [])
+pub no_jobs_more : (rows : List Row) (ended : List Part) → AreWithin rows ended → length ended < most_rounds → AreWithin rows (ended ++ Round [] ∷ [])
 no_jobs_more rows ended within room = record {
   each = All-push (IsPart rows) ended (Round []) within.each (record { lines = All-nil (λ job. All (IsLine rows) job); apart = λ i j d less inside. absurd (omega arith) });
   rounds = omega (arith, room, length-append ended (Round [] ∷ []));
@@ -69,7 +69,7 @@ job_more rows jobs are = record {
 
 -- it asks for nothing
 pub asked_same : (jobs : List (List Line)) → asked (jobs ++ [] ∷ []) ≡ asked jobs
-asked_same jobs = rw (sum_by-append (λ job. sum_by count_of job) jobs ([] ∷ [])) (omega arith)
+asked_same jobs = rw (sum_by-append (λ job. sum_by asked_by job) jobs ([] ∷ [])) (omega arith)
 
 -- which jobs of a round give, by a mark, with one more job
 mark_more : (before count mark : ℕ) → ((nat_lt before mark && nat_le mark (before + count)) || nat_eq mark (before + count + 1)) ≡ (nat_lt before mark && nat_le mark (before + (count + 1)))
@@ -159,8 +159,8 @@ length-marked marks job (Sync s seq bit count) = refl
 length-marked marks job (Give s number) = length-set marks s job
 
 -- it asks for as many vectors more
-asked_more : (jobs : List (List Line)) (job : List Line) (line : Line) → asked (jobs ++ (job ++ line ∷ []) ∷ []) ≡ asked (jobs ++ job ∷ []) + count_of line
-asked_more jobs job line = rw (sum_by-append (λ job. sum_by count_of job) jobs ((job ++ line ∷ []) ∷ []), sum_by-append (λ job. sum_by count_of job) jobs (job ∷ []), sum_by-append count_of job (line ∷ [])) (omega arith)
+asked_more : (jobs : List (List Line)) (job : List Line) (line : Line) → asked (jobs ++ (job ++ line ∷ []) ∷ []) ≡ asked (jobs ++ job ∷ []) + asked_by line
+asked_more jobs job line = rw (sum_by-append (λ job. sum_by asked_by job) jobs ((job ++ line ∷ []) ∷ []), sum_by-append (λ job. sum_by asked_by job) jobs (job ∷ []), sum_by-append asked_by job (line ∷ [])) (omega arith)
 
 -- the jobs in front of the last are apart, and each from the last
 front_apart : (jobs : List (List Line)) (last : List Line) → AllPairs AreApart (jobs ++ last ∷ []) → AllPairs AreApart jobs
@@ -216,7 +216,7 @@ pub at_round : (rows : List Row) (s : SoFar) (round : Option RoundSoFar) → s.r
 at_round rows s round is kept = rw (← is) kept
 
 -- what is kept when a job begins
-pub kept_job : (rows : List Row) (s : SoFar) (round : RoundSoFar) → IsSoFar rows (record s { round = Some round }) → s.jobs < MAX_JOBS
+pub kept_job : (rows : List Row) (s : SoFar) (round : RoundSoFar) → IsSoFar rows (record s { round = Some round }) → s.jobs < most_jobs
     → IsSoFar rows (record s { round = Some (record { jobs = jobs_in round; job = Some [] }); jobs = s.jobs + 1 })
 kept_job rows s round kept room =
     let count : length (jobs_of (s.ended ++ Round (jobs_in round ++ [] ∷ []) ∷ [])) ≡ s.jobs + 1
@@ -234,13 +234,13 @@ kept_job rows s round kept room =
 
 -- what is kept when a line of a job comes
 pub kept_line : (rows : List Row) (s : SoFar) (jobs : List (List Line)) (job : List Line) (line : Line) (givers : Givers) → IsSoFar rows (record s { round = Some (record { jobs = jobs; job = Some job }) })
-    → IsLine rows line → is_busy (record { jobs = jobs; job = Some job }) line ≡ false → s.asked + count_of line ≤ MAX_VECTORS
+    → IsLine rows line → is_busy (record { jobs = jobs; job = Some job }) line ≡ false → s.asked + asked_by line ≤ most_vectors
     → givers.before ≡ s.givers.before → givers.marks.items ≡ marked s.givers.marks.items (s.givers.before + length jobs + 1) line
-    → IsSoFar rows (record s { round = Some (record { jobs = jobs; job = Some (job ++ line ∷ []) }); asked = s.asked + count_of line; givers = givers })
+    → IsSoFar rows (record s { round = Some (record { jobs = jobs; job = Some (job ++ line ∷ []) }); asked = s.asked + asked_by line; givers = givers })
 kept_line rows s jobs job line givers kept is_line free room before marks =
     let count : length (jobs_of (s.ended ++ Round (jobs ++ (job ++ line ∷ []) ∷ []) ∷ [])) ≡ s.jobs
     = omega (arith, kept.jobs, length-jobs s.ended (jobs ++ job ∷ []), length-jobs s.ended (jobs ++ (job ++ line ∷ []) ∷ []), length-append jobs (job ∷ []), length-append jobs ((job ++ line ∷ []) ∷ [])) in
-    let vectors : asked (jobs_of (s.ended ++ Round (jobs ++ (job ++ line ∷ []) ∷ []) ∷ [])) ≡ s.asked + count_of line
+    let vectors : asked (jobs_of (s.ended ++ Round (jobs ++ (job ++ line ∷ []) ∷ []) ∷ [])) ≡ s.asked + asked_by line
     = omega (arith, kept.asked, asked-jobs s.ended (jobs ++ job ∷ []), asked-jobs s.ended (jobs ++ (job ++ line ∷ []) ∷ []), asked_more jobs job line) in
     record {
       header = kept.header;
@@ -289,7 +289,7 @@ high : (before mark : ℕ) → mark ≤ before → false ≡ nat_eq mark (before
 high before mark bound = grind (arith, nat_tests)
 
 -- what is kept when a round begins
-pub kept_round : (rows : List Row) (old s : SoFar) → IsSoFar rows old → length (with_round old.ended old.round) < MAX_ROUNDS → IsBetween rows old s
+pub kept_round : (rows : List Row) (old s : SoFar) → IsSoFar rows old → length (with_round old.ended old.round) < most_rounds → IsBetween rows old s
     → IsSoFar rows (record s { round = Some (record { jobs = []; job = None }) })
 kept_round rows old s kept room between =
     let same : s.ended ≡ with_round old.ended old.round = between.ended in
@@ -323,7 +323,7 @@ not_begun None begun = refl
 not_begun (Some round) begun = absurd cc
 
 -- how many rounds have ended, where one is present
-pub ended_bound : (ended : List Part) (round : RoundSoFar) (present : Option RoundSoFar) → present ≡ Some round → length (with_round ended present) ≤ MAX_ROUNDS → length ended < MAX_ROUNDS
+pub ended_bound : (ended : List Part) (round : RoundSoFar) (present : Option RoundSoFar) → present ≡ Some round → length (with_round ended present) ≤ most_rounds → length ended < most_rounds
 ended_bound ended round present is bound = omega (arith, length-append ended (Round (jobs_in round) ∷ []), rw is at bound)
 
 -- the present round has ended
@@ -360,14 +360,14 @@ between_none rows s givers present subs kept none size before marks =
     }
 
 -- the number of a job of the present round fits
-pub job_room : (rows : List Row) (s : SoFar) (round : RoundSoFar) → s.round ≡ Some round → IsSoFar rows s → s.givers.before + length round.jobs ≤ MAX_JOBS
+pub job_room : (rows : List Row) (s : SoFar) (round : RoundSoFar) → s.round ≡ Some round → IsSoFar rows s → s.givers.before + length round.jobs ≤ most_jobs
 job_room rows s round is kept =
     let at = at_round rows s (Some round) is kept in
     omega (arith, at.round.before, at.parts.jobs, length-jobs s.ended (jobs_in round), length-append round.jobs (option_to_list round.job))
 
 -- what is kept when a line of a job comes, by what the calls say
 pub kept_line_at : (rows : List Row) (s : SoFar) (round : RoundSoFar) (job : List Line) (line : Line) (after : Option RoundSoFar) (count : ℕ) (givers : Givers) → IsSoFar rows s
-    → s.round ≡ Some round → round.job ≡ Some job → IsLine rows line → is_busy round line ≡ false → count ≡ count_of line → s.asked + count ≤ MAX_VECTORS
+    → s.round ≡ Some round → round.job ≡ Some job → IsLine rows line → is_busy round line ≡ false → count ≡ asked_by line → s.asked + count ≤ most_vectors
     → givers.before ≡ s.givers.before → givers.marks.items ≡ marked s.givers.marks.items (s.givers.before + length round.jobs + 1) line → after ≡ with_line s.round line
     → IsSoFar rows (record s { round = after; asked = s.asked + count; givers = givers })
 kept_line_at rows s round job line after count givers kept is has is_line free counted room before marks made =
@@ -387,10 +387,10 @@ passes a n limit within = grind (arith, nat_tests)
 
 -- what a line of a job makes of the scenario
 pub line_becomes : (s : Scenario) (which : JobWord) (fields : List (List ℕ)) (round : RoundSoFar) (job : List Line) (line : Line) (n count : ℕ) (after : Option RoundSoFar)
-    → s.round ≡ Some round → round.job ≡ Some job → line_of s.rows which fields ≡ Ok line → is_busy round line ≡ false → n ≡ asked (jobs_of (parts_of s)) → count ≡ count_of line
-    → n + count ≤ MAX_VECTORS → after ≡ with_line s.round line → of_job_line s which fields ≡ Ok (record s { round = after })
+    → s.round ≡ Some round → round.job ≡ Some job → line_of s.rows which fields ≡ Ok line → is_busy round line ≡ false → n ≡ asked (jobs_of (parts_of s)) → count ≡ asked_by line
+    → n + count ≤ most_vectors → after ≡ with_line s.round line → of_job_line s which fields ≡ Ok (record s { round = after })
 line_becomes s which fields round job line n count after is has says free total counted within made =
-    let test = passes (asked (jobs_of (parts_of s))) (count_of line) MAX_VECTORS (omega (arith, total, counted, within)) in
+    let test = passes (asked (jobs_of (parts_of s))) (asked_by line) most_vectors (omega (arith, total, counted, within)) in
     rw (made, says, test, is, free, has) refl
 
 -- tests of a count
@@ -402,20 +402,20 @@ full n limit reached = grind (arith, nat_tests)
 
 -- what a job makes of the scenario
 pub job_becomes : (s : Scenario) (fields : List (List ℕ)) (round after : RoundSoFar) (none : Unit {0}) (n : ℕ) → s.round ≡ Some round → no_field fields ≡ Ok none
-    → n ≡ length (jobs_of (parts_of s)) → n < MAX_JOBS → after ≡ record { jobs = jobs_in round; job = Some [] } → job_line s fields ≡ Ok (record s { round = Some after })
+    → n ≡ length (jobs_of (parts_of s)) → n < most_jobs → after ≡ record { jobs = jobs_in round; job = Some [] } → job_line s fields ≡ Ok (record s { round = Some after })
 job_becomes s fields round after none n is no_more counted room made =
-    let test = fits (length (jobs_of (parts_of s))) MAX_JOBS (omega (arith, counted, room)) in
+    let test = fits (length (jobs_of (parts_of s))) most_jobs (omega (arith, counted, room)) in
     rw (made, no_more, test, is) refl
 
 pub job_refused : (s : Scenario) (fields : List (List ℕ)) (round : RoundSoFar) (none : Unit {0}) (n : ℕ) → s.round ≡ Some round → no_field fields ≡ Ok none
-    → n ≡ length (jobs_of (parts_of s)) → MAX_JOBS ≤ n → job_line s fields ≡ Err Limit
+    → n ≡ length (jobs_of (parts_of s)) → most_jobs ≤ n → job_line s fields ≡ Err Limit
 job_refused s fields round none n is no_more counted reached =
-    let test = full (length (jobs_of (parts_of s))) MAX_JOBS (omega (arith, counted, reached)) in
+    let test = full (length (jobs_of (parts_of s))) most_jobs (omega (arith, counted, reached)) in
     rw (no_more, test, is) refl
 
 -- what a round makes of the scenario
-pub round_becomes : (s : Scenario) (fields : List (List ℕ)) (parts : List Part) (none : Unit {0}) (n : ℕ) → no_field fields ≡ Ok none → n ≡ length (parts_of s) → n < MAX_ROUNDS
+pub round_becomes : (s : Scenario) (fields : List (List ℕ)) (parts : List Part) (none : Unit {0}) (n : ℕ) → no_field fields ≡ Ok none → n ≡ length (parts_of s) → n < most_rounds
     → parts ≡ parts_of s → round_line s fields ≡ Ok (record s { ended = parts; round = Some no_jobs })
 round_becomes s fields parts none n no_more counted room made =
-    let test = fits (length (parts_of s)) MAX_ROUNDS (omega (arith, counted, room)) in
+    let test = fits (length (parts_of s)) most_rounds (omega (arith, counted, room)) in
     rw (made, no_more, test) refl

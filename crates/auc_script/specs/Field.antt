@@ -6,14 +6,9 @@ use Rattle.auc_edge.specs.Identity.{number_of}
 use Rattle.auc_text.specs.Text.{is_text}
 use Rattle.auc_script.specs.declared.refusal.ScriptWhy.{ScriptWhy}
 use Rattle.auc_script.specs.declared.refusal.ScriptWhy.TheVariants as why
+use Rattle.auc_script.specs.Numbers.{last_bit}
 
--- one test after another: the first that fails gives its cause
-infixl 10 ◌>>=◌
-abbrev pub ◌>>=◌ : {A B : Type 0} → Result A ScriptWhy → (A → Result B ScriptWhy) → Result B ScriptWhy
-(Ok x) >>= next = next x
-(Err cause) >>= next = Err cause
-
--- what passes where a test holds
+-- a test that has to hold
 abbrev pub require : Bool → ScriptWhy → Result (Unit {0}) ScriptWhy
 require holds cause = if holds then Ok tt else Err cause
 
@@ -39,8 +34,8 @@ abbrev pub is_number : List ℕ → Bool
 is_number text = nat_le 1 (length text) && nat_le (length text) 20 && list_all is_ascii_digit text
 
 -- a number of a range
-abbrev pub number_in : ℕ → ℕ → List ℕ → Result ℕ ScriptWhy
-number_in least greatest text =
+abbrev pub number_between : ℕ → ℕ → List ℕ → Result ℕ ScriptWhy
+number_between least greatest text =
     if is_number text
     then (if nat_le least (number_of text) && nat_le (number_of text) greatest then Ok (number_of text) else Err why.Number)
     else Err why.Fields
@@ -51,7 +46,7 @@ some_bit (Err cause) = Err cause
 
 -- a bit of the 112 of an AUTS, or - for none
 abbrev pub bit_in : List ℕ → Result (Option ℕ) ScriptWhy
-bit_in text = if is_text text (codes "-") then Ok None else some_bit (number_in 0 111 text)
+bit_in text = if is_text text (codes "-") then Ok None else some_bit (number_between 0 last_bit text)
 
 -- whether vectors are printed in full
 abbrev pub full_in : List ℕ → Result Bool ScriptWhy

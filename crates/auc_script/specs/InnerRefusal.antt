@@ -1,4 +1,5 @@
--- How one line is taken or refused, and what its refusal makes of the scenario's.
+-- Inner facts: what only private contracts of this crate cite. How one line is taken or refused, and what
+-- its refusal makes of the scenario's.
 use Rattle.std.specs.Prelude.{ℕ, ◌≡◌, Result, Ok, Err}
 use Rattle.auc_script.specs.declared.refusal.LineRefusal.{LineRefusal}
 use Rattle.auc_script.specs.declared.refusal.LineRefusal.TheVariants as line

@@ -1,23 +1,30 @@
--- What is kept while lines are read.
+-- Inner facts: what only private contracts of this crate cite. What is kept while lines are read.
 use Rattle.std.specs.Prelude.{ℕ, ◌≡◌, ◌<◌, ◌≤◌, ◌+◌, ◌++◌, ◌&&◌, nat_eq, nat_le, nat_lt, All, List, [], ◌∷◌, length, Option, Some, None, IfNone, IfSome, slice_index, slice_set}
 use Rattle.std.specs.List.{list_any}
 use Rattle.auc_subs.specs.declared.row.Row.{Row}
+use Rattle.auc_script.specs.declared.header.Header.{Header}
 use Rattle.auc_script.specs.declared.part.Line.{Line}
 use Rattle.auc_script.specs.declared.part.Line.TheVariants.{Draw, Give, Sync}
 use Rattle.auc_script.specs.declared.round_so_far.RoundSoFar.{RoundSoFar}
 use Rattle.auc_script.specs.declared.so_far.SoFar.{SoFar}
 use Rattle.auc_script.specs.Scenario.{Scenario, asked, gives_to, jobs_in, jobs_of, with_round}
-use Rattle.auc_script.specs.Limits.{AreWithin, IsHeader}
+use Rattle.auc_script.specs.Limits.{AreWithin}
+use Rattle.auc_script.specs.Numbers.{longest_realm, most_workers}
+
+-- a header within its limits
+pub record IsHeader (header : Header) : Type 0 where
+  pub workers : IfSome header.workers (λ workers. (1 ≤ workers) × (workers ≤ most_workers))
+  pub realm : IfSome header.realm (λ realm. length realm ≤ longest_realm)
 
 -- the scenario of these subscribers and what was read beside them
 abbrev pub scenario : List Row → SoFar → Scenario
 scenario rows so_far = record { rows = rows; header = so_far.header; ended = so_far.ended; round = so_far.round }
 
--- the place of a line's subscriber
-abbrev pub subscriber_of : Line → ℕ
-subscriber_of (Draw sub count) = sub
-subscriber_of (Sync sub seq bit count) = sub
-subscriber_of (Give sub number) = sub
+-- the place of the subscriber whose line it is
+abbrev pub whose : Line → ℕ
+whose (Draw sub count) = sub
+whose (Sync sub seq bit count) = sub
+whose (Give sub number) = sub
 
 -- the marks, by subscribers' places, with that of a job for each of its lines that gives
 abbrev pub marked : List ℕ → ℕ → Line → List ℕ

@@ -15,36 +15,36 @@ pub record Ended : Type 0 where
   pub crlf : Bool
 
 -- no byte of a line is an LF
-abbrev pub IsLine : List ℕ → Type 0
-IsLine line = All (λ byte. byte ≢ 10) line
+abbrev pub HasNoLf : List ℕ → Type 0
+HasNoLf line = All (λ byte. byte ≢ 10) line
 
--- a line, of which a CR at the end doesn't belong to how it ends
+-- a line with its ending: before LF alone, the line doesn't end with CR
 pub record IsEnded (e : Ended) : Type 0 where
-  pub line : IsLine e.line
+  pub line : HasNoLf e.line
   pub cr : e.crlf ≡ false → slice_index_or e.line (length e.line - 1) 0 ≢ 13
 
--- the text of a line with its end, and of lines and what stands behind them
+-- the text of a line with its ending, and of lines and the rest after them
 abbrev pub ended_text : Ended → List ℕ
 ended_text e = e.line ++ (if e.crlf then 13 ∷ 10 ∷ [] else 10 ∷ [])
 
-abbrev pub text_of : List Ended → List ℕ → List ℕ
-text_of lines last = flat_map ended_text lines ++ last
+abbrev pub whole_text : List Ended → List ℕ → List ℕ
+whole_text lines last = flat_map ended_text lines ++ last
 
--- all lines of such a text, the one that the text's end ends as the last
+-- all lines of such a text, with the rest as the last
 abbrev pub all_lines : List Ended → List ℕ → List (List ℕ)
 all_lines lines last = map (λ e. e.line) lines ++ last ∷ []
 
 abbrev pub EachRightTextIsReadWhole : Type 0
-EachRightTextIsReadWhole = (rows : List Row) (lines : List Ended) (last : List ℕ) (s : Scenario) → All IsEnded lines → IsLine last
-    → AreRight (beginning rows) (all_lines lines last) s → script_of rows (text_of lines last) ≡ Ok (script_from s, s.rows)
+EachRightTextIsReadWhole = (rows : List Row) (lines : List Ended) (last : List ℕ) (s : Scenario) → All IsEnded lines → HasNoLf last
+    → AreRight (beginning rows) (all_lines lines last) s → script_of rows (whole_text lines last) ≡ Ok (script_from s, s.rows)
 
--- a text of right lines, which lead to a scenario
+-- a text of right lines, which add up to a scenario
 pub record IsRightText (rows : List Row) (text : List ℕ) (s : Scenario) : Type 0 where
   pub lines : List Ended
   pub last : List ℕ
   pub ended : All IsEnded lines
-  pub rest : IsLine last
-  pub text_is : text ≡ text_of lines last
+  pub rest : HasNoLf last
+  pub text_is : text ≡ whole_text lines last
   pub right : AreRight (beginning rows) (all_lines lines last) s
 
 abbrev pub EachTextThatIsReadIsRight : Type 0

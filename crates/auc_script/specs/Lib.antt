@@ -1,8 +1,9 @@
 pub mod Field
+pub mod InnerRefusal
+pub mod InnerSoFar
 pub mod Law
 pub mod Limits
+pub mod Numbers
 pub mod Reading
-pub mod Refusal
 pub mod Scenario
-pub mod SoFar
 pub mod Word

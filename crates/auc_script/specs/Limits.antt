@@ -1,27 +1,26 @@
 -- What holds of every scenario that is read: its limits, that its lines speak of subscribers that there
 -- are, and that no two jobs of a round give to one USIM.
-use Rattle.std.specs.Prelude.{ℕ, ◌≡◌, ◌<◌, ◌≤◌, true, false, List, length, All, AllPairs, Option, Some, None, IfSome}
+use Rattle.std.specs.Prelude.{ℕ, ◌≡◌, ◌<◌, ◌≤◌, true, false, List, length, All, AllPairs, Option, Some, None}
 use Rattle.auc_sqn.specs.Number.{max_seq}
 use Rattle.auc_subs.specs.declared.row.Row.{Row}
 use Rattle.auc_subs.specs.Subscriber.{AreSubscribers}
-use Rattle.auc_script.specs.declared.header.Header.{Header}
 use Rattle.auc_script.specs.declared.part.Line.{Line}
 use Rattle.auc_script.specs.declared.part.Line.TheVariants.{Draw, Give, Sync}
 use Rattle.auc_script.specs.declared.part.Part.{Part}
 use Rattle.auc_script.specs.declared.part.Part.TheVariants.{Round}
 use Rattle.auc_script.specs.declared.script.Script.{Script}
-use Rattle.auc_script.specs.declared.part.TheConstants.{MAX_COUNT, MAX_JOBS, MAX_REALM, MAX_ROUNDS, MAX_VECTORS, MAX_WORKERS}
+use Rattle.auc_script.specs.Numbers.{last_bit, longest_realm, most_count, most_jobs, most_rounds, most_vectors, most_workers}
 use Rattle.auc_script.specs.Scenario.{asked, gives_to, jobs_of}
 
 -- a bit of an AUTS, from 0 for the first byte's top bit, or none
 abbrev pub IsBit : Option ℕ → Type 0
 IsBit None = Unit {0}
-IsBit (Some bit) = bit ≤ 111
+IsBit (Some bit) = bit ≤ last_bit
 
 -- a line of a subscriber that there is, whose numbers are within their ranges
 abbrev pub IsLine : List Row → Line → Type 0
-IsLine rows (Draw sub count) = (sub < length rows) × (1 ≤ count) × (count ≤ MAX_COUNT)
-IsLine rows (Sync sub seq bit count) = (sub < length rows) × (seq ≤ max_seq) × IsBit bit × (count ≤ MAX_COUNT)
+IsLine rows (Draw sub count) = (sub < length rows) × (1 ≤ count) × (count ≤ most_count)
+IsLine rows (Sync sub seq bit count) = (sub < length rows) × (seq ≤ max_seq) × IsBit bit × (count ≤ most_count)
 IsLine rows (Give sub number) = (sub < length rows) × (1 ≤ number) × (number ≤ max_seq)
 
 -- no two jobs give to one USIM
@@ -40,19 +39,14 @@ IsPart rows (Round jobs) = AreJobs rows jobs
 -- parts that are not too many, have not too many jobs and ask for not too many vectors
 pub record AreWithin (rows : List Row) (parts : List Part) : Type 0 where
   pub each : All (IsPart rows) parts
-  pub rounds : length parts ≤ MAX_ROUNDS
-  pub jobs : length (jobs_of parts) ≤ MAX_JOBS
-  pub vectors : asked (jobs_of parts) ≤ MAX_VECTORS
+  pub rounds : length parts ≤ most_rounds
+  pub jobs : length (jobs_of parts) ≤ most_jobs
+  pub vectors : asked (jobs_of parts) ≤ most_vectors
 
 -- what subscribers and a script that were read are
 pub record IsWithin (rows : List Row) (script : Script) : Type 0 where
   pub subscribers : AreSubscribers rows
   pub parts : AreWithin rows script.parts
   pub one_worker : 1 ≤ script.workers
-  pub workers : script.workers ≤ MAX_WORKERS
-  pub realm : length script.realm ≤ MAX_REALM
-
--- a header within its limits
-pub record IsHeader (header : Header) : Type 0 where
-  pub workers : IfSome header.workers (λ workers. (1 ≤ workers) × (workers ≤ MAX_WORKERS))
-  pub realm : IfSome header.realm (λ realm. length realm ≤ MAX_REALM)
+  pub workers : script.workers ≤ most_workers
+  pub realm : length script.realm ≤ longest_realm

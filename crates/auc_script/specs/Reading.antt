@@ -9,7 +9,7 @@ use Rattle.auc_script.specs.declared.refusal.ScriptWhy.{ScriptWhy}
 use Rattle.auc_text.specs.Text.{lines_of}
 use Rattle.auc_script.specs.Scenario.{Scenario, after_line, parts_of}
 
--- what is read on where a line is right; else it is refused
+-- what is read on if a line is right, or else its refusal
 abbrev pub after : ℕ → Result Scenario ScriptWhy → (Scenario → Result Scenario ScriptRefusal) → Result Scenario ScriptRefusal
 after number (Ok s) next = next s
 after number (Err why) next = Err (refusal.Line number why)
@@ -23,7 +23,7 @@ read_lines number s (line ∷ more) = after number (after_line s line) (λ t. re
 abbrev pub beginning : List Row → Scenario
 beginning rows = record { rows = rows; header = record { key = None; workers = None; full = None; realm = None }; ended = []; round = None }
 
--- the script of a scenario: where a word didn't come, a key of zeros, one worker, the brief
+-- the script of a scenario: for a word that didn't come, a key of zeros, one worker, the brief
 -- print, and no realm
 abbrev pub script_from : Scenario → Script
 script_from s = record {
@@ -52,8 +52,8 @@ AreRight s (line ∷ more) t = (next : Scenario) × (after_line s line ≡ Ok ne
 abbrev pub AreAfter : List Row → List ℕ → ℕ → List Row → Type 0
 AreAfter rows text count kept = (s : Scenario) × AreRight (beginning rows) (take count (lines_of text)) s × (s.rows ≡ kept)
 
--- what a refused text leaves: the subscribers of the lines before the wrong one, or where memory was
--- wanted those of some first lines
+-- what a refused text leaves: the subscribers of the lines before the wrong one, or if memory ran out
+-- those of some first lines
 abbrev pub Keeps : List Row → List ℕ → ScriptRefusal → List Row → Type 0
 Keeps rows text (refusal.Line number why) kept = AreAfter rows text (number - 1) kept
 Keeps rows text refusal.NoMemory kept = (count : ℕ) × AreAfter rows text count kept

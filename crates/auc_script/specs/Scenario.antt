@@ -30,7 +30,7 @@ use Rattle.auc_script.specs.declared.part.Line.{Line}
 use Rattle.auc_script.specs.declared.part.Line.TheVariants.{Draw, Give, Sync}
 use Rattle.auc_script.specs.declared.part.Part.{Part}
 use Rattle.auc_script.specs.declared.part.Part.TheVariants.{Round}
-use Rattle.auc_script.specs.declared.part.TheConstants.{MAX_COUNT, MAX_JOBS, MAX_REALM, MAX_ROUNDS, MAX_VECTORS, MAX_WORKERS}
+use Rattle.auc_script.specs.Numbers.{longest_realm, most_count, most_jobs, most_rounds, most_vectors, most_workers}
 use Rattle.auc_script.specs.declared.refusal.ScriptWhy.{ScriptWhy}
 use Rattle.auc_script.specs.declared.refusal.ScriptWhy.TheVariants as why
 use Rattle.auc_script.specs.declared.header.Header.{Header}
@@ -41,7 +41,8 @@ use Rattle.auc_script.specs.declared.word.JobWord.{JobWord}
 use Rattle.auc_script.specs.declared.word.JobWord.TheVariants as job
 use Rattle.auc_script.specs.declared.word.Word.{Word}
 use Rattle.auc_script.specs.declared.word.Word.TheVariants as word
-use Rattle.auc_script.specs.Field.{◌>>=◌, bit_in, four_fields, full_in, is_number, no_field, number_in, one_field, require, two_fields}
+use Rattle.auc_subs.specs.Steps.{◌>>=◌}
+use Rattle.auc_script.specs.Field.{bit_in, four_fields, full_in, is_number, no_field, number_between, one_field, require, two_fields}
 use Rattle.auc_script.specs.Word.{is_comment, is_later, word_of}
 
 -- what some lines say: the subscribers, the words of the header, the rounds before the present one, and
@@ -53,13 +54,13 @@ pub record Scenario : Type 0 where
   pub round : Option RoundSoFar
 
 -- how many vectors a line asks for, and all lines of some jobs
-abbrev pub count_of : Line → ℕ
-count_of (Draw sub count) = count
-count_of (Sync sub seq bit count) = count
-count_of (Give sub number) = 0
+abbrev pub asked_by : Line → ℕ
+asked_by (Draw sub count) = count
+asked_by (Sync sub seq bit count) = count
+asked_by (Give sub number) = 0
 
 abbrev pub asked : List (List Line) → ℕ
-asked jobs = sum_by (λ job. sum_by count_of job) jobs
+asked jobs = sum_by (λ job. sum_by asked_by job) jobs
 
 -- the jobs of some parts
 abbrev pub jobs_of : List Part → List (List Line)
@@ -94,7 +95,7 @@ is_busy round (Draw sub count) = false
 is_busy round (Sync sub seq bit count) = false
 is_busy round (Give sub number) = list_any (gives_to sub) round.jobs
 
--- what a word that came before says again
+-- a word that didn't come before
 abbrev pub once : {A : Type 0} → Option A → Result (Unit {0}) ScriptWhy
 once said = require (not (is_some said)) why.Twice
 
@@ -109,7 +110,7 @@ key_line h fields = do
 abbrev pub workers_line : Header → List (List ℕ) → Result Header ScriptWhy
 workers_line h fields = do
   text ← one_field fields
-  number ← number_in 1 MAX_WORKERS text
+  number ← number_between 1 most_workers text
   new ← once h.workers
   Ok (record h { workers = Some number })
 
@@ -124,7 +125,7 @@ abbrev pub realm_line : Header → List (List ℕ) → Result Header ScriptWhy
 realm_line h fields = do
   text ← one_field fields
   new ← once h.realm
-  within ← require (nat_le (length text) MAX_REALM) why.Limit
+  within ← require (nat_le (length text) longest_realm) why.Limit
   Ok (record h { realm = Some text })
 
 abbrev pub header_with : Header → HeaderWord → List (List ℕ) → Result Header ScriptWhy
@@ -164,7 +165,7 @@ no_jobs = record { jobs = []; job = None }
 abbrev pub round_line : Scenario → List (List ℕ) → Result Scenario ScriptWhy
 round_line s fields = do
   none ← no_field fields
-  within ← require (nat_lt (length (parts_of s)) MAX_ROUNDS) why.Limit
+  within ← require (nat_lt (length (parts_of s)) most_rounds) why.Limit
   Ok (record s { ended = parts_of s; round = Some no_jobs })
 
 -- `job`
@@ -172,7 +173,7 @@ abbrev pub job_line : Scenario → List (List ℕ) → Result Scenario ScriptWhy
 job_line s fields = do
   round ← ok_or s.round why.OutOfOrder
   none ← no_field fields
-  within ← require (nat_lt (length (jobs_of (parts_of s))) MAX_JOBS) why.Limit
+  within ← require (nat_lt (length (jobs_of (parts_of s))) most_jobs) why.Limit
   Ok (record s { round = Some (record { jobs = jobs_in round; job = Some [] }) })
 
 -- what a job's line says: the forms of the fields from left to right, then whose they are
@@ -180,7 +181,7 @@ abbrev pub draw_of : List Row → List (List ℕ) → Result Line ScriptWhy
 draw_of rows fields = do
   two ← two_fields fields
   identity ← ok_or (identity_of two.0) why.Fields
-  count ← number_in 1 MAX_COUNT two.1
+  count ← number_between 1 most_count two.1
   sub ← ok_or (place_of rows identity) why.UnknownSubscriber
   Ok (Draw sub count)
 
@@ -188,9 +189,9 @@ abbrev pub sync_of : List Row → List (List ℕ) → Result Line ScriptWhy
 sync_of rows fields = do
   four ← four_fields fields
   identity ← ok_or (identity_of four.0) why.Fields
-  seq ← number_in 0 max_seq four.1
+  seq ← number_between 0 max_seq four.1
   bit ← bit_in four.2
-  count ← number_in 0 MAX_COUNT four.3
+  count ← number_between 0 most_count four.3
   sub ← ok_or (place_of rows identity) why.UnknownSubscriber
   Ok (Sync sub seq bit count)
 
@@ -198,7 +199,7 @@ abbrev pub give_of : List Row → List (List ℕ) → Result Line ScriptWhy
 give_of rows fields = do
   two ← two_fields fields
   identity ← ok_or (identity_of two.0) why.Fields
-  number ← number_in 1 max_seq two.1
+  number ← number_between 1 max_seq two.1
   sub ← ok_or (place_of rows identity) why.UnknownSubscriber
   Ok (Give sub number)
 
@@ -214,7 +215,7 @@ of_job_line s which fields = do
   job ← ok_or round.job why.OutOfOrder
   line ← line_of s.rows which fields
   free ← require (not (is_busy round line)) why.UsimBusy
-  within ← require (nat_le (asked (jobs_of (parts_of s)) + count_of line) MAX_VECTORS) why.Limit
+  within ← require (nat_le (asked (jobs_of (parts_of s)) + asked_by line) most_vectors) why.Limit
   Ok (record s { round = Some (record { jobs = round.jobs; job = Some (job ++ line ∷ []) }) })
 
 -- a line of a known word

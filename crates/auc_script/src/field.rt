@@ -3,7 +3,7 @@
 ghost use Rattle.std.specs.Prelude.{◌≡◌, ◌≤◌, ◌<◌, nat_le, MatchResult, IfOk, IfSome};
 ghost use Rattle.auc_edge.specs.Identity.{number_of};
 ghost use Rattle.auc_text.specs.Text.{words_of};
-ghost use Rattle.auc_script.specs.Field.{bit_in, four_fields, full_in, is_number, no_field, number_in, one_field, two_fields};
+ghost use Rattle.auc_script.specs.Field.{bit_in, four_fields, full_in, is_number, no_field, number_between, one_field, two_fields};
 ghost use Rattle.auc_script.specs.Limits.{IsBit};
 
 use crate::refusal::ScriptWhy;
@@ -85,7 +85,7 @@ pub fn is_number(text: &[u8]) -> bool
 
 /// The number of a range that a field is.
 pub fn read_number(text: &[u8], least: u64, greatest: u64) -> Result<u64, ScriptWhy>
-    ensures value { result ≡ number_in least greatest text.now }
+    ensures value { result ≡ number_between least greatest text.now }
     ensures least { IfOk result (λ number. least ≤ number) }
     ensures greatest { IfOk result (λ number. number ≤ greatest) }
 {

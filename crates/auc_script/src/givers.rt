@@ -2,7 +2,7 @@
 
 ghost use Rattle.std.specs.Prelude.{◌≡◌, ◌<◌, ◌+◌, ◌^◌, [], length, replicate, IfOk};
 ghost use Rattle.auc_script.specs.Scenario.{is_busy};
-ghost use Rattle.auc_script.specs.SoFar.{AreMarks, marked, subscriber_of};
+ghost use Rattle.auc_script.specs.InnerSoFar.{AreMarks, marked, whose};
 
 use crate::part::Line;
 use crate::round_so_far::RoundSoFar;
@@ -12,9 +12,9 @@ use std::alloc::Global;
 /// For each USIM the job that gave to it last, by its number from 1 over all rounds.
 #[derive(Drop)]
 pub struct Givers {
-    /// How many jobs stand before the present round.
+    /// How many jobs the earlier rounds have.
     pub before: u32,
-    /// The numbers, by subscribers' places, each 0 where no job gave.
+    /// The numbers, by subscribers' places; 0 if no job gave.
     pub marks: Vec<u32>,
 }
 
@@ -40,7 +40,7 @@ impl Givers {
 
     /// Whether an earlier job of the round gives to the USIM to which a line is to give.
     pub fn is_busy(&self, round: &RoundSoFar, line: Line) -> bool
-        requires known { subscriber_of line < length self.now.marks.items }
+        requires known { whose line < length self.now.marks.items }
         requires marks { AreMarks self.now.before self.now.marks.items round.now }
         requires room { self.now.before + length round.now.jobs < 2 ^ 32 }
         ensures { result ≡ is_busy round.now line }
@@ -54,7 +54,7 @@ impl Givers {
 
     /// Notes a line of the present job.
     pub fn note(&mut self, round: &RoundSoFar, line: Line)
-        requires known { subscriber_of line < length self.old.marks.items }
+        requires known { whose line < length self.old.marks.items }
         requires room { self.old.before + length round.now.jobs + 1 < 2 ^ 32 }
         ensures before { self.new.before ≡ self.old.before }
         ensures marks { self.new.marks.items

@@ -1,16 +1,16 @@
-//! The lines before the first round but for the subscribers.
+//! The lines before the first round, except the subscribers.
 
-ghost use Rattle.std.specs.Prelude.{◌≡◌, IfOk, OnOk};
+ghost use Rattle.std.specs.Prelude.{◌≡◌, OnOk};
 ghost use Rattle.auc_text.specs.Text.{words_of};
-ghost use Rattle.auc_script.specs.Limits.{IsHeader};
-ghost use Rattle.auc_script.specs.Refusal.{Becomes};
+ghost use Rattle.auc_script.specs.InnerRefusal.{Becomes};
+ghost use Rattle.auc_script.specs.InnerSoFar.{IsHeader};
 ghost use Rattle.auc_script.specs.Scenario.{header_with, key_line, print_line, realm_line, workers_line};
 
 use crate::field::{one_field, read_full, read_number};
 use crate::part::{MAX_REALM, MAX_WORKERS};
 use crate::refusal::{LineRefusal, ScriptWhy};
 use crate::word::HeaderWord;
-use auc_edge::{NoMemory, Octets};
+use auc_edge::Octets;
 use auc_text::read_octets;
 use std::alloc::Global;
 
@@ -100,16 +100,7 @@ impl Header {
         if text.len() > MAX_REALM {
             return Err(LineRefusal::Why(ScriptWhy::Limit));
         }
-        self.realm = Some(copy_of(alloc, text)?);
+        self.realm = Some(Octets::copied_from(alloc, text)?);
         Ok(())
     }
-}
-
-/// A string of these bytes.
-fn copy_of(alloc: Global, bytes: &[u8]) -> Result<Octets, NoMemory>
-    ensures { IfOk result (λ octets. octets ≡ bytes.now) }
-{
-    let mut octets = Octets::new(alloc);
-    octets.append(bytes)?;
-    Ok(octets)
 }

@@ -1,10 +1,10 @@
 //! The scenario of a run: what the centre is asked for, round by round and job by job.
 //!
 //! [`Script::read`] reads a scenario's text: lines of words, each line with the first word that says what
-//! it is. Before the first `round` stand `randkey`, `workers`, `print`, `realm` and the scenario's own
-//! `subscriber`s; in a round stand `job`s, and in a job `draw`, `sync` and `give`. The first line that is
-//! none of these, or stands in a wrong place, or has a wrong field, or passes a limit, is refused by its
-//! number and its first cause, a [`ScriptWhy`].
+//! it is. `randkey`, `workers`, `print`, `realm` and the scenario's own `subscriber`s come before the first
+//! `round`; a round has `job`s, and a job has lines `draw`, `sync` and `give`. The first line that is none
+//! of these, or stands in a wrong place, or has a wrong field, or passes a limit, is refused by its number
+//! and its first cause, a [`ScriptWhy`].
 //!
 //! Contracts see the lists of a [`Script`] as lists; its subscribers go to `auc_subs`.
 #![tactic(auto)]

@@ -23,9 +23,9 @@ pub enum Line {
         sub: u32,
         count: u32,
     },
-    /// Hands the centre the AUTS that a USIM whose SQN_MS is that of the number `seq`, at most `MAX_SEQ`,
-    /// gives for the RAND of number 0 (TS 33.102 §6.3.3), with the bit `bit` turned over, from 0 for the
-    /// first byte's top bit to 111, or with none. Then asks for `count` vectors, at most 1000, where the
+    /// Hands the centre the AUTS that a USIM gives for the RAND of number 0 (TS 33.102 §6.3.3), if its
+    /// SQN_MS is that of the number `seq`, at most `MAX_SEQ`. The bit `bit` is turned over, from 0 for the
+    /// first byte's top bit to 111, or none is. Then asks for `count` vectors, at most 1000, if the
     /// centre's number was moved or was in range.
     Sync {
         sub: u32,
@@ -42,11 +42,11 @@ pub enum Line {
 
 impl Line {
     ghost use Rattle.std.specs.Prelude.{◌≡◌};
-    ghost use Rattle.auc_script.specs.Scenario.{count_of};
+    ghost use Rattle.auc_script.specs.Scenario.{asked_by};
 
     /// How many vectors it asks for at most.
     pub fn count(self) -> u32
-        ensures { result ≡ count_of self }
+        ensures { result ≡ asked_by self }
     {
         match self {
             Line::Draw { count, .. } | Line::Sync { count, .. } => count,

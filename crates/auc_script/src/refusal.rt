@@ -3,12 +3,12 @@
 ghost use Rattle.std.specs.Prelude.{◌≡◌};
 ghost use Rattle.auc_script.specs.declared.refusal.ScriptRefusal.TheVariants as refusal;
 ghost use Rattle.auc_script.specs.declared.refusal.LineRefusal.TheVariants as line;
-ghost use Rattle.auc_script.specs.Refusal.{refusal_at};
+ghost use Rattle.auc_script.specs.InnerRefusal.{refusal_at};
 
 use auc_edge::NoMemory;
 use auc_subs::SubsWhy;
 
-/// What is wrong with a line, in the order of the tests but for the last.
+/// What is wrong with a line, in the order of the tests, except the last cause.
 #[derive(Clone, Copy, Debug, PartialEq, Eq)]
 pub enum ScriptWhy {
     /// Its first word begins no line.
@@ -40,7 +40,7 @@ pub enum ScriptWhy {
 pub enum ScriptRefusal {
     /// The line of this number, from 1, is the first that is wrong.
     Line(u32, ScriptWhy),
-    /// There was no memory for the script or a subscriber.
+    /// Memory ran out.
     NoMemory,
 }
 
@@ -57,7 +57,7 @@ impl From<NoMemory> for ScriptRefusal {
 pub enum LineRefusal {
     /// It is wrong.
     Why(ScriptWhy),
-    /// There was no memory for it.
+    /// Memory ran out.
     NoMemory,
 }
 

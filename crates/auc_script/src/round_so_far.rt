@@ -2,7 +2,7 @@
 
 ghost use Rattle.std.specs.Prelude.{◌≡◌, [], IfOk, OnOk};
 ghost use Rattle.auc_script.specs.Scenario.{jobs_in};
-ghost use Rattle.auc_script.specs.SoFar.{with_last};
+ghost use Rattle.auc_script.specs.InnerSoFar.{with_last};
 
 use crate::part::{JobPart, Line, RoundPart};
 use auc_edge::{Items, NoMemory};
@@ -29,7 +29,7 @@ impl RoundSoFar {
         Ok(())
     }
 
-    /// Puts a line behind the last of the present job, if there is one.
+    /// Puts a line after the last of the present job, if there is one.
     pub fn put(&mut self, line: Line) -> Result<(), NoMemory>
         ensures { OnOk result (self.new ≡ record { jobs = self.old.jobs; job = with_last self.old.job line }) }
     {

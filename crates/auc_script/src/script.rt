@@ -21,7 +21,7 @@ pub struct Script {
     pub workers: u32,
     /// Whether each vector is printed in full.
     pub full: bool,
-    /// The realm of the identities, at most 255 bytes, or none where it is empty (RFC 4187 §4.1.1.2).
+    /// The realm of the identities, at most 255 bytes, or none if it is empty (RFC 4187 §4.1.1.2).
     pub realm: Octets,
     /// The parts in their order.
     pub parts: Items<Part>,
@@ -33,7 +33,7 @@ impl Script {
 
     /// Reads a scenario, which is at most 64 MiB long, and adds its subscribers to those that there are.
     /// The first wrong line is told by its number, from 1, and its first cause. A refusal leaves the
-    /// subscribers that the lines before the wrong one added; where memory was wanted, those of some first
+    /// subscribers that the lines before the wrong one added; if memory runs out, those of some first
     /// lines.
     pub fn read(
         alloc: Global,
@@ -69,7 +69,7 @@ impl Script {
     }
 }
 
-/// Tells what holds of all lists of subscribers.
+/// Brings the clauses that hold of all lists of subscribers.
 fn attest(subs: &Subscribers)
     ensures { AreSubscribers subs.now }
 {

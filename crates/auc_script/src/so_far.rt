@@ -5,11 +5,12 @@ ghost use Rattle.std.specs.Option.{unwrap_or};
 ghost use Rattle.auc_subs.specs.declared.row.Row.{Row};
 ghost use Rattle.auc_subs.specs.Subscriber.{AreSubscribers};
 ghost use Rattle.auc_text.specs.Text.{words_of};
-ghost use Rattle.auc_script.specs.Limits.{IsHeader, IsWithin};
+ghost use Rattle.auc_script.specs.Limits.{IsWithin};
+ghost use Rattle.auc_script.specs.Numbers.{most_rounds};
 ghost use Rattle.auc_script.specs.Reading.{beginning, script_from};
-ghost use Rattle.auc_script.specs.Refusal.{Becomes};
+ghost use Rattle.auc_script.specs.InnerRefusal.{Becomes};
 ghost use Rattle.auc_script.specs.Scenario.{after_line, header_line, is_above_1, is_not_yet, job_line, of_job_line, round_line, subscriber_line, with_round, word_line};
-ghost use Rattle.auc_script.specs.SoFar.{IsBetween, IsSoFar, scenario, with_line};
+ghost use Rattle.auc_script.specs.InnerSoFar.{IsBetween, IsHeader, IsSoFar, scenario, with_line};
 
 use crate::field::{is_number, no_field, one_field};
 use crate::givers::Givers;
@@ -25,7 +26,7 @@ use auc_subs::{AddRefusal, Subscribers};
 use auc_text::{joined, next_word, read_decimal, word_count};
 use std::alloc::Global;
 
-/// What the lines so far say but for the subscribers.
+/// What the lines so far say, except the subscribers.
 #[derive(Drop)]
 pub struct SoFar {
     /// The words of the header.
@@ -43,7 +44,7 @@ pub struct SoFar {
 }
 
 impl SoFar {
-    /// What no lines say.
+    /// The state before the first line.
     pub fn new(alloc: Global) -> SoFar
         ensures beginning { (rows : List Row) → scenario rows result ≡ beginning rows }
         ensures kept { (rows : List Row) → IsSoFar rows result }
@@ -236,7 +237,7 @@ impl SoFar {
 
     /// How many rounds there are.
     fn rounds(&self) -> usize
-        requires { length (with_round self.now.ended self.now.round) ≤ MAX_ROUNDS }
+        requires { length (with_round self.now.ended self.now.round) ≤ most_rounds }
         ensures { result ≡ length (with_round self.now.ended self.now.round) }
     {
         match &self.round {
@@ -245,7 +246,7 @@ impl SoFar {
         }
     }
 
-    /// Puts the present round behind those before it, or where there is none makes a mark for each
+    /// Puts the present round after those before it. Before the first round it makes a mark for each
     /// subscriber.
     fn end_round(&mut self, alloc: Global, subs: &Subscribers) -> Result<(), NoMemory>
         requires { IsSoFar subs.now self.old }
@@ -278,7 +279,7 @@ impl SoFar {
     }
 }
 
-/// The realm, which is empty where none was said.
+/// The realm, which is empty if no line said one.
 fn realm_in(alloc: Global, realm: Option<Octets>) -> Octets
     ensures { result ≡ unwrap_or realm [] }
 {
@@ -288,7 +289,7 @@ fn realm_in(alloc: Global, realm: Option<Octets>) -> Octets
     }
 }
 
-/// Parts with the present round behind the last, if there is one.
+/// Parts with the present round after the last, if there is one.
 fn with_round(ended: Items<Part>, round: Option<RoundSoFar>) -> Result<Items<Part>, NoMemory>
     ensures { IfOk result (λ parts. parts ≡ with_round ended round) }
 {
@@ -299,7 +300,7 @@ fn with_round(ended: Items<Part>, round: Option<RoundSoFar>) -> Result<Items<Par
     Ok(parts)
 }
 
-/// Puts a line behind the last of the present job.
+/// Puts a line after the last of the present job.
 fn put_in_round(round: &mut Option<RoundSoFar>, line: Line) -> Result<(), NoMemory>
     ensures { OnOk result (round.new ≡ with_line round.old line) }
 {

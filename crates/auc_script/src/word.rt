@@ -49,7 +49,7 @@ pub fn is_comment(line: &[u8]) -> bool
     !line.is_empty() && line[0] == b'#'
 }
 
-/// The word that a text is, or `None` where it is none.
+/// The word that a text is, or `None` if it is no word.
 pub fn read_word(text: &[u8]) -> Option<Word>
     ensures { result ≡ word_of text.now }
 {

@@ -1,7 +1,7 @@
 use Rattle.std.proofs.Common.{arith, ◌-◌, Some}
 use Rattle.std.specs.Option.{option_copied}
 use Rattle.auc_script.specs.Scenario.{after_line}
-use Rattle.auc_script.specs.SoFar.{scenario}
+use Rattle.auc_script.specs.InnerSoFar.{scenario}
 use Rattle.auc_script.proofs.ReadingLemmas.{after_front, keeps, lines_left, next_left, next_steps, nothing_read, reads_whole, refused_by, refuses, so_far_more}
 use Rattle.auc_script.proofs.script.Script.read.Goals as goal
 

@@ -1,6 +1,6 @@
 use Rattle.std.proofs.Common.{◌≤◌, ◌+◌, length}
 use Rattle.std.specs.Option.{option_copied}
-use Rattle.auc_script.specs.SoFar.{IsSoFar, scenario}
+use Rattle.auc_script.specs.InnerSoFar.{IsSoFar, scenario}
 use Rattle.auc_script.proofs.ReadingLemmas.{ReadSoFar, steps_left}
 use Rattle.auc_script.proofs.script.Script.read.Given as goal
 

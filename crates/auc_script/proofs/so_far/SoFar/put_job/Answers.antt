@@ -1,6 +1,6 @@
 use Rattle.std.proofs.Common.{arith, Some}
 use Rattle.auc_text.specs.Text.{words_of}
-use Rattle.auc_script.specs.SoFar.{scenario}
+use Rattle.auc_script.specs.InnerSoFar.{scenario}
 use Rattle.auc_script.proofs.SoFarLemmas.{at_round, job_becomes, job_refused, kept_job}
 use Rattle.auc_script.proofs.so_far.SoFar.put_job.Goals as goal
 

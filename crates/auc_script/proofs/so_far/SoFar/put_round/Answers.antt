@@ -1,6 +1,6 @@
 use Rattle.std.proofs.Common.{arith}
 use Rattle.auc_text.specs.Text.{words_of}
-use Rattle.auc_script.specs.SoFar.{scenario}
+use Rattle.auc_script.specs.InnerSoFar.{scenario}
 use Rattle.auc_script.proofs.SoFarLemmas.{kept_round, round_becomes}
 use Rattle.auc_script.proofs.so_far.SoFar.put_round.Goals as goal
 
