@@ -1,7 +1,7 @@
 //! The program: `auc_run::run` over the real files and standard output.
 //!
-//! It ends with the number of the run's status, and with 10 where there is no memory for its words. A
-//! word that isn't UTF-8 is handed on as an empty word.
+//! It ends with the number of the run's status, or with 10 if memory runs out while its words are read. A
+//! word that isn't UTF-8 is passed on as an empty word.
 #![tactic(auto)]
 
 mod words;

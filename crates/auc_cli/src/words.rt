@@ -5,7 +5,7 @@ use std::alloc::Global;
 use std::env::{Env, FillError};
 use std::str;
 
-/// The words behind the program's own name.
+/// The words after the program's own name.
 pub fn read_words<E: Env>(rt: &E, alloc: Global) -> Result<Items<Octets>, NoMemory> {
     let mut words = Items::new(alloc);
     for place in 1..usize::MAX {
@@ -17,7 +17,7 @@ pub fn read_words<E: Env>(rt: &E, alloc: Global) -> Result<Items<Octets>, NoMemo
     Ok(words)
 }
 
-/// The word at a place, where there are so many. It is read into more and more memory until it fits.
+/// The word at a place, if there is one. It is read into more and more memory until it fits.
 fn read_word<E: Env>(rt: &E, alloc: Global, place: usize) -> Result<Option<Octets>, NoMemory> {
     for bits in 8u32..31 {
         let mut buffer = vec![in alloc; 0u8; 1usize << bits]?;
@@ -30,7 +30,7 @@ fn read_word<E: Env>(rt: &E, alloc: Global, place: usize) -> Result<Option<Octet
     Ok(Some(Octets::new(alloc)))
 }
 
-/// A word's bytes, where they are UTF-8, else the empty word.
+/// A word's bytes if they are UTF-8, else the empty word.
 fn text_of(alloc: Global, bytes: &[u8]) -> Result<Octets, NoMemory> {
     let mut word = Octets::new(alloc);
     if str::from_utf8(bytes).is_ok() {
