@@ -12,7 +12,7 @@ use Rattle.auc_script.specs.declared.part.Part.TheVariants.{Round}
 use Rattle.auc_script.specs.declared.script.Script.{Script}
 use Rattle.auc_subs.specs.Subscriber.{AreSubscribers}
 use Rattle.auc_subs.specs.declared.row.Row.{Row}
-use Rattle.auc_run.specs.Output.{IsKnownPart}
+use Rattle.auc_run.specs.Inner.{IsKnownPart}
 
 -- subscribers, and parts that can be served
 pub record Known (rows : List Row) (script : Script) : Type 0 where

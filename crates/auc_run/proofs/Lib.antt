@@ -5,3 +5,4 @@ mod PrintableLemmas
 mod OutputLemmas
 mod KnownLemmas
 mod OutcomeLemmas
+mod RefusalLemmas

@@ -1,7 +1,8 @@
 -- For the top call: what was written is the text of exactly one lawful transcript.
-use Rattle.std.proofs.Common.{◌≡◌, ℕ, List, [], length, All, map, Option, Ok, refl, sym, subst, arith}
+use Rattle.std.proofs.Common.{◌≡◌, ℕ, List, [], length, All, map, Option, Result, Ok, Err, OnOk, refl, sym, subst, arith}
 use Rattle.std.proofs.lemmas.List.{length-map}
 use Rattle.std.proofs.lemmas.List.Elements.{All-weaker}
+use Rattle.auc_edge.specs.Shelf.{File}
 use Rattle.auc_print.specs.OneText.{IsPrintable, RoundFits, HasVectors}
 use Rattle.auc_print.specs.Text.{identities_of}
 use Rattle.auc_print.proofs.Facts.{one_transcript, numbers_tell_vectors, are_identities}
@@ -12,10 +13,10 @@ use Rattle.auc_transcript.specs.Transcript.{IsLawful}
 use Rattle.auc_transcript.proofs.Facts.{keeps_numbers_apart, accepts_none_twice, each_failure_is_by_place}
 use Rattle.auc_world.specs.Record.{NamesBelow}
 use Rattle.auc_world.specs.declared.record.RoundRecord.{RoundRecord}
-use Rattle.auc_run.specs.Ending.{IsServed, TextEnds}
-use Rattle.auc_run.specs.Output.{IsOutput, WritesScript, setting_of, text_of}
-use Rattle.auc_run.specs.declared.status.Status.{Status}
-use Rattle.auc_run.specs.declared.status.Status.TheVariants.{Done, Usage, SubscribersRefused, ScenarioRefused, ReadFault, WriteFault, TooLong, NoMemory}
+use Rattle.auc_run.specs.Inner.{WritesScript}
+use Rattle.auc_run.specs.Outcome.{AreRead, RunsFiles}
+use Rattle.auc_run.specs.Output.{IsOutput, setting_of, text_of}
+use Rattle.auc_run.specs.Words.{Files}
 use Rattle.auc_run.proofs.KnownLemmas.{Known}
 use Rattle.auc_run.proofs.PrintableLemmas.{Prints, vector_at, rounds_print}
 
@@ -63,24 +64,23 @@ is_output rows script rounds known lawful = record {
   fails_by_place = each_failure_is_by_place (setting_of rows script) script.parts rounds known.subscribers lawful;
 }
 
--- how a run of a scenario that was read ends
-pub text_ends : (first : List Row) (text : List ℕ) (status : Status) (script : Script) (rows : List Row) (old new : Option (List ℕ))
-    → script_of first text ≡ Ok (script, rows) → Known rows script → IsServed status → (status ≡ Done → WritesScript rows script old new)
-    → TextEnds first text status old new
-text_ends first text Done script rows old new read known served writes =
-    let written = writes refl in
-    record {
-      script = script;
-      rows = rows;
-      read = read;
-      output = text_of rows script written.rounds;
-      is_output = is_output rows script written.rounds known written.lawful;
-      written = written.written;
-    }
-text_ends first text WriteFault script rows old new read known served writes = tt
-text_ends first text NoMemory script rows old new read known served writes = tt
-text_ends first text Usage script rows old new read known served writes = absurd served
-text_ends first text SubscribersRefused script rows old new read known served writes = absurd served
-text_ends first text ScenarioRefused script rows old new read known served writes = absurd served
-text_ends first text ReadFault script rows old new read known served writes = absurd served
-text_ends first text TooLong script rows old new read known served writes = absurd served
+-- what holds if there is no error
+pub OnOk-weaker : {T E : Type 0} (r : Result T E) (P Q : Type 0) → (P → Q) → OnOk r P → OnOk r Q
+OnOk-weaker (Ok x) P Q weaker is = weaker is
+OnOk-weaker (Err e) P Q weaker is = is
+
+-- a scenario that was read was run
+pub files_run : (told : Option (List File)) (files : Files) (first : List Row) (text : List ℕ) (script : Script) (rows : List Row) (old new : Option (List ℕ))
+    → AreRead told files first text → script_of first text ≡ Ok (script, rows) → Known rows script → WritesScript rows script old new
+    → RunsFiles told files old new
+files_run told files first text script rows old new are_read read known writes = record {
+  first = first;
+  text = text;
+  are_read = are_read;
+  script = script;
+  rows = rows;
+  is_script = read;
+  output = text_of rows script writes.rounds;
+  is_output = is_output rows script writes.rounds known writes.lawful;
+  written = writes.written;
+}

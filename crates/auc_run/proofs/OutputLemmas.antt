@@ -13,7 +13,8 @@ use Rattle.auc_transcript.specs.Lines.{all_lines}
 use Rattle.auc_transcript.specs.Transcript.{AreLawful, IsLawful, lines_of_rounds as lines_of}
 use Rattle.auc_world.specs.declared.record.LineRecord.{LineRecord}
 use Rattle.auc_world.specs.declared.record.RoundRecord.{RoundRecord}
-use Rattle.auc_run.specs.Output.{WritesPart, WritesScript, setting_of}
+use Rattle.auc_run.specs.Inner.{WritesPart, WritesScript}
+use Rattle.auc_run.specs.Output.{setting_of}
 
 -- nothing was written
 pub Appends-none : (old : Option (List ℕ)) → Appends old old []

@@ -30,7 +30,7 @@ use Rattle.auc_world.specs.declared.record.LineRecord.TheVariants.{Vector, Withh
 use Rattle.auc_world.specs.declared.record.RoundRecord.{RoundRecord}
 use Rattle.auc_world.specs.declared.record.SyncVerdict.{SyncVerdict}
 use Rattle.auc_world.specs.declared.record.SyncVerdict.TheVariants as verdict
-use Rattle.auc_run.specs.Output.{IsKnownPart}
+use Rattle.auc_run.specs.Inner.{IsKnownPart}
 use Rattle.auc_run.proofs.EntryLemmas.{IsWithin, SeenWithin, WordWithin, all_entries-of_jobs, splits_within, lines_within, length-numbers}
 use Rattle.auc_run.proofs.MadeLemmas.{IsMade, SeqFits, jobs_made, length-given}
 

@@ -7,7 +7,7 @@ use Rattle.auc_milenage.specs.Milenage.{f1, f1_star, f2, f3, f4, f5, f5_star}
 use Rattle.auc_text.specs.Field.{octets_in}
 use Rattle.auc_run.specs.declared.algorithm.AlgorithmWords.{AlgorithmWords}
 
--- the values that five texts are
+-- the values that five texts spell
 abbrev pub values_in : List ℕ → List ℕ → List ℕ → List ℕ → List ℕ → Option AlgorithmWords
 values_in k opc rand sqn amf =
     option_and_then (λ k. option_and_then (λ opc. option_and_then (λ rand. option_and_then (λ sqn. option_and_then (λ amf.
@@ -18,7 +18,7 @@ values_in k opc rand sqn amf =
 abbrev pub word_at : List (List ℕ) → ℕ → List ℕ
 word_at words place = slice_index_or words place []
 
--- the values that the words `vector K OPC RAND SQN AMF` give, and none where the words have no such form
+-- the values that the words `vector K OPC RAND SQN AMF` give, and none if the words have no such form
 abbrev pub values_named : List (List ℕ) → Option AlgorithmWords
 values_named words =
     if length words == 6 then

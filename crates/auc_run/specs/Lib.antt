@@ -1,5 +1,6 @@
 pub mod Words
 pub mod Algorithm
 pub mod Output
+pub mod Refusal
 pub mod Outcome
-pub mod Ending
+pub mod Inner

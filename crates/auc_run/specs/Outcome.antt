@@ -1,196 +1,103 @@
 -- How a run ends: what each status says of the words, the shelf's files and the output.
-use Rattle.std.specs.Prelude.{None, ◌≡◌, ℕ, ◌≤◌, ◌⊎◌, ◌++◌, List, [], length, codes, decimal, Option, Some, Ok, Err}
+use Rattle.std.specs.Prelude.{◌≡◌, ℕ, ◌≤◌, ◌⊎◌, List, [], length, Option, Some, None, Ok, Err}
 use Rattle.auc_edge.specs.Shelf.{File, IsFile, IsLongerFile}
 use Rattle.auc_edge.specs.Sink.{Appends}
 use Rattle.auc_script.specs.Reading.{script_of}
 use Rattle.auc_script.specs.declared.refusal.ScriptRefusal.TheVariants.{Line}
-use Rattle.auc_script.specs.declared.refusal.ScriptWhy.{ScriptWhy}
-use Rattle.auc_script.specs.declared.refusal.ScriptWhy.TheVariants as why
 use Rattle.auc_script.specs.declared.script.Script.{Script}
 use Rattle.auc_subs.specs.File.{subscribers_in}
 use Rattle.auc_subs.specs.declared.refusal.SubsRefusal.TheVariants.{Row as wrong_row}
-use Rattle.auc_subs.specs.declared.refusal.SubsWhy.{SubsWhy}
-use Rattle.auc_subs.specs.declared.refusal.SubsWhy.TheVariants as subs_why
 use Rattle.auc_subs.specs.declared.row.Row.{Row}
 use Rattle.auc_run.specs.Algorithm.{values_named, algorithm_text}
 use Rattle.auc_run.specs.Output.{IsOutput}
+use Rattle.auc_run.specs.Refusal.{status_of, line_of}
 use Rattle.auc_run.specs.Words.{Files, files_named}
 use Rattle.auc_run.specs.declared.algorithm.AlgorithmWords.{AlgorithmWords}
+use Rattle.auc_run.specs.declared.refusal.Refusal.{Refusal}
+use Rattle.auc_run.specs.declared.refusal.Refusal.TheVariants as refused
 use Rattle.auc_run.specs.declared.status.Status.{Status}
-use Rattle.auc_run.specs.declared.status.Status.TheVariants.{Done, Usage, SubscribersRefused, ScenarioRefused, ReadFault, WriteFault, TooLong, NoMemory}
-use Rattle.auc_run.specs.declared.top_call.TheConstants.{MAX_FILE}
+use Rattle.auc_run.specs.declared.status.Status.TheVariants.{Done, ReadFault, WriteFault, NoMemory}
 
--- ---- the input
+-- ---- the input, in the order in which it is read
 
--- the file of a name has this text and is not too long, where the shelf tells its files
+-- how many bytes an input file may have: 64 MiB
+abbrev pub max_file : ℕ
+max_file = 67108864
+
+-- the file with this name has this text, if the shelf tells its files; the text is not too long
 pub record HasText (told : Option (List File)) (name text : List ℕ) : Type 0 where
   pub file : IsFile told name text
-  pub within : length text ≤ MAX_FILE
+  pub within : length text ≤ max_file
 
--- the subscribers that a run begins with: none, or those of the file that is named
+-- the subscribers with which a run begins: those of the file that is named, or none
 abbrev pub BeginsWith : Option (List File) → Option (List ℕ) → List Row → Type 0
 BeginsWith told None rows = rows ≡ []
 BeginsWith told (Some name) rows = (text : List ℕ) × HasText told name text × (subscribers_in text ≡ Ok rows)
 
--- what the words and the shelf's files give: the subscribers to begin with, and the scenario's text
-pub record IsInput (words : List (List ℕ)) (told : Option (List File)) (rows : List Row) (text : List ℕ) : Type 0 where
-  pub files : Files
-  pub named : files_named words ≡ Some files
+-- the files give the subscribers with which a run begins, and the scenario's text
+pub record AreRead (told : Option (List File)) (files : Files) (rows : List Row) (text : List ℕ) : Type 0 where
   pub begins : BeginsWith told files.subscribers rows
   pub has : HasText told files.scenario text
 
--- a file is one that the words name
-abbrev pub IsNamed : Files → List ℕ → Type 0
-IsNamed files name = (files.subscribers ≡ Some name) ⊎ (files.scenario ≡ name)
+-- the file of this name is the next to be read: it is that of the subscribers, or the scenario after the
+-- subscribers were read and are right
+abbrev pub IsReadNext : Option (List File) → Files → List ℕ → Type 0
+IsReadNext told files name =
+    (files.subscribers ≡ Some name) ⊎ ((rows : List Row) × BeginsWith told files.subscribers rows × (files.scenario ≡ name))
 
--- ---- the words for what is wrong
+-- ---- what is done
 
--- with a subscriber
-abbrev pub subs_why_word : SubsWhy → List ℕ
-subs_why_word subs_why.Header = codes "header"
-subs_why_word subs_why.FieldCount = codes "fieldcount"
-subs_why_word subs_why.Imsi = codes "imsi"
-subs_why_word subs_why.Key = codes "key"
-subs_why_word subs_why.Kind = codes "kind"
-subs_why_word subs_why.Op = codes "op"
-subs_why_word subs_why.Amf = codes "amf"
-subs_why_word subs_why.Seq = codes "seq"
-subs_why_word subs_why.Usim = codes "usim"
-subs_why_word subs_why.Twice = codes "twice"
-subs_why_word subs_why.TooMany = codes "toomany"
-
--- with a line of a scenario
-abbrev pub why_word : ScriptWhy → List ℕ
-why_word why.UnknownWord = codes "unknownword"
-why_word why.OutOfOrder = codes "outoforder"
-why_word why.Fields = codes "fields"
-why_word why.Number = codes "number"
-why_word why.Hex = codes "hex"
-why_word (why.Subscriber fault) = subs_why_word fault
-why_word why.UnknownSubscriber = codes "unknownsubscriber"
-why_word why.Twice = codes "twice"
-why_word why.UsimBusy = codes "usimbusy"
-why_word why.Limit = codes "limit"
-why_word why.NotYet = codes "notyet"
-
--- the line that a refused file of subscribers gets
-abbrev pub subscribers_line : ℕ → SubsWhy → List ℕ
-subscribers_line row fault = codes "refused subscribers " ++ decimal row ++ codes " " ++ subs_why_word fault ++ codes "\n"
-
--- the line that a refused scenario gets
-abbrev pub refusal_line : ℕ → ScriptWhy → List ℕ
-refusal_line line fault = codes "refused scenario " ++ decimal line ++ codes " " ++ why_word fault ++ codes "\n"
-
--- ---- what each status says
-
--- a scenario's text was read whole behind the subscribers that there are, and the output of its run was written
-pub record RunsText (first : List Row) (text : List ℕ) (old new : Option (List ℕ)) : Type 0 where
+-- the scenario of the files was read whole, and the output of its run was written
+pub record RunsFiles (told : Option (List File)) (files : Files) (old new : Option (List ℕ)) : Type 0 where
+  pub first : List Row
+  pub text : List ℕ
+  pub are_read : AreRead told files first text
   pub script : Script
   pub rows : List Row
-  pub read : script_of first text ≡ Ok (script, rows)
+  pub is_script : script_of first text ≡ Ok (script, rows)
   pub output : List ℕ
   pub is_output : IsOutput rows script output
   pub written : Appends old new output
 
--- a scenario that the words name was read and run
-pub record RunsScenario (words : List (List ℕ)) (told : Option (List File)) (old new : Option (List ℕ)) : Type 0 where
-  pub first : List Row
-  pub text : List ℕ
-  pub input : IsInput words told first text
-  pub runs : RunsText first text old new
+-- the words name the files of a scenario that was read and run
+abbrev pub RunsScenario : List (List ℕ) → Option (List File) → Option (List ℕ) → Option (List ℕ) → Type 0
+RunsScenario words told old new = (files : Files) × (files_named words ≡ Some files) × RunsFiles told files old new
 
 -- the words give the values of Milenage's functions, and these were written
-pub record PrintsAlgorithm (words : List (List ℕ)) (old new : Option (List ℕ)) : Type 0 where
-  pub values : AlgorithmWords
-  pub named : values_named words ≡ Some values
-  pub written : Appends old new (algorithm_text values)
+abbrev pub PrintsAlgorithm : List (List ℕ) → Option (List ℕ) → Option (List ℕ) → Type 0
+PrintsAlgorithm words old new = (values : AlgorithmWords) × (values_named words ≡ Some values) × Appends old new (algorithm_text values)
 
--- the file of subscribers that the words name has a wrong record, and the first one was written
-pub record RefusesSubscribers (words : List (List ℕ)) (told : Option (List File)) (old new : Option (List ℕ)) : Type 0 where
-  pub files : Files
-  pub named : files_named words ≡ Some files
-  pub name : List ℕ
-  pub is_name : files.subscribers ≡ Some name
-  pub text : List ℕ
-  pub has : HasText told name text
-  pub row : ℕ
-  pub fault : SubsWhy
-  pub refused : subscribers_in text ≡ Err (wrong_row row fault)
-  pub written : Appends old new (subscribers_line row fault)
+-- ---- what is refused
 
--- a scenario's text has a wrong line, and the first one was written
-pub record RefusesText (first : List Row) (text : List ℕ) (old new : Option (List ℕ)) : Type 0 where
-  pub line : ℕ
-  pub fault : ScriptWhy
-  pub refused : script_of first text ≡ Err (Line line fault)
-  pub written : Appends old new (refusal_line line fault)
+-- what is wrong with the files, the first of it in the order in which they are read
+abbrev pub AreWrong : Option (List File) → Files → Refusal → Type 0
+AreWrong told files (refused.Subscribers row fault) =
+    (name text : List ℕ) × (files.subscribers ≡ Some name) × HasText told name text × (subscribers_in text ≡ Err (wrong_row row fault))
+AreWrong told files (refused.Scenario line fault) =
+    (rows : List Row) × (text : List ℕ) × AreRead told files rows text × (script_of rows text ≡ Err (Line line fault))
+AreWrong told files refused.TooLong = (name : List ℕ) × IsReadNext told files name × IsLongerFile told name max_file
+AreWrong told files _ = ⊥
 
--- a scenario that the words name was read and refused
-pub record RefusesScenario (words : List (List ℕ)) (told : Option (List File)) (old new : Option (List ℕ)) : Type 0 where
-  pub first : List Row
-  pub text : List ℕ
-  pub input : IsInput words told first text
-  pub refuses : RefusesText first text old new
+-- the cause of a refusal: the words have no form, or what is wrong with the files that they name
+abbrev pub IsCause : List (List ℕ) → Option (List File) → Refusal → Type 0
+IsCause words told refused.Usage = (files_named words ≡ None) × (values_named words ≡ None)
+IsCause words told refusal = (files : Files) × (files_named words ≡ Some files) × AreWrong told files refusal
 
--- a file that the words name is too long, where the shelf tells its files: that of the subscribers, or the
--- scenario behind the subscribers that were read; nothing was written
-abbrev pub IsLong : Option (List File) → Files → Type 0
-IsLong told files = ((name : List ℕ) × (files.subscribers ≡ Some name) × IsLongerFile told name MAX_FILE)
-    ⊎ ((rows : List Row) × BeginsWith told files.subscribers rows × IsLongerFile told files.scenario MAX_FILE)
+-- a run was refused: the refusal's cause is there, and its line was written
+pub record Refuses (words : List (List ℕ)) (told : Option (List File)) (status : Status) (old new : Option (List ℕ)) : Type 0 where
+  pub refusal : Refusal
+  pub is_status : status ≡ status_of refusal
+  pub cause : IsCause words told refusal
+  pub written : Appends old new (line_of refusal)
 
-pub record FindsLong (words : List (List ℕ)) (told : Option (List File)) (old new : Option (List ℕ)) : Type 0 where
-  pub files : Files
-  pub named : files_named words ≡ Some files
-  pub long : IsLong told files
-  pub silent : Appends old new []
+-- a fault, or want of memory
+abbrev pub IsStop : Status → Type 0
+IsStop status = (status ≡ ReadFault) ⊎ (status ≡ WriteFault) ⊎ (status ≡ NoMemory)
 
--- ---- what each input comes to, on a shelf that tells its files, unless a fault or want of memory comes before
-
--- the words name files of this shelf
-pub record NamesFiles (words : List (List ℕ)) (told : Option (List File)) (files : Files) (there : List File) : Type 0 where
-  pub tells : told ≡ Some there
-  pub named : files_named words ≡ Some files
-
--- how a run may end whose words have no form
-abbrev pub MayEndUsage : Status → Type 0
-MayEndUsage Usage = Unit {0}
-MayEndUsage WriteFault = Unit {0}
-MayEndUsage _ = ⊥
+-- how a run may end whose words name files that are right
+abbrev pub MayRun : Status → Type 0
+MayRun status = (status ≡ Done) ⊎ IsStop status
 
 -- how a run may end whose words give the values of Milenage's functions
-abbrev pub MayEndPrinted : Status → Type 0
-MayEndPrinted Done = Unit {0}
-MayEndPrinted WriteFault = Unit {0}
-MayEndPrinted NoMemory = Unit {0}
-MayEndPrinted _ = ⊥
-
--- how a run may end whose file of subscribers has a wrong record
-abbrev pub MayEndSubscribersRefused : Status → Type 0
-MayEndSubscribersRefused SubscribersRefused = Unit {0}
-MayEndSubscribersRefused ReadFault = Unit {0}
-MayEndSubscribersRefused WriteFault = Unit {0}
-MayEndSubscribersRefused NoMemory = Unit {0}
-MayEndSubscribersRefused _ = ⊥
-
--- how a run may end of which a file is too long
-abbrev pub MayEndTooLong : Status → Type 0
-MayEndTooLong TooLong = Unit {0}
-MayEndTooLong ReadFault = Unit {0}
-MayEndTooLong NoMemory = Unit {0}
-MayEndTooLong _ = ⊥
-
--- how a run may end whose scenario has a wrong line
-abbrev pub MayEndRefused : Status → Type 0
-MayEndRefused ScenarioRefused = Unit {0}
-MayEndRefused ReadFault = Unit {0}
-MayEndRefused WriteFault = Unit {0}
-MayEndRefused NoMemory = Unit {0}
-MayEndRefused _ = ⊥
-
--- how a run may end whose scenario is right
-abbrev pub MayEndDone : Status → Type 0
-MayEndDone Done = Unit {0}
-MayEndDone ReadFault = Unit {0}
-MayEndDone WriteFault = Unit {0}
-MayEndDone NoMemory = Unit {0}
-MayEndDone _ = ⊥
+abbrev pub MayPrint : Status → Type 0
+MayPrint status = (status ≡ Done) ⊎ (status ≡ WriteFault) ⊎ (status ≡ NoMemory)

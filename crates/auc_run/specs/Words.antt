@@ -1,18 +1,16 @@
 -- The words with which the program is called, and the exit status with which it ends.
 use Rattle.std.specs.Prelude.{ℕ, List, [], ◌∷◌, length, Option, Some, None, if◌then◌else◌, ◌&&◌, nat_lt, codes}
-use Rattle.std.specs.Option.{option_copied}
 use Rattle.std.specs.Str.{bytes_eq}
-use Rattle.auc_run.specs.declared.forms.InputFiles.{InputFiles}
 use Rattle.auc_run.specs.declared.status.Status.{Status}
 use Rattle.auc_run.specs.declared.status.Status.TheVariants.{Done, Usage, SubscribersRefused, ScenarioRefused, ReadFault, WriteFault, TooLong, NoMemory}
 
--- the files of a run: the scenario, and the subscribers where a file of them is named
+-- the files of a run: the scenario's, and the subscribers' if one is named
 pub record Files : Type 0 where
   pub scenario : List ℕ
   pub subscribers : Option (List ℕ)
 
--- the files that the words `run SCENARIO` and `run SCENARIO SUBSCRIBERS` name, and none where the words have
--- no such form
+-- the files that the words `run SCENARIO` and `run SCENARIO SUBSCRIBERS` name, and none if the words have no such
+-- form
 abbrev pub files_named : List (List ℕ) → Option Files
 files_named (word ∷ scenario ∷ []) =
     if bytes_eq word (codes "run") && nat_lt 0 (length scenario)
@@ -21,10 +19,6 @@ files_named (word ∷ scenario ∷ subscribers ∷ []) =
     if bytes_eq word (codes "run") && nat_lt 0 (length scenario) && nat_lt 0 (length subscribers)
     then Some (record { scenario = scenario; subscribers = Some subscribers }) else None
 files_named _ = None
-
--- the files, as the code hands their names on
-abbrev pub files_seen : InputFiles → Files
-files_seen files = record { scenario = files.scenario.now; subscribers = option_copied files.subscribers }
 
 -- the exit status of the program
 abbrev pub number_of_status : Status → ℕ

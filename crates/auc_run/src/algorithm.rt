@@ -19,7 +19,7 @@ pub struct AlgorithmWords {
 }
 
 /// The values that the words `vector K OPC RAND SQN AMF` give, hexadecimal digits of either case, or
-/// `None` where the words have no such form.
+/// `None` if the words have no such form.
 pub fn algorithm_words(words: &[Octets]) -> Option<AlgorithmWords>
     ensures { result ≡ values_named words.now }
 {
@@ -38,7 +38,7 @@ pub fn algorithm_words(words: &[Octets]) -> Option<AlgorithmWords>
     )
 }
 
-/// The values that five texts are.
+/// The values that five texts spell.
 fn read_values(k: &[u8], opc: &[u8], rand: &[u8], sqn: &[u8], amf: &[u8]) -> Option<AlgorithmWords>
     ensures { result ≡ values_in k.now opc.now rand.now sqn.now amf.now }
 {

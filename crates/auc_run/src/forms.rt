@@ -2,7 +2,8 @@
 
 ghost use Rattle.std.specs.Prelude.{◌≡◌};
 ghost use Rattle.std.specs.Option.{option_map};
-ghost use Rattle.auc_run.specs.Words.{files_named, files_seen};
+ghost use Rattle.auc_run.specs.Inner.{files_seen};
+ghost use Rattle.auc_run.specs.Words.{files_named};
 
 use auc_edge::Octets;
 
@@ -11,12 +12,12 @@ use auc_edge::Octets;
 pub struct InputFiles<'a> {
     /// The file of the scenario.
     pub scenario: &'a [u8],
-    /// The file of the subscribers that there are before the scenario's own, where one is named.
+    /// The file of the subscribers with which the run begins, if one is named.
     pub subscribers: Option<&'a [u8]>,
 }
 
-/// The files that the words `run SCENARIO` or `run SCENARIO SUBSCRIBERS` name, or `None` where the words
-/// have no such form.
+/// The files that the words `run SCENARIO` or `run SCENARIO SUBSCRIBERS` name, or `None` if the words have
+/// no such form.
 pub fn input_files(words: &[Octets]) -> Option<InputFiles<'_>>
     ensures { option_map files_seen result ≡ files_named words.now }
 {

@@ -1,17 +1,20 @@
-//! One run of the authentication centre's program.
+//! One run of the authentication centre's program: [`run`]. What its clauses say of contents holds for a shelf
+//! and an output that reveal what they hold, as those in memory do; of the program's own files and terminal they
+//! say nothing, and tests show that the same generic code runs there.
 //!
-//! [`run`] reads the subscribers and the scenario that its words name, serves the scenario's rounds and
-//! writes their text. Its clauses carry what the product promises: with status [`Status::Done`] the bytes
-//! that were written are the text of exactly one lawful transcript of the scenario, in which no two
-//! vectors of a subscriber have the same SQN, no USIM accepts an SQN twice, and a synchronisation failure
-//! comes where its place says so; each other status comes with its cause, and each cause with its status.
+//! If the status is [`Status::Done`], the bytes written are the text of exactly one lawful transcript of the
+//! scenario. Within this run no two vectors of a subscriber have the same SQN, no USIM accepts an SQN twice, and
+//! a vector gets a synchronisation failure exactly if its place says so. Each other status except want of memory
+//! has its cause, and each cause its status; the subscribers are judged before the scenario is. No clause says
+//! in which order one worker serves the jobs of a round.
 //!
-//! What a lawful transcript is stands in `auc_transcript`; `specs/Output` says what of it is written.
-//! Memory is taken, and the rounds may wait.
+//! `specs/Outcome` says how a run ends, `specs/Refusal` which status and line a refusal has, `specs/Output` what
+//! a run writes; `auc_transcript` says which transcripts are lawful. Memory is taken, and the rounds may wait.
 #![tactic(auto)]
 
 mod algorithm;
 mod forms;
+mod input;
 mod refusal;
 mod refusing;
 mod rounds;
@@ -20,5 +23,6 @@ mod status;
 mod tests;
 mod top_call;
 
+pub use input::MAX_FILE;
 pub use status::{Ended, Status};
-pub use top_call::{MAX_FILE, run};
+pub use top_call::run;

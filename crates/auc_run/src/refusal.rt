@@ -1,31 +1,97 @@
-//! Why the rounds end early.
+//! Why a run is refused.
 
 ghost use Rattle.std.specs.Prelude.{◌≡◌};
-ghost use Rattle.auc_run.specs.declared.refusal.RoundRefusal.TheVariants as refusal;
+ghost use Rattle.auc_run.specs.Inner.{read_refusal, subs_refusal, script_refusal};
+ghost use Rattle.auc_run.specs.Refusal.{status_of};
+ghost use Rattle.auc_run.specs.declared.refusal.Refusal.TheVariants as refused;
 
-use auc_edge::{Failed, NoMemory};
+use crate::status::Status;
+use auc_edge::{Failed, NoMemory, ReadRefusal};
+use auc_script::{ScriptRefusal, ScriptWhy};
+use auc_subs::{SubsRefusal, SubsWhy};
 
-/// Why the rounds end before the last.
+/// Why a run is refused, or ends early.
 #[derive(Clone, Copy, Debug, PartialEq, Eq)]
-pub enum RoundRefusal {
-    /// A round's text could not be written.
+pub enum Refusal {
+    /// The words have none of the program's forms.
+    Usage,
+    /// The subscriber file's first wrong record, the header being 0, and its first fault.
+    Subscribers(u32, SubsWhy),
+    /// The scenario's first wrong line, from 1, and its first fault.
+    Scenario(u32, ScriptWhy),
+    /// An input file could not be read.
+    ReadFault,
+    /// The output could not be written.
     WriteFault,
-    /// There was no memory for a round.
+    /// An input file has more than 67108864 bytes.
+    TooLong,
+    /// Memory ran out.
     NoMemory,
 }
 
-impl From<Failed> for RoundRefusal {
-    ghost from_gives = { λ _ e. e ≡ refusal.WriteFault };
-
-    fn from(_: Failed) -> RoundRefusal {
-        RoundRefusal::WriteFault
+impl Refusal {
+    /// The status with which a run ends that was refused.
+    pub(crate) fn status(self) -> Status
+        ensures { result ≡ status_of self }
+    {
+        match self {
+            Refusal::Usage => Status::Usage,
+            Refusal::Subscribers(_, _) => Status::SubscribersRefused,
+            Refusal::Scenario(_, _) => Status::ScenarioRefused,
+            Refusal::ReadFault => Status::ReadFault,
+            Refusal::WriteFault => Status::WriteFault,
+            Refusal::TooLong => Status::TooLong,
+            Refusal::NoMemory => Status::NoMemory,
+        }
     }
 }
 
-impl From<NoMemory> for RoundRefusal {
-    ghost from_gives = { λ _ e. e ≡ refusal.NoMemory };
+impl From<ReadRefusal> for Refusal {
+    ghost from_gives = { λ read e. e ≡ read_refusal read };
 
-    fn from(_: NoMemory) -> RoundRefusal {
-        RoundRefusal::NoMemory
+    fn from(read: ReadRefusal) -> Refusal {
+        match read {
+            ReadRefusal::ReadFault => Refusal::ReadFault,
+            ReadRefusal::TooLong => Refusal::TooLong,
+            ReadRefusal::NoMemory => Refusal::NoMemory,
+        }
+    }
+}
+
+impl From<SubsRefusal> for Refusal {
+    ghost from_gives = { λ subs e. e ≡ subs_refusal subs };
+
+    fn from(subs: SubsRefusal) -> Refusal {
+        match subs {
+            SubsRefusal::Row(row, why) => Refusal::Subscribers(row, why),
+            SubsRefusal::NoMemory => Refusal::NoMemory,
+        }
+    }
+}
+
+impl From<ScriptRefusal> for Refusal {
+    ghost from_gives = { λ script e. e ≡ script_refusal script };
+
+    fn from(script: ScriptRefusal) -> Refusal {
+        match script {
+            ScriptRefusal::Line(line, why) => Refusal::Scenario(line, why),
+            ScriptRefusal::NoMemory => Refusal::NoMemory,
+        }
+    }
+}
+
+impl From<Failed> for Refusal {
+    ghost from_gives = { λ _ e. e ≡ refused.WriteFault };
+
+    fn from(_: Failed) -> Refusal {
+        Refusal::WriteFault
+    }
+}
+
+impl From<NoMemory> for Refusal {
+    ghost from_gives = { λ _ e. e ≡ refused.NoMemory };
+
+    fn from(_: NoMemory) -> Refusal {
+        Refusal::NoMemory
     }
 }

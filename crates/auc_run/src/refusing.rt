@@ -1,57 +1,53 @@
-//! The lines that wrong files get.
+//! How a refusal is told: by its line and its status.
 
-ghost use Rattle.std.specs.Prelude.{◌≡◌, ◌++◌, IfOk, codes, decimal};
+ghost use Rattle.std.specs.Prelude.{◌≡◌, ◌≢◌, ◌++◌, OnOk, IfOk, IfErr, IsErrOf, Err, codes, decimal};
 ghost use Rattle.auc_edge.specs.Faults.{Rose};
 ghost use Rattle.auc_edge.specs.Sink.{Appends};
-ghost use Rattle.auc_run.specs.Outcome.{refusal_line, why_word, subscribers_line, subs_why_word};
-ghost use Rattle.auc_run.specs.Ending.{IsRefused, AreRefused};
+ghost use Rattle.auc_run.specs.Inner.{IsUntold, Tells};
+ghost use Rattle.auc_run.specs.Refusal.{line_of, status_of, why_word, subs_why_word};
 
+use crate::refusal::Refusal;
 use crate::status::Status;
 use auc_edge::{NoMemory, Octets, Sink, write_whole};
 use auc_script::ScriptWhy;
 use auc_subs::SubsWhy;
 use std::alloc::Global;
 
-/// Says which line of a scenario is wrong, and why.
-pub(crate) fn refuse_scenario<K: Sink>(
-    alloc: Global,
-    line: u32,
-    why: ScriptWhy,
-    out: &mut K,
-) -> Status
-    ensures ends { IsRefused result }
-    ensures written { result ≡ Status.ScenarioRefused
-        → Appends (K.written out.old) (K.written out.new) (refusal_line line why) }
-    ensures fault { result ≡ Status.WriteFault → Rose (K.faults out.old) (K.faults out.new) }
+/// Writes the line of a refusal, if it has one. It answers the refusal's status, or that of what stopped the
+/// line.
+pub(crate) fn tell<K: Sink>(alloc: Global, refusal: Refusal, out: &mut K) -> Status
+    ensures told { Tells refusal result (K.written out.old) (K.written out.new) }
+    ensures fault { refusal ≢ Refusal.WriteFault → result ≡ Status.WriteFault
+        → Rose (K.faults out.old) (K.faults out.new) }
+    ensures quiet { result ≢ Status.WriteFault → K.faults out.new ≡ K.faults out.old }
+    ensures silent { refusal ≡ Refusal.WriteFault → K.faults out.new ≡ K.faults out.old }
 {
-    match refused_line(alloc, b"refused scenario ", line, why_text(why)) {
-        Ok(text) => match write_whole(out, text.as_slice()) {
-            Ok(()) => Status::ScenarioRefused,
-            Err(_) => Status::WriteFault,
-        },
-        Err(_) => Status::NoMemory,
+    match write_refusal(alloc, refusal, out) {
+        Ok(()) => refusal.status(),
+        Err(stop) => stop.status(),
     }
 }
 
-/// Says which record of a file of subscribers is wrong, and why.
-pub(crate) fn refuse_subscribers<K: Sink>(
-    alloc: Global,
-    row: u32,
-    why: SubsWhy,
-    out: &mut K,
-) -> Status
-    ensures ends { AreRefused result }
-    ensures written { result ≡ Status.SubscribersRefused
-        → Appends (K.written out.old) (K.written out.new) (subscribers_line row why) }
-    ensures fault { result ≡ Status.WriteFault → Rose (K.faults out.old) (K.faults out.new) }
+/// Writes the line of a refusal, if it has one.
+fn write_refusal<K: Sink>(alloc: Global, refusal: Refusal, out: &mut K) -> Result<(), Refusal>
+    ensures written { OnOk result (Appends (K.written out.old) (K.written out.new) (line_of refusal)) }
+    ensures refused { IfErr result (λ stop. IsUntold refusal (status_of stop)) }
+    ensures fault { IsErrOf result Refusal.WriteFault → Rose (K.faults out.old) (K.faults out.new) }
+    ensures quiet { result ≢ Err Refusal.WriteFault → K.faults out.new ≡ K.faults out.old }
 {
-    match refused_line(alloc, b"refused subscribers ", row, subs_why_text(why)) {
-        Ok(text) => match write_whole(out, text.as_slice()) {
-            Ok(()) => Status::SubscribersRefused,
-            Err(_) => Status::WriteFault,
-        },
-        Err(_) => Status::NoMemory,
+    match refusal {
+        Refusal::Usage => write_whole(out, b"usage\n".as_slice())?,
+        Refusal::Subscribers(row, why) => {
+            let text = refused_line(alloc, b"refused subscribers ", row, subs_why_text(why))?;
+            write_whole(out, text.as_slice())?
+        }
+        Refusal::Scenario(line, why) => {
+            let text = refused_line(alloc, b"refused scenario ", line, why_text(why))?;
+            write_whole(out, text.as_slice())?
+        }
+        Refusal::ReadFault | Refusal::WriteFault | Refusal::TooLong | Refusal::NoMemory => {}
     }
+    Ok(())
 }
 
 /// The line of a refusal: what is refused, the number of its wrong part, and the word for its fault.

@@ -1,6 +1,6 @@
 //! The rounds of a scenario, each written when it has ended.
 
-ghost use Rattle.std.specs.Prelude.{◌≡◌, ◌≤◌, ◌<◌, ◌^◌, List, All, length, OnOk, IfOk, IsErrOf};
+ghost use Rattle.std.specs.Prelude.{◌≡◌, ◌≢◌, ◌<◌, ◌^◌, List, All, length, OnOk, IfOk, IfErr, IsErrOf, Err};
 ghost use Rattle.auc_edge.specs.Faults.{Rose};
 ghost use Rattle.auc_edge.specs.Sink.{Appends};
 ghost use Rattle.auc_jobs.specs.State.{StandsAt};
@@ -9,9 +9,9 @@ ghost use Rattle.auc_script.specs.declared.part.Part.TheVariants as part;
 ghost use Rattle.auc_subs.specs.Subscriber.{AreSubscribers};
 ghost use Rattle.auc_world.specs.Record.{NamesBelow};
 ghost use Rattle.auc_world.specs.declared.record.LineRecord.{LineRecord};
-ghost use Rattle.auc_run.specs.Output.{Continues, IsKnownPart, WritesScript};
+ghost use Rattle.auc_run.specs.Inner.{Continues, IsKnownPart, OutputStops, WritesScript};
 
-use crate::refusal::RoundRefusal;
+use crate::refusal::Refusal;
 use auc_edge::{Octets, Sink, write_whole};
 use auc_jobs::{Setting, State, serve};
 use auc_print::print_round;
@@ -22,7 +22,7 @@ use auc_world::RoundRecord;
 use std::alloc::Global;
 use std::sync::Wait;
 
-/// What every round of a scenario is served and printed with.
+/// What all rounds of a scenario are served and printed with.
 #[derive(Drop)]
 pub(crate) struct Settings<'a> {
     pub(crate) set: Setting<'a>,
@@ -35,14 +35,14 @@ fn write_round<K: Sink>(
     settings: &Settings,
     round: &RoundRecord,
     out: &mut K,
-) -> Result<(), RoundRefusal>
+) -> Result<(), Refusal>
     requires { NamesBelow (length settings.now.set.rows) round.now }
 
     ensures written { OnOk result (Appends (K.written out.old) (K.written out.new)
         (round_text (identities_of settings.now.set.rows) settings.now.full round.now)) }
-    ensures quiet { OnOk result (K.faults out.new ≡ K.faults out.old) }
-    ensures fault { IsErrOf result RoundRefusal.WriteFault → Rose (K.faults out.old) (K.faults out.new) }
-    ensures later { K.faults out.old ≤ K.faults out.new }
+    ensures refused { IfErr result OutputStops }
+    ensures quiet { result ≢ Err Refusal.WriteFault → K.faults out.new ≡ K.faults out.old }
+    ensures fault { IsErrOf result Refusal.WriteFault → Rose (K.faults out.old) (K.faults out.new) }
 {
     let mut text = Octets::new(alloc);
     let set = &settings.set;
@@ -51,8 +51,8 @@ fn write_round<K: Sink>(
     Ok(())
 }
 
-/// Serves the jobs of a round from the state in which the round before left the subscribers, and writes
-/// its text. It answers the state for the next round.
+/// Serves the jobs of a round from the state in which the previous round left the subscribers, and writes its
+/// text. It answers the state for the next round.
 fn serve_and_write<R: Wait, K: Sink>(
     rt: &R,
     alloc: Global,
@@ -61,16 +61,16 @@ fn serve_and_write<R: Wait, K: Sink>(
     jobs: &RoundPart,
     state: State,
     out: &mut K,
-) -> Result<State, RoundRefusal>
+) -> Result<State, Refusal>
     requires subscribers { AreSubscribers settings.now.set.rows }
     requires known { IsKnownPart (length settings.now.set.rows) (part.Round jobs.now) }
     requires stands { (early : List LineRecord) × StandsAt settings.now.set early state }
 
     ensures written { IfOk result (λ next. Continues settings.now.set settings.now.full number state
         (part.Round jobs.now) next (K.written out.old) (K.written out.new)) }
-    ensures quiet { OnOk result (K.faults out.new ≡ K.faults out.old) }
-    ensures fault { IsErrOf result RoundRefusal.WriteFault → Rose (K.faults out.old) (K.faults out.new) }
-    ensures later { K.faults out.old ≤ K.faults out.new }
+    ensures refused { IfErr result OutputStops }
+    ensures quiet { result ≢ Err Refusal.WriteFault → K.faults out.new ≡ K.faults out.old }
+    ensures fault { IsErrOf result Refusal.WriteFault → Rose (K.faults out.old) (K.faults out.new) }
 {
     let served = serve(rt, alloc, number, jobs.as_slice(), &settings.set, state)?;
     write_round(alloc, settings, &served.round, out)?;
@@ -86,16 +86,16 @@ fn serve_part<R: Wait, K: Sink>(
     part: &Part,
     state: State,
     out: &mut K,
-) -> Result<State, RoundRefusal>
+) -> Result<State, Refusal>
     requires subscribers { AreSubscribers settings.now.set.rows }
     requires known { IsKnownPart (length settings.now.set.rows) part.now }
     requires stands { (early : List LineRecord) × StandsAt settings.now.set early state }
 
     ensures written { IfOk result (λ next. Continues settings.now.set settings.now.full number state
         part.now next (K.written out.old) (K.written out.new)) }
-    ensures quiet { OnOk result (K.faults out.new ≡ K.faults out.old) }
-    ensures fault { IsErrOf result RoundRefusal.WriteFault → Rose (K.faults out.old) (K.faults out.new) }
-    ensures later { K.faults out.old ≤ K.faults out.new }
+    ensures refused { IfErr result OutputStops }
+    ensures quiet { result ≢ Err Refusal.WriteFault → K.faults out.new ≡ K.faults out.old }
+    ensures fault { IsErrOf result Refusal.WriteFault → Rose (K.faults out.old) (K.faults out.new) }
 {
     match part {
         Part::Round(jobs) => serve_and_write(rt, alloc, settings, number, jobs, state, out),
@@ -109,16 +109,16 @@ pub(crate) fn serve_parts<R: Wait, K: Sink>(
     script: &Script,
     subs: &Subscribers,
     out: &mut K,
-) -> Result<(), RoundRefusal>
+) -> Result<(), Refusal>
     requires subscribers { AreSubscribers subs.now }
     requires known { All (IsKnownPart (length subs.now)) script.now.parts }
     requires count { length script.now.parts < 2 ^ 32 }
 
     ensures written { OnOk result
         (WritesScript subs.now script.now (K.written out.old) (K.written out.new)) }
-    ensures quiet { OnOk result (K.faults out.new ≡ K.faults out.old) }
-    ensures fault { IsErrOf result RoundRefusal.WriteFault → Rose (K.faults out.old) (K.faults out.new) }
-    ensures later { K.faults out.old ≤ K.faults out.new }
+    ensures refused { IfErr result OutputStops }
+    ensures quiet { result ≢ Err Refusal.WriteFault → K.faults out.new ≡ K.faults out.old }
+    ensures fault { IsErrOf result Refusal.WriteFault → Rose (K.faults out.old) (K.faults out.new) }
 {
     let rands = Rands::new(script.key);
     let settings = Settings {

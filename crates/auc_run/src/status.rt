@@ -6,11 +6,11 @@ ghost use Rattle.auc_run.specs.Words.{number_of_status};
 /// How a run ends.
 #[derive(Clone, Copy, Debug, PartialEq, Eq)]
 pub enum Status {
-    /// The scenario was read to its end and all its lines were written.
+    /// What the words ask for was written: the lines of the scenario's rounds, or the functions of Milenage.
     Done,
     /// The words have none of the program's forms.
     Usage,
-    /// A record of the file of subscribers is wrong.
+    /// A record of the subscriber file is wrong.
     SubscribersRefused,
     /// A line of the scenario is wrong.
     ScenarioRefused,
@@ -20,7 +20,7 @@ pub enum Status {
     WriteFault,
     /// An input file has more than 67108864 bytes.
     TooLong,
-    /// Memory was wanted and was not to be had.
+    /// Memory ran out.
     NoMemory,
 }
 

@@ -1,23 +1,29 @@
-//! Runs over files and an output in memory.
+//! Runs over files and an output in memory. Further runs stand in `examples/`, and one in the crate `auc_cli`.
 
-use crate::{Status, run};
+use crate::{Ended, MAX_FILE, Status, run};
 use auc_edge::{Items, MemShelf, MemSink, NoMemory, Octets};
 use std::alloc::Global;
 use std::process::Abort;
 use std::sync::Wait;
 
-// A run's words.
-fn words(alloc: Global, all: &[&[u8]]) -> Result<Items<Octets>, NoMemory> {
+// A run with these words over a shelf.
+fn run_words<R: Wait>(
+    rt: &R,
+    alloc: Global,
+    all: &[&[u8]],
+    shelf: &mut MemShelf,
+    out: &mut MemSink,
+) -> Result<Ended, NoMemory> {
     let mut words = Items::new(alloc);
     for bytes in all {
         let mut word = Octets::new(alloc);
         word.append(bytes)?;
         words.push(word)?;
     }
-    Ok(words)
+    Ok(run(rt, alloc, words.as_slice(), shelf, out))
 }
 
-// Checks the status and the output of `run scenario`, where the file has this text.
+// Checks the status and the output of `run scenario`, if the file has this text.
 fn check<R: Abort + Wait>(
     rt: &R,
     alloc: Global,
@@ -28,8 +34,8 @@ fn check<R: Abort + Wait>(
     let mut shelf = MemShelf::new(alloc);
     shelf.add(b"scenario", text)?;
     let mut out = MemSink::new(alloc);
-    let words = words(alloc, &[b"run".as_slice(), b"scenario".as_slice()])?;
-    let ended = run(rt, alloc, words.as_slice(), &mut shelf, &mut out);
+    let words = [b"run".as_slice(), b"scenario".as_slice()];
+    let ended = run_words(rt, alloc, words.as_slice(), &mut shelf, &mut out)?;
     assert_eq!(rt; out.as_slice(), output);
     assert_eq!(rt; ended.status, status);
     Ok(())
@@ -39,24 +45,17 @@ fn check<R: Abort + Wait>(
 fn check_both<R: Abort + Wait>(
     rt: &R,
     alloc: Global,
-    subscribers: &[u8],
-    text: &[u8],
+    shelf: &mut MemShelf,
     status: Status,
     output: &[u8],
 ) -> Result<(), NoMemory> {
-    let mut shelf = MemShelf::new(alloc);
-    shelf.add(b"subscribers", subscribers)?;
-    shelf.add(b"scenario", text)?;
     let mut out = MemSink::new(alloc);
-    let words = words(
-        alloc,
-        &[
-            b"run".as_slice(),
-            b"scenario".as_slice(),
-            b"subscribers".as_slice(),
-        ],
-    )?;
-    let ended = run(rt, alloc, words.as_slice(), &mut shelf, &mut out);
+    let words = [
+        b"run".as_slice(),
+        b"scenario".as_slice(),
+        b"subscribers".as_slice(),
+    ];
+    let ended = run_words(rt, alloc, words.as_slice(), shelf, &mut out)?;
     assert_eq!(rt; out.as_slice(), output);
     assert_eq!(rt; ended.status, status);
     Ok(())
@@ -66,32 +65,15 @@ fn check_both<R: Abort + Wait>(
 // 32 entries (TS 33.102 Annex C.1.1 and C.2.1); SEQ may be at most 2^28 above the greatest entry (C.2.1).
 #[test]
 fn each_scenario_has_its_output(rt: HostRuntime) -> Result<(), NoMemory> {
-    let cases: [(&[u8], &[u8]); 9] = [
+    let cases: [(&[u8], &[u8]); 4] = [
         (b"".as_slice(), b"".as_slice()),
-        (b"round\n".as_slice(), b"round 1\n".as_slice()),
-        (
-            b"subscriber 001010000000001 465b5ce8b199b49faa5f0a2ee238a6bc opc cd63cb71954a9f4e48a5994e37a02baf 8000 0 0\nsubscriber 001010000000002 465b5ce8b199b49faa5f0a2ee238a6bc opc cd63cb71954a9f4e48a5994e37a02baf 8000 40 0\nround\njob\ndraw 001010000000001 2\njob\ndraw 001010000000002 1\ndraw 001010000000001 1\n".as_slice(),
-            b"round 1\njob 1\nvector 001010000000001 1\nvector 001010000000001 2\njob 2\nvector 001010000000002 41\nvector 001010000000001 3\nclosed 001010000000001 0 3 3 0 3 0\nclosed 001010000000002 40 41 1 0 1 0\n".as_slice(),
-        ),
         (
             b"subscriber 001010000000001 465b5ce8b199b49faa5f0a2ee238a6bc opc cd63cb71954a9f4e48a5994e37a02baf 8000 0 0\nround\njob\ndraw 001010000000001 1\ngive 001010000000001 1\ngive 001010000000001 1\ngive 001010000000001 2\n".as_slice(),
             b"round 1\njob 1\nvector 001010000000001 1\ngive 001010000000001 1 accepted\ngive 001010000000001 1 sync 000000000021\ngive 001010000000001 2 absent\nclosed 001010000000001 0 1 1 0 1 0\n".as_slice(),
         ),
         (
-            b"subscriber 001010000000001 465b5ce8b199b49faa5f0a2ee238a6bc opc cd63cb71954a9f4e48a5994e37a02baf 8000 8796093022206 0\nround\njob\ndraw 001010000000001 3\ndraw 001010000000001 1\n".as_slice(),
-            b"round 1\njob 1\nvector 001010000000001 8796093022207\nexhausted 001010000000001 8796093022207\nexhausted 001010000000001 8796093022207\nclosed 001010000000001 8796093022206 8796093022208 2 0 1 0\n".as_slice(),
-        ),
-        (
             b"subscriber 001010000000001 465b5ce8b199b49faa5f0a2ee238a6bc opc cd63cb71954a9f4e48a5994e37a02baf 8000 268435455 0\nsubscriber 001010000000002 465b5ce8b199b49faa5f0a2ee238a6bc opc cd63cb71954a9f4e48a5994e37a02baf 8000 268435456 0\nround\njob\ndraw 001010000000001 1\ngive 001010000000001 268435456\ndraw 001010000000002 1\ngive 001010000000002 268435457\nsync 001010000000002 0 - 1\n".as_slice(),
             b"round 1\njob 1\nvector 001010000000001 268435456\ngive 001010000000001 268435456 accepted\nvector 001010000000002 268435457\ngive 001010000000002 268435457 sync 000000000000\nsync 001010000000002 beyond 268435457 0\nclosed 001010000000001 268435455 268435456 1 0 1 0\nclosed 001010000000002 268435456 268435457 1 0 1 0\n".as_slice(),
-        ),
-        (
-            b"subscriber 001010000000001 465b5ce8b199b49faa5f0a2ee238a6bc opc cd63cb71954a9f4e48a5994e37a02baf 8000 0 0\nround\njob\nsync 001010000000001 700 0 1\n".as_slice(),
-            b"round 1\njob 1\nsync 001010000000001 wrongmac\n".as_slice(),
-        ),
-        (
-            b"subscriber 001010000000001 465b5ce8b199b49faa5f0a2ee238a6bc opc cd63cb71954a9f4e48a5994e37a02baf 8000 0 0\nround\njob\nsync 001010000000001 700 - 1\n".as_slice(),
-            b"round 1\njob 1\nsync 001010000000001 moved 0 700\nvector 001010000000001 701\nclosed 001010000000001 0 701 1 700 1 0\n".as_slice(),
         ),
         (
             b"subscriber 001010000000001 465b5ce8b199b49faa5f0a2ee238a6bc opc cd63cb71954a9f4e48a5994e37a02baf 8000 0 0\nround\njob\ndraw 001010000000001 2\ngive 001010000000001 2\nround\njob\ngive 001010000000001 2\ngive 001010000000001 1\njob\ndraw 001010000000001 1\n".as_slice(),
@@ -104,7 +86,7 @@ fn each_scenario_has_its_output(rt: HostRuntime) -> Result<(), NoMemory> {
     Ok(())
 }
 
-// Appends a line of a job, the answer of its USIM behind it where there is one.
+// Appends a line of a job, with the answer of its USIM if there is one.
 fn append_give(text: &mut Octets, number: u64, answer: &[u8]) -> Result<(), NoMemory> {
     text.append(b"give 001010000000001 ")?;
     text.append_number(number)?;
@@ -112,7 +94,7 @@ fn append_give(text: &mut Octets, number: u64, answer: &[u8]) -> Result<(), NoMe
     text.append(b"\n")
 }
 
-// Appends the vectors' lines of the numbers from 1 to a last one.
+// Appends the lines of the vectors with the numbers from 1 to a last one.
 fn append_vectors(text: &mut Octets, last: u64) -> Result<(), NoMemory> {
     for before in 0..last {
         text.append(b"vector 001010000000001 ")?;
@@ -125,7 +107,7 @@ fn append_vectors(text: &mut Octets, last: u64) -> Result<(), NoMemory> {
 // By hand: 33 has the IND of 1, so 1 is old once 33 was accepted; the SQN of 33 is 32 * 33 + 1, 0x421
 // (TS 33.102 Annex C.2.1).
 #[test]
-fn vector_fails_where_one_of_32_places_later_was_accepted(rt: HostRuntime) -> Result<(), NoMemory> {
+fn vector_fails_if_one_of_32_places_later_was_accepted(rt: HostRuntime) -> Result<(), NoMemory> {
     let alloc = rt.alloc();
     let mut text = Octets::new(alloc);
     text.append(
@@ -179,11 +161,10 @@ fn full_print_has_the_bytes_of_each_vector(rt: HostRuntime) -> Result<(), NoMemo
     )
 }
 
-// The first wrong line or record of each file, by the user's guide.
+// By the user's guide.
 #[test]
-fn first_wrong_part_of_the_first_wrong_file_is_told(rt: HostRuntime) -> Result<(), NoMemory> {
-    let alloc = rt.alloc();
-    let scenarios: [(&[u8], &[u8]); 4] = [
+fn first_wrong_line_of_a_scenario_is_told(rt: HostRuntime) -> Result<(), NoMemory> {
+    let cases: [(&[u8], &[u8]); 4] = [
         (
             b"hello\n".as_slice(),
             b"refused scenario 1 unknownword\n".as_slice(),
@@ -201,73 +182,71 @@ fn first_wrong_part_of_the_first_wrong_file_is_told(rt: HostRuntime) -> Result<(
             b"refused scenario 3 notyet\n".as_slice(),
         ),
     ];
-    for (text, output) in scenarios {
-        check(&rt, alloc, text, Status::ScenarioRefused, output)?;
-    }
-    let files: [(&[u8], &[u8]); 3] = [
-        (b"".as_slice(), b"refused subscribers 0 header\n".as_slice()),
-        (
-            b"imsi,k,kind,op,amf,seq,usim\n001010000000001,465b5ce8b199b49faa5f0a2ee238a6bc,opc,cd63cb71954a9f4e48a5994e37a02baf,8000,0,0\n001010000000002,465b5ce8b199b49faa5f0a2ee238a6bc,opc,cd63cb71954a9f4e48a5994e37a02baf,8000,0,0\n001010000000003,465b5ce8b199b49faa5f0a2ee238a6b,opc,cd63cb71954a9f4e48a5994e37a02baf,8000,0,0\n".as_slice(),
-            b"refused subscribers 3 key\n".as_slice(),
-        ),
-        (
-            b"imsi,k,kind,op,amf,seq,usim\n001010000000001\n".as_slice(),
-            b"refused subscribers 1 fieldcount\n".as_slice(),
-        ),
-    ];
-    for (subscribers, output) in files {
-        check_both(
-            &rt,
-            alloc,
-            subscribers,
-            b"hello\n",
-            Status::SubscribersRefused,
-            output,
-        )?;
+    for (text, output) in cases {
+        check(&rt, rt.alloc(), text, Status::ScenarioRefused, output)?;
     }
     Ok(())
 }
 
-// By hand, as above: the scenario's own subscribers stand behind those of the file.
+// By the user's guide: the subscribers are read first, so what is wrong with them is told first, also if the
+// scenario is missing.
 #[test]
-fn scenario_stands_on_the_file_of_subscribers(rt: HostRuntime) -> Result<(), NoMemory> {
+fn wrong_subscribers_are_told_before_the_scenario(rt: HostRuntime) -> Result<(), NoMemory> {
     let alloc = rt.alloc();
-    let subscribers =
-        b"imsi,k,kind,op,amf,seq,usim\n000000000000007,465b5ce8b199b49faa5f0a2ee238a6bc,opc,cd63cb71954a9f4e48a5994e37a02baf,8000,9,0\n";
-    check_both(
-        &rt,
-        alloc,
-        subscribers,
+    let cases: [(&[u8], &[u8]); 2] = [
+        (b"".as_slice(), b"refused subscribers 0 header\n".as_slice()),
+        (
+            b"imsi,k,kind,op,amf,seq,usim\n001010000000001,465b5ce8b199b49faa5f0a2ee238a6bc,opc,cd63cb71954a9f4e48a5994e37a02baf,8000,0,0\n001010000000003,465b5ce8b199b49faa5f0a2ee238a6b,opc,cd63cb71954a9f4e48a5994e37a02baf,8000,0,0\n".as_slice(),
+            b"refused subscribers 2 key\n".as_slice(),
+        ),
+    ];
+    for (subscribers, output) in cases {
+        let mut one = MemShelf::new(alloc);
+        one.add(b"subscribers", subscribers)?;
+        check_both(&rt, alloc, &mut one, Status::SubscribersRefused, output)?;
+        let mut both = MemShelf::new(alloc);
+        both.add(b"subscribers", subscribers)?;
+        both.add(b"scenario", b"hello\n")?;
+        check_both(&rt, alloc, &mut both, Status::SubscribersRefused, output)?;
+    }
+    Ok(())
+}
+
+// By hand, as above: the scenario's own subscribers come after those of the file.
+#[test]
+fn scenario_goes_on_from_the_file_of_subscribers(rt: HostRuntime) -> Result<(), NoMemory> {
+    let alloc = rt.alloc();
+    let mut shelf = MemShelf::new(alloc);
+    shelf.add(
+        b"subscribers",
+        b"imsi,k,kind,op,amf,seq,usim\n000000000000007,465b5ce8b199b49faa5f0a2ee238a6bc,opc,cd63cb71954a9f4e48a5994e37a02baf,8000,9,0\n",
+    )?;
+    shelf.add(
+        b"scenario",
         b"subscriber 001010000000001 465b5ce8b199b49faa5f0a2ee238a6bc opc cd63cb71954a9f4e48a5994e37a02baf 8000 0 0\nround\njob\ndraw 001010000000001 1\ndraw 000000000000007 1\n",
-        Status::Done,
-        b"round 1\njob 1\nvector 001010000000001 1\nvector 000000000000007 10\nclosed 000000000000007 9 10 1 0 1 0\nclosed 001010000000001 0 1 1 0 1 0\n",
     )?;
     check_both(
         &rt,
         alloc,
-        subscribers,
-        b"subscriber 000000000000007 465b5ce8b199b49faa5f0a2ee238a6bc opc cd63cb71954a9f4e48a5994e37a02baf 8000 0 0\n",
-        Status::ScenarioRefused,
-        b"refused scenario 1 twice\n",
+        &mut shelf,
+        Status::Done,
+        b"round 1\njob 1\nvector 001010000000001 1\nvector 000000000000007 10\nclosed 000000000000007 9 10 1 0 1 0\nclosed 001010000000001 0 1 1 0 1 0\n",
     )
 }
 
 #[test]
 fn words_of_no_form_are_answered_by_usage(rt: HostRuntime) -> Result<(), NoMemory> {
     let alloc = rt.alloc();
-    let cases: [&[&[u8]]; 9] = [
+    let cases: [&[&[u8]]; 5] = [
         &[],
-        &[b"run".as_slice()],
         &[b"run".as_slice(), b"".as_slice()],
         &[b"run".as_slice(), b"a".as_slice(), b"".as_slice()],
-        &[b"run".as_slice(), b"".as_slice(), b"b".as_slice()],
         &[
             b"run".as_slice(),
             b"a".as_slice(),
             b"b".as_slice(),
             b"c".as_slice(),
         ],
-        &[b"--help".as_slice()],
         &[
             b"vector".as_slice(),
             b"465b5ce8b199b49faa5f0a2ee238a6bc".as_slice(),
@@ -276,16 +255,11 @@ fn words_of_no_form_are_answered_by_usage(rt: HostRuntime) -> Result<(), NoMemor
             b"ff9bb4d0b60".as_slice(),
             b"b9b9".as_slice(),
         ],
-        &[
-            b"vector".as_slice(),
-            b"465b5ce8b199b49faa5f0a2ee238a6bc".as_slice(),
-        ],
     ];
-    for case in cases {
-        let words = words(alloc, case)?;
+    for words in cases {
         let mut shelf = MemShelf::new(alloc);
         let mut out = MemSink::new(alloc);
-        let ended = run(&rt, alloc, words.as_slice(), &mut shelf, &mut out);
+        let ended = run_words(&rt, alloc, words, &mut shelf, &mut out)?;
         assert_eq!(rt; ended.status.number(), 1);
         assert_eq!(rt; out.as_slice(), b"usage\n".as_slice());
     }
@@ -296,20 +270,17 @@ fn words_of_no_form_are_answered_by_usage(rt: HostRuntime) -> Result<(), NoMemor
 #[test]
 fn vector_prints_the_functions_of_milenage(rt: HostRuntime) -> Result<(), NoMemory> {
     let alloc = rt.alloc();
-    let words = words(
-        alloc,
-        &[
-            b"vector".as_slice(),
-            b"465b5ce8b199b49faa5f0a2ee238a6bc".as_slice(),
-            b"CD63CB71954A9F4E48A5994E37A02BAF".as_slice(),
-            b"23553cbe9637a89d218ae64dae47bf35".as_slice(),
-            b"ff9bb4d0b607".as_slice(),
-            b"B9b9".as_slice(),
-        ],
-    )?;
+    let words = [
+        b"vector".as_slice(),
+        b"465b5ce8b199b49faa5f0a2ee238a6bc".as_slice(),
+        b"CD63CB71954A9F4E48A5994E37A02BAF".as_slice(),
+        b"23553cbe9637a89d218ae64dae47bf35".as_slice(),
+        b"ff9bb4d0b607".as_slice(),
+        b"B9b9".as_slice(),
+    ];
     let mut shelf = MemShelf::new(alloc);
     let mut out = MemSink::new(alloc);
-    let ended = run(&rt, alloc, words.as_slice(), &mut shelf, &mut out);
+    let ended = run_words(&rt, alloc, words.as_slice(), &mut shelf, &mut out)?;
     assert_eq!(rt; ended.status, Status::Done);
     assert_eq!(rt;
         out.as_slice(),
@@ -318,41 +289,45 @@ fn vector_prints_the_functions_of_milenage(rt: HostRuntime) -> Result<(), NoMemo
     Ok(())
 }
 
+// The third read is the first of the scenario.
 #[test]
 fn file_that_cannot_be_read_is_a_read_fault(rt: HostRuntime) -> Result<(), NoMemory> {
     let alloc = rt.alloc();
-    let words = words(
-        alloc,
-        &[
-            b"run".as_slice(),
-            b"scenario".as_slice(),
-            b"subscribers".as_slice(),
-        ],
-    )?;
     let mut missing = MemShelf::new(alloc);
     missing.add(b"scenario", b"hello\n")?;
-    let mut out = MemSink::new(alloc);
-    let ended = run(&rt, alloc, words.as_slice(), &mut missing, &mut out);
-    assert_eq!(rt; ended.status, Status::ReadFault);
+    check_both(&rt, alloc, &mut missing, Status::ReadFault, b"")?;
     let mut failing = MemShelf::new(alloc);
     failing.add(b"subscribers", b"imsi,k,kind,op,amf,seq,usim\n")?;
     failing.add(b"scenario", b"hello\n")?;
     failing.fail(3)?;
-    let ended = run(&rt, alloc, words.as_slice(), &mut failing, &mut out);
-    assert_eq!(rt; ended.status, Status::ReadFault);
-    assert_eq!(rt; out.as_slice(), b"".as_slice());
-    Ok(())
+    check_both(&rt, alloc, &mut failing, Status::ReadFault, b"")
+}
+
+#[test]
+fn file_of_more_than_64_mib_is_too_long(rt: HostRuntime) -> Result<(), NoMemory> {
+    let alloc = rt.alloc();
+    let mut piece = Octets::new(alloc);
+    for _ in 0..64u32 {
+        piece.append(b"################################################################")?;
+    }
+    let mut text = Octets::new(alloc);
+    for _ in 0..16384u32 {
+        text.append(piece.as_slice())?;
+    }
+    text.append(b"#")?;
+    assert_eq!(rt; text.len(), MAX_FILE + 1);
+    check(&rt, alloc, text.as_slice(), Status::TooLong, b"")
 }
 
 #[test]
 fn round_whose_write_fails_is_the_last(rt: HostRuntime) -> Result<(), NoMemory> {
     let alloc = rt.alloc();
-    let words = words(alloc, &[b"run".as_slice(), b"scenario".as_slice()])?;
     let mut shelf = MemShelf::new(alloc);
     shelf.add(b"scenario", b"round\nround\nround\n")?;
     let mut out = MemSink::new(alloc);
     out.fail(2)?;
-    let ended = run(&rt, alloc, words.as_slice(), &mut shelf, &mut out);
+    let words = [b"run".as_slice(), b"scenario".as_slice()];
+    let ended = run_words(&rt, alloc, words.as_slice(), &mut shelf, &mut out)?;
     assert_eq!(rt; ended.status, Status::WriteFault);
     assert_eq!(rt; out.as_slice(), b"round 1\n".as_slice());
     Ok(())

@@ -17,7 +17,7 @@ loop-part-preserved g c =
     let serving = c.loop-part.invariant.serving in
     record {
       number = ap (λ (n : ℕ). n + 1) c.loop-part.invariant.number;
-      quiet = c.in_ok-state-2.ensures.quiet ∙ c.loop-part.invariant.quiet;
+      quiet = c.in_ok-state-2.ensures.quiet (λ same. cc) ∙ c.loop-part.invariant.quiet;
       serving = Serving-part _ _ _ _ _ _ _ _ _ _ _ _ _
           (drop_more _ _ c.part-item.result c.loop-part-test.true
           ∙ ap (λ (part : Part). part ∷ drop (c.loop-part.part-index + 1) c.as_slice-parts.result.now) (sym c.part-item.is))
