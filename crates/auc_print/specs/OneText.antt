@@ -95,7 +95,8 @@ HasVector vector_of (Give sub n verdict) = Unit {0}
 abbrev pub HasVectors : (ℕ → ℕ → AuthenticationVector) → RoundRecord → Type 0
 HasVectors vector_of round = All (All (HasVector vector_of)) round.jobs
 
--- if each vector is a function of its subscriber and number, two transcripts that agree except in the vectors' bytes are the same
+-- if the subscriber and the number determine each vector, two transcripts that agree except in the vectors' bytes are
+-- the same
 abbrev pub NumbersTellVectors : Type 0
 NumbersTellVectors = (vector_of : ℕ → ℕ → AuthenticationVector) (rounds others : List RoundRecord)
     → All (HasVectors vector_of) rounds → All (HasVectors vector_of) others → map heard rounds ≡ map heard others → rounds ≡ others
