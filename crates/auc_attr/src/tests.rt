@@ -1,3 +1,5 @@
+// Each attribute with a value of distinct bytes, at its least and its greatest size, empty and twice, the bits beside D,
+// no attribute and the most that a packet holds: see the stored run of auc_packet_cli.
 use super::{
     Attr, AttrList, AttrRefusal, FrameFault, mac_place, put_attrs, read_attrs, read_frame,
     write_attrs,
@@ -5,7 +7,7 @@ use super::{
 use auc_edge::{Octets, Places, Room};
 use std::test::Fail;
 
-// RFC 4187 §8.1 and §10, by hand: type, length in units of four bytes, and what stands behind them.
+// RFC 4187 §8.1 and §10, by hand: type, length in units of four bytes, and the bytes after them.
 #[test]
 fn first_fault_of_the_attributes_is_told(rt: HostRuntime) {
     let cases: [(&[u8], AttrRefusal); 9] = [
@@ -71,8 +73,8 @@ fn list_in_places_is_written_into_a_room(rt: HostRuntime) -> Result<(), Fail> {
     Ok(())
 }
 
-// RFC 4187 §8.1 and §10.15, by hand: AT_MAC's value stands behind 8 bytes of the packet, other attributes,
-// type, length and two reserved bytes.
+// RFC 4187 §8.1 and §10.15, by hand: AT_MAC's value follows 8 bytes of the packet, other attributes, type,
+// length and two reserved bytes.
 #[test]
 fn place_of_the_mac_is_told(rt: HostRuntime) {
     let mut packet = [0u8; 32];

@@ -1,3 +1,5 @@
+// Each Subtype, each attribute at its least and its greatest size, and a packet of 4096 bytes: see the stored run of
+// auc_packet_cli.
 use super::{Head, PacketRefusal, head, put_packet, read_packet, write_packet};
 use auc_attr::AttrRefusal;
 use auc_edge::{Octets, Room};
