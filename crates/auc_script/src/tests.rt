@@ -1,263 +1,162 @@
 //! Scenarios, and the lines at which they are refused with their causes.
 
 use crate::{Line, Part, Script, ScriptRefusal, ScriptWhy};
-use auc_edge::Octets;
+use auc_edge::{NoMemory, Octets};
 use auc_subs::{SubsWhy, Subscribers};
 use std::alloc::Global;
 use std::test::Fail;
 
-// TS 35.208 §4.3, test set 1: K and OP, then K and OPc under another identity.
-const FIRST: &[u8] =
-    b"subscriber 001010000000001 465b5ce8b199b49faa5f0a2ee238a6bc op cdc202d5123e20f62b6d676ac72cb318 b9b9 0 0\n";
-
-const SECOND: &[u8] =
-    b"subscriber\t001010000000002  465B5CE8B199B49FAA5F0A2EE238A6BC opc CD63CB71954A9F4E48A5994E37A02BAF B9B9 0000000000007 8796093022207 \r\n";
-
-/// What a text of these pieces is read as.
-fn read(alloc: Global, pieces: &[&[u8]]) -> Result<Result<Script, ScriptRefusal>, Fail> {
-    let mut text = Octets::new(alloc);
-    for piece in pieces {
-        text.append(piece).ok().ok_or("no memory")?;
+/// What a byte of a text stands for: `@` for two subscribers, a round and a job, by the values of TS
+/// 35.208 §4.3, test set 1, and `I` and `J` for the identities of the two.
+fn meaning(byte: &[u8]) -> &[u8] {
+    match byte {
+        b"@" =>
+            b"subscriber 001010000000001 465b5ce8b199b49faa5f0a2ee238a6bc op cdc202d5123e20f62b6d676ac72cb318 b9b9 0 0\nsubscriber\t001010000000002  465B5CE8B199B49FAA5F0A2EE238A6BC opc CD63CB71954A9F4E48A5994E37A02BAF B9B9 0000000000007 8796093022207 \r\nround\njob\n".as_slice(),
+        b"I" => b"001010000000001".as_slice(),
+        b"J" => b"001010000000002".as_slice(),
+        _ => byte,
     }
+}
+
+/// Writes once what the bytes of a text stand for.
+fn write_once(out: &mut Octets, text: &[u8]) -> Result<(), NoMemory> {
+    for at in 0..text.len() {
+        out.append(meaning(&text[at..at + 1]))?;
+    }
+    Ok(())
+}
+
+/// Writes what the bytes of a text stand for, so many times.
+fn write(out: &mut Octets, text: &[u8], count: u32) -> Result<(), Fail> {
+    for _ in 0..count {
+        write_once(out, text).ok().ok_or("no memory")?;
+    }
+    Ok(())
+}
+
+/// What a text is read as.
+fn read(alloc: Global, text: &[u8]) -> Result<Result<Script, ScriptRefusal>, Fail> {
     if text.len() > 67108864 {
         return Err(Fail::from("too long"));
     }
     let mut subs = Subscribers::new(alloc);
-    Ok(Script::read(alloc, text.as_slice(), &mut subs))
+    Ok(Script::read(alloc, text, &mut subs))
 }
 
-/// What a text of these pieces is refused with, or `None` where it is read.
-fn refusal_of(alloc: Global, pieces: &[&[u8]]) -> Result<Option<(u32, ScriptWhy)>, Fail> {
-    match read(alloc, pieces)? {
+/// The line and the cause of a text's refusal, or `None` if it is read.
+fn refusal_of(alloc: Global, text: &[u8]) -> Result<Option<(u32, ScriptWhy)>, Fail> {
+    match read(alloc, text)? {
         Ok(_) => Ok(None),
         Err(ScriptRefusal::Line(line, why)) => Ok(Some((line, why))),
         Err(ScriptRefusal::NoMemory) => Err(Fail::from("no memory")),
     }
 }
 
-/// The script that a text of these pieces is.
-fn script_of(alloc: Global, pieces: &[&[u8]]) -> Result<Script, Fail> {
-    match read(alloc, pieces)? {
-        Ok(script) => Ok(script),
-        Err(_) => Err(Fail::from("refused")),
-    }
-}
-
 #[test]
-fn each_word_of_the_header_is_read(rt: HostRuntime) -> Result<(), Fail> {
-    let text =
-        b"workers 01\nprint full\r\nrandkey 000102030405060708090a0b0c0d0e0f101112131415161718191A1B1C1D1E1F\nrealm example.org";
-    let script = script_of(rt.alloc(), &[text.as_slice()])?;
+fn each_line_is_read(rt: HostRuntime) -> Result<(), Fail> {
+    let mut text = Octets::new(rt.alloc());
+    write(
+        &mut text,
+        b"workers 01\nprint full\r\nrandkey 000102030405060708090a0b0c0d0e0f101112131415161718191A1B1C1D1E1F\nrealm example.org\n@\tdraw  J 00000000000000001000\nsync I 5 111 0\r\ngive J 8796093022207",
+        1,
+    )?;
+    let Ok(script) = read(rt.alloc(), text.as_slice())? else {
+        return Err(Fail::from("refused"));
+    };
     assert_eq!(rt; script.key[31], 31);
     assert_eq!(rt; script.workers, 1);
     assert!(rt; script.full);
     assert_eq!(rt; script.realm.as_slice(), b"example.org".as_slice());
-    assert!(rt; script.parts.is_empty());
-    Ok(())
-}
-
-#[test]
-fn each_line_of_a_job_is_read(rt: HostRuntime) -> Result<(), Fail> {
-    let cases = [
-        (
-            b"\tdraw  001010000000002 00000000000000001000".as_slice(),
-            Line::Draw {
-                sub: 1,
-                count: 1000,
-            },
-        ),
-        (
-            b"sync 001010000000001 5 111 0\r\n".as_slice(),
-            Line::Sync {
-                sub: 0,
-                seq: 5,
-                bit: Some(111),
-                count: 0,
-            },
-        ),
-        (
-            b"give 001010000000002 8796093022207".as_slice(),
-            Line::Give {
-                sub: 1,
-                n: 8796093022207,
-            },
-        ),
+    let lines = [
+        Line::Draw {
+            sub: 1,
+            count: 1000,
+        },
+        Line::Sync {
+            sub: 0,
+            seq: 5,
+            bit: Some(111),
+            count: 0,
+        },
+        Line::Give {
+            sub: 1,
+            n: 8796093022207,
+        },
     ];
-    for (text, line) in cases {
-        let script = script_of(
-            rt.alloc(),
-            &[FIRST, SECOND, b"round\nround\njob\n".as_slice(), text],
-        )?;
-        let Part::Round(jobs) = script.parts.get(1).ok_or("a round")?;
-        let job = jobs.get(0).ok_or("a job")?;
-        assert_eq!(rt; *job.get(0).ok_or("a line")?, line, "at {text:?}");
+    let Part::Round(jobs) = script.parts.get(0).ok_or("a round")?;
+    let job = jobs.get(0).ok_or("a job")?;
+    for (place, line) in lines.iter().enumerate() {
+        assert_eq!(rt; *job.get(place).ok_or("a line")?, *line, "at {place}");
     }
     Ok(())
 }
 
-// The first causes of the first lines, by the table of lines and the order of its tests, by hand.
+// The first causes of the first wrong lines, by the table of lines and the order of its tests, by hand.
 #[test]
-fn a_wrong_line_before_a_job_is_told_by_its_first_cause(rt: HostRuntime) -> Result<(), Fail> {
+fn a_wrong_line_is_told_by_its_first_cause(rt: HostRuntime) -> Result<(), Fail> {
     let cases = [
-        (b" # no comment\n".as_slice(), ScriptWhy::UnknownWord),
-        (b"round\r".as_slice(), ScriptWhy::UnknownWord),
-        (b"\0\n".as_slice(), ScriptWhy::UnknownWord),
-        (b"job x\n".as_slice(), ScriptWhy::OutOfOrder),
-        (b"print all\n".as_slice(), ScriptWhy::Fields),
+        (b" # no comment\n".as_slice(), 1, ScriptWhy::UnknownWord),
+        (b"round\r", 1, ScriptWhy::UnknownWord),
+        (b"\x0bround\n", 1, ScriptWhy::UnknownWord),
+        (b"\nRound\n", 2, ScriptWhy::UnknownWord),
+        (b"job x\n", 1, ScriptWhy::OutOfOrder),
+        (b"round\ndraw 0 1\n", 2, ScriptWhy::OutOfOrder),
+        (b"round\nprint all\n", 2, ScriptWhy::OutOfOrder),
+        (b"print all\n", 1, ScriptWhy::Fields),
+        (b"workers 000000000000000000002\n", 1, ScriptWhy::Fields),
+        (b"subscriber a b c d e f\n", 1, ScriptWhy::Fields),
+        (b"workers 0\n", 1, ScriptWhy::Number),
+        (b"randkey 00\n", 1, ScriptWhy::Hex),
         (
-            b"workers 000000000000000000002\n".as_slice(),
-            ScriptWhy::Fields,
-        ),
-        (b"subscriber a b c d e f\n".as_slice(), ScriptWhy::Fields),
-        (b"workers 0\n".as_slice(), ScriptWhy::Number),
-        (b"randkey 00\n".as_slice(), ScriptWhy::Hex),
-        (
-            b"subscriber a b c d e f g\n".as_slice(),
+            b"subscriber a b c d e f g\n",
+            1,
             ScriptWhy::Subscriber(SubsWhy::Imsi),
         ),
-        (
-            b"workers 99999999999999999999\n".as_slice(),
-            ScriptWhy::NotYet,
-        ),
-        (b"restart x\n".as_slice(), ScriptWhy::NotYet),
-        (b"session 1\n".as_slice(), ScriptWhy::NotYet),
-        (b"start\n".as_slice(), ScriptWhy::NotYet),
-        (b"repeat 1\n".as_slice(), ScriptWhy::NotYet),
-        (b"deliver\n".as_slice(), ScriptWhy::NotYet),
-        (b"giveup\n".as_slice(), ScriptWhy::NotYet),
-        (b"plain\n".as_slice(), ScriptWhy::NotYet),
-        (b"tamper\n".as_slice(), ScriptWhy::NotYet),
-        (b"cut\n".as_slice(), ScriptWhy::NotYet),
-    ];
-    for (text, why) in cases {
-        assert_eq!(rt;
-            refusal_of(rt.alloc(), &[text])?,
-            Some((1, why)),
-            "at {text:?}"
-        );
-    }
-    Ok(())
-}
-
-// The same of the second lines.
-#[test]
-fn a_wrong_line_behind_another_is_told_by_its_first_cause(rt: HostRuntime) -> Result<(), Fail> {
-    let cases = [
-        (b"\nRound\n".as_slice(), ScriptWhy::UnknownWord),
-        (b"round\n\xff\n".as_slice(), ScriptWhy::UnknownWord),
-        (b"round\ndraw 0 1\n".as_slice(), ScriptWhy::OutOfOrder),
-        (b"round\nprint all\n".as_slice(), ScriptWhy::OutOfOrder),
-        (b"print full\nprint full\n".as_slice(), ScriptWhy::Twice),
-        (b"print full\nprint all\n".as_slice(), ScriptWhy::Fields),
-        (b"round\nworkers 65\n".as_slice(), ScriptWhy::NotYet),
-    ];
-    for (text, why) in cases {
-        assert_eq!(rt;
-            refusal_of(rt.alloc(), &[text])?,
-            Some((2, why)),
-            "at {text:?}"
-        );
-    }
-    Ok(())
-}
-
-#[test]
-fn what_says_nothing_is_passed_over(rt: HostRuntime) -> Result<(), Fail> {
-    let cases = [
-        b"".as_slice(),
-        b" \t\n\n\r\nround".as_slice(),
-        b"#\xff\n# \r\r\nround \t\r\n\tjob".as_slice(),
-    ];
-    for text in cases {
-        assert_eq!(rt; refusal_of(rt.alloc(), &[text])?, None, "at {text:?}");
-    }
-    Ok(())
-}
-
-// The first causes of the fifth lines, by the table of lines and the order of its tests, by hand.
-#[test]
-fn a_wrong_line_of_a_job_is_told_by_its_first_cause(rt: HostRuntime) -> Result<(), Fail> {
-    let cases = [
-        (b"draw 00101 0".as_slice(), ScriptWhy::Fields),
-        (b"draw 001010000000003 x".as_slice(), ScriptWhy::Fields),
-        (b"draw 001010000000003 0".as_slice(), ScriptWhy::Number),
+        (b"print full\nprint full\n", 2, ScriptWhy::Twice),
+        (b"print full\nprint all\n", 2, ScriptWhy::Fields),
+        (b"round\nworkers 65\n", 2, ScriptWhy::NotYet),
+        (b"workers 99999999999999999999\n", 1, ScriptWhy::NotYet),
+        (b"restart x\n", 1, ScriptWhy::NotYet),
+        (b"session 1\n", 1, ScriptWhy::NotYet),
+        (b"start\n", 1, ScriptWhy::NotYet),
+        (b"repeat 1\n", 1, ScriptWhy::NotYet),
+        (b"deliver\n", 1, ScriptWhy::NotYet),
+        (b"giveup\n", 1, ScriptWhy::NotYet),
+        (b"plain\n", 1, ScriptWhy::NotYet),
+        (b"tamper\n", 1, ScriptWhy::NotYet),
+        (b"cut\n", 1, ScriptWhy::NotYet),
+        (b"@draw 00101 0", 5, ScriptWhy::Fields),
+        (b"@draw 001010000000003 x", 5, ScriptWhy::Fields),
+        (b"@draw 001010000000003 0", 5, ScriptWhy::Number),
+        (b"@draw I 1001", 5, ScriptWhy::Number),
         // 2^64 + 1
+        (b"@draw I 18446744073709551617", 5, ScriptWhy::Number),
+        (b"@draw 01010000000001 1", 5, ScriptWhy::UnknownSubscriber),
+        (b"@sync I 0 112 0", 5, ScriptWhy::Number),
+        (b"@sync I 0 - 1001", 5, ScriptWhy::Number),
+        (b"@sync I 8796093022208 x 0", 5, ScriptWhy::Number),
+        (b"@sync I 0 x 1001", 5, ScriptWhy::Fields),
+        (b"@give I 0", 5, ScriptWhy::Number),
+        (b"@give I 8796093022208", 5, ScriptWhy::Number),
         (
-            b"draw 001010000000001 18446744073709551617".as_slice(),
-            ScriptWhy::Number,
-        ),
-        (
-            b"draw 01010000000001 1".as_slice(),
-            ScriptWhy::UnknownSubscriber,
-        ),
-        (
-            b"sync 001010000000001 0 112 0".as_slice(),
-            ScriptWhy::Number,
-        ),
-        (
-            b"sync 001010000000001 8796093022208 x 0".as_slice(),
-            ScriptWhy::Number,
-        ),
-        (
-            b"sync 001010000000001 0 x 1001".as_slice(),
-            ScriptWhy::Fields,
-        ),
-        (b"give 001010000000001 0".as_slice(), ScriptWhy::Number),
-        (
-            b"give 001010000000001 8796093022208".as_slice(),
-            ScriptWhy::Number,
+            b"@give I 1\njob\ngive J 1\ngive I 1",
+            8,
+            ScriptWhy::UsimBusy,
         ),
     ];
-    for (text, why) in cases {
+    for (wrong, line, why) in cases {
+        let mut text = Octets::new(rt.alloc());
+        write(&mut text, wrong, 1)?;
         assert_eq!(rt;
-            refusal_of(
-                rt.alloc(),
-                &[FIRST, SECOND, b"round\njob\n".as_slice(), text]
-            )?,
-            Some((5, why)),
-            "at {text:?}"
+            refusal_of(rt.alloc(), text.as_slice())?,
+            Some((line, why)),
+            "at {wrong:?}"
         );
     }
     Ok(())
 }
 
-// The lines by hand.
-#[test]
-fn a_usim_is_given_to_by_one_job_of_a_round(rt: HostRuntime) -> Result<(), Fail> {
-    let cases = [
-        (
-            b"give 001010000000001 1\njob\ngive 001010000000002 1\ngive 001010000000001 1".as_slice(),
-            Some((8, ScriptWhy::UsimBusy)),
-        ),
-        (
-            b"give 001010000000001 1\ngive 001010000000001 1\nround\njob\ngive 001010000000001 1".as_slice(),
-            None,
-        ),
-    ];
-    for (text, refused) in cases {
-        assert_eq!(rt;
-            refusal_of(
-                rt.alloc(),
-                &[FIRST, SECOND, b"round\njob\n".as_slice(), text]
-            )?,
-            refused,
-            "at {text:?}"
-        );
-    }
-    Ok(())
-}
-
-/// A text and so many times another.
-fn repeated(alloc: Global, first: &[u8], text: &[u8], count: u32) -> Result<Octets, Fail> {
-    let mut all = Octets::new(alloc);
-    all.append(first).ok().ok_or("no memory")?;
-    for _ in 0..count {
-        all.append(text).ok().ok_or("no memory")?;
-    }
-    Ok(all)
-}
-
-// The numbers of the lines by hand.
+// By hand: the last allowed of each limit is read, and the next line passes the limit.
 #[test]
 fn what_passes_a_limit_is_refused(rt: HostRuntime) -> Result<(), Fail> {
     let cases = [
@@ -270,55 +169,51 @@ fn what_passes_a_limit_is_refused(rt: HostRuntime) -> Result<(), Fail> {
         ),
         (b"round\n", b"job\n", 200000, b"round\njob\n", 200003),
         (b"realm ", b"x", 255, b"x", 1),
+        (
+            b"@",
+            b"draw I 1000\n",
+            1000,
+            b"job\nsync I 1 - 0\nsync I 1 - 1\n",
+            1007,
+        ),
     ];
     for (first, text, count, more, line) in cases {
-        let mut all = repeated(rt.alloc(), first, text, count)?;
+        let mut all = Octets::new(rt.alloc());
+        write(&mut all, first, 1)?;
+        write(&mut all, text, count)?;
         assert_eq!(rt;
-            refusal_of(rt.alloc(), &[all.as_slice()])?,
+            refusal_of(rt.alloc(), all.as_slice())?,
             None,
             "at {text:?}"
         );
-        all.append(more).ok().ok_or("no memory")?;
+        write(&mut all, more, 1)?;
         assert_eq!(rt;
-            refusal_of(rt.alloc(), &[all.as_slice()])?,
+            refusal_of(rt.alloc(), all.as_slice())?,
             Some((line, ScriptWhy::Limit)),
             "at {text:?}"
         );
     }
-    let draws = repeated(
-        rt.alloc(),
-        b"round\njob\n",
-        b"draw 001010000000001 1000\n",
-        1000,
-    )?;
-    assert_eq!(rt; refusal_of(rt.alloc(), &[FIRST, draws.as_slice()])?, None);
-    assert_eq!(rt;
-        refusal_of(
-            rt.alloc(),
-            &[
-                FIRST,
-                draws.as_slice(),
-                b"job\nsync 001010000000001 1 - 0\nsync 001010000000001 1 - 1\n".as_slice()
-            ]
-        )?,
-        Some((1006, ScriptWhy::Limit))
-    );
     Ok(())
 }
 
+// By hand.
 #[test]
-fn long_lines_are_read_like_short_ones(rt: HostRuntime) -> Result<(), Fail> {
-    let long = repeated(rt.alloc(), b"round\n", b"job ", 250000)?;
-    assert_eq!(rt;
-        refusal_of(rt.alloc(), &[long.as_slice()])?,
-        Some((2, ScriptWhy::Fields))
-    );
-    let word = repeated(rt.alloc(), b"round\n", b"jobs", 250000)?;
-    assert_eq!(rt;
-        refusal_of(rt.alloc(), &[word.as_slice()])?,
-        Some((2, ScriptWhy::UnknownWord))
-    );
-    let blanks = repeated(rt.alloc(), b"round\n", b" \t \t", 250000)?;
-    assert_eq!(rt; refusal_of(rt.alloc(), &[blanks.as_slice()])?, None);
+fn what_says_nothing_is_passed_over(rt: HostRuntime) -> Result<(), Fail> {
+    let cases = [
+        (b"".as_slice(), 1),
+        (b" \t\n\n\r\nround", 1),
+        (b"#\xff\n# \r\r\nround \t\r\n\tjob", 1),
+        (b"@give I 1\ngive I 1\nround\njob\ngive I 1", 1),
+        (b" \t \t", 250000),
+    ];
+    for (text, count) in cases {
+        let mut all = Octets::new(rt.alloc());
+        write(&mut all, text, count)?;
+        assert_eq!(rt;
+            refusal_of(rt.alloc(), all.as_slice())?,
+            None,
+            "at {text:?}"
+        );
+    }
     Ok(())
 }
