@@ -4,5 +4,6 @@ mod CoverLemmas
 mod CutLemmas
 mod ListLemmas
 mod MergeLemmas
+mod RecutLemmas
 mod SplitLemmas
 mod Walk

@@ -4,8 +4,8 @@
 //! that moved it, or one that found it high enough (TS 33.102 §6.3.5). The definitions in `specs/` say
 //! when a list of entries is a legal history, when the lists of several callers split one, which
 //! history such lists merge to, and which verdict a resynchronisation has. The merge of a split is a
-//! legal history of the same entries ([`split_is_merged`]). [`is_legal`] tests a history slowly, for
-//! tests.
+//! legal history of the same entries ([`split_is_merged`]), and a split stays one if looks are left out
+//! or its entries are put into other lists. [`is_legal`] tests a history slowly, for tests.
 //!
 //! A subscriber's greatest number is a parameter of all definitions. Nothing here takes memory, waits
 //! or fails.
@@ -19,7 +19,8 @@ mod tests;
 
 pub use entry::Entry;
 pub use law::{
-    cut_history_is_a_split, cut_history_merges_to_itself, split_counts_its_numbers,
-    split_draws_no_number_twice, split_is_merged,
+    cut_history_is_a_split, cut_history_merges_to_itself, recut_split_is_a_split,
+    split_counts_its_numbers, split_draws_no_number_twice, split_is_merged,
+    split_without_looks_is_a_split,
 };
 pub use legal::is_legal;
