@@ -8,3 +8,5 @@ mod VectorLemmas
 mod AcceptedLemmas
 mod FailureLemmas
 mod BitLemmas
+mod PieceLemmas
+mod ApartLemmas
