@@ -1,0 +1,13 @@
+use Rattle.std.proofs.Common.{◌≡◌, length}
+use Rattle.auc_disk.specs.InnerReplay.{AreInRange}
+use Rattle.auc_disk.specs.Replay.{image_by}
+use Rattle.auc_disk.proofs.mem_disk.MemDisk.crash.Given as goal
+
+abbrev pub invariant-loop-call : goal.invariant-loop-call
+invariant-loop-call l = record {
+  chosen : image_by l.choice l.seen.items l.image.items l.calls ≡ image_by l.choice l.fn.self.first l.fn.self.first l.fn.self.calls;
+  range : AreInRange l.calls;
+}
+
+abbrev pub decreases-loop-call : goal.decreases-loop-call
+decreases-loop-call l = length l.calls
