@@ -1,0 +1,7 @@
+pub mod Facts
+mod BookLemmas
+mod CoverLemmas
+mod PassLemmas
+mod SeatLemmas
+mod StepLemmas
+mod ViewLemmas

@@ -1,0 +1,26 @@
+-- Inner facts: the invariant of a pass.
+use Rattle.std.specs.Prelude.{◌≡◌, ℕ, zero, suc, ◌+◌, ◌<◌, List, [], length, slice_index, Option, Some, None}
+use Rattle.auc_draw.specs.Deeds.{AreInOrder, kept_of, claims_of}
+use Rattle.auc_draw.specs.InnerRule.{wide_in}
+use Rattle.auc_draw.specs.declared.rule.Deed.{Deed}
+use Rattle.auc_draw.specs.declared.pass.Pass.TheInside.{Inside}
+
+-- the kept word at a place, of which 0 is none
+abbrev pub noted : ℕ → Option ℕ
+noted zero = None
+noted (suc w) = Some (suc w)
+
+-- the kept words are those that the first refused draws found
+pub record Notes (kept : List ℕ) (deeds : List Deed) : Type 0 where
+  pub each : (i : ℕ) → i < length kept → kept_of deeds i ≡ noted (slice_index kept i)
+  pub ordered : AreInOrder deeds
+
+pub record IsPass (p : Inside) : Type 0 where
+  -- there is a place for each subscriber's kept word
+  pub sized : length p.kept.items + 1 ≡ p.seat.table_id.words
+  pub notes : Notes p.kept.items p.seat.me.0.own
+  -- the seat is a pass's, and holds no slot
+  pub active : p.seat.me.0.active ≡ 1
+  pub bare : p.seat.me.1 ≡ []
+  -- until its claims end, it has claimed no number of more than 32 bits
+  pub narrow : p.ended ≡ None → wide_in (claims_of p.seat.me.0.own) ≡ 0

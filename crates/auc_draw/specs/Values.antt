@@ -1,0 +1,25 @@
+-- What contracts see of a book, of its passes and of a closed book.
+use Rattle.std.specs.Prelude.{ℕ, List, Option}
+use Rattle.atomic_table.specs.Seated.{TableId}
+use Rattle.auc_draw.specs.declared.rule.Deed.{Deed}
+
+-- a pass: its book, what its steps did, and the number that ended its claims
+pub record PassValue : Type 0 where
+  pub id : TableId
+  pub deeds : List Deed
+  pub ended : Option ℕ
+
+-- a book: which one it is, and the openings
+pub record BookValue : Type 0 where
+  pub id : TableId
+  pub openings : List ℕ
+
+-- the keeper's pass: its book, and how many passes were split from it
+pub record KeeperValue : Type 0 where
+  pub id : TableId
+  pub passes : ℕ
+
+-- a closed book: the subscribers' words, and the list of each pass
+pub record ClosedValue : Type 0 where
+  pub words : List ℕ
+  pub lists : List (List Deed)

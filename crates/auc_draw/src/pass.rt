@@ -1,0 +1,121 @@
+//! A worker's pass.
+
+ghost use Rattle.std.specs.Prelude.{◌≡◌, ◌<◌, ◌≤◌, length};
+ghost use Rattle.auc_sqn.specs.Number.{max_seq};
+ghost use Rattle.auc_draw.specs.Deeds.{AreInOrder};
+ghost use Rattle.auc_draw.specs.Pass.{Draws, Jumps, EndsAbove, ClaimsJob};
+
+use crate::book::Book;
+use crate::rule::View;
+use crate::step::{add_one, move_up, take_number};
+use atomic_table::Seat;
+use auc_sqn::MAX_SEQ;
+use std::marker::Model;
+
+/// The answer to a draw.
+#[derive(Clone, Copy, Debug, PartialEq, Eq)]
+pub enum Draw {
+    /// This number was drawn.
+    Number(u64),
+    /// There is no further number: the word that was found, which is at least the greatest number.
+    Exhausted(u64),
+}
+
+/// The answer to a jump.
+#[derive(Clone, Copy, Debug, PartialEq, Eq)]
+pub enum Jump {
+    /// The number moved up from this word.
+    Moved(u64),
+    /// The number stands: the word that was found.
+    Stood(u64),
+}
+
+/// One worker's seat on the shared words. Contracts see its book, what its steps did, and the number that ended its
+/// claims.
+#[derive(Drop)]
+pub struct Pass {
+    pub(crate) seat: Seat<(), View>,
+    // The word that a subscriber's first refused draw found, or 0.
+    pub(crate) kept: Vec<u64>,
+    // The number that ended the claims.
+    pub(crate) ended: Option<u64>,
+}
+
+impl Model for Pass {
+    ghost use Rattle.auc_draw.specs.Values.{PassValue};
+    ghost use Rattle.auc_draw.specs.InnerPass.{IsPass};
+
+    ghost Value = { PassValue };
+
+    ghost view = { λ p. record { id = p.seat.table_id; deeds = p.seat.me.0.own; ended = p.ended } };
+
+    ghost invariant = { IsPass };
+}
+
+impl Pass {
+    /// Draws the subscriber's next number, in one atomic step. After a refused draw of this pass the answer is the word
+    /// that was found then, and no step is made.
+    pub fn draw(&mut self, book: &Book, sub: u32) -> Draw
+        requires own { self.old.id ≡ book.now.id }
+        requires sub { sub < length book.now.openings }
+        ensures own { self.new.id ≡ self.old.id }
+        ensures draws { Draws sub self.old.deeds self.new.deeds result }
+        ensures ended { self.new.ended ≡ self.old.ended }
+        ensures ordered { AreInOrder self.new.deeds }
+    {
+        let shared = &book.table.shared;
+        let kept = self.kept[sub as usize];
+        if kept != 0 {
+            return Draw::Exhausted(kept);
+        }
+        let found = add_one(shared, &mut self.seat, sub);
+        if found < MAX_SEQ {
+            return Draw::Number(found + 1);
+        }
+        self.kept[sub as usize] = found;
+        Draw::Exhausted(found)
+    }
+
+    /// Moves the subscriber's number up to `to` if it is lower, in one atomic step. After a refused draw of this pass the
+    /// answer is the word that was found then, and no step is made.
+    pub fn jump(&mut self, book: &Book, sub: u32, to: u64) -> Jump
+        requires own { self.old.id ≡ book.now.id }
+        requires sub { sub < length book.now.openings }
+        requires number { to ≤ max_seq }
+        ensures own { self.new.id ≡ self.old.id }
+        ensures jumps { Jumps sub to self.old.deeds self.new.deeds result }
+        ensures ended { self.new.ended ≡ self.old.ended }
+        ensures ordered { AreInOrder self.new.deeds }
+    {
+        let shared = &book.table.shared;
+        let kept = self.kept[sub as usize];
+        if kept != 0 {
+            return Jump::Stood(kept);
+        }
+        let found = move_up(shared, &mut self.seat, sub, to);
+        if found < to {
+            return Jump::Moved(found);
+        }
+        Jump::Stood(found)
+    }
+
+    /// Claims one of the jobs, in one atomic step, or answers that none is left. After that answer no step is made.
+    pub fn claim(&mut self, book: &Book, jobs: u32) -> Option<u32>
+        requires own { self.old.id ≡ book.now.id }
+        requires ended { EndsAbove jobs self.old.ended }
+        ensures own { self.new.id ≡ self.old.id }
+        ensures claims { ClaimsJob jobs self.old self.new result }
+        ensures ordered { AreInOrder self.new.deeds }
+    {
+        if self.ended.is_some() {
+            return None;
+        }
+        let shared = &book.table.shared;
+        let found = take_number(shared, &mut self.seat, book.openings.len());
+        if found < jobs as u64 {
+            return Some(found as u32);
+        }
+        self.ended = Some(found);
+        None
+    }
+}

@@ -1,0 +1,68 @@
+//! The shared words, step by step and from several threads.
+
+ghost use Rattle.std.specs.Prelude.{◌≡◌, ◌<◌, All, length, IfOk};
+ghost use Rattle.auc_draw.specs.Book.{IsOf};
+
+use crate::{Book, Draw, Jump, Pass};
+use auc_edge::NoMemory;
+use auc_sqn::MAX_SEQ;
+use std::alloc::Global;
+use std::test::Fail;
+use std::thread;
+
+/// The only pass of a book, as the list of all its passes.
+fn all_passes(alloc: Global, book: &Book, pass: Pass) -> Result<Vec<Pass>, NoMemory>
+    requires { pass.id ≡ book.now.id }
+    ensures { IfOk result (λ passes. All (IsOf book.now.id) passes.items × (length passes.items ≡ 1)) }
+{
+    let mut passes = Vec::new(alloc);
+    passes.push(pass)?;
+    Ok(passes)
+}
+
+// By hand: two subscribers, the second one number short of the greatest.
+#[test]
+fn one_pass_draws_jumps_and_claims(rt: HostRuntime) -> Result<(), Fail> {
+    let (book, mut passes, keeper) = Book::open(rt.alloc(), &[10, MAX_SEQ - 1], 1)?;
+    let mut pass = passes.pop().expect(&rt, "a pass");
+    assert_eq!(rt; pass.draw(&book, 0), Draw::Number(11));
+    assert_eq!(rt; pass.jump(&book, 0, 20), Jump::Moved(11));
+    assert_eq!(rt; pass.jump(&book, 0, 15), Jump::Stood(20));
+    assert_eq!(rt; pass.draw(&book, 0), Draw::Number(21));
+    assert_eq!(rt; pass.draw(&book, 1), Draw::Number(MAX_SEQ));
+    assert_eq!(rt; pass.draw(&book, 1), Draw::Exhausted(MAX_SEQ));
+    assert_eq!(rt; pass.draw(&book, 1), Draw::Exhausted(MAX_SEQ));
+    assert_eq!(rt; pass.jump(&book, 1, 5), Jump::Stood(MAX_SEQ));
+    assert_eq!(rt; pass.claim(&book, 1), Some(0));
+    assert_eq!(rt; pass.claim(&book, 1), None);
+    assert_eq!(rt; pass.claim(&book, 1), None);
+    let passes = all_passes(rt.alloc(), &book, pass)?;
+    let closed = book.close(passes, keeper);
+    assert_eq!(rt; closed.word(0), 21);
+    assert_eq!(rt; closed.word(1), MAX_SEQ + 1);
+    Ok(())
+}
+
+/// Draws two numbers of the first subscriber.
+fn draw_two(book: &Book, pass: &mut Pass)
+    requires own { pass.old.id ≡ book.now.id }
+    requires sub { 0 < length book.now.openings }
+    ensures { pass.new.id ≡ pass.old.id }
+{
+    pass.draw(book, 0);
+    pass.draw(book, 0);
+}
+
+// By hand: three passes draw two numbers each, from 11 to 16.
+#[test]
+fn passes_on_three_threads_draw_from_one_word(rt: HostRuntime) -> Result<(), Fail> {
+    let (book, mut passes, keeper) = Book::open(rt.alloc(), &[10], 3)?;
+    let two = |_: usize, pass: &mut Pass|
+        requires { (pass.old.id ≡ book.id) × (0 < length book.openings) }
+        ensures { pass.new.id ≡ pass.old.id }
+    { draw_two(&book, pass) };
+    thread::for_each_mut(&rt, passes.as_mut_slice(), 3, &two);
+    let closed = book.close(passes, keeper);
+    assert_eq!(rt; closed.word(0), 16);
+    Ok(())
+}
