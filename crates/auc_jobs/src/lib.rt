@@ -10,7 +10,7 @@
 //! [`State`] as the record of its words, of what its USIMs keep, and of the numbers whose vectors were released
 //! (`specs/State`). A private `Worker` has what one worker needs for a job; it works over any centre, and its contracts
 //! speak of the entries that the centre's calls make of each subscriber's history. The only refusal is that memory runs
-//! out.
+//! out. Rounds by hand stand in the tests of `auc_run` and in `examples/`.
 #![tactic(auto)]
 
 mod closing;
@@ -24,8 +24,6 @@ mod round;
 mod setting;
 mod state;
 mod syncing;
-#[cfg(test)]
-mod tests;
 mod usims;
 mod worker;
 

@@ -65,7 +65,7 @@ fn check_both<R: Abort + Wait>(
 // 32 entries (TS 33.102 Annex C.1.1 and C.2.1); SEQ may be at most 2^28 above the greatest entry (C.2.1).
 #[test]
 fn each_scenario_has_its_output(rt: HostRuntime) -> Result<(), NoMemory> {
-    let cases: [(&[u8], &[u8]); 4] = [
+    let cases: [(&[u8], &[u8]); 5] = [
         (b"".as_slice(), b"".as_slice()),
         (
             b"subscriber 001010000000001 465b5ce8b199b49faa5f0a2ee238a6bc opc cd63cb71954a9f4e48a5994e37a02baf 8000 0 0\nround\njob\ndraw 001010000000001 1\ngive 001010000000001 1\ngive 001010000000001 1\ngive 001010000000001 2\n".as_slice(),
@@ -78,6 +78,10 @@ fn each_scenario_has_its_output(rt: HostRuntime) -> Result<(), NoMemory> {
         (
             b"subscriber 001010000000001 465b5ce8b199b49faa5f0a2ee238a6bc opc cd63cb71954a9f4e48a5994e37a02baf 8000 0 0\nround\njob\ndraw 001010000000001 2\ngive 001010000000001 2\nround\njob\ngive 001010000000001 2\ngive 001010000000001 1\njob\ndraw 001010000000001 1\n".as_slice(),
             b"round 1\njob 1\nvector 001010000000001 1\nvector 001010000000001 2\ngive 001010000000001 2 accepted\nclosed 001010000000001 0 2 2 0 2 0\nround 2\njob 1\ngive 001010000000001 2 sync 000000000042\ngive 001010000000001 1 accepted\njob 2\nvector 001010000000001 3\nclosed 001010000000001 2 3 1 0 1 0\n".as_slice(),
+        ),
+        (
+            b"subscriber 001010000000001 465b5ce8b199b49faa5f0a2ee238a6bc opc cd63cb71954a9f4e48a5994e37a02baf 8000 0 0\nround\njob\ndraw 001010000000001 1\njob\ngive 001010000000001 1\ndraw 001010000000001 1\ngive 001010000000001 2\nsync 001010000000001 700 0 1\nsync 001010000000001 700 111 1\n".as_slice(),
+            b"round 1\njob 1\nvector 001010000000001 1\njob 2\ngive 001010000000001 1 absent\nvector 001010000000001 2\ngive 001010000000001 2 accepted\nsync 001010000000001 wrongmac\nsync 001010000000001 wrongmac\nclosed 001010000000001 0 2 2 0 2 0\n".as_slice(),
         ),
     ];
     for (text, output) in cases {
@@ -164,7 +168,7 @@ fn full_print_has_the_bytes_of_each_vector(rt: HostRuntime) -> Result<(), NoMemo
 // By the user's guide.
 #[test]
 fn first_wrong_line_of_a_scenario_is_told(rt: HostRuntime) -> Result<(), NoMemory> {
-    let cases: [(&[u8], &[u8]); 4] = [
+    let cases: [(&[u8], &[u8]); 5] = [
         (
             b"hello\n".as_slice(),
             b"refused scenario 1 unknownword\n".as_slice(),
