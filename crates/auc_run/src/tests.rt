@@ -168,7 +168,7 @@ fn full_print_has_the_bytes_of_each_vector(rt: HostRuntime) -> Result<(), NoMemo
 // By the user's guide.
 #[test]
 fn first_wrong_line_of_a_scenario_is_told(rt: HostRuntime) -> Result<(), NoMemory> {
-    let cases: [(&[u8], &[u8]); 5] = [
+    let cases: [(&[u8], &[u8]); 4] = [
         (
             b"hello\n".as_slice(),
             b"refused scenario 1 unknownword\n".as_slice(),
