@@ -1,15 +1,15 @@
 #!/usr/bin/env python3
 """Draws and prints 10,000, 100,000 and 1,000,000 vectors with the built program, brief and full. It shows that the time
-grows linearly, and that the records and the text of a round take at most 200 bytes a vector in the brief print and 400
+grows linearly, and that the records and the text of a round take at most 64 bytes a vector in the brief print and 310
 in the full one.
 
     bench/vectors.py [PROGRAM]      PROGRAM: crates/auc_cli/out/auc_cli, unless it is given
 
 Each count is drawn in jobs of 1000 vectors over 100 subscribers. The figures are those of one run: the program's
 own processor time, its greatest resident size, and both as ratios: of the time to the row before, and of the size to
-the count. A run on four cores that did nothing else gave 0.007, 0.066 and 0.709 seconds for the brief print and 0.010,
-0.095 and 0.972 for the full one, so ratios of 9.1 to 10.7; at a million vectors 152 and 307 bytes a vector. Five runs
-gave 0.69 to 0.80 and 0.97 to 1.02 seconds for a million.
+the count. At a million vectors, two runs on a busy machine gave 0.15 and 0.16 seconds and 63 bytes a vector for the
+brief print, in which no vector is made, and 1.00 and 1.12 seconds and 300 bytes for the full one. The program of version
+0.3.0 gave 0.98 to 1.06 seconds and 152 bytes, and 1.03 to 1.42 seconds and 307 bytes, in the same minutes.
 """
 import sys
 import tempfile
@@ -18,7 +18,7 @@ from pathlib import Path
 from measure import KEYS, measured, ratio
 
 SUBSCRIBERS = 100
-MOST_BYTES = {"brief": 200, "full": 400}
+MOST_BYTES = {"brief": 64, "full": 310}
 
 
 def scenario(count, print_):

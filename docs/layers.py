@@ -8,7 +8,7 @@
 In crates.txt a comment right above crates begins a layer, the highest layer first. The rules:
 
 - Each folder of crates/ is listed once, and each listed crate has its folder; a folder of edits/ is that of a crate.
-- A crate uses only crates of lower layers.
+- A crate uses only crates of lower layers, and no chain of crates is longer than eight.
 - A .rt or .antt file of a crate names each library that crates.txt lists for it, and names no other own crate.
 - A crate imports of another crate's proofs only the module Facts, and no other module of proofs/Lib.antt is public.
 - The picture in docs/ARCHITECTURE.md is the one that this script draws.
@@ -24,6 +24,7 @@ LIST = TOP / "crates.txt"
 PAGE = TOP / "docs/ARCHITECTURE.md"
 BEGIN, END = "<!-- drawn by docs/layers.py -->\n```text\n", "```\n"
 PROGRAM = "auc_cli"
+LONGEST_CHAIN = 8
 
 
 class Layer:
@@ -106,6 +107,17 @@ def broken_edges(layers, uses):
                 yield f"{name} uses {library}, which isn't in a lower layer of crates.txt"
 
 
+def chain_of(name, uses):
+    """How many crates the longest chain from a crate downward has."""
+    return 1 + max((chain_of(it, uses) for it in uses[name] if it in uses), default=0)
+
+
+def broken_chains(uses):
+    for name in uses:
+        if chain_of(name, uses) > LONGEST_CHAIN:
+            yield f"a chain from {name} downward has more than {LONGEST_CHAIN} crates"
+
+
 def broken_names(name, uses):
     """The listed libraries that no file of the crate names, and the own crates that a file names unlisted."""
     named = {it for _, text in code_of(name) for it in names_in(text)}
@@ -167,13 +179,16 @@ def main(words):
     if words:
         write(picture)
     broken = [*broken_folders(uses), *broken_edges(layers, uses), *broken_picture(picture)]
+    if not broken:
+        broken += broken_chains(uses)
     for name in uses:
         broken += [*broken_names(name, uses), *broken_proofs(name, uses)]
     for line in broken:
         print(f"layers: {line}", file=sys.stderr)
     if broken:
         sys.exit(1)
-    print(f"layers: {len(uses)} crates in {len(layers)} layers, each edge downward and used")
+    longest = max(chain_of(name, uses) for name in uses)
+    print(f"layers: {len(uses)} crates in {len(layers)} layers, each edge downward and used; the longest chain has {longest}")
 
 
 main(sys.argv[1:])

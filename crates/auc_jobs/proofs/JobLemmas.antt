@@ -4,33 +4,34 @@ use Rattle.std.specs.Prelude.{Option, Some, slice_get, ◌||◌}
 use Rattle.std.proofs.lemmas.Bool.Decides.{eqb_tells}
 use Rattle.std.proofs.lemmas.Grind.{flat_map-append}
 use Rattle.auc_history.specs.declared.entry.Entry.{Entry}
-use Rattle.auc_script.specs.declared.part.Line.{Line}
+use Rattle.auc_lines.specs.declared.part.Line.{Line}
 use Rattle.auc_sqn.specs.Past.{Remembers}
 use Rattle.auc_subs.specs.declared.row.Row.{Row}
-use Rattle.auc_transcript.specs.Entries.{entries_of_lines}
-use Rattle.auc_transcript.specs.Given.{Setting, is_in, is_released, past_of, GiveGives, LineGives, JobGives, JobsGive}
-use Rattle.auc_transcript.specs.Lines.{numbers_of, withheld_of, accepted_by, accepted, all_lines}
+use Rattle.auc_world.specs.Entries.{entries_of_lines}
+use Rattle.auc_world.specs.Given.{is_in, is_released, past_of, GiveGives, LineGives, JobGives}
+use Rattle.auc_world.specs.Setting.{Setting}
+use Rattle.auc_world.specs.Lines.{numbers_of, withheld_of, accepted_by, accepted, all_lines}
 use Rattle.auc_usim.specs.Usim.{Memory}
 use Rattle.auc_world.specs.declared.record.GiveVerdict.{GiveVerdict}
 use Rattle.auc_world.specs.declared.record.GiveVerdict.TheVariants as given
 use Rattle.auc_world.specs.declared.record.LineRecord.{LineRecord}
 use Rattle.auc_world.specs.declared.record.LineRecord.TheVariants.{Give}
-use Rattle.auc_jobs.specs.Numbers.{has, AreReleased}
+use Rattle.auc_jobs.specs.Numbers.{Released, has, AreReleased}
 use Rattle.auc_jobs.specs.InnerUsims.{Presents}
 use Rattle.auc_jobs.specs.Usims.{AreBehind}
-use Rattle.auc_jobs.specs.InnerServing.{AreTold, IsTold, Stands, Adds, Serves, ServesJob, ServesJobs, IsAnswered, AddsGive, before_at}
+use Rattle.auc_jobs.specs.InnerServing.{AreTold, IsTold, Stands, Adds, Serves, ServesLines, IsAnswered, AddsGive, before_at}
 use Rattle.auc_jobs.proofs.LineLemmas.{accepted-append, withheld_of-append, entries_of_lines-append}
 use Rattle.auc_jobs.proofs.SayingLemmas.{told_quiet}
 
 -- ---- the USIMs
 
 -- lines that tell no acceptance leave the USIMs behind them
-pub behind_quiet : (rows : List Row) (before lines : List LineRecord) (usims : List Memory) → ((i : ℕ) → accepted i lines ≡ [])
+pub behind_quiet : (rows : List Row) (before lines : List LineRecord) (usims : ℕ → Option Memory) → ((i : ℕ) → accepted i lines ≡ [])
     → AreBehind rows before usims → AreBehind rows (before ++ lines) usims
 behind_quiet rows before lines usims quiet behind sub row usim at there =
     let e : accepted sub (before ++ lines) ≡ accepted sub before =
     accepted-append sub before lines ∙ rw (quiet sub) (append-nil (accepted sub before)) in
-    subst (λ (numbers : List ℕ). Remembers usim.array (past_of row.usim numbers)) (sym e) (behind sub row usim at there)
+    subst (λ (sqns : List (List ℕ)). Remembers usim.array (past_of row.usim sqns)) (sym e) (behind sub row usim at there)
 
 -- ---- a presented vector
 
@@ -43,11 +44,11 @@ absent_quiet i sub n = step (eqb_tells sub i)
     step (inr (e, not)) = rw e refl
 
 -- what the test of the released numbers says
-released_is : (released : List (ℕ × ℕ)) (early beside own : List LineRecord) (sub n : ℕ) → AreReleased released early
+released_is : (released : Released) (early beside own : List LineRecord) (sub n : ℕ) → AreReleased released early
     → (has released sub n || is_in n (numbers_of sub own)) ≡ is_released (before_at early beside own) sub n
 released_is released early beside own sub n are = ap (λ (b : Bool). b || is_in n (numbers_of sub own)) (are sub n)
 
-pub answered_present : (rows : List Row) (released : List (ℕ × ℕ)) (early beside own : List LineRecord) (sub n : ℕ) (answer : GiveVerdict) (usims : List Memory)
+pub answered_present : (rows : List Row) (released : Released) (early beside own : List LineRecord) (sub n : ℕ) (answer : GiveVerdict) (usims : ℕ → Option Memory)
     → AreReleased released early → (has released sub n || is_in n (numbers_of sub own)) ≡ true → Presents rows (early ++ beside ++ own) sub n answer usims
     → IsAnswered rows (before_at early beside own) sub n answer usims
 answered_present rows released early beside own sub n answer usims are found presents = record {
@@ -55,7 +56,7 @@ answered_present rows released early beside own sub n answer usims are found pre
   behind = presents.behind;
 }
 
-pub answered_absent : (rows : List Row) (released : List (ℕ × ℕ)) (early beside own : List LineRecord) (sub n : ℕ) (usims : List Memory)
+pub answered_absent : (rows : List Row) (released : Released) (early beside own : List LineRecord) (sub n : ℕ) (usims : ℕ → Option Memory)
     → AreReleased released early → (has released sub n || is_in n (numbers_of sub own)) ≡ false → AreBehind rows (early ++ beside ++ own) usims
     → IsAnswered rows (before_at early beside own) sub n given.Absent usims
 answered_absent rows released early beside own sub n usims are found behind = record {
@@ -64,7 +65,7 @@ answered_absent rows released early beside own sub n usims are found behind = re
 }
 
 -- the line of the answer
-pub give_added : (set : Setting) (early beside own new : List LineRecord) (sub n : ℕ) (answer : GiveVerdict) (usims : List Memory) (row : Row)
+pub give_added : (set : Setting) (early beside own new : List LineRecord) (sub n : ℕ) (answer : GiveVerdict) (usims : ℕ → Option Memory) (row : Row)
     → slice_get set.rows sub ≡ Some row → new ≡ own ++ Give sub n answer ∷ [] → IsAnswered set.rows (before_at early beside own) sub n answer usims
     → AddsGive set (before_at early beside own) sub n usims new
 give_added set early beside own new sub n answer usims row at added is = record {
@@ -79,7 +80,7 @@ give_added set early beside own new sub n answer usims row at added is = record 
 
 -- lines that were drawn, or drawn behind a resynchronisation
 pub serves_adds : (goes : ℕ → List Entry → List ℕ → Type 0) (rows : List Row) (early beside own new : List LineRecord) (old kept : ℕ → Option ℕ)
-    (released : List (ℕ × ℕ)) (usims : List Memory) (Gives : List LineRecord → Type 0)
+    (released : Released) (usims : ℕ → Option Memory) (Gives : List LineRecord → Type 0)
     → Stands rows (before_at early beside own) old released usims → Adds goes kept beside own new Gives
     → Serves goes rows (before_at early beside own) kept released usims Gives new
 serves_adds goes rows early beside own new old kept released usims Gives s a = record {
@@ -98,7 +99,7 @@ serves_adds goes rows early beside own new old kept released usims Gives s a = r
 
 -- lines of one request and of another that comes after it
 pub serves_more : (goes more whole : ℕ → List Entry → List ℕ → Type 0) (rows : List Row) (early beside own between new : List LineRecord) (mid kept : ℕ → Option ℕ)
-    (released : List (ℕ × ℕ)) (first_usims usims : List Memory) (First Second Whole : List LineRecord → Type 0)
+    (released : Released) (first_usims usims : ℕ → Option Memory) (First Second Whole : List LineRecord → Type 0)
     → ((i : ℕ) (es fs : List Entry) (ws vs : List ℕ) → goes i es ws → more i fs vs → whole i (es ++ fs) (ws ++ vs))
     → Serves goes rows (before_at early beside own) mid released first_usims First between
     → (Stands rows (before_at early beside between) mid released first_usims → Serves more rows (before_at early beside between) kept released usims Second new)
@@ -122,7 +123,7 @@ serves_more goes more whole rows early beside own between new mid kept released 
 
 -- a presented vector
 pub serves_give : (goes : ℕ → List Entry → List ℕ → Type 0) (set : Setting) (early beside own new : List LineRecord) (kept : ℕ → Option ℕ)
-    (released : List (ℕ × ℕ)) (old usims : List Memory) (sub n : ℕ) → ((i : ℕ) → goes i [] [])
+    (released : Released) (old usims : ℕ → Option Memory) (sub n : ℕ) → ((i : ℕ) → goes i [] [])
     → Stands set.rows (before_at early beside own) kept released old → AddsGive set (before_at early beside own) sub n usims new
     → Serves goes set.rows (before_at early beside own) kept released usims (GiveGives set (before_at early beside own) sub n) new
 serves_give goes set early beside own new kept released old usims sub n stays s a = record {
@@ -147,28 +148,28 @@ JobGoesOn set early beside left job front =
     (rest : List LineRecord) → JobGives set (before_at early beside front) left rest → JobGives set (before_at early beside []) job (front ++ rest)
 
 -- what a job has given so far
-pub record ServingJob (goes : ℕ → List Entry → List ℕ → Type 0) (set : Setting) (early beside : List LineRecord) (kept : ℕ → Option ℕ) (released : List (ℕ × ℕ)) (usims : List Memory)
+pub record ServingLines (goes : ℕ → List Entry → List ℕ → Type 0) (set : Setting) (early beside : List LineRecord) (kept : ℕ → Option ℕ) (released : Released) (usims : ℕ → Option Memory)
     (left job : List Line) (lines : List LineRecord) : Type 0 where
   pub goes_on : JobGoesOn set early beside left job lines
   pub made : (sub : ℕ) → goes sub (entries_of_lines sub beside lines) (withheld_of sub lines)
   pub stands : Stands set.rows (before_at early beside lines) kept released usims
 
-pub job_none : (goes : ℕ → List Entry → List ℕ → Type 0) (set : Setting) (early beside : List LineRecord) (kept : ℕ → Option ℕ) (released : List (ℕ × ℕ)) (usims : List Memory)
+pub job_none : (goes : ℕ → List Entry → List ℕ → Type 0) (set : Setting) (early beside : List LineRecord) (kept : ℕ → Option ℕ) (released : Released) (usims : ℕ → Option Memory)
     (left job : List Line) → left ≡ job → ((i : ℕ) → goes i [] []) → Stands set.rows (before_at early beside []) kept released usims
-    → ServingJob goes set early beside kept released usims left job []
+    → ServingLines goes set early beside kept released usims left job []
 job_none goes set early beside kept released usims left job is stays s = record {
   goes_on = λ rest given. subst (λ (lines : List Line). JobGives set (before_at early beside []) lines rest) is given;
   made = stays;
   stands = s;
 }
 
-pub job_line : (goes more whole : ℕ → List Entry → List ℕ → Type 0) (set : Setting) (early beside : List LineRecord) (mid kept : ℕ → Option ℕ) (released : List (ℕ × ℕ)) (old usims : List Memory)
+pub job_line : (goes more whole : ℕ → List Entry → List ℕ → Type 0) (set : Setting) (early beside : List LineRecord) (mid kept : ℕ → Option ℕ) (released : Released) (old usims : ℕ → Option Memory)
     (line : Line) (left next job : List Line) (front after : List LineRecord)
     → ((i : ℕ) (es fs : List Entry) (ws vs : List ℕ) → goes i es ws → more i fs vs → whole i (es ++ fs) (ws ++ vs))
-    → left ≡ line ∷ next → ServingJob goes set early beside mid released old left job front
+    → left ≡ line ∷ next → ServingLines goes set early beside mid released old left job front
     → (Stands set.rows (before_at early beside front) mid released old
     → Serves more set.rows (before_at early beside front) kept released usims (LineGives set (before_at early beside front) line) after)
-    → ServingJob whole set early beside kept released usims next job after
+    → ServingLines whole set early beside kept released usims next job after
 job_line goes more whole set early beside mid kept released old usims line left next job front after joins cut serving serves = record {
   goes_on = λ rest given.
       let behind : JobGives set (before_at early beside (front ++ line_is.lines)) next rest =
@@ -185,9 +186,9 @@ job_line goes more whole set early beside mid kept released old usims line left 
     line_is : Serves more set.rows (before_at early beside front) kept released usims (LineGives set (before_at early beside front) line) after
     line_is = serves serving.stands
 
-pub job_all : (goes : ℕ → List Entry → List ℕ → Type 0) (set : Setting) (early beside : List LineRecord) (kept : ℕ → Option ℕ) (released : List (ℕ × ℕ)) (usims : List Memory)
-    (left job : List Line) (lines : List LineRecord) → left ≡ [] → ServingJob goes set early beside kept released usims left job lines
-    → ServesJob goes set early beside kept released usims job lines
+pub job_all : (goes : ℕ → List Entry → List ℕ → Type 0) (set : Setting) (early beside : List LineRecord) (kept : ℕ → Option ℕ) (released : Released) (usims : ℕ → Option Memory)
+    (left job : List Line) (lines : List LineRecord) → left ≡ [] → ServingLines goes set early beside kept released usims left job lines
+    → ServesLines goes set early beside kept released usims job lines
 job_all goes set early beside kept released usims left job lines none serving = record {
   given =
       let nothing : JobGives set (before_at early beside lines) [] [] = refl in
@@ -202,70 +203,3 @@ job_all goes set early beside kept released usims left job lines none serving = 
 -- the lines of jobs and of one more
 pub all_lines-push : (jobs : List (List LineRecord)) (job : List LineRecord) → all_lines (jobs ++ job ∷ []) ≡ all_lines jobs ++ job
 all_lines-push jobs job = flat_map-append (λ job. job) jobs (job ∷ []) ∙ rw append-nil refl
-
--- with some jobs of a round left, the records so far and what the rest gives are what the jobs give
-abbrev pub JobsGoOn : Setting → List LineRecord → List (List Line) → List (List Line) → List (List LineRecord) → Type 0
-JobsGoOn set early left jobs front =
-    (rest : List (List LineRecord)) → JobsGive set early (all_lines front) left rest → JobsGive set early [] jobs (front ++ rest)
-
--- what the jobs have given so far
-pub record ServingJobs (goes : ℕ → List Entry → List ℕ → Type 0) (set : Setting) (early : List LineRecord) (kept : ℕ → Option ℕ) (released : List (ℕ × ℕ)) (usims : List Memory)
-    (left jobs : List (List Line)) (records : List (List LineRecord)) : Type 0 where
-  pub goes_on : JobsGoOn set early left jobs records
-  pub made : (sub : ℕ) → goes sub (entries_of_lines sub [] (all_lines records)) (withheld_of sub (all_lines records))
-  pub stands : Stands set.rows (before_at early (all_lines records) []) kept released usims
-
-pub jobs_none : (goes : ℕ → List Entry → List ℕ → Type 0) (set : Setting) (early : List LineRecord) (kept : ℕ → Option ℕ) (released : List (ℕ × ℕ)) (usims : List Memory)
-    (left jobs : List (List Line)) → left ≡ jobs → ((i : ℕ) → goes i [] []) → Stands set.rows (before_at early [] []) kept released usims
-    → ServingJobs goes set early kept released usims left jobs []
-jobs_none goes set early kept released usims left jobs is stays s = record {
-  goes_on = λ rest given. subst (λ (l : List (List Line)). JobsGive set early [] l rest) is given;
-  made = stays;
-  stands = s;
-}
-
--- the lines of a finished job stand beside the next one's
-stands_beside : (rows : List Row) (early beside lines whole : List LineRecord) (kept : ℕ → Option ℕ) (released : List (ℕ × ℕ)) (usims : List Memory)
-    → whole ≡ beside ++ lines → Stands rows (before_at early beside lines) kept released usims → Stands rows (before_at early whole []) kept released usims
-stands_beside rows early beside lines whole kept released usims is s = record {
-  told = subst (AreTold kept) (sym is ∙ sym (append-nil whole)) s.told;
-  earlier = s.earlier;
-  pasts = subst (λ (all : List LineRecord). AreBehind rows all usims)
-      (append_assoc early beside lines ∙ ap (λ (l : List LineRecord). early ++ l) (sym is) ∙ sym (append-nil (early ++ whole))) s.pasts;
-}
-
-pub jobs_job : (goes more whole : ℕ → List Entry → List ℕ → Type 0) (set : Setting) (early : List LineRecord) (mid kept : ℕ → Option ℕ) (released : List (ℕ × ℕ)) (old usims : List Memory)
-    (job : List Line) (left next jobs : List (List Line)) (front after : List (List LineRecord)) (lines : List LineRecord)
-    → ((i : ℕ) (es fs : List Entry) (ws vs : List ℕ) → goes i es ws → more i fs vs → whole i (es ++ fs) (ws ++ vs))
-    → left ≡ job ∷ next → after ≡ front ++ lines ∷ [] → ServingJobs goes set early mid released old left jobs front
-    → (Stands set.rows (before_at early (all_lines front) []) mid released old → ServesJob more set early (all_lines front) kept released usims job lines)
-    → ServingJobs whole set early kept released usims next jobs after
-jobs_job goes more whole set early mid kept released old usims job left next jobs front after lines joins cut pushed serving serves = record {
-  goes_on = λ rest given.
-      let behind : JobsGive set early (all_lines front ++ lines) next rest = subst (λ (l : List LineRecord). JobsGive set early l next rest) here given in
-      let both : JobsGive set early (all_lines front) (job ∷ next) (lines ∷ rest) = (job_is.given, behind) in
-      let joined : JobsGive set early [] jobs (front ++ lines ∷ rest) =
-      serving.goes_on (lines ∷ rest) (subst (λ (l : List (List Line)). JobsGive set early (all_lines front) l (lines ∷ rest)) (sym cut) both) in
-      rw pushed (rw append_assoc joined);
-  made = λ i. rw here (rw (entries_of_lines-append i [] (all_lines front) lines, withheld_of-append i (all_lines front) lines)
-      (joins i (entries_of_lines i [] (all_lines front)) (entries_of_lines i (all_lines front) lines) (withheld_of i (all_lines front)) (withheld_of i lines) (serving.made i) (job_is.made i)));
-  stands = stands_beside set.rows early (all_lines front) lines (all_lines after) kept released usims here job_is.stands;
-}
-  where
-    job_is : ServesJob more set early (all_lines front) kept released usims job lines
-    job_is = serves serving.stands
-
-    here : all_lines after ≡ all_lines front ++ lines
-    here = ap all_lines pushed ∙ all_lines-push front lines
-
-pub jobs_all : (goes : ℕ → List Entry → List ℕ → Type 0) (set : Setting) (early : List LineRecord) (kept : ℕ → Option ℕ) (released : List (ℕ × ℕ)) (usims : List Memory)
-    (left jobs : List (List Line)) (records : List (List LineRecord)) → left ≡ [] → ServingJobs goes set early kept released usims left jobs records
-    → ServesJobs goes set early kept released usims jobs records
-jobs_all goes set early kept released usims left jobs records none serving = record {
-  given =
-      let nothing : JobsGive set early (all_lines records) [] [] = refl in
-      subst (λ (rs : List (List LineRecord)). JobsGive set early [] jobs rs) (append-nil records)
-      (serving.goes_on [] (subst (λ (l : List (List Line)). JobsGive set early (all_lines records) l []) (sym none) nothing));
-  made = serving.made;
-  stands = serving.stands;
-}

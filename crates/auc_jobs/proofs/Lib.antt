@@ -1,10 +1,15 @@
+mod NumbersLemmas
 mod LineLemmas
 mod SayingLemmas
 mod DrawingLemmas
 mod UsimLemmas
 mod JobLemmas
 mod SyncLemmas
-mod WorkerLemmas
 mod CountLemmas
+mod CopyLemmas
+mod SettleLemmas
+mod PieceLemmas
+mod PutLemmas
+mod WorkerLemmas
 mod StateLemmas
 mod RoundLemmas

@@ -1,6 +1,6 @@
--- For a round: what the centre's calls make of its record, and of the state behind it.
+-- For a round: what its pieces make of its record, and of the state after it.
 use Rattle.std.proofs.Common.{◌≡◌, ℕ, zero, suc, ◌+◌, ◌-◌, ◌<◌, ◌≤◌, min, Bool, true, false, List, [], ◌∷◌, ◌++◌, length, get_or, refl, sym, ◌∙◌, ap, subst, arith, append-nil}
-use Rattle.std.specs.Prelude.{All, Option, Some, None, slice_get, slice_index, if◌then◌else◌, ◌==◌}
+use Rattle.std.specs.Prelude.{All, AllPairs, Option, Some, None, slice_get, slice_index, if◌then◌else◌, ◌==◌}
 use Rattle.std.proofs.lemmas.Bool.Decides.{nat_tests}
 use Rattle.std.proofs.lemmas.List.{length-append, length-map}
 use Rattle.std.proofs.lemmas.Grind.{flat_map-append}
@@ -9,15 +9,17 @@ use Rattle.std.proofs.lemmas.Option.{slice_get_within}
 use Rattle.auc_history.specs.declared.entry.Entry.{Entry}
 use Rattle.auc_history.specs.declared.entry.Entry.TheVariants.{Drawn, Moved as moved, Look}
 use Rattle.auc_history.specs.History.{drawn, drawn_by, skipped, skipped_by, IsLegal}
-use Rattle.auc_history.specs.Split.{all_entries}
-use Rattle.auc_history.proofs.Facts.{cut_history_is_a_split, legal_counts_its_numbers}
-use Rattle.auc_script.specs.declared.part.Line.{Line}
+use Rattle.auc_history.specs.Split.{all_entries, Splits}
+use Rattle.auc_history.proofs.Facts.{cut_history_is_a_split, split_counts_its_numbers}
+use Rattle.auc_lines.specs.declared.part.Line.{Line}
+use Rattle.auc_lines.specs.Part.{AreApart}
 use Rattle.auc_sqn.specs.Number.{max_seq}
-use Rattle.auc_transcript.specs.Entries.{is_reported, entries_of_line, entries_of_lines, entries_of_jobs, entries_of_verdict}
-use Rattle.auc_transcript.specs.Given.{Setting}
-use Rattle.auc_transcript.specs.Lines.{numbers_of, released_by, withheld_of, all_lines}
-use Rattle.auc_transcript.specs.Round.{closing_of, closings_from, IsLawfulRound}
-use Rattle.auc_transcript.specs.Transcript.{reopened}
+use Rattle.auc_world.specs.Entries.{is_reported, entries_of_line, entries_of_lines, entries_of_jobs, entries_of_verdict}
+use Rattle.auc_world.specs.Given.{JobsGive}
+use Rattle.auc_world.specs.Setting.{Setting}
+use Rattle.auc_world.proofs.Facts.{jobs_give_after_all_lines, pieces_split_the_round}
+use Rattle.auc_world.specs.Lines.{numbers_of, released_by, withheld_of, all_lines}
+use Rattle.auc_world.specs.Round.{closing_of, closings_from, IsLawfulRound}
 use Rattle.auc_usim.specs.Usim.{Memory}
 use Rattle.auc_vector.specs.Stretch.{IsStretch, kept_at}
 use Rattle.auc_world.specs.declared.record.Closing.{Closing}
@@ -27,11 +29,15 @@ use Rattle.auc_world.specs.declared.record.SyncVerdict.{SyncVerdict}
 use Rattle.auc_world.specs.declared.record.SyncVerdict.TheVariants as verdict
 use Rattle.auc_jobs.specs.declared.counting.Count.{Count}
 use Rattle.auc_jobs.specs.InnerClosings.{passed, passed_by, passed_in, capped, counted_in, AreCounted, counted_closing, counted_closings}
-use Rattle.auc_jobs.specs.Numbers.{AreReleased}
-use Rattle.auc_jobs.specs.Usims.{AreOfRows, AreBehind}
-use Rattle.auc_jobs.specs.InnerServing.{IsTold, Stands, ServesJobs, before_at}
-use Rattle.auc_jobs.specs.InnerWorker.{AreForRows, WorkerState, WorkerServesJobs}
+use Rattle.auc_jobs.specs.Numbers.{Released, AreReleased}
+use Rattle.auc_jobs.specs.Usims.{AreBehind}
+use Rattle.auc_jobs.specs.InnerRound.{pieces_after, RoundBegins, ServesJobs, ArePieces, AreServed, IsAdvanced}
+use Rattle.auc_jobs.specs.InnerServing.{IsTold}
+use Rattle.auc_jobs.specs.InnerUsims.{OwnUsims}
+use Rattle.auc_jobs.specs.InnerWorker.{WorkerState, WorkerServesJobs}
 use Rattle.auc_jobs.specs.State.{Standing, StandsAt}
+use Rattle.auc_jobs.proofs.PieceLemmas.{lines_after, entries_after, reports_after}
+use Rattle.auc_jobs.proofs.PutLemmas.{ArePlaced, placed_jobs}
 use Rattle.auc_jobs.proofs.LineLemmas.{entries_of_lines-append}
 
 -- the entries of all jobs are those of all lines
@@ -73,7 +79,7 @@ passes_verdict sub before (verdict.Beyond seen seq_ms) = passes_unless (is_repor
 passes_verdict sub before verdict.WrongMac = refl
 
 passes_line : (sub : ℕ) (before : List LineRecord) (line : LineRecord) → skipped (entries_of_line sub before line) ≡ passed_by sub line
-passes_line sub before (Vector s vector) = passes_if (s == sub) (Drawn vector.n) ∙ nothing_if (s == sub)
+passes_line sub before (Vector s n) = passes_if (s == sub) (Drawn n) ∙ nothing_if (s == sub)
 passes_line sub before (Withheld s n stop) = passes_if (s == sub) (Drawn n) ∙ nothing_if (s == sub)
 passes_line sub before (Exhausted s word) =
     none_if (s == sub) (if is_reported sub word before then [] else Drawn (word + 1) ∷ []) (passes_unless (is_reported sub word before) (Drawn (word + 1)) refl)
@@ -95,7 +101,7 @@ draws_if true n = omega arith
 draws_if false n = omega arith
 
 draws_line : (sub : ℕ) (before : List LineRecord) (line : LineRecord) → length (released_by sub line) ≤ length (drawn (entries_of_line sub before line))
-draws_line sub before (Vector s vector) = draws_if (s == sub) vector.n
+draws_line sub before (Vector s n) = draws_if (s == sub) n
 draws_line sub before (Withheld s n stop) = omega arith
 draws_line sub before (Exhausted s word) = omega arith
 draws_line sub before (Sync s answer) = omega arith
@@ -115,11 +121,11 @@ draws_lines sub before (line ∷ lines) =
 
 -- ---- a subscriber's count
 
--- what the calls of a round made of a subscriber, from an opening to a closing
-pub record Makes (sub opening closing : ℕ) (lines : List LineRecord) : Type 0 where
-  pub legal : IsLegal max_seq opening closing (entries_of_lines sub [] lines)
-  pub bound : closing ≤ max_seq + 1
-  pub released_all : withheld_of sub lines ≡ []
+-- what the jobs of a round made of a subscriber, from an opening to a closing
+pub record Makes (sub opening closing : ℕ) (jobs : List (List LineRecord)) : Type 0 where
+  pub split : Splits max_seq opening closing (entries_of_jobs sub [] jobs)
+  pub bound : closing ≤ max_seq + 64
+  pub released_all : withheld_of sub (all_lines jobs) ≡ []
 
 -- the parts of its count
 pub record Counts (sub opening closing : ℕ) (lines : List LineRecord) : Type 0 where
@@ -128,19 +134,22 @@ pub record Counts (sub opening closing : ℕ) (lines : List LineRecord) : Type 0
   pub releases : capped (length (numbers_of sub lines)) ≡ length (numbers_of sub lines)
   pub withholds : capped (length (withheld_of sub lines)) ≡ length (withheld_of sub lines)
 
-pub counts_made : (sub opening closing : ℕ) (lines : List LineRecord) → Makes sub opening closing lines → Counts sub opening closing lines
-counts_made sub opening closing lines m = record { whole = whole; skips = omega (arith, whole, bound); releases = omega (arith, whole, bound, few); withholds = rw m.released_all refl }
+pub counts_made : (sub opening closing : ℕ) (jobs : List (List LineRecord)) → Makes sub opening closing jobs → Counts sub opening closing (all_lines jobs)
+counts_made sub opening closing jobs m =
+    record { whole = whole; skips = omega (arith, whole, bound); releases = omega (arith, whole, bound, few); withholds = rw m.released_all refl }
   where
-    whole : closing ≡ opening + length (drawn (entries_of_lines sub [] lines)) + passed_in sub lines
+    whole : closing ≡ opening + length (drawn (entries_of_lines sub [] (all_lines jobs))) + passed_in sub (all_lines jobs)
     whole =
-        let e = legal_counts_its_numbers max_seq opening closing (entries_of_lines sub [] lines) m.legal in
-        let f = passes_lines sub [] lines in omega (arith, e, f)
+        let e = split_counts_its_numbers max_seq opening closing (entries_of_jobs sub [] jobs) m.split in
+        let d = ap (λ (es : List Entry). length (drawn es)) (all_entries-of_jobs sub [] jobs) in
+        let s = ap skipped (all_entries-of_jobs sub [] jobs) in
+        let f = passes_lines sub [] (all_lines jobs) in omega (arith, e, d, s, f)
 
-    bound : closing ≤ max_seq + 1
+    bound : closing ≤ max_seq + 64
     bound = m.bound
 
-    few : length (numbers_of sub lines) ≤ length (drawn (entries_of_lines sub [] lines))
-    few = draws_lines sub [] lines
+    few : length (numbers_of sub (all_lines jobs)) ≤ length (drawn (entries_of_lines sub [] (all_lines jobs)))
+    few = draws_lines sub [] (all_lines jobs)
 
 -- the closing by the lines and their entries is the counted one
 closing_is : (sub opening closing : ℕ) (jobs : List (List LineRecord)) (count : Count) → length (drawn (all_entries (entries_of_jobs sub [] jobs))) ≡ closing - opening - count.skipped
@@ -148,10 +157,10 @@ closing_is : (sub opening closing : ℕ) (jobs : List (List LineRecord)) (count 
     → length (withheld_of sub (all_lines jobs)) ≡ count.withheld → closing_of sub opening closing jobs ≡ counted_closing sub opening closing count
 closing_is sub opening closing jobs count draws passes releases withholds = rw (draws, passes, releases, withholds) refl
 
-pub closing_counted : (sub opening closing : ℕ) (jobs : List (List LineRecord)) → Makes sub opening closing (all_lines jobs)
+pub closing_counted : (sub opening closing : ℕ) (jobs : List (List LineRecord)) → Makes sub opening closing jobs
     → closing_of sub opening closing jobs ≡ counted_closing sub opening closing (counted_in sub (all_lines jobs))
 closing_counted sub opening closing jobs m =
-    let c = counts_made sub opening closing (all_lines jobs) m in
+    let c = counts_made sub opening closing jobs m in
     let whole = c.whole in let skips = c.skips in
     let entries = all_entries-of_jobs sub [] jobs in
     let draws : length (drawn (all_entries (entries_of_jobs sub [] jobs))) ≡ closing - opening - capped (passed_in sub (all_lines jobs)) =
@@ -186,71 +195,62 @@ told_first sub word within =
     let told : IsTold sub None [] = λ w. refl in
     subst (λ (kept : Option ℕ). IsTold sub kept []) (sym open_is) told
 
-within_at : (words : List ℕ) (sub : ℕ) → All (λ word. word ≤ max_seq) words → slice_index words sub ≤ max_seq
-within_at [] sub within = omega arith
-within_at (word ∷ words) zero within = within 0 0 (omega arith)
-within_at (word ∷ words) (suc sub) within = within_at words sub (λ k d lt. within (suc k) d (omega arith))
+below_at : (words : List ℕ) (sub bound : ℕ) → All (λ word. word ≤ bound) words → slice_index words sub ≤ bound
+below_at [] sub bound within = omega arith
+below_at (word ∷ words) zero bound within = within 0 0 (omega arith)
+below_at (word ∷ words) (suc sub) bound within = below_at words sub bound (λ k d lt. within (suc k) d (omega arith))
 
-bound_at : (words : List ℕ) (sub : ℕ) → All (λ word. word ≤ max_seq + 1) words → slice_index words sub ≤ max_seq + 1
-bound_at [] sub within = omega arith
-bound_at (word ∷ words) zero within = within 0 0 (omega arith)
-bound_at (word ∷ words) (suc sub) within = bound_at words sub (λ k d lt. within (suc k) d (omega arith))
-
--- what stands before the first job
-pub stands_at_first : (set : Setting) (early : List LineRecord) (state : Standing) (centre : List ℕ) → centre ≡ state.words → StandsAt set early state
-    → Stands set.rows (before_at early [] []) (λ sub. kept_at (slice_index centre sub)) state.released state.usims
-stands_at_first set early state centre is stands = record {
-  told = λ sub. told_first sub (slice_index centre sub) (within_at centre sub (subst (λ (ws : List ℕ). All (λ word. word ≤ max_seq) ws) (sym is) stands.subscribers.numbers));
-  earlier = stands.earlier;
-  pasts = subst (λ (lines : List LineRecord). AreBehind set.rows lines state.usims) (sym (append-nil (early ++ []) ∙ append-nil early)) stands.pasts;
+-- what stands before a worker's first job
+pub round_begins : (set : Setting) (early : List LineRecord) (state : Standing) (w : WorkerState (List ℕ)) (usims : List Memory) → w.set ≡ set → w.centre ≡ state.words → w.released ≡ state.released
+    → usims ≡ state.usims → StandsAt set early state → RoundBegins w.set.rows early (λ sub. kept_at (slice_index w.centre sub)) w.released usims
+round_begins set early state w usims same words released are stands = record {
+  told = λ sub. told_first sub (slice_index w.centre sub) (below_at w.centre sub max_seq (subst (λ (ws : List ℕ). All (λ word. word ≤ max_seq) ws) (sym words) stands.subscribers.numbers));
+  earlier = subst (λ (rs : Released). AreReleased rs early) (sym released) stands.earlier;
+  pasts = subst (λ (s : Setting). AreBehind s.rows early (slice_get usims)) (sym same) (subst (λ (us : List Memory). AreBehind set.rows early (slice_get us)) (sym are) stands.pasts);
 }
 
--- what its jobs gave, from the words of the state
-pub record Ran (set : Setting) (early : List LineRecord) (state : Standing) (jobs : List (List Line)) (records : List (List LineRecord)) (usims : List Memory) (words : List ℕ) : Type 0 where
-  pub served : ServesJobs (λ i es ws. IsStretch state.words i es ws words) set early (λ sub. kept_at (slice_index words sub)) state.released usims jobs records
-  pub bound : All (λ word. word ≤ max_seq + 1) words
-
--- the centre and the USIMs with which a round begins are those of the rows
-pub rows_first : (set : Setting) (early : List LineRecord) (state inside : Standing) (centre : List ℕ) → inside ≡ state → centre ≡ inside.words → StandsAt set early state
-    → AreForRows set.rows (length centre) (λ sub. max_seq) inside.usims
-rows_first set early state inside centre same is stands = record {
-  is_centre = record {
-    size = ap (λ (ws : List ℕ). length ws) is ∙ ap (λ (s : Standing). length s.words) same ∙ stands.subscribers.size;
-    greatest = λ sub. refl;
+-- one worker with a centre over the pure core serves all jobs of a round
+pub served_by_one : (set : Setting) (early : List LineRecord) (state : Standing) (begun ended : WorkerState (List ℕ)) (usims : List Memory) (jobs : List (List Line)) (records : List (List LineRecord))
+    (own : List OwnUsims) (words : List ℕ) → begun.set ≡ set → begun.centre ≡ state.words → begun.released ≡ state.released → usims ≡ state.usims → words ≡ ended.centre
+    → length words ≡ length state.words → StandsAt set early state
+    → WorkerServesJobs (λ ws sub. kept_at (slice_index ws sub)) IsStretch begun ended usims jobs records own → AreServed set early state jobs records own words
+served_by_one set early state begun ended usims jobs records own words same centre released are ends size stands serves = record {
+  pieces = record {
+    pieces = pieces_after [] records;
+    lines = sym (lines_after [] records);
+    give = given.given;
+    reports = λ sub. reports_after sub [] records;
+    split = λ sub. subst (Splits max_seq (slice_index state.words sub) (slice_index words sub)) (sym (entries_after sub [] records))
+        (cut_history_is_a_split max_seq (slice_index state.words sub) (slice_index words sub) (entries_of_jobs sub [] records)
+        (subst (IsLegal max_seq (slice_index state.words sub) (slice_index words sub)) (sym (all_entries-of_jobs sub [] records)) ((given.made sub).0)));
+    released = λ sub. (given.made sub).1;
   };
-  of_rows = subst (λ (s : Standing). AreOfRows set.rows s.usims) (sym same) stands.subscribers.secrets;
-}
-
--- by what a worker with a centre over the pure core did
-pub ran_of : (set : Setting) (early : List LineRecord) (state inside : Standing) (jobs : List (List Line)) (records : List (List LineRecord)) (centre : List ℕ) (begun ended : WorkerState (List ℕ))
-    (usims : List Memory) (words : List ℕ) → inside ≡ state → centre ≡ inside.words
-    → begun ≡ record { centre = centre; set = set; released = inside.released; usims = inside.usims; lines = [] } → usims ≡ ended.usims → words ≡ ended.centre
-    → All (λ word. word ≤ max_seq + 1) words → StandsAt set early state
-    → WorkerServesJobs (λ ws sub. kept_at (slice_index ws sub)) IsStretch begun ended jobs records → Ran set early state jobs records usims words
-ran_of set early state inside jobs records centre begun ended usims words same is begins usims_are words_are bound stands serves = record {
-  served = subst (λ (s : Standing). ServesJobs (λ i es vs. IsStretch s.words i es vs words) set early (λ sub. kept_at (slice_index words sub)) s.released usims jobs records) same
-      (subst (λ (ws : List ℕ). ServesJobs (λ i es vs. IsStretch ws i es vs words) set early (λ sub. kept_at (slice_index words sub)) inside.released usims jobs records) is
-      (subst (λ (ws : List ℕ). ServesJobs (λ i es vs. IsStretch centre i es vs ws) set early (λ sub. kept_at (slice_index ws sub)) inside.released usims jobs records) (sym words_are)
-      (subst (λ (us : List Memory). ServesJobs (λ i es vs. IsStretch centre i es vs ended.centre) set early (λ sub. kept_at (slice_index ended.centre sub)) inside.released us jobs records)
-      (sym usims_are) (from early (stands_at_first set early inside centre is (subst (StandsAt set early) (sym same) stands))))));
-  bound = bound;
+  settled = given.settled;
+  size = size;
 }
   where
-    from : WorkerServesJobs (λ ws sub. kept_at (slice_index ws sub)) IsStretch (record { centre = centre; set = set; released = inside.released; usims = inside.usims; lines = [] }) ended jobs records
-    from = subst (λ (w : WorkerState (List ℕ)). WorkerServesJobs (λ ws sub. kept_at (slice_index ws sub)) IsStretch w ended jobs records) begins serves
+    given : ServesJobs (λ i es ws. IsStretch state.words i es ws words) set early jobs records own
+    given = subst (λ (ws : List ℕ). ServesJobs (λ i es vs. IsStretch state.words i es vs ws) set early jobs records own) (sym ends)
+        (subst (λ (ws : List ℕ). ServesJobs (λ i es vs. IsStretch ws i es vs ended.centre) set early jobs records own) centre
+        (subst (λ (s : Setting). ServesJobs (λ i es vs. IsStretch begun.centre i es vs ended.centre) s early jobs records own) same
+        (serves early (round_begins set early state begun usims same centre released are stands))))
 
--- each subscriber's calls
-pub makes : (set : Setting) (early : List LineRecord) (state : Standing) (jobs : List (List Line)) (records : List (List LineRecord)) (usims : List Memory) (words : List ℕ) (sub : ℕ)
-    → Ran set early state jobs records usims words → Makes sub (slice_index state.words sub) (slice_index words sub) (all_lines records)
-makes set early state jobs records usims words sub r =
-    let made = r.served.made sub in record { legal = made.0; bound = bound_at words sub r.bound; released_all = made.1 }
+-- the pieces of a round split each subscriber's history by its jobs
+pub pieces_make : (set : Setting) (early : List LineRecord) (openings words : List ℕ) (jobs : List (List Line)) (records : List (List LineRecord)) (sub : ℕ)
+    → ArePieces set early openings jobs records words → All (λ word. word ≤ max_seq + 64) words → Makes sub (slice_index openings sub) (slice_index words sub) records
+pieces_make set early openings words jobs records sub p bound = record {
+  split = subst (λ (rs : List (List LineRecord)). Splits max_seq (slice_index openings sub) (slice_index words sub) (entries_of_jobs sub [] rs)) (sym p.lines)
+      (pieces_split_the_round max_seq (slice_index openings sub) (slice_index words sub) sub p.pieces (p.reports sub) (p.split sub));
+  bound = below_at words sub (max_seq + 64) bound;
+  released_all = p.released sub;
+}
 
 -- no closing is below the opening and what was passed over
-pub closes_above : (set : Setting) (early : List LineRecord) (state : Standing) (jobs : List (List Line)) (records : List (List LineRecord)) (usims : List Memory) (words : List ℕ) (counts : List Count)
-    (k : ℕ) (count : Count) → Ran set early state jobs records usims words → AreCounted (all_lines records) counts → slice_get counts k ≡ Some count
-    → slice_index state.words k + count.skipped ≤ slice_index words k
-closes_above set early state jobs records usims words counts k count r counted there =
-    let c = counts_made k (slice_index state.words k) (slice_index words k) (all_lines records) (makes set early state jobs records usims words k r) in
+pub closes_above : (set : Setting) (early : List LineRecord) (openings words : List ℕ) (jobs : List (List Line)) (records : List (List LineRecord)) (counts : List Count) (k : ℕ) (count : Count)
+    → ArePieces set early openings jobs records words → All (λ word. word ≤ max_seq + 64) words → AreCounted (all_lines records) counts → slice_get counts k ≡ Some count
+    → slice_index openings k + count.skipped ≤ slice_index words k
+closes_above set early openings words jobs records counts k count p bound counted there =
+    let c = counts_made k (slice_index openings k) (slice_index words k) records (pieces_make set early openings words jobs records k p bound) in
     let is : count ≡ counted_in k (all_lines records) = some_is count (counted_in k (all_lines records)) (sym there ∙ counted.each k (slice_get_within counts k count there)) in
     let whole = c.whole in let skips = c.skips in let same = ap (λ (n : Count). n.skipped) is in
     omega (arith, whole, skips, same)
@@ -259,40 +259,49 @@ closes_above set early state jobs records usims words counts k count r counted t
     some_is a b e = cc
 
 -- the round is lawful
-pub lawful_round : (set : Setting) (early : List LineRecord) (state : Standing) (jobs : List (List Line)) (records : List (List LineRecord)) (usims : List Memory) (words : List ℕ) (counts : List Count)
-    (number : ℕ) (closings : List Closing) → Ran set early state jobs records usims words → length words ≡ length state.words → length counts ≡ length state.words
-    → AreCounted (all_lines records) counts → closings ≡ counted_closings 0 state.words words counts
-    → IsLawfulRound set early state.words jobs (record { number = number; jobs = records; closings = closings }) words
-lawful_round set early state jobs records usims words counts number closings r size sizes counted is = record {
+pub lawful_round : (set : Setting) (early : List LineRecord) (openings words : List ℕ) (jobs : List (List Line)) (records : List (List LineRecord)) (counts : List Count)
+    (number : ℕ) (closings : List Closing) → AllPairs AreApart jobs → ArePieces set early openings jobs records words → All (λ word. word ≤ max_seq + 64) words
+    → length words ≡ length openings → length counts ≡ length openings → AreCounted (all_lines records) counts → closings ≡ counted_closings 0 openings words counts
+    → IsLawfulRound set None early openings jobs (record { number = number; jobs = records; closings = closings }) words
+lawful_round set early openings words jobs records counts number closings apart p bound size sizes counted is = record {
   sizes = size;
-  fits = λ sub inside. let bound = bound_at words sub r.bound in omega (arith, bound);
-  given = r.served.given;
-  split = λ sub inside. cut_history_is_a_split max_seq (slice_index state.words sub) (slice_index words sub) (entries_of_jobs sub [] records)
-      (subst (IsLegal max_seq (slice_index state.words sub) (slice_index words sub)) (sym (all_entries-of_jobs sub [] records)) ((r.served.made sub).0));
-  closings = is ∙ sym (closings_counted 0 state.words words counts records sizes (λ k count inside there.
+  fits = λ sub inside. let below = below_at words sub (max_seq + 64) bound in omega (arith, below);
+  given = subst (JobsGive set early [] jobs) (sym p.lines) (jobs_give_after_all_lines set early jobs p.pieces apart p.give);
+  split = λ sub inside. (pieces_make set early openings words jobs records sub p bound).split;
+  closings = is ∙ sym (closings_counted 0 openings words counts records sizes (λ k count inside there.
       let here : k ≡ 0 + k = omega arith in
       let same : counted_in k (all_lines records) ≡ count = some_is (counted_in k (all_lines records)) count (sym (counted.each k (omega arith)) ∙ there) in
-      subst (λ (s : ℕ). closing_of s (get_or state.words k 0) (get_or words k 0) records ≡ counted_closing s (get_or state.words k 0) (get_or words k 0) count) here
-      (closing_counted k (slice_index state.words k) (slice_index words k) records (makes set early state jobs records usims words k r)
-      ∙ ap (counted_closing k (slice_index state.words k) (slice_index words k)) same)));
-  released = λ sub. (r.served.made sub).1;
+      subst (λ (s : ℕ). closing_of s (get_or openings k 0) (get_or words k 0) records ≡ counted_closing s (get_or openings k 0) (get_or words k 0) count) here
+      (closing_counted k (slice_index openings k) (slice_index words k) records (pieces_make set early openings words jobs records k p bound)
+      ∙ ap (counted_closing k (slice_index openings k) (slice_index words k)) same)));
+  withheld = p.released;
 }
   where
     some_is : (a b : Count) → Some a ≡ Some b → a ≡ b
     some_is a b e = cc
 
--- the state behind the round
-pub stands_behind : (set : Setting) (early : List LineRecord) (state new : Standing) (jobs : List (List Line)) (records : List (List LineRecord)) (usims : List Memory) (words : List ℕ)
-    → StandsAt set early state → Ran set early state jobs records usims words → length words ≡ length state.words → new.words ≡ reopened words
-    → All (λ word. word ≤ max_seq) new.words → new.usims ≡ usims → AreOfRows set.rows usims
-    → ((before : List LineRecord) → AreReleased state.released before → AreReleased new.released (before ++ all_lines records))
+-- the state after the round, by equal parts
+pub advanced_as : (a b : Standing) (jobs : List (List Line)) (records others : List (List LineRecord)) (own same : List OwnUsims) (words ends : List ℕ) (new : Standing) → a ≡ b → records ≡ others
+    → own ≡ same → words ≡ ends → IsAdvanced a jobs records own words new → IsAdvanced b jobs others same ends new
+advanced_as a b jobs records others own same words ends new p q r s is =
+    subst (λ (x : Standing). IsAdvanced x jobs others same ends new) p
+    (subst (λ (x : List (List LineRecord)). IsAdvanced a jobs x same ends new) q
+    (subst (λ (x : List OwnUsims). IsAdvanced a jobs records x ends new) r (subst (λ (x : List ℕ). IsAdvanced a jobs records own x new) s is)))
+
+-- it is the next round's
+pub stands_after : (set : Setting) (early : List LineRecord) (state new : Standing) (jobs : List (List Line)) (records : List (List LineRecord)) (own : List OwnUsims) (words : List ℕ)
+    → AllPairs AreApart jobs → StandsAt set early state → AreServed set early state jobs records own words → IsAdvanced state jobs records own words new
     → StandsAt set (early ++ all_lines records) new
-stands_behind set early state new jobs records usims words stands r size is within same of_rows released = record {
+stands_after set early state new jobs records own words apart stands served advanced = record {
   subscribers = record {
-    size = ap (λ (ws : List ℕ). length ws) is ∙ length-map words (λ (word : ℕ). min word max_seq) ∙ size ∙ stands.subscribers.size;
-    numbers = within;
-    secrets = rw same of_rows;
+    size = ap (λ (ws : List ℕ). length ws) advanced.opened ∙ length-map words (λ (word : ℕ). min word max_seq) ∙ served.size ∙ stands.subscribers.size;
+    numbers = advanced.within;
+    secrets = placed.of_rows;
   };
-  pasts = rw same (subst (λ (lines : List LineRecord). AreBehind set.rows lines usims) (append-nil (early ++ all_lines records)) r.served.stands.pasts);
-  earlier = released early stands.earlier;
+  pasts = placed.behind;
+  earlier = advanced.noted early stands.earlier;
 }
+  where
+    placed : ArePlaced set.rows (early ++ ([] ++ all_lines records)) new.usims
+    placed = placed_jobs set.rows early [] state.usims new.usims jobs records own apart (λ k d within sub to. refl) served.settled advanced.put
+        (record { of_rows = stands.subscribers.secrets; behind = subst (λ (lines : List LineRecord). AreBehind set.rows lines (slice_get state.usims)) (sym (append-nil early)) stands.pasts })

@@ -8,10 +8,11 @@ use Rattle.std.proofs.lemmas.Option.{get_or_from_slice_get}
 use Rattle.auc_sqn.specs.Number.{max_seq}
 use Rattle.auc_subs.specs.declared.row.Row.{Row}
 use Rattle.auc_subs.specs.Subscriber.{AreSubscribers, IsRow}
-use Rattle.auc_transcript.specs.Given.{Setting, is_in}
-use Rattle.auc_transcript.specs.Lines.{numbers_of, released_by, all_lines}
+use Rattle.auc_world.specs.Given.{is_in}
+use Rattle.auc_world.specs.Setting.{Setting}
+use Rattle.auc_world.specs.Lines.{numbers_of, released_by, all_lines}
 use Rattle.auc_world.specs.declared.record.LineRecord.{LineRecord}
-use Rattle.auc_jobs.specs.Numbers.{has, AreReleased}
+use Rattle.auc_jobs.specs.Numbers.{Released, has, AreReleased}
 use Rattle.auc_jobs.specs.Usims.{AreOfRows, AreBehind}
 use Rattle.auc_jobs.specs.State.{Standing, StandsAt}
 use Rattle.auc_jobs.proofs.LineLemmas.{numbers_of-append}
@@ -36,40 +37,9 @@ words_within rows words sub subscribers is all =
 
 -- the state before the first round
 pub stands_first : (rows : List Row) (set : Setting) (state : Standing) → set.rows ≡ rows → state.words ≡ map (λ row. row.seq) rows
-    → All (λ word. word ≤ max_seq) state.words → AreOfRows rows state.usims → AreBehind rows [] state.usims → state.released ≡ [] → StandsAt set [] state
+    → All (λ word. word ≤ max_seq) state.words → AreOfRows rows state.usims → AreBehind rows [] (slice_get state.usims) → state.released ≡ [] → StandsAt set [] state
 stands_first rows set state is words within of_rows behind none = record {
   subscribers = record { size = ap (λ (ws : List ℕ). length ws) words ∙ length-map rows (λ (row : Row). row.seq) ∙ ap (λ (rs : List Row). length rs) (sym is); numbers = within; secrets = rw is of_rows };
   pasts = rw is behind;
   earlier = λ sub n. rw none refl;
 }
-
--- ---- the released numbers
-
--- a number stands among some or further ones
-is_in-append : (n : ℕ) (xs ys : List ℕ) → is_in n (xs ++ ys) ≡ (is_in n xs || is_in n ys)
-is_in-append n xs ys = list_any-append (λ m. m == n) xs ys
-
--- those of a further line were added
-pub released_more : (pairs new : List (ℕ × ℕ)) (lines : List LineRecord) (line : LineRecord) → AreReleased pairs lines
-    → ((s m : ℕ) → has new s m ≡ (has pairs s m || is_in m (released_by s line))) → AreReleased new (lines ++ line ∷ [])
-released_more pairs new lines line are added sub n =
-    let e : numbers_of sub (lines ++ line ∷ []) ≡ numbers_of sub lines ++ released_by sub line =
-    numbers_of-append sub lines (line ∷ []) ∙ ap (λ (xs : List ℕ). numbers_of sub lines ++ xs) (append-nil (released_by sub line)) in
-    added sub n ∙ ap (λ (b : Bool). b || is_in n (released_by sub line)) (are sub n) ∙ sym (ap (is_in n) e ∙ is_in-append n (numbers_of sub lines) (released_by sub line))
-
--- with the first of some lines and one more
-pub released_take : (pairs new : List (ℕ × ℕ)) (before lines : List LineRecord) (i : ℕ) (line : LineRecord) → take (i + 1) lines ≡ take i lines ++ line ∷ []
-    → AreReleased pairs (before ++ take i lines) → ((s m : ℕ) → has new s m ≡ (has pairs s m || is_in m (released_by s line)))
-    → AreReleased new (before ++ take (i + 1) lines)
-released_take pairs new before lines i line cut are added =
-    subst (AreReleased new) (append_assoc before (take i lines) (line ∷ []) ∙ ap (λ (ls : List LineRecord). before ++ ls) (sym cut))
-    (released_more pairs new (before ++ take i lines) line are added)
-
--- with the lines of the first of some jobs and of one more
-pub released_job : (new : List (ℕ × ℕ)) (before : List LineRecord) (jobs : List (List LineRecord)) (i : ℕ) (job lines : List LineRecord)
-    → take (i + 1) jobs ≡ take i jobs ++ job ∷ [] → lines ≡ job → AreReleased new ((before ++ all_lines (take i jobs)) ++ lines)
-    → AreReleased new (before ++ all_lines (take (i + 1) jobs))
-released_job new before jobs i job lines cut is are =
-    let whole : all_lines (take (i + 1) jobs) ≡ all_lines (take i jobs) ++ lines =
-    ap all_lines cut ∙ all_lines-push (take i jobs) job ∙ ap (λ (ls : List LineRecord). all_lines (take i jobs) ++ ls) (sym is) in
-    subst (AreReleased new) (append_assoc before (all_lines (take i jobs)) lines ∙ ap (λ (ls : List LineRecord). before ++ ls) (sym whole)) are

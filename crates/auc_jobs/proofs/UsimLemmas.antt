@@ -1,8 +1,7 @@
--- For the USIMs: lists of which one element changes, and what a USIM answers to the vector of a number.
+-- For the USIMs: what a USIM answers to the vector of a number, and the USIMs after that.
 use Rattle.std.proofs.Common.{◌≡◌, ◌≢◌, ℕ, zero, suc, ◌%◌, ◌<◌, ◌≤◌, ◌⊎◌, eqb, true, false, List, [], ◌∷◌, ◌++◌, length, get_or, refl, sym, ◌∙◌, ap, subst, arith, inl, inr, Contains, append-nil}
-use Rattle.std.specs.Prelude.{Some, slice_get, slice_set, if◌then◌else◌}
+use Rattle.std.specs.Prelude.{Option, Some, is_some, slice_get, if◌then◌else◌}
 use Rattle.std.proofs.lemmas.Bool.Decides.{eqb_tells}
-use Rattle.std.proofs.lemmas.List.{length-set}
 use Rattle.std.proofs.lemmas.List.Sums.{fold_push}
 use Rattle.auc_aes.specs.Bytes.{IsBlock}
 use Rattle.auc_milenage.specs.declared.secret.Secret.{Secret}
@@ -12,8 +11,8 @@ use Rattle.auc_sqn.specs.declared.verdict.Verdict.{Verdict}
 use Rattle.auc_sqn.specs.declared.verdict.Verdict.TheVariants.{Fresh, Old, Far}
 use Rattle.auc_sqn.proofs.Facts.{seq_of-sqn_bytes, ind_of-sqn_bytes}
 use Rattle.auc_subs.specs.declared.row.Row.{Row}
-use Rattle.auc_transcript.specs.Given.{UsimAnswers as Answers, past_of}
-use Rattle.auc_transcript.specs.Lines.{accepted, accepted_by}
+use Rattle.auc_world.specs.Given.{UsimAnswers as Answers, past_of}
+use Rattle.auc_world.specs.Lines.{accepted, accepted_by}
 use Rattle.auc_usim.specs.Usim.{Memory, sqn_in, mac_in, xmac, acceptance, verdict_on, FollowsVerdict, IsAnswer, past_after_answer}
 use Rattle.auc_usim.specs.declared.answer.Answer.{Answer}
 use Rattle.auc_usim.specs.declared.answer.Answer.TheVariants.{Accepted, WrongMac, SyncFailure}
@@ -25,11 +24,11 @@ use Rattle.auc_world.specs.declared.record.GiveVerdict.{GiveVerdict}
 use Rattle.auc_world.specs.declared.record.GiveVerdict.TheVariants as given
 use Rattle.auc_world.specs.declared.record.LineRecord.{LineRecord}
 use Rattle.auc_world.specs.declared.record.LineRecord.TheVariants.{Give}
-use Rattle.auc_jobs.specs.InnerUsims.{Challenges, Presents}
-use Rattle.auc_jobs.specs.Usims.{AreOfRows, AreBehind}
+use Rattle.auc_jobs.specs.InnerUsims.{has_usim, Challenges, Presents}
+use Rattle.auc_jobs.specs.Usims.{HaveSecrets, AreOfRows, AreBehind}
 use Rattle.auc_jobs.proofs.LineLemmas.{accepted-append}
 
--- ---- lists of which one element changes or is added
+-- ---- a list with one more element
 
 -- an element of a list with one more is one of the list's, or the one behind
 pub pushed_cases : {X : Type 0} (xs : List X) (x y : X) (k : ℕ) → slice_get (xs ++ x ∷ []) k ≡ Some y
@@ -39,19 +38,6 @@ pushed_cases [] x y (suc k) there = absurd (cc)
 pushed_cases (z ∷ xs) x y zero there = inl there
 pushed_cases (z ∷ xs) x y (suc k) there =
     elim (pushed_cases xs x y k there) [ inl old ↦ inl old | inr (at, is) ↦ inr (omega arith, is) ]
-
--- an element of a list of which one was set is that one, or another as it was
-pub set_cases : {X : Type 0} (xs : List X) (x y : X) (i k : ℕ) → slice_get (slice_set xs i x) k ≡ Some y
-    → ((i ≡ k) × (x ≡ y)) ⊎ ((i ≢ k) × (slice_get xs k ≡ Some y))
-set_cases [] x y i k there = absurd (nothing k there)
-  where
-    nothing : (k : ℕ) → slice_get (slice_set [] i x) k ≡ Some y → ⊥
-    nothing k there = cc
-set_cases (z ∷ xs) x y zero zero there = inl (refl, cc)
-set_cases (z ∷ xs) x y zero (suc k) there = inr (λ e. absurd (omega arith), there)
-set_cases (z ∷ xs) x y (suc i) zero there = inr (λ e. absurd (omega arith), there)
-set_cases (z ∷ xs) x y (suc i) (suc k) there =
-    elim (set_cases xs x y i k there) [ inl (at, is) ↦ inl (omega arith, is) | inr (other, old) ↦ inr (λ e. other (omega arith), old) ]
 
 -- ---- each array remembers some past
 
@@ -131,28 +117,46 @@ fails s past rand autn (Far greatest) auts sqn (sqn_ms, is, e) = (sqn_ms, is, cc
 
 -- ---- the USIMs behind a challenge
 
--- there is still one for each row, with its secret
-pub challenged_rows : (rows : List Row) (old new : List Memory) (sub : ℕ) (rand autn : List ℕ) (answer : Answer)
-    → Challenges old sub rand autn answer new → AreOfRows rows old → AreOfRows rows new
-challenged_rows rows old new sub rand autn answer c are = record {
-  sizes = rw c.set (length-set old sub c.after ∙ are.sizes);
-  secrets = λ i row usim at there. secret i row usim at (set_cases old c.after usim sub i (subst (λ (usims : List Memory). slice_get usims i ≡ Some usim) c.set there));
-}
+-- each of them is the challenged one, or another as it was
+challenge_cases : (old new : ℕ → Option Memory) (sub : ℕ) (rand autn : List ℕ) (answer : Answer) (i : ℕ) (usim : Memory) (c : Challenges old sub rand autn answer new)
+    → new i ≡ Some usim → ((sub ≡ i) × (c.after ≡ usim)) ⊎ ((sub ≢ i) × (old i ≡ Some usim))
+challenge_cases old new sub rand autn answer i usim c there = step (eqb_tells sub i)
   where
-    secret : (i : ℕ) (row : Row) (usim : Memory) → slice_get rows i ≡ Some row
-        → ((sub ≡ i) × (c.after ≡ usim)) ⊎ ((sub ≢ i) × (slice_get old i ≡ Some usim)) → usim.secret ≡ row.secret
-    secret i row usim at (inl (same, is)) =
+    some_is : (a b : Memory) → Some a ≡ Some b → a ≡ b
+    some_is a b e = cc
+
+    step : ((eqb sub i ≡ true) × (sub ≡ i)) ⊎ ((eqb sub i ≡ false) × (sub ≢ i)) → ((sub ≡ i) × (c.after ≡ usim)) ⊎ ((sub ≢ i) × (old i ≡ Some usim))
+    step (inl (e, same)) = inl (same, some_is c.after usim (sym c.here ∙ subst (λ (k : ℕ). new k ≡ Some usim) (sym same) there))
+    step (inr (e, other)) = inr (other, sym (c.others i other) ∙ there)
+
+-- they have their rows' secrets
+pub challenged_secrets : (rows : List Row) (old new : ℕ → Option Memory) (sub : ℕ) (rand autn : List ℕ) (answer : Answer)
+    → Challenges old sub rand autn answer new → HaveSecrets rows old → HaveSecrets rows new
+challenged_secrets rows old new sub rand autn answer c are i row usim at there = step (challenge_cases old new sub rand autn answer i usim c there)
+  where
+    step : ((sub ≡ i) × (c.after ≡ usim)) ⊎ ((sub ≢ i) × (old i ≡ Some usim)) → usim.secret ≡ row.secret
+    step (inl (same, is)) =
         let before : c.before.secret ≡ row.secret =
-        are.secrets sub row c.before (subst (λ (k : ℕ). slice_get rows k ≡ Some row) (sym same) at) c.there in
+        are sub row c.before (subst (λ (k : ℕ). slice_get rows k ≡ Some row) (sym same) at) c.there in
         ap (λ (m : Memory). m.secret) (sym is) ∙ c.secret ∙ before
-    secret i row usim at (inr (other, is)) = are.secrets i row usim at is
+    step (inr (other, is)) = are i row usim at is
+
+-- they are of the same subscribers
+pub challenged_keys : (old new : ℕ → Option Memory) (sub : ℕ) (rand autn : List ℕ) (answer : Answer)
+    → Challenges old sub rand autn answer new → (i : ℕ) → has_usim new i ≡ has_usim old i
+challenged_keys old new sub rand autn answer c i = step (eqb_tells sub i)
+  where
+    step : ((eqb sub i ≡ true) × (sub ≡ i)) ⊎ ((eqb sub i ≡ false) × (sub ≢ i)) → has_usim new i ≡ has_usim old i
+    step (inl (e, same)) =
+        subst (λ (k : ℕ). has_usim new k ≡ has_usim old k) same (ap (λ (m : Option Memory). is_some m) c.here ∙ sym (ap (λ (m : Option Memory). is_some m) c.there))
+    step (inr (e, other)) = ap (λ (m : Option Memory). is_some m) (c.others i other)
 
 -- the numbers that a USIM accepted, behind the line of another one's or its own
-accepted_here : (sub n : ℕ) (lines : List LineRecord) → accepted sub (lines ++ Give sub n given.Accepted ∷ []) ≡ accepted sub lines ++ n ∷ []
+accepted_here : (sub n : ℕ) (lines : List LineRecord) → accepted sub (lines ++ Give sub n given.Accepted ∷ []) ≡ accepted sub lines ++ sqn_bytes n ∷ []
 accepted_here sub n lines = accepted-append sub lines (Give sub n given.Accepted ∷ []) ∙ step (eqb_tells sub sub)
   where
     step : ((eqb sub sub ≡ true) × (sub ≡ sub)) ⊎ ((eqb sub sub ≡ false) × (sub ≢ sub))
-        → accepted sub lines ++ ((if eqb sub sub then n ∷ [] else []) ++ []) ≡ accepted sub lines ++ n ∷ []
+        → accepted sub lines ++ ((if eqb sub sub then sqn_bytes n ∷ [] else []) ++ []) ≡ accepted sub lines ++ sqn_bytes n ∷ []
     step (inl (e, same)) = rw e refl
     step (inr (e, not)) = absurd (not refl)
 
@@ -175,41 +179,41 @@ other_quiet i sub n answer other = step (eqb_tells sub i)
     step (inr (e, not)) = rw e refl
 
 -- what stands of a challenged USIM and the others: the challenged one remembers what it answered
-pub record Challenged (rows : List Row) (lines : List LineRecord) (old : List Memory) (sub n : ℕ) (rand amf : List ℕ) (answer : Answer) (new : List Memory) (row : Row) : Type 0 where
+pub record Challenged (rows : List Row) (lines : List LineRecord) (old : ℕ → Option Memory) (sub n : ℕ) (rand amf : List ℕ) (answer : Answer) (new : ℕ → Option Memory) (row : Row) : Type 0 where
   pub challenge : Challenges old sub rand (autn_of row.secret.k row.secret.opc rand amf n) answer new
   pub at : slice_get rows sub ≡ Some row
   pub k : IsBlock row.secret.k
   pub opc : IsBlock row.secret.opc
   pub amf_size : length amf ≡ 2
   pub last : n ≤ max_seq
-  pub rows_are : AreOfRows rows old
+  pub secrets : HaveSecrets rows old
   pub behind : AreBehind rows lines old
 
 -- it stands so where the vector was made of the row
-pub challenged : (rows : List Row) (lines : List LineRecord) (old : List Memory) (sub n : ℕ) (rand : List ℕ) (made : Vector) (answer : Answer) (new : List Memory) (row : Row)
+pub challenged : (rows : List Row) (lines : List LineRecord) (old : ℕ → Option Memory) (sub n : ℕ) (rand : List ℕ) (made : Vector) (answer : Answer) (new : ℕ → Option Memory) (row : Row)
     → slice_get rows sub ≡ Some row → IsRow row → made ≡ vector_of row.secret row.amf n rand → n ≤ max_seq
-    → Challenges old sub made.rand made.autn answer new → AreOfRows rows old → AreBehind rows lines old
+    → Challenges old sub made.rand made.autn answer new → HaveSecrets rows old → AreBehind rows lines old
     → Challenged rows lines old sub n rand row.amf answer new row
-challenged rows lines old sub n rand made answer new row at is e last c rows_are behind = record {
+challenged rows lines old sub n rand made answer new row at is e last c secrets behind = record {
   challenge = subst (λ (v : Vector). Challenges old sub v.rand v.autn answer new) e c;
   at = at;
   k = is.key;
   opc = is.operator;
   amf_size = is.management;
   last = last;
-  rows_are = rows_are;
+  secrets = secrets;
   behind = behind;
 }
 
 -- and the answer isn't that the MAC is wrong
-pub never_wrong_of : (rows : List Row) (old : List Memory) (sub n : ℕ) (rand : List ℕ) (made : Vector) (answer : Answer) (new : List Memory) (row : Row)
+pub never_wrong_of : (rows : List Row) (old : ℕ → Option Memory) (sub n : ℕ) (rand : List ℕ) (made : Vector) (answer : Answer) (new : ℕ → Option Memory) (row : Row)
     → slice_get rows sub ≡ Some row → IsRow row → made ≡ vector_of row.secret row.amf n rand → n ≤ max_seq
-    → Challenges old sub made.rand made.autn answer new → AreOfRows rows old → answer ≡ WrongMac → ⊥
-never_wrong_of rows old sub n rand made answer new row at is e last c rows_are wrong =
+    → Challenges old sub made.rand made.autn answer new → HaveSecrets rows old → answer ≡ WrongMac → ⊥
+never_wrong_of rows old sub n rand made answer new row at is e last c secrets wrong =
     let d : Challenges old sub rand (autn_of row.secret.k row.secret.opc rand row.amf n) answer new =
     subst (λ (v : Vector). Challenges old sub v.rand v.autn answer new) e c in
     let past = some_past d.before.array in
-    let secret : d.before.secret ≡ row.secret = rows_are.secrets sub row d.before at d.there in
+    let secret : d.before.secret ≡ row.secret = secrets sub row d.before at d.there in
     let answers : IsAnswer row.secret past.0 rand (autn_of row.secret.k row.secret.opc rand row.amf n) WrongMac =
     subst (λ (a : Answer). IsAnswer row.secret past.0 rand (autn_of row.secret.k row.secret.opc rand row.amf n) a) wrong
     (subst (λ (s : Secret). IsAnswer s past.0 rand (autn_of row.secret.k row.secret.opc rand row.amf n) answer) secret (d.answers past.0 past.1)) in
@@ -221,23 +225,23 @@ abbrev past_at : List LineRecord → ℕ → Row → Past
 past_at lines sub row = past_of row.usim (accepted sub lines)
 
 -- the verdict decides its answer
-answer_follows : (rows : List Row) (lines : List LineRecord) (old : List Memory) (sub n : ℕ) (rand amf : List ℕ) (answer : Answer) (new : List Memory) (row : Row)
+answer_follows : (rows : List Row) (lines : List LineRecord) (old : ℕ → Option Memory) (sub n : ℕ) (rand amf : List ℕ) (answer : Answer) (new : ℕ → Option Memory) (row : Row)
     → Challenged rows lines old sub n rand amf answer new row
     → FollowsVerdict row.secret (past_at lines sub row) rand (autn_of row.secret.k row.secret.opc rand amf n) (verdict_of (past_at lines sub row) n (n % 32)) answer
 answer_follows rows lines old sub n rand amf answer new row d =
     let remembers = d.behind sub row d.challenge.before d.at d.challenge.there in
-    let secret : d.challenge.before.secret ≡ row.secret = d.rows_are.secrets sub row d.challenge.before d.at d.challenge.there in
+    let secret : d.challenge.before.secret ≡ row.secret = d.secrets sub row d.challenge.before d.at d.challenge.there in
     verdict_decides row.secret (past_at lines sub row) rand amf n answer d.k d.opc d.amf_size d.last
     (subst (λ (s : Secret). IsAnswer s (past_at lines sub row) rand (autn_of row.secret.k row.secret.opc rand amf n) answer) secret
     (d.challenge.answers (past_at lines sub row) remembers))
 
 -- the USIMs behind the line, where the challenged one remembers the past that the line tells
-behind_line : (rows : List Row) (lines : List LineRecord) (old : List Memory) (sub n : ℕ) (rand amf : List ℕ) (answer : Answer) (new : List Memory) (row : Row) (verdict : GiveVerdict)
+behind_line : (rows : List Row) (lines : List LineRecord) (old : ℕ → Option Memory) (sub n : ℕ) (rand amf : List ℕ) (answer : Answer) (new : ℕ → Option Memory) (row : Row) (verdict : GiveVerdict)
     → Challenged rows lines old sub n rand amf answer new row
     → past_after_answer (past_at lines sub row) answer ≡ past_of row.usim (accepted sub (lines ++ Give sub n verdict ∷ []))
     → AreBehind rows (lines ++ Give sub n verdict ∷ []) new
 behind_line rows lines old sub n rand amf answer new row verdict d past i other usim at there =
-    elim (set_cases old d.challenge.after usim sub i (subst (λ (usims : List Memory). slice_get usims i ≡ Some usim) d.challenge.set there)) [
+    elim (challenge_cases old new sub rand (autn_of row.secret.k row.secret.opc rand amf n) answer i usim d.challenge there) [
       | inl (same, is) ↦
           let one : row ≡ other = some_is row other (sym d.at ∙ subst (λ (k : ℕ). slice_get rows k ≡ Some other) (sym same) at) in
           let now : Remembers d.challenge.after.array (past_of row.usim (accepted sub (lines ++ Give sub n verdict ∷ []))) =
@@ -246,7 +250,7 @@ behind_line rows lines old sub n rand amf answer new row verdict d past i other 
           (subst (λ (k : ℕ). Remembers d.challenge.after.array (past_of other.usim (accepted k (lines ++ Give sub n verdict ∷ [])))) same
           (subst (λ (r : Row). Remembers d.challenge.after.array (past_of r.usim (accepted sub (lines ++ Give sub n verdict ∷ [])))) one now))
       | inr (not, is) ↦
-          subst (λ (numbers : List ℕ). Remembers usim.array (past_of other.usim numbers))
+          subst (λ (sqns : List (List ℕ)). Remembers usim.array (past_of other.usim sqns))
           (sym (accepted_quiet i lines (Give sub n verdict) (other_quiet i sub n verdict not))) (d.behind i other usim at is)
     ]
   where
@@ -254,7 +258,7 @@ behind_line rows lines old sub n rand amf answer new row verdict d past i other 
     some_is a b e = cc
 
 -- the USIM accepted the vector
-pub presents_accepted : (rows : List Row) (lines : List LineRecord) (old : List Memory) (sub n : ℕ) (rand amf : List ℕ) (res ck ik ak management sqn : List ℕ) (new : List Memory) (row : Row)
+pub presents_accepted : (rows : List Row) (lines : List LineRecord) (old : ℕ → Option Memory) (sub n : ℕ) (rand amf : List ℕ) (res ck ik ak management sqn : List ℕ) (new : ℕ → Option Memory) (row : Row)
     → Challenged rows lines old sub n rand amf (Accepted res ck ik ak management sqn) new row → Presents rows lines sub n given.Accepted new
 presents_accepted rows lines old sub n rand amf res ck ik ak management sqn new row d = record {
   answered = λ other at. subst (λ (r : Row). Answers (verdict_of (past_at lines sub r) n (n % 32)) (past_at lines sub r) given.Accepted) (some_is row other (sym d.at ∙ at)) took.0;
@@ -273,14 +277,12 @@ presents_accepted rows lines old sub n rand amf res ck ik ak management sqn new 
 
     past : past_after_answer (past_at lines sub row) (Accepted res ck ik ak management sqn) ≡ past_of row.usim (accepted sub (lines ++ Give sub n given.Accepted ∷ []))
     past =
-        let seq : seq_of sqn ≡ n = ap seq_of number ∙ seq_of-sqn_bytes n d.last in
-        let ind : ind_of sqn ≡ n % 32 = ap ind_of number ∙ ind_of-sqn_bytes n d.last in
-        let e : past_of row.usim (accepted sub (lines ++ Give sub n given.Accepted ∷ [])) ≡ (n, n % 32) ∷ past_at lines sub row =
-        ap (past_of row.usim) (accepted_here sub n lines) ∙ fold_push (λ past m. (m, m % 32) ∷ past) (opening_past row.usim) (accepted sub lines) n in
-        ap (λ (q : ℕ). (q, ind_of sqn) ∷ past_at lines sub row) seq ∙ ap (λ (q : ℕ). (n, q) ∷ past_at lines sub row) ind ∙ sym e
+        let e : past_of row.usim (accepted sub (lines ++ Give sub n given.Accepted ∷ [])) ≡ (seq_of (sqn_bytes n), ind_of (sqn_bytes n)) ∷ past_at lines sub row =
+        ap (past_of row.usim) (accepted_here sub n lines) ∙ fold_push (λ past sqn. (seq_of sqn, ind_of sqn) ∷ past) (opening_past row.usim) (accepted sub lines) (sqn_bytes n) in
+        ap (λ (q : List ℕ). (seq_of q, ind_of q) ∷ past_at lines sub row) number ∙ sym e
 
 -- the USIM answered a synchronisation failure
-pub presents_failure : (rows : List Row) (lines : List LineRecord) (old : List Memory) (sub n : ℕ) (rand amf : List ℕ) (auts sqn : List ℕ) (new : List Memory) (row : Row)
+pub presents_failure : (rows : List Row) (lines : List LineRecord) (old : ℕ → Option Memory) (sub n : ℕ) (rand amf : List ℕ) (auts sqn : List ℕ) (new : ℕ → Option Memory) (row : Row)
     → Challenged rows lines old sub n rand amf (SyncFailure auts sqn) new row → Presents rows lines sub n (given.Sync sqn) new
 presents_failure rows lines old sub n rand amf auts sqn new row d = record {
   answered = λ other at. subst (λ (r : Row). Answers (verdict_of (past_at lines sub r) n (n % 32)) (past_at lines sub r) (given.Sync sqn)) (some_is row other (sym d.at ∙ at))
@@ -322,5 +324,5 @@ opened_push rows usims usim row here secret past are = record { opened = λ k ot
 pub opened_rows : (rows : List Row) (usims : List Memory) → length usims ≡ length rows → AreOpened rows usims → AreOfRows rows usims
 opened_rows rows usims size are = record { sizes = size; secrets = λ sub row usim at there. (are.opened sub row usim at there).0 }
 
-pub opened_behind : (rows : List Row) (usims : List Memory) → AreOpened rows usims → AreBehind rows [] usims
+pub opened_behind : (rows : List Row) (usims : List Memory) → AreOpened rows usims → AreBehind rows [] (slice_get usims)
 opened_behind rows usims are sub row usim at there = (are.opened sub row usim at there).1

@@ -1,67 +1,119 @@
 -- For workers: what their calls add, and what stands after them.
-use Rattle.std.proofs.Common.{◌≡◌, ℕ, List, [], sym, subst}
-use Rattle.std.specs.Prelude.{Option}
+use Rattle.std.proofs.Common.{◌≡◌, ℕ, List, [], ◌∷◌, length, sym, subst, ap, ◌∙◌}
+use Rattle.std.specs.Prelude.{All, Option, slice_get}
+use Rattle.std.proofs.lemmas.List.Elements.{All-head}
 use Rattle.auc_history.specs.declared.entry.Entry.{Entry}
-use Rattle.auc_script.specs.declared.part.Line.{Line}
-use Rattle.auc_transcript.specs.Given.{Setting, LineGives}
+use Rattle.auc_lines.specs.declared.part.Line.{Line}
+use Rattle.auc_world.specs.Given.{LineGives}
+use Rattle.auc_world.specs.Setting.{Setting}
 use Rattle.auc_usim.specs.Usim.{Memory}
+use Rattle.auc_world.specs.Lines.{all_lines}
+use Rattle.auc_world.specs.Pieces.{IsQuiet}
+use Rattle.auc_jobs.specs.Numbers.{Released, AreReleased}
+use Rattle.auc_jobs.specs.Serving.{IsKnownLine}
+use Rattle.auc_jobs.specs.Usims.{HaveSecrets, AreOfRows, AreBehind}
+use Rattle.auc_jobs.specs.InnerRound.{ServesJob}
+use Rattle.auc_jobs.specs.InnerUsims.{OwnUsims, AreCopies, has_usim, usim_in}
 use Rattle.auc_world.specs.declared.record.LineRecord.{LineRecord}
-use Rattle.auc_jobs.specs.InnerServing.{before_at, Stands, Adds, Serves, ServesJob}
-use Rattle.auc_jobs.specs.InnerWorker.{WorkerState, WorkerStands, WorkerServes, WorkerServesJob}
-use Rattle.auc_jobs.proofs.JobLemmas.{serves_adds, ServingJob, job_none, ServingJobs, jobs_none}
+use Rattle.auc_jobs.specs.InnerServing.{before_at, IsReleasableLine, Stands, Adds, Serves, ServesLines}
+use Rattle.auc_jobs.specs.InnerWorker.{WorkerState, WorkerStands, WorkerServes, WorkerServesLines, WorkerBegins, WorkerServesJob, WorkerOpens}
+use Rattle.auc_jobs.proofs.JobLemmas.{serves_adds, ServingLines, job_none}
+use Rattle.auc_jobs.proofs.PieceLemmas.{ServingJobs}
+use Rattle.auc_jobs.proofs.SettleLemmas.{begins_stands, job_releasable, job_settles}
 
 module _ {C : Type 0} where
   -- lines that were drawn add what a worker's request gives, if the USIMs stay
-  pub worker_adds : (goes : ℕ → List Entry → List ℕ → Type 0) (old_kept kept : ℕ → Option ℕ) (early beside : List LineRecord) (old : WorkerState C) (usims : List Memory)
+  pub worker_adds : (goes : ℕ → List Entry → List ℕ → Type 0) (old_kept kept : ℕ → Option ℕ) (early beside : List LineRecord) (old : WorkerState C) (usims : OwnUsims)
       (new : List LineRecord) (Gives : List LineRecord → Type 0) → usims ≡ old.usims
-      → Stands old.set.rows (before_at early beside old.lines) old_kept old.released old.usims → Adds goes kept beside old.lines new Gives
-      → Serves goes old.set.rows (before_at early beside old.lines) kept old.released usims Gives new
+      → Stands old.set.rows (before_at early beside old.lines) old_kept old.released (usim_in old.usims) → Adds goes kept beside old.lines new Gives
+      → Serves goes old.set.rows (before_at early beside old.lines) kept old.released (usim_in usims) Gives new
   worker_adds goes old_kept kept early beside old usims new Gives same stands adds =
-      subst (λ (us : List Memory). Serves goes old.set.rows (before_at early beside old.lines) kept old.released us Gives new) (sym same)
-      (serves_adds goes old.set.rows early beside old.lines new old_kept kept old.released old.usims Gives stands adds)
+      subst (λ (us : OwnUsims). Serves goes old.set.rows (before_at early beside old.lines) kept old.released (usim_in us) Gives new) (sym same)
+      (serves_adds goes old.set.rows early beside old.lines new old_kept kept old.released (usim_in old.usims) Gives stands adds)
 
   -- what a worker serves is served with the setting and the released numbers that it began with
   pub same_line : (kept : C → ℕ → Option ℕ) (goes : C → ℕ → List Entry → List ℕ → C → Type 0) (old new : WorkerState C) (line : Line)
-      (set : Setting) (released : List (ℕ × ℕ)) → old.set ≡ set → old.released ≡ released → WorkerServes kept goes old new (λ before. LineGives old.set before line) → (early beside : List LineRecord)
-      → Stands set.rows (before_at early beside old.lines) (kept old.centre) released old.usims
-      → Serves (λ i es ws. goes old.centre i es ws new.centre) set.rows (before_at early beside old.lines) (kept new.centre) released new.usims
+      (set : Setting) (released : Released) → old.set ≡ set → old.released ≡ released → WorkerServes kept goes old new (λ before. LineGives old.set before line) → (early beside : List LineRecord)
+      → Stands set.rows (before_at early beside old.lines) (kept old.centre) released (usim_in old.usims)
+      → Serves (λ i es ws. goes old.centre i es ws new.centre) set.rows (before_at early beside old.lines) (kept new.centre) released (usim_in new.usims)
       (LineGives set (before_at early beside old.lines) line) new.lines
   same_line kept goes old new line set released same_set same_released serves early beside =
-      subst (λ (s : Setting). Stands s.rows (before_at early beside old.lines) (kept old.centre) released old.usims
-      → Serves (λ i es ws. goes old.centre i es ws new.centre) s.rows (before_at early beside old.lines) (kept new.centre) released new.usims
+      subst (λ (s : Setting). Stands s.rows (before_at early beside old.lines) (kept old.centre) released (usim_in old.usims)
+      → Serves (λ i es ws. goes old.centre i es ws new.centre) s.rows (before_at early beside old.lines) (kept new.centre) released (usim_in new.usims)
       (LineGives s (before_at early beside old.lines) line) new.lines) same_set
-      (subst (λ (rs : List (ℕ × ℕ)). Stands old.set.rows (before_at early beside old.lines) (kept old.centre) rs old.usims
-      → Serves (λ i es ws. goes old.centre i es ws new.centre) old.set.rows (before_at early beside old.lines) (kept new.centre) rs new.usims
+      (subst (λ (rs : Released). Stands old.set.rows (before_at early beside old.lines) (kept old.centre) rs (usim_in old.usims)
+      → Serves (λ i es ws. goes old.centre i es ws new.centre) old.set.rows (before_at early beside old.lines) (kept new.centre) rs (usim_in new.usims)
       (LineGives old.set (before_at early beside old.lines) line) new.lines) same_released (serves early beside))
-
-  -- the same of a job that begins with no lines
-  pub same_job : (kept : C → ℕ → Option ℕ) (goes : C → ℕ → List Entry → List ℕ → C → Type 0) (old new : WorkerState C) (job other : List Line) (lines : List LineRecord)
-      (set : Setting) (released : List (ℕ × ℕ)) → old.set ≡ set → old.released ≡ released → old.lines ≡ [] → job ≡ other → WorkerServesJob kept goes old new job lines
-      → (early beside : List LineRecord) → Stands set.rows (before_at early beside []) (kept old.centre) released old.usims
-      → ServesJob (λ i es ws. goes old.centre i es ws new.centre) set early beside (kept new.centre) released new.usims other lines
-  same_job kept goes old new job other lines set released same_set same_released none same_job_is serves early beside =
-      subst (λ (s : Setting). Stands s.rows (before_at early beside []) (kept old.centre) released old.usims
-      → ServesJob (λ i es ws. goes old.centre i es ws new.centre) s early beside (kept new.centre) released new.usims other lines) same_set
-      (subst (λ (rs : List (ℕ × ℕ)). Stands old.set.rows (before_at early beside []) (kept old.centre) rs old.usims
-      → ServesJob (λ i es ws. goes old.centre i es ws new.centre) old.set early beside (kept new.centre) rs new.usims other lines) same_released
-      (subst (λ (own : List LineRecord). Stands old.set.rows (before_at early beside own) (kept old.centre) old.released old.usims
-      → ServesJob (λ i es ws. goes old.centre i es ws new.centre) old.set early beside (kept new.centre) old.released new.usims other lines) none
-      (subst (λ (j : List Line). Stands old.set.rows (before_at early beside old.lines) (kept old.centre) old.released old.usims
-      → ServesJob (λ i es ws. goes old.centre i es ws new.centre) old.set early beside (kept new.centre) old.released new.usims j lines) same_job_is (serves early beside))))
 
   -- a job begins
   pub job_begins : (kept : C → ℕ → Option ℕ) (goes : C → ℕ → List Entry → List ℕ → C → Type 0) (w : WorkerState C) (left job : List Line) → w.lines ≡ [] → left ≡ job
       → ((i : ℕ) → goes w.centre i [] [] w.centre) → (early beside : List LineRecord) → WorkerStands kept early beside w
-      → ServingJob (λ i es ws. goes w.centre i es ws w.centre) w.set early beside (kept w.centre) w.released w.usims left job w.lines
+      → ServingLines (λ i es ws. goes w.centre i es ws w.centre) w.set early beside (kept w.centre) w.released (usim_in w.usims) left job w.lines
   job_begins kept goes w left job none is stays early beside stands =
-      subst (λ (own : List LineRecord). ServingJob (λ i es ws. goes w.centre i es ws w.centre) w.set early beside (kept w.centre) w.released w.usims left job own) (sym none)
-      (job_none (λ i es ws. goes w.centre i es ws w.centre) w.set early beside (kept w.centre) w.released w.usims left job is stays
-      (subst (λ (own : List LineRecord). Stands w.set.rows (before_at early beside own) (kept w.centre) w.released w.usims) none stands))
+      subst (λ (own : List LineRecord). ServingLines (λ i es ws. goes w.centre i es ws w.centre) w.set early beside (kept w.centre) w.released (usim_in w.usims) left job own) (sym none)
+      (job_none (λ i es ws. goes w.centre i es ws w.centre) w.set early beside (kept w.centre) w.released (usim_in w.usims) left job is stays
+      (subst (λ (own : List LineRecord). Stands w.set.rows (before_at early beside own) (kept w.centre) w.released (usim_in w.usims)) none stands))
 
-  -- the jobs begin
-  pub jobs_begin : (kept : C → ℕ → Option ℕ) (goes : C → ℕ → List Entry → List ℕ → C → Type 0) (w : WorkerState C) (left jobs : List (List Line)) → w.lines ≡ [] → left ≡ jobs
-      → ((i : ℕ) → goes w.centre i [] [] w.centre) → (early : List LineRecord) → WorkerStands kept early [] w
-      → ServingJobs (λ i es ws. goes w.centre i es ws w.centre) w.set early (kept w.centre) w.released w.usims left jobs []
-  jobs_begin kept goes w left jobs none is stays early stands =
-      jobs_none (λ i es ws. goes w.centre i es ws w.centre) w.set early (kept w.centre) w.released w.usims left jobs is stays
-      (subst (λ (own : List LineRecord). Stands w.set.rows (before_at early [] own) (kept w.centre) w.released w.usims) none stands)
+  -- what a worker did for a job: it took up copies of the USIMs, served the lines, and ended the job
+  pub record Does (kept : C → ℕ → Option ℕ) (goes : C → ℕ → List Entry → List ℕ → C → Type 0) (old begun after : WorkerState C) (usims : List Memory) (job : List Line) (copies : OwnUsims) : Type 0 where
+    pub rows : AreOfRows old.set.rows usims
+    pub known : All (IsKnownLine (length old.set.rows)) job
+    pub none : old.lines ≡ []
+    pub are : AreCopies usims job (usim_in copies)
+    pub begins : begun ≡ record old { usims = copies }
+    pub serves : WorkerServesLines kept goes begun after job
+    pub keyed : (sub : ℕ) → has_usim (usim_in after.usims) sub ≡ has_usim (usim_in begun.usims) sub
+
+  -- the lines that it served
+  does_lines : (kept : C → ℕ → Option ℕ) (goes : C → ℕ → List Entry → List ℕ → C → Type 0) (old begun after : WorkerState C) (usims : List Memory) (job : List Line) (copies : OwnUsims)
+      (early beside : List LineRecord) → Does kept goes old begun after usims job copies → WorkerBegins kept early beside old usims job
+      → ServesLines (λ i es ws. goes old.centre i es ws after.centre) old.set early beside (kept after.centre) old.released (usim_in after.usims) job after.lines
+  does_lines kept goes old begun after usims job copies early beside d begins =
+      let from : WorkerServesLines kept goes (record old { usims = copies }) after job =
+      subst (λ (w : WorkerState C). WorkerServesLines kept goes w after job) d.begins d.serves in
+      from early beside
+      (subst (λ (lines : List LineRecord). Stands old.set.rows (before_at early beside lines) (kept old.centre) old.released (usim_in copies)) (sym d.none)
+      (begins_stands old.set.rows early beside (kept old.centre) old.released usims job (usim_in copies) d.are begins))
+
+  -- they release vectors that can be made
+  pub does_releasable : (kept : C → ℕ → Option ℕ) (goes : C → ℕ → List Entry → List ℕ → C → Type 0) (old begun after : WorkerState C) (usims : List Memory) (job : List Line) (copies : OwnUsims)
+      (set : Setting) (lines : List LineRecord) → set ≡ old.set → lines ≡ after.lines → Does kept goes old begun after usims job copies
+      → (early : List LineRecord) × (beside : List LineRecord) × WorkerBegins kept early beside old usims job → All (IsReleasableLine set) lines
+  does_releasable kept goes old begun after usims job copies set lines same is d (early, beside, begins) =
+      let s = does_lines kept goes old begun after usims job copies early beside d begins in
+      subst (λ (ls : List LineRecord). All (IsReleasableLine set) ls) (sym is)
+      (subst (λ (x : Setting). All (IsReleasableLine x) after.lines) (sym same) (job_releasable old.set (before_at early beside []) job after.lines s.given))
+
+  -- the job is served
+  pub does_job : (kept : C → ℕ → Option ℕ) (goes : C → ℕ → List Entry → List ℕ → C → Type 0) (old begun after new : WorkerState C) (usims : List Memory) (job : List Line) (copies own : OwnUsims)
+      (lines : List LineRecord) → Does kept goes old begun after usims job copies → new.centre ≡ after.centre → lines ≡ after.lines → own ≡ after.usims → HaveSecrets old.set.rows (usim_in own)
+      → WorkerServesJob kept goes old new usims job lines own
+  does_job kept goes old begun after new usims job copies own lines d centre lines_are own_is secrets early beside begins =
+      let s = does_lines kept goes old begun after usims job copies early beside d begins in
+      let keyed : (sub : ℕ) → has_usim (usim_in own) sub ≡ has_usim (usim_in copies) sub =
+      λ sub. ap (λ (us : OwnUsims). has_usim (usim_in us) sub) own_is ∙ d.keyed sub ∙ ap (λ (w : WorkerState C). has_usim (usim_in w.usims) sub) d.begins in
+      subst (λ (x : C). ServesJob (λ i es ws. goes old.centre i es ws x) old.set early beside (kept x) job lines (usim_in own)) (sym centre)
+      (job_settles (λ i es ws. goes old.centre i es ws after.centre) old.set early beside (kept old.centre) (kept after.centre) old.released usims job lines (usim_in copies) (usim_in own)
+      d.rows.sizes d.known d.are keyed secrets begins
+      (subst (λ (ls : List LineRecord). ServesLines (λ i es ws. goes old.centre i es ws after.centre) old.set early beside (kept after.centre) old.released (usim_in own) job ls) (sym lines_are)
+      (subst (λ (us : OwnUsims). ServesLines (λ i es ws. goes old.centre i es ws after.centre) old.set early beside (kept after.centre) old.released (usim_in us) job after.lines) (sym own_is) s)))
+
+  -- the next job of a round begins
+  pub next_begins : (kept : C → ℕ → Option ℕ) (goes : ℕ → List Entry → List ℕ → Type 0) (early : List LineRecord) (old now : WorkerState C) (usims : List Memory)
+      (left next jobs : List (List Line)) (job item : List Line) (front : List (List LineRecord)) (own : List OwnUsims) → now.set ≡ old.set → now.released ≡ old.released
+      → left ≡ job ∷ next → item ≡ job → WorkerOpens kept early old usims → ServingJobs goes old.set early (kept now.centre) left jobs front own
+      → WorkerBegins kept early (all_lines front) now usims item
+  next_begins kept goes early old now usims left next jobs job item front own set released cut is opens serving = record {
+    told = serving.told;
+    earlier = subst (λ (rs : Released). AreReleased rs early) (sym released) opens.earlier;
+    pasts = subst (λ (s : Setting). AreBehind s.rows early (slice_get usims)) (sym set) opens.pasts;
+    quiet = subst (IsQuiet (all_lines front)) (sym is) (All-head (IsQuiet (all_lines front)) job next (subst (All (IsQuiet (all_lines front))) cut serving.quiet));
+  }
+
+  -- and is served
+  pub next_served : (kept : C → ℕ → Option ℕ) (goes : C → ℕ → List Entry → List ℕ → C → Type 0) (early : List LineRecord) (old now new : WorkerState C) (usims : List Memory)
+      (job item : List Line) (beside lines : List LineRecord) (own : OwnUsims) → now.set ≡ old.set → item ≡ job → WorkerBegins kept early beside now usims item
+      → WorkerServesJob kept goes now new usims item lines own → ServesJob (λ i es ws. goes now.centre i es ws new.centre) old.set early beside (kept new.centre) job lines (usim_in own)
+  next_served kept goes early old now new usims job item beside lines own set is begins serves =
+      subst (λ (s : Setting). ServesJob (λ i es ws. goes now.centre i es ws new.centre) s early beside (kept new.centre) job lines (usim_in own)) set
+      (subst (λ (j : List Line). ServesJob (λ i es ws. goes now.centre i es ws new.centre) now.set early beside (kept new.centre) j lines (usim_in own)) is (serves early beside begins))

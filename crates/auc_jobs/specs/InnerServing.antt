@@ -1,7 +1,7 @@
 -- Inner facts: what only private contracts of this crate cite. Here: what the lines of a round add, and what stands after them.
 use Rattle.std.specs.Prelude.{◌≡◌, ℕ, ◌≤◌, Bool, true, false, List, [], ◌∷◌, ◌++◌, Option, Some, None, slice_get}
 use Rattle.auc_history.specs.declared.entry.Entry.{Entry}
-use Rattle.auc_script.specs.declared.part.Line.{Line}
+use Rattle.auc_lines.specs.declared.part.Line.{Line}
 use Rattle.auc_sqn.specs.Number.{max_seq}
 use Rattle.auc_subs.specs.declared.row.Row.{Row}
 use Rattle.auc_subs.specs.Subscriber.{IsRow}
@@ -12,14 +12,15 @@ use Rattle.auc_world.specs.declared.record.SyncVerdict.{SyncVerdict}
 use Rattle.auc_world.specs.declared.record.SyncVerdict.TheVariants as verdict
 use Rattle.auc_vector.specs.Vector.{vector_of, Source}
 use Rattle.auc_vector.specs.declared.parts.Vector.{Vector as AuthVector}
-use Rattle.auc_transcript.specs.Entries.{is_reported, entries_of_line, entries_of_lines}
-use Rattle.auc_transcript.specs.Given.{Setting, Before, IsVector, IsGiven, is_released, past_before, GiveGives, JobGives, JobsGive, auts_for}
-use Rattle.auc_transcript.specs.Lines.{withheld_by, withheld_of, accepted, all_lines}
+use Rattle.auc_world.specs.Entries.{is_reported, entries_of_line, entries_of_lines}
+use Rattle.auc_world.specs.Given.{Before, IsReleasable, IsGiven, is_released, past_before, GiveGives, JobGives, auts_for}
+use Rattle.auc_world.specs.Setting.{Setting}
+use Rattle.auc_world.specs.Lines.{withheld_by, withheld_of, accepted}
 use Rattle.auc_usim.specs.Usim.{Memory}
 use Rattle.auc_world.specs.declared.record.GiveVerdict.{GiveVerdict}
 use Rattle.auc_world.specs.declared.record.LineRecord.{LineRecord}
 use Rattle.auc_world.specs.declared.record.LineRecord.TheVariants.{Vector, Withheld, Exhausted, Sync, Give}
-use Rattle.auc_jobs.specs.Numbers.{AreReleased}
+use Rattle.auc_jobs.specs.Numbers.{Released, AreReleased}
 use Rattle.auc_jobs.specs.Usims.{AreBehind}
 
 -- vectors are those of a subscriber's row, with the subscriber's RANDs
@@ -35,6 +36,14 @@ pub record IsOfRow (key : List ℕ) (rows : List Row) (sub n : ℕ) (vector : Au
   pub there : slice_get rows sub ≡ Some row
   pub is_row : IsRow row
   pub made : vector ≡ vector_of row.secret row.amf n (rand_of key sub n)
+
+-- a line that releases a vector names a number that a vector may have, and a known subscriber
+abbrev pub IsReleasableLine : Setting → LineRecord → Type 0
+IsReleasableLine set (Vector s n) = IsReleasable set s n
+IsReleasableLine set (Withheld s n stop) = Unit {0}
+IsReleasableLine set (Exhausted s word) = Unit {0}
+IsReleasableLine set (Sync s answer) = Unit {0}
+IsReleasableLine set (Give s n answer) = Unit {0}
 
 -- ---- the calls of the centre
 
@@ -63,7 +72,7 @@ pub record Say (goes : ℕ → List Entry → List ℕ → Type 0) (kept : ℕ �
 
 -- a line is what one draw of a subscriber comes to
 abbrev pub IsDrawn : Setting → ℕ → LineRecord → Type 0
-IsDrawn set sub (Vector s vector) = (s ≡ sub) × IsVector set sub vector
+IsDrawn set sub (Vector s n) = (s ≡ sub) × IsReleasable set sub n
 IsDrawn set sub (Withheld s n stop) = (s ≡ sub) × (1 ≤ n) × (n ≤ max_seq)
 IsDrawn set sub (Exhausted s word) = (s ≡ sub) × (max_seq ≤ word)
 IsDrawn set sub (Sync s answer) = ⊥
@@ -71,7 +80,7 @@ IsDrawn set sub (Give s n answer) = ⊥
 
 -- whether a line is a vector
 abbrev pub is_vector : LineRecord → Bool
-is_vector (Vector s vector) = true
+is_vector (Vector s n) = true
 is_vector (Withheld s n stop) = false
 is_vector (Exhausted s word) = false
 is_vector (Sync s answer) = false
@@ -96,7 +105,7 @@ is_accepted_next verdict.WrongMac = false
 
 -- what holds after the lines before a line: the words that the centre keeps are reported, the released numbers are those of
 -- the earlier rounds, and each USIM remembers what all lines say that it accepted
-pub record Stands (rows : List Row) (before : Before) (kept : ℕ → Option ℕ) (released : List (ℕ × ℕ)) (usims : List Memory) : Type 0 where
+pub record Stands (rows : List Row) (before : Before) (kept : ℕ → Option ℕ) (released : Released) (usims : ℕ → Option Memory) : Type 0 where
   pub told : AreTold kept (before.beside ++ before.own)
   pub earlier : AreReleased released before.early
   pub pasts : AreBehind rows (before.early ++ before.beside ++ before.own) usims
@@ -114,7 +123,7 @@ abbrev pub before_at : List LineRecord → List LineRecord → List LineRecord �
 before_at early beside own = record { early = early; beside = beside; own = own }
 
 -- what a line of a job added, and what holds after it
-pub record Serves (goes : ℕ → List Entry → List ℕ → Type 0) (rows : List Row) (before : Before) (kept : ℕ → Option ℕ) (released : List (ℕ × ℕ)) (usims : List Memory)
+pub record Serves (goes : ℕ → List Entry → List ℕ → Type 0) (rows : List Row) (before : Before) (kept : ℕ → Option ℕ) (released : Released) (usims : ℕ → Option Memory)
     (Gives : List LineRecord → Type 0) (new : List LineRecord) : Type 0 where
   pub lines : List LineRecord
   pub added : new ≡ before.own ++ lines
@@ -122,29 +131,22 @@ pub record Serves (goes : ℕ → List Entry → List ℕ → Type 0) (rows : Li
   pub made : (sub : ℕ) → goes sub (entries_of_lines sub (before.beside ++ before.own) lines) (withheld_of sub lines)
   pub stands : Stands rows (before_at before.early before.beside new) kept released usims
 
--- what a job gave, after earlier rounds and earlier jobs
-pub record ServesJob (goes : ℕ → List Entry → List ℕ → Type 0) (set : Setting) (early beside : List LineRecord) (kept : ℕ → Option ℕ) (released : List (ℕ × ℕ)) (usims : List Memory)
+-- what the lines of a job gave, after earlier rounds and the worker's earlier lines
+pub record ServesLines (goes : ℕ → List Entry → List ℕ → Type 0) (set : Setting) (early beside : List LineRecord) (kept : ℕ → Option ℕ) (released : Released) (usims : ℕ → Option Memory)
     (job : List Line) (lines : List LineRecord) : Type 0 where
   pub given : JobGives set (before_at early beside []) job lines
   pub made : (sub : ℕ) → goes sub (entries_of_lines sub beside lines) (withheld_of sub lines)
   pub stands : Stands set.rows (before_at early beside lines) kept released usims
 
--- what the jobs of a round gave, after earlier rounds
-pub record ServesJobs (goes : ℕ → List Entry → List ℕ → Type 0) (set : Setting) (early : List LineRecord) (kept : ℕ → Option ℕ) (released : List (ℕ × ℕ)) (usims : List Memory)
-    (jobs : List (List Line)) (records : List (List LineRecord)) : Type 0 where
-  pub given : JobsGive set early [] jobs records
-  pub made : (sub : ℕ) → goes sub (entries_of_lines sub [] (all_lines records)) (withheld_of sub (all_lines records))
-  pub stands : Stands set.rows (before_at early (all_lines records) []) kept released usims
-
 -- ---- a presented vector
 
 -- what a USIM answers to the vector of a number, if the centre has released it, and the USIMs after the line
-pub record IsAnswered (rows : List Row) (before : Before) (sub n : ℕ) (answer : GiveVerdict) (usims : List Memory) : Type 0 where
+pub record IsAnswered (rows : List Row) (before : Before) (sub n : ℕ) (answer : GiveVerdict) (usims : ℕ → Option Memory) : Type 0 where
   pub given : (row : Row) → slice_get rows sub ≡ Some row → IsGiven (is_released before sub n) (past_before before row sub) n answer
   pub behind : AreBehind rows (before.early ++ before.beside ++ before.own ++ Give sub n answer ∷ []) usims
 
 -- what the line of a presented vector adds
-pub record AddsGive (set : Setting) (before : Before) (sub n : ℕ) (usims : List Memory) (new : List LineRecord) : Type 0 where
+pub record AddsGive (set : Setting) (before : Before) (sub n : ℕ) (usims : ℕ → Option Memory) (new : List LineRecord) : Type 0 where
   pub answer : GiveVerdict
   pub added : new ≡ before.own ++ Give sub n answer ∷ []
   pub given : GiveGives set before sub n (Give sub n answer ∷ [])

@@ -1,22 +1,26 @@
 -- Inner facts: what only private contracts of this crate cite. Here: a worker, and what its calls add to a job.
-use Rattle.std.specs.Prelude.{◌≡◌, ℕ, List, [], length, Option}
+use Rattle.std.specs.Prelude.{◌≡◌, ℕ, List, length, Option}
 use Rattle.auc_history.specs.declared.entry.Entry.{Entry}
-use Rattle.auc_script.specs.declared.part.Line.{Line}
+use Rattle.auc_lines.specs.declared.part.Line.{Line}
 use Rattle.auc_sqn.specs.Number.{max_seq}
 use Rattle.auc_subs.specs.declared.row.Row.{Row}
-use Rattle.auc_transcript.specs.Given.{Setting, Before}
+use Rattle.auc_world.specs.Given.{Before}
+use Rattle.auc_world.specs.Setting.{Setting}
 use Rattle.auc_usim.specs.Usim.{Memory}
 use Rattle.auc_world.specs.declared.record.LineRecord.{LineRecord}
-use Rattle.auc_jobs.specs.Usims.{AreOfRows}
-use Rattle.auc_jobs.specs.InnerServing.{before_at, Stands, Serves, ServesJob, ServesJobs}
+use Rattle.auc_jobs.specs.Numbers.{Released}
+use Rattle.auc_jobs.specs.Usims.{HaveSecrets}
+use Rattle.auc_jobs.specs.InnerRound.{JobBegins, ServesJob, RoundBegins, ServesJobs}
+use Rattle.auc_jobs.specs.InnerServing.{before_at, Stands, Serves, ServesLines}
+use Rattle.auc_jobs.specs.InnerUsims.{OwnUsims, usim_in, has_usim}
 
 -- what a worker has while it serves a job: its centre, what the job is served with, the numbers that were released in
--- earlier rounds, the USIMs, and the job's lines so far
+-- earlier rounds, the job's own USIMs, and the job's lines so far
 pub record WorkerState (C : Type 0) : Type 0 where
   pub centre : C
   pub set : Setting
-  pub released : List (ℕ × ℕ)
-  pub usims : List Memory
+  pub released : Released
+  pub usims : OwnUsims
   pub lines : List LineRecord
 
 -- a centre has so many subscribers, whose greatest number is max_seq
@@ -25,36 +29,54 @@ pub record IsCentreOf (count subs : ℕ) (top : ℕ → ℕ) : Type 0 where
   pub greatest : (sub : ℕ) → top sub ≡ max_seq
 
 -- a centre and USIMs are those of the rows
-pub record AreForRows (rows : List Row) (subs : ℕ) (top : ℕ → ℕ) (usims : List Memory) : Type 0 where
+pub record AreForRows (rows : List Row) (subs : ℕ) (top : ℕ → ℕ) (usims : ℕ → Option Memory) : Type 0 where
   pub is_centre : IsCentreOf (length rows) subs top
-  pub of_rows : AreOfRows rows usims
+  pub secrets : HaveSecrets rows usims
 
 module _ {C : Type 0} where
   -- a worker goes on with the borrow that its centre holds, by its name, and with its setting and released numbers
-  pub record GoesOnWith (old_name name : ℕ) (old new : WorkerState C) : Type 0 where
+  pub record IsSameWorker (old_name name : ℕ) (old new : WorkerState C) : Type 0 where
     pub borrow : name ≡ old_name
     pub set : new.set ≡ old.set
     pub released : new.released ≡ old.released
 
-  -- what stands after a worker's lines, with the lines of earlier rounds and of earlier jobs before them
+  -- within a job it also goes on with USIMs of the same subscribers
+  pub record GoesOnWith (old_name name : ℕ) (old new : WorkerState C) : Type 0 where
+    pub worker : IsSameWorker old_name name old new
+    pub keyed : (sub : ℕ) → has_usim (usim_in new.usims) sub ≡ has_usim (usim_in old.usims) sub
+
+  -- what stands after a worker's lines, with the lines of earlier rounds and of its earlier jobs before them
   abbrev pub WorkerStands : (C → ℕ → Option ℕ) → List LineRecord → List LineRecord → WorkerState C → Type 0
-  WorkerStands kept early beside w = Stands w.set.rows (before_at early beside w.lines) (kept w.centre) w.released w.usims
+  WorkerStands kept early beside w = Stands w.set.rows (before_at early beside w.lines) (kept w.centre) w.released (usim_in w.usims)
 
   -- what a worker added for a request, by the lines before it, and what stands then
   abbrev pub WorkerServes : (C → ℕ → Option ℕ) → (C → ℕ → List Entry → List ℕ → C → Type 0) → WorkerState C → WorkerState C
       → (Before → List LineRecord → Type 0) → Type 0
   WorkerServes kept goes old new Gives = (early beside : List LineRecord) → WorkerStands kept early beside old
       → Serves (λ i es ws. goes old.centre i es ws new.centre) old.set.rows (before_at early beside old.lines)
-      (kept new.centre) old.released new.usims (Gives (before_at early beside old.lines)) new.lines
+      (kept new.centre) old.released (usim_in new.usims) (Gives (before_at early beside old.lines)) new.lines
 
-  -- what it gave for a job, after earlier rounds and earlier jobs
+  -- what it gave for the lines of a job, which had none
+  abbrev pub WorkerServesLines : (C → ℕ → Option ℕ) → (C → ℕ → List Entry → List ℕ → C → Type 0) → WorkerState C → WorkerState C → List Line → Type 0
+  WorkerServesLines kept goes old new job = (early beside : List LineRecord) → WorkerStands kept early beside old
+      → ServesLines (λ i es ws. goes old.centre i es ws new.centre) old.set early beside (kept new.centre) old.released (usim_in new.usims) job new.lines
+
+  -- what stands before it serves a job
+  abbrev pub WorkerBegins : (C → ℕ → Option ℕ) → List LineRecord → List LineRecord → WorkerState C → List Memory → List Line → Type 0
+  WorkerBegins kept early beside w usims job = JobBegins w.set.rows early beside (kept w.centre) w.released usims job
+
+  -- what it gave for a job, after earlier rounds and its earlier jobs
   abbrev pub WorkerServesJob : (C → ℕ → Option ℕ) → (C → ℕ → List Entry → List ℕ → C → Type 0) → WorkerState C → WorkerState C
-      → List Line → List LineRecord → Type 0
-  WorkerServesJob kept goes old new job lines = (early beside : List LineRecord) → WorkerStands kept early beside old
-      → ServesJob (λ i es ws. goes old.centre i es ws new.centre) old.set early beside (kept new.centre) old.released new.usims job lines
+      → List Memory → List Line → List LineRecord → OwnUsims → Type 0
+  WorkerServesJob kept goes old new usims job lines own = (early beside : List LineRecord) → WorkerBegins kept early beside old usims job
+      → ServesJob (λ i es ws. goes old.centre i es ws new.centre) old.set early beside (kept new.centre) job lines (usim_in own)
 
-  -- what it gave for the jobs of a round, after earlier rounds
+  -- what stands before it serves jobs
+  abbrev pub WorkerOpens : (C → ℕ → Option ℕ) → List LineRecord → WorkerState C → List Memory → Type 0
+  WorkerOpens kept early w usims = RoundBegins w.set.rows early (kept w.centre) w.released usims
+
+  -- what it gave for jobs, after earlier rounds
   abbrev pub WorkerServesJobs : (C → ℕ → Option ℕ) → (C → ℕ → List Entry → List ℕ → C → Type 0) → WorkerState C → WorkerState C
-      → List (List Line) → List (List LineRecord) → Type 0
-  WorkerServesJobs kept goes old new jobs records = (early : List LineRecord) → WorkerStands kept early [] old
-      → ServesJobs (λ i es ws. goes old.centre i es ws new.centre) old.set early (kept new.centre) old.released new.usims jobs records
+      → List Memory → List (List Line) → List (List LineRecord) → List OwnUsims → Type 0
+  WorkerServesJobs kept goes old new usims jobs records own = (early : List LineRecord) → WorkerOpens kept early old usims
+      → ServesJobs (λ i es ws. goes old.centre i es ws new.centre) old.set early jobs records own

@@ -1,9 +1,9 @@
 -- The lines of a job that may be served.
 use Rattle.std.specs.Prelude.{ℕ, ◌≤◌, ◌<◌, List, All}
-use Rattle.auc_script.specs.declared.part.Line.{Line}
-use Rattle.auc_script.specs.declared.part.Line.TheVariants as line
+use Rattle.auc_lines.specs.declared.part.Line.{Line}
+use Rattle.auc_lines.specs.declared.part.Line.TheVariants as line
 use Rattle.auc_sqn.specs.Number.{max_seq}
-pub use Rattle.auc_script.specs.Limits.{IsBit}
+pub use Rattle.auc_lines.specs.Part.{IsBit}
 
 -- the subscriber of a line is one of so many, and its numbers are within their ranges
 abbrev pub IsKnownLine : ℕ → Line → Type 0

@@ -1,11 +1,11 @@
 -- What passes from round to round.
-use Rattle.std.specs.Prelude.{◌≡◌, ℕ, ◌≤◌, List, All, length}
+use Rattle.std.specs.Prelude.{◌≡◌, ℕ, ◌≤◌, List, All, length, slice_get}
 use Rattle.auc_sqn.specs.Number.{max_seq}
 use Rattle.auc_subs.specs.declared.row.Row.{Row}
-use Rattle.auc_transcript.specs.Given.{Setting}
+use Rattle.auc_world.specs.Setting.{Setting}
 use Rattle.auc_usim.specs.Usim.{Memory}
 use Rattle.auc_world.specs.declared.record.LineRecord.{LineRecord}
-use Rattle.auc_jobs.specs.Numbers.{AreReleased}
+use Rattle.auc_jobs.specs.Numbers.{Released, AreReleased}
 use Rattle.auc_jobs.specs.Usims.{AreOfRows, AreBehind}
 
 -- the words at which the next round opens the subscribers, the subscribers' USIMs, and the numbers whose
@@ -13,7 +13,7 @@ use Rattle.auc_jobs.specs.Usims.{AreOfRows, AreBehind}
 pub record Standing : Type 0 where
   pub words : List ℕ
   pub usims : List Memory
-  pub released : List (ℕ × ℕ)
+  pub released : Released
 
 -- a state is one of the subscribers of some rows
 pub record IsStateOf (rows : List Row) (state : Standing) : Type 0 where
@@ -24,5 +24,5 @@ pub record IsStateOf (rows : List Row) (state : Standing) : Type 0 where
 -- a state is the one after the lines of all rounds so far
 pub record StandsAt (set : Setting) (early : List LineRecord) (state : Standing) : Type 0 where
   pub subscribers : IsStateOf set.rows state
-  pub pasts : AreBehind set.rows early state.usims
+  pub pasts : AreBehind set.rows early (slice_get state.usims)
   pub earlier : AreReleased state.released early

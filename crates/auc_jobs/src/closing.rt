@@ -3,7 +3,7 @@
 ghost use Rattle.std.specs.Prelude.{◌≡◌, ◌+◌, ◌≤◌, ◌<◌, ◌^◌, ℕ, All, Some, map, min, length, IfOk, slice_get, slice_index};
 ghost use Rattle.std.specs.Option.{option_to_list};
 ghost use Rattle.auc_sqn.specs.Number.{max_seq};
-ghost use Rattle.auc_transcript.specs.Transcript.{reopened as reopened_by};
+ghost use Rattle.auc_world.specs.Transcript.{reopened as reopened_by};
 ghost use Rattle.auc_jobs.specs.declared.counting.Count.{Count};
 ghost use Rattle.auc_jobs.specs.InnerClosings.{counted_closing, counted_closings};
 
@@ -18,7 +18,7 @@ use std::alloc::Global;
 pub(crate) fn words(alloc: Global, centre: &CoreCentre, subs: u32) -> Result<Items<u64>, NoMemory>
     requires { length centre.now ≡ subs }
     ensures value { IfOk result (λ words. words ≡ centre.now) }
-    ensures bound { IfOk result (λ words. All (λ word. word ≤ max_seq + 1) words) }
+    ensures bound { IfOk result (λ words. All (λ word. word ≤ max_seq + 64) words) }
 {
     let mut words = Items::new(alloc);
     for sub in 0..subs {

@@ -1,13 +1,10 @@
 //! Counting what the lines of a round did to each subscriber's numbers.
 
-ghost use Rattle.std.specs.Prelude.{◌≡◌, ◌++◌, ◌∷◌, [], List, length, IfOk, OnOk};
+ghost use Rattle.std.specs.Prelude.{◌≡◌, ◌++◌, ◌∷◌, [], List, length, IfOk};
 ghost use Rattle.auc_world.specs.declared.record.LineRecord.{LineRecord};
-ghost use Rattle.auc_world.specs.Record.{subscriber_of};
-ghost use Rattle.auc_transcript.specs.Lines.{all_lines};
+ghost use Rattle.auc_world.specs.Lines.{all_lines};
 ghost use Rattle.auc_jobs.specs.InnerClosings.{passed, count_with, AreCounted};
-ghost use Rattle.auc_jobs.specs.Numbers.{AreReleased};
 
-use crate::numbers::Numbers;
 use auc_edge::NoMemory;
 use auc_world::{JobRecord, LineRecord, SyncVerdict};
 use std::alloc::Global;
@@ -48,60 +45,35 @@ fn count_line(mut count: Count, line: &LineRecord) -> Count
     count
 }
 
-/// The subscriber that a line names.
-fn subscriber(line: &LineRecord) -> u32
-    ensures { result ≡ subscriber_of line.now }
-{
-    match *line {
-        LineRecord::Vector { sub, .. }
-        | LineRecord::Withheld { sub, .. }
-        | LineRecord::Exhausted { sub, .. }
-        | LineRecord::Sync { sub, .. }
-        | LineRecord::Give { sub, .. } => sub,
-    }
-}
-
 /// Counts a line for its subscriber.
 fn add_line(counts: &mut [Count], line: &LineRecord)
     ensures { (before : List LineRecord) → AreCounted before counts.old
         → AreCounted (before ++ line.now ∷ []) counts.new }
 {
-    let sub = subscriber(line) as usize;
+    let sub = line.subscriber() as usize;
     if sub < counts.len() {
         counts[sub] = count_line(counts[sub], line);
     }
 }
 
-/// Counts the lines of a job, and notes the numbers that they release.
-fn add_job(
-    counts: &mut [Count],
-    released: &mut Numbers,
-    lines: &[LineRecord],
-) -> Result<(), NoMemory>
-    ensures counted { OnOk result ((before : List LineRecord) → AreCounted before counts.old
-        → AreCounted (before ++ lines.now) counts.new) }
-    ensures noted { OnOk result ((before : List LineRecord) → AreReleased released.old before
-        → AreReleased released.new (before ++ lines.now)) }
+/// Counts the lines of a job.
+fn add_job(counts: &mut [Count], lines: &[LineRecord])
+    ensures { (before : List LineRecord) → AreCounted before counts.old
+        → AreCounted (before ++ lines.now) counts.new }
 {
     for line in lines {
         add_line(counts, line);
-        released.note(line)?;
     }
-    Ok(())
 }
 
-/// The counts of so many subscribers in the records of a round's jobs, which are read once: the numbers that they release
-/// are noted too.
+/// The counts of so many subscribers in the records of a round's jobs.
 pub(crate) fn counts(
     alloc: Global,
     subs: usize,
     records: &[JobRecord],
-    released: &mut Numbers,
 ) -> Result<Vec<Count>, NoMemory>
     ensures size { IfOk result (λ counts. length counts.items ≡ subs) }
     ensures counted { IfOk result (λ counts. AreCounted (all_lines records.now) counts.items) }
-    ensures noted { OnOk result ((before : List LineRecord) → AreReleased released.old before
-        → AreReleased released.new (before ++ all_lines records.now)) }
 {
     let none = Count {
         released: 0,
@@ -110,7 +82,7 @@ pub(crate) fn counts(
     };
     let mut counts = vec![in alloc; none; subs]?;
     for job in records {
-        add_job(&mut counts, released, job.as_slice())?;
+        add_job(&mut counts, job.as_slice());
     }
     Ok(counts)
 }

@@ -1,22 +1,80 @@
 //! Serving the jobs of a round, one after the other, by one worker.
 
-ghost use Rattle.std.specs.Prelude.{◌≡◌, [], length, OnOk, IfOk};
-ghost use Rattle.auc_transcript.specs.Given.{LineGives};
+ghost use Rattle.std.specs.Prelude.{◌≡◌, ◌++◌, ◌∷◌, [], true, ℕ, List, AllPairs, length, map, OnOk, IfOk, if◌then◌else◌};
+ghost use Rattle.auc_lines.specs.Part.{AreApart, gives_to, is_give_to};
+ghost use Rattle.auc_world.specs.declared.record.LineRecord.{LineRecord};
+ghost use Rattle.auc_world.specs.Given.{LineGives};
+ghost use Rattle.auc_world.specs.Vectors.{vectors_in};
 ghost use Rattle.auc_jobs.specs.Serving.{IsKnownLine, AreKnown, AreAllKnown};
-ghost use Rattle.auc_jobs.specs.InnerWorker.{GoesOnWith, WorkerServes, WorkerServesJob, WorkerServesJobs};
+ghost use Rattle.auc_jobs.specs.InnerUsims.{has_usim, usim_in};
+ghost use Rattle.auc_jobs.specs.InnerWorker.{IsSameWorker, GoesOnWith, WorkerServes, WorkerServesLines, WorkerBegins, WorkerServesJob, WorkerOpens, WorkerServesJobs};
+ghost use Rattle.auc_jobs.specs.Usims.{AreOfRows};
 
+use crate::bytes::printed_vectors;
+use crate::job_usims::JobUsims;
+use crate::usims::Usims;
 use crate::worker::Worker;
 use auc_edge::{Items, NoMemory};
-use auc_script::{JobPart, Line};
+use auc_lines::{JobPart, Line};
 use auc_vector::Centre;
-use auc_world::JobRecord;
+use auc_world::{JobRecord, JobVectors};
 use std::alloc::Global;
 use std::sync::Wait;
+
+/// What a job gave: its lines, its own USIMs after them, and in a full print the vectors of its lines.
+#[derive(Drop)]
+pub(crate) struct ServedJob {
+    pub(crate) lines: JobRecord,
+    pub(crate) usims: JobUsims,
+    pub(crate) vectors: JobVectors,
+}
+
+/// What the jobs of a round gave, each in its place; the vectors only in a full print.
+#[derive(Drop)]
+pub(crate) struct ServedJobs {
+    pub(crate) records: Items<JobRecord>,
+    pub(crate) usims: Items<JobUsims>,
+    pub(crate) vectors: Items<JobVectors>,
+}
+
+impl ServedJobs {
+    /// No jobs yet.
+    pub(crate) fn new(alloc: Global) -> ServedJobs
+        ensures { result ≡ record { records = []; usims = []; vectors = [] } }
+    {
+        ServedJobs {
+            records: Items::new(alloc),
+            usims: Items::new(alloc),
+            vectors: Items::new(alloc),
+        }
+    }
+
+    /// Adds what the next job gave.
+    pub(crate) fn push(&mut self, job: ServedJob, full: bool) -> Result<(), NoMemory>
+        ensures records { OnOk result (self.new.records ≡ self.old.records ++ job.lines ∷ []) }
+        ensures usims { OnOk result (self.new.usims ≡ self.old.usims ++ job.usims ∷ []) }
+        ensures vectors { OnOk result (self.new.vectors ≡ (if full then self.old.vectors ++ job.vectors ∷ [] else self.old.vectors)) }
+    {
+        let ServedJob {
+            lines,
+            usims,
+            vectors,
+        } = job;
+        self.records.push(lines)?;
+        self.usims.push(usims)?;
+        if full {
+            self.vectors.push(vectors)?;
+        }
+        Ok(())
+    }
+}
 
 impl<C: Centre> Worker<'_, C> {
     /// Serves a line of a job.
     fn serve_line<R: Wait>(&mut self, rt: &R, line: &Line) -> Result<(), NoMemory>
-        requires { IsKnownLine (length self.old.set.rows) line.now }
+        requires known { IsKnownLine (length self.old.set.rows) line.now }
+        requires own { (sub : ℕ) → is_give_to sub line.now ≡ true → has_usim (usim_in self.old.usims) sub ≡ true }
+
         ensures served { OnOk result (WorkerServes C.kept C.goes self.old self.new
             (λ before. LineGives self.old.set before line.now)) }
         ensures same { GoesOnWith (C.name self.old.centre) (C.name self.new.centre) self.old self.new }
@@ -34,23 +92,48 @@ impl<C: Centre> Worker<'_, C> {
     }
 
     /// Serves the lines of a job.
-    fn serve_job<R: Wait>(
-        &mut self,
-        rt: &R,
-        alloc: Global,
-        job: &[Line],
-    ) -> Result<JobRecord, NoMemory>
+    fn serve_lines<R: Wait>(&mut self, rt: &R, job: &[Line]) -> Result<(), NoMemory>
         requires known { AreKnown (length self.old.set.rows) job.now }
+        requires own { (sub : ℕ) → gives_to sub job.now ≡ true → has_usim (usim_in self.old.usims) sub ≡ true }
         requires none { self.old.lines ≡ [] }
 
-        ensures served { IfOk result (WorkerServesJob C.kept C.goes self.old self.new job.now) }
-        ensures none { OnOk result (self.new.lines ≡ []) }
+        ensures served { OnOk result (WorkerServesLines C.kept C.goes self.old self.new job.now) }
         ensures same { GoesOnWith (C.name self.old.centre) (C.name self.new.centre) self.old self.new }
     {
         for line in job {
             self.serve_line(rt, line)?;
         }
-        Ok(self.take_lines(alloc))
+        Ok(())
+    }
+
+    /// Serves a job with its own copies of the USIMs to which it gives.
+    pub(crate) fn serve_job<R: Wait>(
+        &mut self,
+        rt: &R,
+        alloc: Global,
+        usims: &Usims,
+        full: bool,
+        job: &[Line],
+    ) -> Result<ServedJob, NoMemory>
+        requires rows { AreOfRows self.old.set.rows usims.now }
+        requires known { AreKnown (length self.old.set.rows) job.now }
+        requires none { self.old.lines ≡ [] }
+        requires begins { (early : List LineRecord) × (beside : List LineRecord) × WorkerBegins C.kept early beside self.old usims.now job.now }
+
+        ensures served { IfOk result (λ served. WorkerServesJob C.kept C.goes self.old self.new usims.now job.now served.lines served.usims) }
+        ensures vectors { IfOk result (λ served. served.vectors ≡ (if full then vectors_in self.old.set served.lines else [])) }
+        ensures none { OnOk result (self.new.lines ≡ []) }
+        ensures same { IsSameWorker (C.name self.old.centre) (C.name self.new.centre) self.old self.new }
+    {
+        self.begin(JobUsims::of_job(alloc, usims, job)?);
+        self.serve_lines(rt, job)?;
+        let (lines, usims) = self.end(alloc);
+        let vectors = printed_vectors(alloc, self.set, lines.as_slice(), full)?;
+        Ok(ServedJob {
+            lines,
+            usims,
+            vectors,
+        })
     }
 
     /// Serves the jobs of a round.
@@ -58,18 +141,26 @@ impl<C: Centre> Worker<'_, C> {
         &mut self,
         rt: &R,
         alloc: Global,
+        usims: &Usims,
+        full: bool,
         jobs: &[JobPart],
-    ) -> Result<Items<JobRecord>, NoMemory>
+    ) -> Result<ServedJobs, NoMemory>
+        requires rows { AreOfRows self.old.set.rows usims.now }
         requires known { AreAllKnown (length self.old.set.rows) jobs.now }
+        requires apart { AllPairs AreApart jobs.now }
         requires none { self.old.lines ≡ [] }
+        requires opens { (early : List LineRecord) × WorkerOpens C.kept early self.old usims.now }
 
-        ensures served { IfOk result (WorkerServesJobs C.kept C.goes self.old self.new jobs.now) }
-        ensures same { GoesOnWith (C.name self.old.centre) (C.name self.new.centre) self.old self.new }
+        ensures served { IfOk result (λ done. WorkerServesJobs C.kept C.goes self.old self.new usims.now jobs.now done.records done.usims) }
+        ensures vectors { IfOk result (λ done. done.vectors ≡ (if full then map (vectors_in self.old.set) done.records else [])) }
+        ensures each { IfOk result (λ done. length done.usims ≡ length jobs.now) }
+        ensures same { IsSameWorker (C.name self.old.centre) (C.name self.new.centre) self.old self.new }
     {
-        let mut records = Items::new(alloc);
+        let mut done = ServedJobs::new(alloc);
         for job in jobs {
-            records.push(self.serve_job(rt, alloc, job.as_slice())?)?;
+            let served = self.serve_job(rt, alloc, usims, full, job.as_slice())?;
+            done.push(served, full)?;
         }
-        Ok(records)
+        Ok(done)
     }
 }

@@ -1,14 +1,19 @@
 //! What passes from round to round.
 
-ghost use Rattle.std.specs.Prelude.{◌≡◌, ◌≤◌, [], All, map, IfOk};
+ghost use Rattle.std.specs.Prelude.{◌≡◌, ◌≤◌, [], All, length, map, IfOk, OnErr, OnOk};
 ghost use Rattle.auc_sqn.specs.Number.{max_seq};
-ghost use Rattle.auc_transcript.specs.Given.{Setting};
+ghost use Rattle.auc_world.specs.Setting.{Setting};
+ghost use Rattle.auc_jobs.specs.InnerRound.{IsAdvanced};
 ghost use Rattle.auc_jobs.specs.State.{StandsAt};
 
+use crate::closing::reopened;
+use crate::job_usims::JobUsims;
 use crate::numbers::Numbers;
 use crate::usims::Usims;
 use auc_edge::{Items, NoMemory};
+use auc_lines::JobPart;
 use auc_subs::Subscribers;
+use auc_world::JobRecord;
 use std::alloc::Global;
 use std::marker::Model;
 
@@ -40,6 +45,26 @@ impl State {
             usims: Usims::new(alloc, subs)?,
             released: Numbers::new(alloc),
         })
+    }
+
+    /// Leads the state from a round's beginning to the next round. All memory is taken before the first change.
+    pub(crate) fn advance(
+        &mut self,
+        alloc: Global,
+        jobs: &[JobPart],
+        records: &[JobRecord],
+        usims: &[JobUsims],
+        words: &[u64],
+    ) -> Result<(), NoMemory>
+        requires { length usims.now ≡ length jobs.now }
+        ensures advanced { OnOk result (IsAdvanced self.old jobs.now records.now usims.now words.now self.new) }
+        ensures kept { OnErr result (self.new ≡ self.old) }
+    {
+        let words = reopened(alloc, words)?;
+        self.released.note_all(records)?;
+        self.usims.put_back(jobs, usims);
+        self.words = words;
+        Ok(())
     }
 }
 

@@ -1,12 +1,14 @@
 //! The USIMs of the subscribers.
 
-ghost use Rattle.std.specs.Prelude.{◌≡◌, ◌<◌, [], length, IfOk};
-ghost use Rattle.auc_jobs.specs.InnerUsims.{Challenges};
+ghost use Rattle.std.specs.Prelude.{◌≡◌, ◌<◌, Some, [], ◌∷◌, length, slice_get, IfOk};
+ghost use Rattle.auc_jobs.specs.InnerUsims.{ArePut, ArePutBack, usim_in};
 ghost use Rattle.auc_jobs.specs.Usims.{AreOfRows, AreBehind};
 
+use crate::job_usims::JobUsims;
 use auc_edge::NoMemory;
+use auc_lines::{JobPart, Line};
 use auc_subs::Subscribers;
-use auc_usim::{Answer, Usim};
+use auc_usim::Usim;
 use std::alloc::Global;
 use std::marker::Model;
 
@@ -29,7 +31,7 @@ impl Usims {
     /// The USIM of each subscriber, with its row's secret, for which the numbers up to the row's `usim` count as accepted.
     pub(crate) fn new(alloc: Global, subs: &Subscribers) -> Result<Usims, NoMemory>
         ensures rows { IfOk result (AreOfRows subs.now) }
-        ensures fresh { IfOk result (AreBehind subs.now []) }
+        ensures fresh { IfOk result (λ usims. AreBehind subs.now [] (slice_get usims)) }
     {
         let mut all = Vec::new(alloc);
         for sub in 0..subs.len() {
@@ -39,11 +41,45 @@ impl Usims {
         Ok(Usims { all })
     }
 
-    /// Challenges the USIM of a subscriber.
-    pub(crate) fn challenge(&mut self, sub: u32, rand: [u8; 16], autn: [u8; 16]) -> Answer
-        requires { sub < length self.old }
-        ensures { Challenges self.old sub rand autn result self.new }
+    /// The USIM of a subscriber.
+    pub(crate) fn of(&self, sub: u32) -> Usim
+        requires { sub < length self.now }
+        ensures { slice_get self.now sub ≡ Some result }
     {
-        self.all[sub as usize].challenge(rand, autn)
+        self.all[sub as usize]
+    }
+
+    /// Puts the USIM to which a line gives in its place, if it gives to one that is there.
+    fn put_for(&mut self, line: &Line, own: &JobUsims)
+        ensures { ArePut self.old (line.now ∷ []) (usim_in own.now) self.new }
+    {
+        let Line::Give { sub, .. } = *line else {
+            return;
+        };
+        let place = sub as usize;
+        if let Some(usim) = own.get(sub) {
+            if place < self.all.len() {
+                self.all[place] = *usim;
+            }
+        }
+    }
+
+    /// Puts a job's own USIMs back in their places.
+    fn put(&mut self, job: &[Line], own: &JobUsims)
+        ensures { ArePut self.old job.now (usim_in own.now) self.new }
+    {
+        for line in job {
+            self.put_for(line, own);
+        }
+    }
+
+    /// Puts the own USIMs of a round's jobs back in their places.
+    pub(crate) fn put_back(&mut self, jobs: &[JobPart], own: &[JobUsims])
+        requires { length own.now ≡ length jobs.now }
+        ensures { ArePutBack self.old jobs.now own.now self.new }
+    {
+        for place in 0..jobs.len() {
+            self.put(jobs[place].as_slice(), &own[place]);
+        }
     }
 }

@@ -1,31 +1,33 @@
 //! What serves a job.
 
 ghost use Rattle.std.specs.Prelude.{◌≡◌, [], length};
-ghost use Rattle.auc_jobs.specs.InnerWorker.{WorkerState, AreForRows, GoesOnWith};
+ghost use Rattle.auc_jobs.specs.InnerUsims.{usim_in};
+ghost use Rattle.auc_jobs.specs.InnerWorker.{WorkerState, AreForRows, IsCentreOf};
+ghost use Rattle.auc_jobs.specs.Usims.{HaveSecrets};
 
 use crate::job_lines::JobLines;
+use crate::job_usims::JobUsims;
 use crate::numbers::Numbers;
-use crate::setting::Setting;
-use crate::usims::Usims;
 use auc_vector::Centre;
-use auc_world::JobRecord;
+use auc_world::{JobRecord, Setting};
 use std::alloc::Global;
 use std::marker::Model;
 use std::mem;
 
 /// What one worker has while it serves a job: its centre, what the job is served with, the numbers that were released in
-/// earlier rounds, the USIMs, and the job's lines so far. Contracts see all of them. The centre and the USIMs are those of
-/// the setting's subscribers.
+/// earlier rounds, the job's own USIMs, and the job's lines so far. Contracts see all of them. The centre and the USIMs are
+/// those of the setting's subscribers.
 #[derive(Drop)]
 pub(crate) struct Worker<'a, C: Centre> {
     pub(crate) centre: C,
     pub(crate) set: &'a Setting<'a>,
     pub(crate) released: &'a Numbers,
-    pub(crate) usims: Usims,
+    pub(crate) usims: JobUsims,
     pub(crate) lines: JobLines,
 }
 
 impl<'a, C: Centre> Model for Worker<'a, C> {
+    ghost use Rattle.auc_jobs.specs.InnerUsims.{usim_in};
     ghost use Rattle.auc_jobs.specs.InnerWorker.{WorkerState, AreForRows};
 
     ghost Value = { WorkerState C };
@@ -38,7 +40,7 @@ impl<'a, C: Centre> Model for Worker<'a, C> {
       lines = w.lines;
     } };
 
-    ghost invariant = { λ w. AreForRows w.set.now.rows (C.subs w.centre) (C.top w.centre) w.usims };
+    ghost invariant = { λ w. AreForRows w.set.now.rows (C.subs w.centre) (C.top w.centre) (usim_in w.usims) };
 }
 
 impl<'a, C: Centre> Worker<'a, C> {
@@ -48,35 +50,36 @@ impl<'a, C: Centre> Worker<'a, C> {
         centre: C,
         set: &'a Setting<'a>,
         released: &'a Numbers,
-        usims: Usims,
     ) -> Worker<'a, C>
-        requires { AreForRows set.now.rows (C.subs centre) (C.top centre) usims }
-        ensures { result ≡ record { centre = centre; set = set.now; released = released.now; usims = usims; lines = [] } }
+        requires { IsCentreOf (length set.now.rows) (C.subs centre) (C.top centre) }
+        ensures { result ≡ record { centre = centre; set = set.now; released = released.now; usims = result.usims; lines = [] } }
     {
         Worker {
             centre,
             set,
             released,
-            usims,
+            usims: JobUsims::new(alloc),
             lines: JobLines::new(alloc),
         }
     }
 
-    /// Ends the job: takes its lines.
-    pub(crate) fn take_lines(&mut self, alloc: Global) -> JobRecord
-        ensures lines { result ≡ self.old.lines }
-        ensures rest { self.new ≡ record self.old { lines = [] } }
+    /// Begins a job with its own USIMs.
+    pub(crate) fn begin(&mut self, own: JobUsims)
+        requires { HaveSecrets self.old.set.rows (usim_in own) }
+        ensures { self.new ≡ record self.old { usims = own } }
     {
-        mem::replace(&mut self.lines, JobLines::new(alloc)).into_lines()
+        self.usims = own;
     }
 
-    /// The centre and the USIMs.
-    pub(crate) fn into_parts(self) -> (C, Usims)
-        ensures centre { result.0 ≡ self.entry.centre }
-        ensures usims { result.1 ≡ self.entry.usims }
-        ensures rows { AreForRows self.entry.set.rows (C.subs result.0) (C.top result.0) result.1 }
+    /// Ends the job: takes its lines and its own USIMs.
+    pub(crate) fn end(&mut self, alloc: Global) -> (JobRecord, JobUsims)
+        ensures lines { result.0 ≡ self.old.lines }
+        ensures usims { result.1 ≡ self.old.usims }
+        ensures secrets { HaveSecrets self.old.set.rows (usim_in result.1) }
+        ensures rest { self.new ≡ record self.old { usims = self.new.usims; lines = [] } }
     {
-        let Worker { centre, usims, .. } = self;
-        (centre, usims)
+        let lines = mem::replace(&mut self.lines, JobLines::new(alloc));
+        let usims = mem::replace(&mut self.usims, JobUsims::new(alloc));
+        (lines.into_lines(), usims)
     }
 }

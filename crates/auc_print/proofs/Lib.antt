@@ -1,5 +1,6 @@
 pub mod Facts
 mod LineLemmas
+mod NumberLemmas
 mod OneTextLemmas
 mod RoundLemmas
 mod SpacedLemmas

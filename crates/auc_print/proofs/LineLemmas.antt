@@ -1,17 +1,20 @@
--- The words of a line determine what the line tells, and the text of lines determines what they tell.
-use Rattle.std.proofs.Common.{ℕ, ◌^◌, ◌<◌, ◌≡◌, ◌∙◌, refl, sym, ap, Bool, true, false, List, [], ◌∷◌, ◌++◌, map, drop, length, get_or, slice_index_or, flat_map, if◌then◌else◌, codes, bytes_eq, Ok, arith, inl, inr}
+-- The words of a line determine the line, and the text of lines determines the lines.
+use Rattle.std.proofs.Common.{ℕ, ◌^◌, ◌<◌, ◌≡◌, ◌∙◌, refl, sym, ap, Bool, List, [], ◌∷◌, ◌++◌, map, drop, length, get_or, slice_index_or, flat_map, if◌then◌else◌, codes, bytes_eq, Ok, arith, inl, inr}
 use Rattle.std.specs.List.{AllByRecursion}
 use Rattle.std.proofs.lemmas.Bool.{cases_order}
 use Rattle.std.proofs.lemmas.Fmt.{decimal_injective}
-use Rattle.std.proofs.lemmas.List.{append-nil}
 use Rattle.std.proofs.lemmas.List.Concat.{flat_map-append}
+use Rattle.std.proofs.lemmas.List.Folds.{flat_map-map}
 use Rattle.hex.specs.Hex.{IsBytes, encode_lower, decode_of}
 use Rattle.hex.proofs.HexLemmas.{decode_of-encode_lower}
 use Rattle.auc_edge.specs.Identity.{Identity}
 use Rattle.auc_edge.specs.declared.stop.Stop.{Stop}
 use Rattle.auc_edge.specs.declared.stop.Stop.TheVariants.{Fault, Full}
 use Rattle.auc_edge.proofs.Facts.{digits_of_injective}
+use Rattle.auc_vector.specs.declared.parts.Vector.{Vector as AuthVector}
 use Rattle.auc_world.specs.Record.{subscriber_of}
+use Rattle.auc_world.specs.Setting.{Setting}
+use Rattle.auc_world.specs.Vectors.{vector_in}
 use Rattle.auc_world.specs.declared.record.LineRecord.{LineRecord}
 use Rattle.auc_world.specs.declared.record.LineRecord.TheVariants.{Vector, Withheld, Exhausted, Sync, Give}
 use Rattle.auc_world.specs.declared.record.SyncVerdict.{SyncVerdict}
@@ -19,8 +22,8 @@ use Rattle.auc_world.specs.declared.record.SyncVerdict.TheVariants.{Moved, InRan
 use Rattle.auc_world.specs.declared.record.GiveVerdict.{GiveVerdict}
 use Rattle.auc_world.specs.declared.record.GiveVerdict.TheVariants.{Accepted, Sync as SyncFailure, Absent}
 use Rattle.auc_world.specs.declared.record.Closing.{Closing}
-use Rattle.auc_print.specs.Text.{Line, RoundLine, JobLine, RecordLine, ClosedLine, imsi_of, stop_word, sync_words, give_words, record_words, closing_words, line_words, bytes_words, spaced, line_text}
-use Rattle.auc_print.specs.OneText.{AreIdentities, SyncFits, GiveFits, AnswerFits, ClosingFits, told}
+use Rattle.auc_print.specs.Text.{Line, RoundLine, JobLine, RecordLine, ClosedLine, RestartLine, identities_of, imsi_of, stop_word, sync_words, give_words, record_words, closing_words, line_words, bytes_words, spaced, line_text}
+use Rattle.auc_print.specs.OneText.{AreIdentities, SyncFits, GiveFits, AnswerFits, ClosingFits}
 use Rattle.auc_print.proofs.SpacedLemmas.{IsWord, AllWords, AreWords, AreLines, lines_cut, word_from_test, decimal_word, last_digits_word, hex_word}
 
 -- each subscriber that a line names has an identity, and the values in the line fit their types
@@ -29,13 +32,7 @@ LineFits identities (RoundLine number) = number < 2 ^ 64
 LineFits identities (JobLine number) = number < 2 ^ 64
 LineFits identities (RecordLine answer) = (subscriber_of answer < length identities) × AnswerFits answer
 LineFits identities (ClosedLine closing) = (closing.sub < length identities) × ClosingFits closing
-
--- what a brief print tells of a line
-abbrev pub line_told : Line → Line
-line_told (RoundLine number) = RoundLine number
-line_told (JobLine number) = JobLine number
-line_told (RecordLine answer) = RecordLine (told answer)
-line_told (ClosedLine closing) = ClosedLine closing
+LineFits identities RestartLine = Unit {0}
 
 -- subscribers with the same IMSI are the same
 imsi_injective : (identities : List Identity) (s t : ℕ) → AreIdentities identities → s < length identities → t < length identities
@@ -80,8 +77,8 @@ give_words_are Absent = (word_from_test (codes "absent") refl, tt)
 
 -- the words of a job's record are words
 answer_words_are : (identities : List Identity) (answer : LineRecord) → AnswerFits answer → AreWords (record_words identities answer)
-answer_words_are identities (Vector sub vector) fits =
-    (word_from_test (codes "vector") refl, (imsi_word identities sub, (decimal_word vector.n fits, tt)))
+answer_words_are identities (Vector sub n) fits =
+    (word_from_test (codes "vector") refl, (imsi_word identities sub, (decimal_word n fits, tt)))
 answer_words_are identities (Withheld sub n stop) fits =
     (word_from_test (codes "withheld") refl, (imsi_word identities sub, (decimal_word n fits, (stop_word_is stop, tt))))
 answer_words_are identities (Exhausted sub word) fits =
@@ -96,6 +93,7 @@ words_are : (identities : List Identity) (line : Line) → LineFits identities l
 words_are identities (RoundLine number) fits = (word_from_test (codes "round") refl, (decimal_word number fits, tt))
 words_are identities (JobLine number) fits = (word_from_test (codes "job") refl, (decimal_word number fits, tt))
 words_are identities (RecordLine answer) fits = answer_words_are identities answer fits.1
+words_are identities RestartLine fits = (word_from_test (codes "restart") refl, tt)
 words_are identities (ClosedLine closing) fits = (
   word_from_test (codes "closed") refl,
   (
@@ -113,47 +111,54 @@ words_are identities (ClosedLine closing) fits = (
   ),
 )
 
--- the lines that a full print adds after a line
-abbrev further : Bool → Line → List (List (List ℕ))
-further full (RecordLine (Vector sub vector)) = if full then bytes_words vector ∷ [] else []
-further full line = []
+-- the vectors whose bytes a print adds after a line
+abbrev added : Setting → Bool → Line → List AuthVector
+added set full (RecordLine answer) = if full then vector_in set answer else []
+added set full (RoundLine number) = []
+added set full (JobLine number) = []
+added set full (ClosedLine closing) = []
+added set full RestartLine = []
 
 -- the printed lines of a line
-abbrev printed : List Identity → Bool → Line → List (List (List ℕ))
-printed identities full line = line_words identities line ∷ further full line
+abbrev printed : Setting → Bool → Line → List (List (List ℕ))
+printed set full line = line_words (identities_of set.rows) line ∷ map bytes_words (added set full line)
 
 -- a line's text is that of its printed lines
-text_is : (identities : List Identity) (full : Bool) (line : Line) → line_text identities full line ≡ flat_map spaced (printed identities full line)
-text_is identities true (RecordLine (Vector sub vector)) =
-    ap (λ t. spaced (record_words identities (Vector sub vector)) ++ t) (sym (append-nil (spaced (bytes_words vector))))
-text_is identities false (RecordLine (Vector sub vector)) = refl
-text_is identities full line = refl
+text_is : (set : Setting) (full : Bool) (line : Line) → line_text set full line ≡ flat_map spaced (printed set full line)
+text_is set full (RecordLine answer) =
+    ap (λ t. spaced (record_words (identities_of set.rows) answer) ++ t)
+    (sym (flat_map-map spaced bytes_words (if full then vector_in set answer else [])))
+text_is set full (RoundLine number) = refl
+text_is set full (JobLine number) = refl
+text_is set full (ClosedLine closing) = refl
+text_is set full RestartLine = refl
 
 -- the text of lines is that of their printed lines
-texts_are : (identities : List Identity) (full : Bool) (lines : List Line)
-    → flat_map (line_text identities full) lines ≡ flat_map spaced (flat_map (printed identities full) lines)
-texts_are identities full [] = refl
-texts_are identities full (line ∷ lines) =
-    ap (λ t. t ++ flat_map (line_text identities full) lines) (text_is identities full line)
-    ∙ ap (λ t. flat_map spaced (printed identities full line) ++ t) (texts_are identities full lines)
-    ∙ sym (flat_map-append spaced (printed identities full line) (flat_map (printed identities full) lines))
+texts_are : (set : Setting) (full : Bool) (lines : List Line)
+    → flat_map (line_text set full) lines ≡ flat_map spaced (flat_map (printed set full) lines)
+texts_are set full [] = refl
+texts_are set full (line ∷ lines) =
+    ap (λ t. t ++ flat_map (line_text set full) lines) (text_is set full line)
+    ∙ ap (λ t. flat_map spaced (printed set full line) ++ t) (texts_are set full lines)
+    ∙ sym (flat_map-append spaced (printed set full line) (flat_map (printed set full) lines))
 
--- printed lines are lines of words
-printed_are : (identities : List Identity) (full : Bool) (lines : List Line) → AllByRecursion (LineFits identities) lines
-    → AreLines (flat_map (printed identities full) lines)
-printed_are identities full [] fits = tt
-printed_are identities full (line ∷ lines) fits =
-    (words_are identities line fits.0, with_further full line (flat_map (printed identities full) lines) (printed_are identities full lines fits.1))
+-- the bytes of vectors before lines of words are lines of words
+with_bytes : (vectors : List AuthVector) (rest : List (List (List ℕ))) → AreLines rest → AreLines (map bytes_words vectors ++ rest)
+with_bytes [] rest are = are
+with_bytes (vector ∷ vectors) rest are =
+    (bytes_are vector.rand vector.autn vector.xres vector.ck vector.ik, with_bytes vectors rest are)
   where
     bytes_are : (rand autn xres ck ik : List ℕ)
         → AreWords (codes "bytes" ∷ encode_lower rand ∷ encode_lower autn ∷ encode_lower xres ∷ encode_lower ck ∷ encode_lower ik ∷ [])
     bytes_are rand autn xres ck ik =
         (word_from_test (codes "bytes") refl, (hex_word rand, (hex_word autn, (hex_word xres, (hex_word ck, (hex_word ik, tt))))))
 
-    with_further : (full : Bool) (line : Line) (rest : List (List (List ℕ))) → AreLines rest → AreLines (further full line ++ rest)
-    with_further true (RecordLine (Vector sub vector)) rest are = (bytes_are vector.rand vector.autn vector.xres vector.ck vector.ik, are)
-    with_further false (RecordLine (Vector sub vector)) rest are = are
-    with_further full line rest are = are
+-- printed lines are lines of words
+printed_are : (set : Setting) (full : Bool) (lines : List Line) → AllByRecursion (LineFits (identities_of set.rows)) lines
+    → AreLines (flat_map (printed set full) lines)
+printed_are set full [] fits = tt
+printed_are set full (line ∷ lines) fits =
+    (words_are (identities_of set.rows) line fits.0, with_bytes (added set full line) _ (printed_are set full lines fits.1))
 
 -- the word at a place
 abbrev word_at : List (List ℕ) → ℕ → List ℕ
@@ -164,47 +169,56 @@ abbrev own : List (List (List ℕ)) → List (List (List ℕ))
 own [] = []
 own (words ∷ lines) = if bytes_eq (word_at words 0) (codes "bytes") then own lines else words ∷ own lines
 
--- without what a full print adds, only the line itself is left of its printed lines
-own_of_line : (identities : List Identity) (full : Bool) (line : Line) (rest : List (List (List ℕ)))
-    → own (printed identities full line ++ rest) ≡ line_words identities line ∷ own rest
-own_of_line identities full (RoundLine number) rest = refl
-own_of_line identities full (JobLine number) rest = refl
-own_of_line identities full (ClosedLine closing) rest = refl
-own_of_line identities true (RecordLine (Vector sub vector)) rest = refl
-own_of_line identities false (RecordLine (Vector sub vector)) rest = refl
-own_of_line identities full (RecordLine (Withheld sub n stop)) rest = refl
-own_of_line identities full (RecordLine (Exhausted sub word)) rest = refl
-own_of_line identities full (RecordLine (Sync sub verdict)) rest = refl
-own_of_line identities full (RecordLine (Give sub n verdict)) rest = refl
+-- no line of bytes is left
+own_of_bytes : (vectors : List AuthVector) (rest : List (List (List ℕ))) → own (map bytes_words vectors ++ rest) ≡ own rest
+own_of_bytes [] rest = refl
+own_of_bytes (vector ∷ vectors) rest = own_of_bytes vectors rest
 
--- the same for several lines
-own_of_lines : (identities : List Identity) (full : Bool) (lines : List Line)
-    → own (flat_map (printed identities full) lines) ≡ map (line_words identities) lines
-own_of_lines identities full [] = refl
-own_of_lines identities full (line ∷ lines) =
-    own_of_line identities full line (flat_map (printed identities full) lines)
-    ∙ ap (λ rest. line_words identities line ∷ rest) (own_of_lines identities full lines)
+-- the words of a line, which aren't those of bytes, are left
+own_of_words : (identities : List Identity) (line : Line) (rest : List (List (List ℕ)))
+    → own (line_words identities line ∷ rest) ≡ line_words identities line ∷ own rest
+own_of_words identities (RoundLine number) rest = refl
+own_of_words identities (JobLine number) rest = refl
+own_of_words identities (ClosedLine closing) rest = refl
+own_of_words identities RestartLine rest = refl
+own_of_words identities (RecordLine (Vector sub n)) rest = refl
+own_of_words identities (RecordLine (Withheld sub n stop)) rest = refl
+own_of_words identities (RecordLine (Exhausted sub word)) rest = refl
+own_of_words identities (RecordLine (Sync sub verdict)) rest = refl
+own_of_words identities (RecordLine (Give sub n verdict)) rest = refl
+
+-- without what a full print adds, only the lines themselves are left of their printed lines
+own_of_lines : (set : Setting) (full : Bool) (lines : List Line)
+    → own (flat_map (printed set full) lines) ≡ map (line_words (identities_of set.rows)) lines
+own_of_lines set full [] = refl
+own_of_lines set full (line ∷ lines) =
+    own_of_words (identities_of set.rows) line (map bytes_words (added set full line) ++ flat_map (printed set full) lines)
+    ∙ ap (λ rest. line_words (identities_of set.rows) line ∷ rest)
+    (own_of_bytes (added set full line) (flat_map (printed set full) lines) ∙ own_of_lines set full lines)
 
 -- a number for each kind of line, by its first word
 abbrev kind_of_word : List ℕ → ℕ
 kind_of_word word =
     if bytes_eq word (codes "round") then 0
     else if bytes_eq word (codes "job") then 1
-    else if bytes_eq word (codes "closed") then 2 else 3
+    else if bytes_eq word (codes "closed") then 2
+    else if bytes_eq word (codes "restart") then 3 else 4
 
 -- the same number, by the line
 abbrev kind_of : Line → ℕ
 kind_of (RoundLine number) = 0
 kind_of (JobLine number) = 1
 kind_of (ClosedLine closing) = 2
-kind_of (RecordLine answer) = 3
+kind_of RestartLine = 3
+kind_of (RecordLine answer) = 4
 
 -- the first word says the kind of line
 kind_is : (identities : List Identity) (line : Line) → kind_of line ≡ kind_of_word (word_at (line_words identities line) 0)
 kind_is identities (RoundLine number) = refl
 kind_is identities (JobLine number) = refl
 kind_is identities (ClosedLine closing) = refl
-kind_is identities (RecordLine (Vector sub vector)) = refl
+kind_is identities RestartLine = refl
+kind_is identities (RecordLine (Vector sub n)) = refl
 kind_is identities (RecordLine (Withheld sub n stop)) = refl
 kind_is identities (RecordLine (Exhausted sub word)) = refl
 kind_is identities (RecordLine (Sync sub verdict)) = refl
@@ -220,7 +234,7 @@ record_of_word word =
 
 -- the same number, by the record
 abbrev record_number : LineRecord → ℕ
-record_number (Vector sub vector) = 0
+record_number (Vector sub n) = 0
 record_number (Withheld sub n stop) = 1
 record_number (Exhausted sub word) = 2
 record_number (Sync sub verdict) = 3
@@ -228,7 +242,7 @@ record_number (Give sub n verdict) = 4
 
 -- the first word says the kind of record
 record_is : (identities : List Identity) (answer : LineRecord) → record_number answer ≡ record_of_word (word_at (record_words identities answer) 0)
-record_is identities (Vector sub vector) = refl
+record_is identities (Vector sub n) = refl
 record_is identities (Withheld sub n stop) = refl
 record_is identities (Exhausted sub word) = refl
 record_is identities (Sync sub verdict) = refl
@@ -305,31 +319,28 @@ give_injective a b p q e =
     let kinds : answer_number a ≡ answer_number b = answer_is a ∙ ap (λ ws. answer_of_word (word_at ws 0)) e ∙ sym (answer_is b) in
     absurd (omega arith)
 
--- what a job's record tells is determined by its words
-answer_told : (identities : List Identity) (a b : LineRecord) → AreIdentities identities
+-- a job's record is determined by its words
+answer_injective : (identities : List Identity) (a b : LineRecord) → AreIdentities identities
     → LineFits identities (RecordLine a) → LineFits identities (RecordLine b)
-    → record_words identities a ≡ record_words identities b → told a ≡ told b
-answer_told identities (Vector s v) (Vector t w) are p q e =
+    → record_words identities a ≡ record_words identities b → a ≡ b
+answer_injective identities (Vector s m) (Vector t n) are p q e =
     let sub : s ≡ t = imsi_injective identities s t are p.0 q.0 (ap (λ ws. word_at ws 1) e) in
-    let number : v.n ≡ w.n = decimal_injective v.n w.n p.1 q.1 (ap (λ ws. word_at ws 2) e) in
-    let make : ℕ → ℕ → LineRecord
-    = λ place n. Vector place (record { n = n; rand = []; autn = []; xres = []; ck = []; ik = [] }) in
-    ap (λ place. make place v.n) sub ∙ ap (λ n. make t n) number
-answer_told identities (Withheld s m a) (Withheld t n b) are p q e =
+    let number : m ≡ n = decimal_injective m n p.1 q.1 (ap (λ ws. word_at ws 2) e) in (cc)
+answer_injective identities (Withheld s m a) (Withheld t n b) are p q e =
     let sub : s ≡ t = imsi_injective identities s t are p.0 q.0 (ap (λ ws. word_at ws 1) e) in
     let number : m ≡ n = decimal_injective m n p.1 q.1 (ap (λ ws. word_at ws 2) e) in
     let stop : a ≡ b = stop_injective a b (ap (λ ws. word_at ws 3) e) in (cc)
-answer_told identities (Exhausted s m) (Exhausted t n) are p q e =
+answer_injective identities (Exhausted s m) (Exhausted t n) are p q e =
     let sub : s ≡ t = imsi_injective identities s t are p.0 q.0 (ap (λ ws. word_at ws 1) e) in
     let number : m ≡ n = decimal_injective m n p.1 q.1 (ap (λ ws. word_at ws 2) e) in (cc)
-answer_told identities (Sync s a) (Sync t b) are p q e =
+answer_injective identities (Sync s a) (Sync t b) are p q e =
     let sub : s ≡ t = imsi_injective identities s t are p.0 q.0 (ap (λ ws. word_at ws 1) e) in
     let verdict : a ≡ b = sync_injective a b p.1 q.1 (ap (λ ws. drop 2 ws) e) in (cc)
-answer_told identities (Give s m a) (Give t n b) are p q e =
+answer_injective identities (Give s m a) (Give t n b) are p q e =
     let sub : s ≡ t = imsi_injective identities s t are p.0 q.0 (ap (λ ws. word_at ws 1) e) in
     let number : m ≡ n = decimal_injective m n p.1.0 q.1.0 (ap (λ ws. word_at ws 2) e) in
     let verdict : a ≡ b = give_injective a b p.1.1 q.1.1 (ap (λ ws. drop 3 ws) e) in (cc)
-answer_told identities a b are p q e =
+answer_injective identities a b are p q e =
     let kinds : record_number a ≡ record_number b
     = record_is identities a ∙ ap (λ ws. record_of_word (word_at ws 0)) e ∙ sym (record_is identities b) in
     absurd (omega arith)
@@ -363,36 +374,37 @@ closing_injective identities a b are p q e =
     let withheld : a.withheld ≡ b.withheld = decimal_injective _ _ p.1.withheld q.1.withheld (at 7) in
     closing_is a b sub first last drawn skipped released withheld
 
--- what a line tells is determined by its words
-line_is_told : (identities : List Identity) (l m : Line) → AreIdentities identities → LineFits identities l → LineFits identities m
-    → line_words identities l ≡ line_words identities m → line_told l ≡ line_told m
-line_is_told identities (RoundLine m) (RoundLine n) are p q e = ap RoundLine (decimal_injective m n p q (ap (λ ws. word_at ws 1) e))
-line_is_told identities (JobLine m) (JobLine n) are p q e = ap JobLine (decimal_injective m n p q (ap (λ ws. word_at ws 1) e))
-line_is_told identities (RecordLine a) (RecordLine b) are p q e = ap RecordLine (answer_told identities a b are p q e)
-line_is_told identities (ClosedLine a) (ClosedLine b) are p q e = ap ClosedLine (closing_injective identities a b are p q e)
-line_is_told identities l m are p q e =
+-- a line is determined by its words
+line_injective : (identities : List Identity) (l m : Line) → AreIdentities identities → LineFits identities l → LineFits identities m
+    → line_words identities l ≡ line_words identities m → l ≡ m
+line_injective identities (RoundLine m) (RoundLine n) are p q e = ap RoundLine (decimal_injective m n p q (ap (λ ws. word_at ws 1) e))
+line_injective identities (JobLine m) (JobLine n) are p q e = ap JobLine (decimal_injective m n p q (ap (λ ws. word_at ws 1) e))
+line_injective identities (RecordLine a) (RecordLine b) are p q e = ap RecordLine (answer_injective identities a b are p q e)
+line_injective identities (ClosedLine a) (ClosedLine b) are p q e = ap ClosedLine (closing_injective identities a b are p q e)
+line_injective identities RestartLine RestartLine are p q e = refl
+line_injective identities l m are p q e =
     let kinds : kind_of l ≡ kind_of m = kind_is identities l ∙ ap (λ ws. kind_of_word (word_at ws 0)) e ∙ sym (kind_is identities m) in
     absurd (omega arith)
 
--- what lines tell is determined by their words
-words_tell : (identities : List Identity) (ls ms : List Line) → AreIdentities identities
+-- lines are determined by their words
+words_injective : (identities : List Identity) (ls ms : List Line) → AreIdentities identities
     → AllByRecursion (LineFits identities) ls → AllByRecursion (LineFits identities) ms
-    → map (line_words identities) ls ≡ map (line_words identities) ms → map line_told ls ≡ map line_told ms
-words_tell identities [] [] are p q e = refl
-words_tell identities [] (m ∷ ms) are p q e = absurd (cc)
-words_tell identities (l ∷ ls) [] are p q e = absurd (cc)
-words_tell identities (l ∷ ls) (m ∷ ms) are p q e =
+    → map (line_words identities) ls ≡ map (line_words identities) ms → ls ≡ ms
+words_injective identities [] [] are p q e = refl
+words_injective identities [] (m ∷ ms) are p q e = absurd (cc)
+words_injective identities (l ∷ ls) [] are p q e = absurd (cc)
+words_injective identities (l ∷ ls) (m ∷ ms) are p q e =
     let first : line_words identities l ≡ line_words identities m = cc in
     let others : map (line_words identities) ls ≡ map (line_words identities) ms = cc in
-    let line : line_told l ≡ line_told m = line_is_told identities l m are p.0 q.0 first in
-    let rest : map line_told ls ≡ map line_told ms = words_tell identities ls ms are p.1 q.1 others in (cc)
+    let line : l ≡ m = line_injective identities l m are p.0 q.0 first in
+    let rest : ls ≡ ms = words_injective identities ls ms are p.1 q.1 others in (cc)
 
--- what lines tell is determined by their text
-pub lines_tell : (identities : List Identity) (full : Bool) (ls ms : List Line) → AreIdentities identities
-    → AllByRecursion (LineFits identities) ls → AllByRecursion (LineFits identities) ms
-    → flat_map (line_text identities full) ls ≡ flat_map (line_text identities full) ms → map line_told ls ≡ map line_told ms
-lines_tell identities full ls ms are p q e =
-    let lines : flat_map (printed identities full) ls ≡ flat_map (printed identities full) ms
-    = lines_cut _ _ (printed_are identities full ls p) (printed_are identities full ms q)
-    (sym (texts_are identities full ls) ∙ e ∙ texts_are identities full ms) in
-    words_tell identities ls ms are p q (sym (own_of_lines identities full ls) ∙ ap own lines ∙ own_of_lines identities full ms)
+-- lines are determined by their text
+pub lines_injective : (set : Setting) (full : Bool) (ls ms : List Line) → AreIdentities (identities_of set.rows)
+    → AllByRecursion (LineFits (identities_of set.rows)) ls → AllByRecursion (LineFits (identities_of set.rows)) ms
+    → flat_map (line_text set full) ls ≡ flat_map (line_text set full) ms → ls ≡ ms
+lines_injective set full ls ms are p q e =
+    let lines : flat_map (printed set full) ls ≡ flat_map (printed set full) ms
+    = lines_cut _ _ (printed_are set full ls p) (printed_are set full ms q)
+    (sym (texts_are set full ls) ∙ e ∙ texts_are set full ms) in
+    words_injective (identities_of set.rows) ls ms are p q (sym (own_of_lines set full ls) ∙ ap own lines ∙ own_of_lines set full ms)

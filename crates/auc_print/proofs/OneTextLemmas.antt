@@ -1,5 +1,5 @@
--- A text determines its transcript, except the bytes of the vectors.
-use Rattle.std.proofs.Common.{ℕ, ◌+◌, ◌^◌, ◌<◌, ◌≤◌, ◌≡◌, ◌≢◌, ◌∙◌, refl, sym, ap, Bool, List, [], ◌∷◌, ◌++◌, length, map, flat_map, All, arith}
+-- A text determines its transcript.
+use Rattle.std.proofs.Common.{ℕ, ◌+◌, ◌^◌, ◌<◌, ◌≤◌, ◌≡◌, ◌≢◌, ◌∙◌, refl, sym, ap, subst, Bool, List, [], ◌∷◌, ◌++◌, length, map, flat_map, All, arith}
 use Rattle.std.proofs.lemmas.List.{get_or-map, length-map}
 use Rattle.std.specs.List.{AllPairs}
 use Rattle.std.proofs.lemmas.List.Concat.{flat_map-append}
@@ -7,27 +7,28 @@ use Rattle.std.proofs.lemmas.List.Elements.{All-nil, All-cons, All-head, All-tai
 use Rattle.auc_edge.specs.Identity.{Identity, IsIdentity}
 use Rattle.auc_subs.specs.Subscriber.{AreSubscribers}
 use Rattle.auc_subs.specs.declared.row.Row.{Row}
-use Rattle.auc_vector.specs.declared.parts.Vector.{Vector as AuthenticationVector}
-use Rattle.auc_world.specs.Record.{NamesBelow, subscriber_of}
+use Rattle.auc_world.specs.Record.{NamesBelow, PartNamesBelow, subscriber_of}
+use Rattle.auc_world.specs.Setting.{Setting}
 use Rattle.auc_world.specs.declared.record.LineRecord.{LineRecord}
-use Rattle.auc_world.specs.declared.record.LineRecord.TheVariants.{Vector, Withheld, Exhausted, Sync, Give}
+use Rattle.auc_world.specs.declared.record.PartRecord.{PartRecord}
+use Rattle.auc_world.specs.declared.record.PartRecord.TheVariants.{Round, Restart}
 use Rattle.auc_world.specs.declared.record.RoundRecord.{RoundRecord}
-use Rattle.auc_print.specs.Text.{RoundLine, JobLine, RecordLine, ClosedLine, job_lines, jobs_lines, round_lines, identities_of, line_text, round_text, transcript_text}
-use Rattle.auc_print.specs.OneText.{AreIdentities, AnswerFits, RoundFits, OneTranscript, numbered, told, heard, HasVector, HasVectors, NumbersTellVectors}
-use Rattle.auc_print.proofs.LineLemmas.{LineFits, lines_tell}
-use Rattle.auc_print.proofs.RoundLemmas.{round_is, rounds_tell}
+use Rattle.auc_print.specs.Text.{RoundLine, JobLine, RecordLine, ClosedLine, RestartLine, job_lines, jobs_lines, round_lines, part_lines, identities_of, line_text, part_text, transcript_text}
+use Rattle.auc_print.specs.OneText.{AreIdentities, AnswerFits, RoundFits, PartFits, IsPrintable, OneTranscript}
+use Rattle.auc_print.proofs.LineLemmas.{LineFits, lines_injective}
+use Rattle.auc_print.proofs.RoundLemmas.{parts_injective}
 
 -- a record of a job names a subscriber with an identity
 abbrev IsNamed : List Identity → LineRecord → Type 0
 IsNamed identities answer = subscriber_of answer < length identities
 
--- the text of rounds is the text of their lines
-text_of_lines : (identities : List Identity) (full : Bool) (rounds : List RoundRecord)
-    → transcript_text identities full rounds ≡ flat_map (line_text identities full) (flat_map round_lines rounds)
-text_of_lines identities full [] = refl
-text_of_lines identities full (round ∷ rounds) =
-    ap (λ rest. round_text identities full round ++ rest) (text_of_lines identities full rounds)
-    ∙ sym (flat_map-append (line_text identities full) (round_lines round) (flat_map round_lines rounds))
+-- the text of parts is the text of their lines
+text_of_lines : (set : Setting) (full : Bool) (records : List PartRecord)
+    → transcript_text set full records ≡ flat_map (line_text set full) (flat_map part_lines records)
+text_of_lines set full [] = refl
+text_of_lines set full (part ∷ records) =
+    ap (λ rest. part_text set full part ++ rest) (text_of_lines set full records)
+    ∙ sym (flat_map-append (line_text set full) (part_lines part) (flat_map part_lines records))
 
 -- the lines of jobs fit if their records do and their numbers have 64 bits
 jobs_fit : (identities : List Identity) (number : ℕ) (jobs : List (List LineRecord)) → number + length jobs ≤ 2 ^ 64
@@ -56,62 +57,35 @@ round_fits identities round named fits =
     All-cons (LineFits identities) (RoundLine round.number) (jobs_lines 1 round.jobs ++ map ClosedLine round.closings) fits.number
     (All-append (LineFits identities) (jobs_lines 1 round.jobs) (map ClosedLine round.closings) jobs closings)
 
--- the lines of printable rounds fit
-rounds_fit : (identities : List Identity) (rounds : List RoundRecord) → All (NamesBelow (length identities)) rounds → All RoundFits rounds
-    → All (LineFits identities) (flat_map round_lines rounds)
-rounds_fit identities [] named fits = All-nil (LineFits identities)
-rounds_fit identities (round ∷ rounds) named fits =
-    All-append (LineFits identities) (round_lines round) (flat_map round_lines rounds)
-    (round_fits identities round (All-head (NamesBelow (length identities)) round rounds named) (All-head RoundFits round rounds fits))
-    (rounds_fit identities rounds (All-tail (NamesBelow (length identities)) round rounds named) (All-tail RoundFits round rounds fits))
+-- the lines of a part fit
+part_fits : (identities : List Identity) (part : PartRecord) → PartNamesBelow (length identities) part → PartFits part
+    → All (LineFits identities) (part_lines part)
+part_fits identities (Round round) named fits = round_fits identities round named fits
+part_fits identities Restart named fits = All-cons (LineFits identities) RestartLine [] tt (All-nil (LineFits identities))
 
--- two transcripts with the same text are the same, except the bytes of their vectors
+-- the lines of printable parts fit
+parts_fit : (identities : List Identity) (records : List PartRecord) → All (PartNamesBelow (length identities)) records → All PartFits records
+    → All (LineFits identities) (flat_map part_lines records)
+parts_fit identities [] named fits = All-nil (LineFits identities)
+parts_fit identities (part ∷ records) named fits =
+    All-append (LineFits identities) (part_lines part) (flat_map part_lines records)
+    (part_fits identities part (All-head (PartNamesBelow (length identities)) part records named) (All-head PartFits part records fits))
+    (parts_fit identities records (All-tail (PartNamesBelow (length identities)) part records named) (All-tail PartFits part records fits))
+
+-- the lines of a printable transcript fit
+transcript_fits : (rows : List Row) (records : List PartRecord) → IsPrintable (length rows) records
+    → All (LineFits (identities_of rows)) (flat_map part_lines records)
+transcript_fits rows records p =
+    parts_fit (identities_of rows) records
+    (subst (λ count. All (PartNamesBelow count) records) (sym (length-map rows (λ (row : Row). row.imsi))) p.named) p.fit
+
+-- two transcripts with the same text are the same
 pub one_transcript : OneTranscript
-one_transcript identities full rounds others are p q e =
-    rounds_tell rounds others (lines_tell identities full (flat_map round_lines rounds) (flat_map round_lines others) are
-    (recursion_from_All (LineFits identities) (flat_map round_lines rounds) (rounds_fit identities rounds p.named p.fit))
-    (recursion_from_All (LineFits identities) (flat_map round_lines others) (rounds_fit identities others q.named q.fit))
-    (sym (text_of_lines identities full rounds) ∙ e ∙ text_of_lines identities full others))
-
--- if a map is injective on values, it is injective on lists of them
-map_injective : {A B : Type 0} (f : A → B) (P : A → Type 0) → ((x y : A) → f x ≡ f y → P x → P y → x ≡ y)
-    → (xs ys : List A) → map f xs ≡ map f ys → All P xs → All P ys → xs ≡ ys
-map_injective f P same [] [] e p q = refl
-map_injective f P same [] (y ∷ ys) e p q = absurd (cc)
-map_injective f P same (x ∷ xs) [] e p q = absurd (cc)
-map_injective f P same (x ∷ xs) (y ∷ ys) e p q =
-    let heads : f x ≡ f y = cc in
-    let tails : map f xs ≡ map f ys = cc in
-    let head : x ≡ y = same x y heads (All-head P x xs p) (All-head P y ys q) in
-    let tail : xs ≡ ys = map_injective f P same xs ys tails (All-tail P x xs p) (All-tail P y ys q) in
-    (cc)
-
--- two records that tell the same and have the vectors of their subscribers and numbers are the same
-records_same : (vector_of : ℕ → ℕ → AuthenticationVector) (a b : LineRecord) → told a ≡ told b → HasVector vector_of a → HasVector vector_of b → a ≡ b
-records_same vector_of (Vector s v) (Vector t w) e p q =
-    let sub : s ≡ t = cc in
-    let vectors : numbered v ≡ numbered w = cc in
-    let number : v.n ≡ w.n = ap (λ (x : AuthenticationVector). x.n) vectors in
-    let vector : v ≡ w = p ∙ ap (λ place. vector_of place v.n) sub ∙ ap (λ n. vector_of t n) number ∙ sym q in
-    (cc)
-records_same vector_of (Withheld s m a) (Withheld t n b) e p q = e
-records_same vector_of (Exhausted s m) (Exhausted t n) e p q = e
-records_same vector_of (Sync s a) (Sync t b) e p q = e
-records_same vector_of (Give s m a) (Give t n b) e p q = e
-records_same vector_of a b e p q = cc
-
--- two such rounds are the same
-pub rounds_same : (vector_of : ℕ → ℕ → AuthenticationVector) (a b : RoundRecord) → heard a ≡ heard b → HasVectors vector_of a → HasVectors vector_of b → a ≡ b
-rounds_same vector_of a b e p q =
-    round_is a b (ap (λ (r : RoundRecord). r.number) e)
-    (map_injective (map told) (All (HasVector vector_of)) (map_injective told (HasVector vector_of) (records_same vector_of)) a.jobs b.jobs
-    (ap (λ (r : RoundRecord). r.jobs) e) p q)
-    (ap (λ (r : RoundRecord). r.closings) e)
-
--- two such transcripts are the same
-pub numbers_tell_vectors : NumbersTellVectors
-numbers_tell_vectors vector_of rounds others p q e =
-    map_injective heard (HasVectors vector_of) (rounds_same vector_of) rounds others e p q
+one_transcript set full records others are p q e =
+    parts_injective records others (lines_injective set full (flat_map part_lines records) (flat_map part_lines others) are
+    (recursion_from_All (LineFits (identities_of set.rows)) (flat_map part_lines records) (transcript_fits set.rows records p))
+    (recursion_from_All (LineFits (identities_of set.rows)) (flat_map part_lines others) (transcript_fits set.rows others q))
+    (sym (text_of_lines set full records) ∙ e ∙ text_of_lines set full others))
 
 -- rows with different identities have identities of which no two are the same
 rows_differ : (rows : List Row) → AllPairs (λ a b. a.imsi ≢ b.imsi) rows → AllPairs ◌≢◌ (identities_of rows)

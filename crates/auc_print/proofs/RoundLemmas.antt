@@ -1,19 +1,19 @@
--- The lines of rounds determine the rounds: a job's records end at a line of another kind, and so do the jobs and the closings.
+-- The lines of parts determine the parts: a job's records end at a line of another kind, and so do the jobs and the closings.
 use Rattle.std.proofs.Common.{ℕ, ◌+◌, ◌≤◌, ◌≡◌, ◌∙◌, refl, sym, ap, subst, List, [], ◌∷◌, ◌++◌, map, flat_map, append_assoc, arith}
-use Rattle.std.proofs.lemmas.List.{map-append}
 use Rattle.auc_world.specs.declared.record.LineRecord.{LineRecord}
 use Rattle.auc_world.specs.declared.record.Closing.{Closing}
+use Rattle.auc_world.specs.declared.record.PartRecord.{PartRecord}
+use Rattle.auc_world.specs.declared.record.PartRecord.TheVariants.{Round, Restart}
 use Rattle.auc_world.specs.declared.record.RoundRecord.{RoundRecord}
-use Rattle.auc_print.specs.Text.{Line, RoundLine, JobLine, RecordLine, ClosedLine, jobs_lines, round_lines}
-use Rattle.auc_print.specs.OneText.{told, heard}
-use Rattle.auc_print.proofs.LineLemmas.{line_told}
+use Rattle.auc_print.specs.Text.{Line, RoundLine, JobLine, RecordLine, ClosedLine, RestartLine, jobs_lines, part_lines}
 
--- the rank of a kind of line, the innermost first: a record of a job, a job, a closing, a round
+-- the rank of a kind of line, the innermost first: a record of a job, a job, a closing, a round or a restart
 abbrev rank : Line → ℕ
 rank (RecordLine answer) = 0
 rank (JobLine number) = 1
 rank (ClosedLine closing) = 2
 rank (RoundLine number) = 3
+rank RestartLine = 3
 
 -- there are no lines, or the first one has at least this rank
 abbrev Begins : ℕ → List Line → Type 0
@@ -36,11 +36,11 @@ tagged_cut tag level level_is same (x ∷ xs) (y ∷ ys) r s p q e =
     let tail : xs ≡ ys = rest.0 in
     ((cc), rest.1)
 
--- the records of a job end where the next job, the closings or the next round begin
+-- the records of a job end where the next job, the closings or the next part begin
 records_cut : (xs ys : List LineRecord) (r s : List Line) → Begins 1 r → Begins 1 s → map RecordLine xs ++ r ≡ map RecordLine ys ++ s → (xs ≡ ys) × (r ≡ s)
 records_cut = tagged_cut RecordLine 0 (λ x. refl) (λ x y e. cc)
 
--- the closings end where the next round begins
+-- the closings end where the next part begins
 closings_cut : (xs ys : List Closing) (r s : List Line) → Begins 3 r → Begins 3 s → map ClosedLine xs ++ r ≡ map ClosedLine ys ++ s → (xs ≡ ys) × (r ≡ s)
 closings_cut = tagged_cut ClosedLine 2 (λ x. refl) (λ x y e. cc)
 
@@ -50,7 +50,7 @@ jobs_begin number [] [] b = tt
 jobs_begin number [] (line ∷ r) b = omega arith
 jobs_begin number (job ∷ jobs) r b = omega arith
 
--- the jobs end where the closings or the next round begin
+-- the jobs end where the closings or the next part begin
 jobs_cut : (number : ℕ) (js ks : List (List LineRecord)) (r s : List Line) → Begins 2 r → Begins 2 s
     → jobs_lines number js ++ r ≡ jobs_lines number ks ++ s → (js ≡ ks) × (r ≡ s)
 jobs_cut number [] [] r s p q e = (refl, e)
@@ -67,75 +67,46 @@ jobs_cut number (j ∷ js) (k ∷ ks) r s p q e =
     let tail : js ≡ ks = rest.0 in
     ((cc), rest.1)
 
--- what comes after the closings of a round begins with a round
-rounds_begin : (rounds : List RoundRecord) → Begins 3 (flat_map round_lines rounds)
-rounds_begin [] = tt
-rounds_begin (round ∷ rounds) = omega arith
+-- what comes after the closings of a round begins with a round or a restart
+parts_begin : (parts : List PartRecord) → Begins 3 (flat_map part_lines parts)
+parts_begin [] = tt
+parts_begin (Round round ∷ parts) = omega arith
+parts_begin (Restart ∷ parts) = omega arith
 
--- what comes after the jobs of a round begins with a closing or a round
+-- what comes after the jobs of a round begins with a closing, a round or a restart
 closings_begin : (closings : List Closing) (r : List Line) → Begins 3 r → Begins 2 (map ClosedLine closings ++ r)
 closings_begin [] [] b = tt
 closings_begin [] (line ∷ r) b = omega arith
 closings_begin (closing ∷ closings) r b = omega arith
 
 -- rounds with the same fields are the same
-pub round_is : (a b : RoundRecord) → a.number ≡ b.number → a.jobs ≡ b.jobs → a.closings ≡ b.closings → a ≡ b
+round_is : (a b : RoundRecord) → a.number ≡ b.number → a.jobs ≡ b.jobs → a.closings ≡ b.closings → a ≡ b
 round_is a b number jobs closings =
     let make : ℕ → List (List LineRecord) → List Closing → RoundRecord = λ n js cs. record { number = n; jobs = js; closings = cs } in
     ap (λ n. make n a.jobs a.closings) number ∙ ap (λ js. make b.number js a.closings) jobs ∙ ap (λ cs. make b.number b.jobs cs) closings
 
--- rounds with the same lines are the same
-rounds_injective : (rounds others : List RoundRecord) → flat_map round_lines rounds ≡ flat_map round_lines others → rounds ≡ others
-rounds_injective [] [] e = refl
-rounds_injective [] (b ∷ others) e = cc
-rounds_injective (a ∷ rounds) [] e = cc
-rounds_injective (a ∷ rounds) (b ∷ others) e =
+-- parts with the same lines are the same
+pub parts_injective : (parts others : List PartRecord) → flat_map part_lines parts ≡ flat_map part_lines others → parts ≡ others
+parts_injective [] [] e = refl
+parts_injective [] (Round b ∷ others) e = absurd (cc)
+parts_injective [] (Restart ∷ others) e = absurd (cc)
+parts_injective (Round a ∷ parts) [] e = absurd (cc)
+parts_injective (Restart ∷ parts) [] e = absurd (cc)
+parts_injective (Restart ∷ parts) (Restart ∷ others) e =
+    let tails : flat_map part_lines parts ≡ flat_map part_lines others = cc in ap (λ more. Restart ∷ more) (parts_injective parts others tails)
+parts_injective (Round a ∷ parts) (Restart ∷ others) e = let heads : RoundLine a.number ≡ RestartLine = cc in absurd (cc)
+parts_injective (Restart ∷ parts) (Round b ∷ others) e = let heads : RestartLine ≡ RoundLine b.number = cc in absurd (cc)
+parts_injective (Round a ∷ parts) (Round b ∷ others) e =
     let heads : RoundLine a.number ≡ RoundLine b.number = cc in
     let number : a.number ≡ b.number = cc in
-    let tails : (jobs_lines 1 a.jobs ++ map ClosedLine a.closings) ++ flat_map round_lines rounds
-    ≡ (jobs_lines 1 b.jobs ++ map ClosedLine b.closings) ++ flat_map round_lines others = cc in
-    let jobs : (a.jobs ≡ b.jobs) × (map ClosedLine a.closings ++ flat_map round_lines rounds ≡ map ClosedLine b.closings ++ flat_map round_lines others)
-    = jobs_cut 1 a.jobs b.jobs _ _ (closings_begin a.closings _ (rounds_begin rounds)) (closings_begin b.closings _ (rounds_begin others))
-    (sym (append_assoc (jobs_lines 1 a.jobs) (map ClosedLine a.closings) (flat_map round_lines rounds)) ∙ tails
-    ∙ append_assoc (jobs_lines 1 b.jobs) (map ClosedLine b.closings) (flat_map round_lines others)) in
-    let closings : (a.closings ≡ b.closings) × (flat_map round_lines rounds ≡ flat_map round_lines others)
-    = closings_cut a.closings b.closings _ _ (rounds_begin rounds) (rounds_begin others) jobs.1 in
+    let tails : (jobs_lines 1 a.jobs ++ map ClosedLine a.closings) ++ flat_map part_lines parts
+    ≡ (jobs_lines 1 b.jobs ++ map ClosedLine b.closings) ++ flat_map part_lines others = cc in
+    let jobs : (a.jobs ≡ b.jobs) × (map ClosedLine a.closings ++ flat_map part_lines parts ≡ map ClosedLine b.closings ++ flat_map part_lines others)
+    = jobs_cut 1 a.jobs b.jobs _ _ (closings_begin a.closings _ (parts_begin parts)) (closings_begin b.closings _ (parts_begin others))
+    (sym (append_assoc (jobs_lines 1 a.jobs) (map ClosedLine a.closings) (flat_map part_lines parts)) ∙ tails
+    ∙ append_assoc (jobs_lines 1 b.jobs) (map ClosedLine b.closings) (flat_map part_lines others)) in
+    let closings : (a.closings ≡ b.closings) × (flat_map part_lines parts ≡ flat_map part_lines others)
+    = closings_cut a.closings b.closings _ _ (parts_begin parts) (parts_begin others) jobs.1 in
     let round : a ≡ b = round_is a b number jobs.0 closings.0 in
-    let rest : rounds ≡ others = rounds_injective rounds others closings.1 in
+    let rest : parts ≡ others = parts_injective parts others closings.1 in
     (cc)
-
--- what the records of a job tell is what their lines tell
-records_told : (job : List LineRecord) → map line_told (map RecordLine job) ≡ map RecordLine (map told job)
-records_told [] = refl
-records_told (answer ∷ job) = ap (λ rest. RecordLine (told answer) ∷ rest) (records_told job)
-
--- the same for jobs
-jobs_told : (number : ℕ) (jobs : List (List LineRecord)) → map line_told (jobs_lines number jobs) ≡ jobs_lines number (map (map told) jobs)
-jobs_told number [] = refl
-jobs_told number (job ∷ jobs) =
-    ap (λ rest. JobLine number ∷ rest)
-    (map-append line_told (map RecordLine job) (jobs_lines (number + 1) jobs)
-    ∙ ap (λ own. own ++ map line_told (jobs_lines (number + 1) jobs)) (records_told job)
-    ∙ ap (λ rest. map RecordLine (map told job) ++ rest) (jobs_told (number + 1) jobs))
-
--- the same for closings
-closings_told : (closings : List Closing) → map line_told (map ClosedLine closings) ≡ map ClosedLine closings
-closings_told [] = refl
-closings_told (closing ∷ closings) = ap (λ rest. ClosedLine closing ∷ rest) (closings_told closings)
-
--- the same for rounds
-rounds_told : (rounds : List RoundRecord) → map line_told (flat_map round_lines rounds) ≡ flat_map round_lines (map heard rounds)
-rounds_told [] = refl
-rounds_told (round ∷ rounds) =
-    map-append line_told (round_lines round) (flat_map round_lines rounds)
-    ∙ ap (λ own. (RoundLine round.number ∷ own) ++ map line_told (flat_map round_lines rounds))
-    (map-append line_told (jobs_lines 1 round.jobs) (map ClosedLine round.closings)
-    ∙ ap (λ jobs. jobs ++ map line_told (map ClosedLine round.closings)) (jobs_told 1 round.jobs)
-    ∙ ap (λ closings. jobs_lines 1 (map (map told) round.jobs) ++ closings) (closings_told round.closings))
-    ∙ ap (λ rest. round_lines (heard round) ++ rest) (rounds_told rounds)
-
--- rounds whose lines tell the same tell the same
-pub rounds_tell : (rounds others : List RoundRecord) → map line_told (flat_map round_lines rounds) ≡ map line_told (flat_map round_lines others)
-    → map heard rounds ≡ map heard others
-rounds_tell rounds others e =
-    rounds_injective (map heard rounds) (map heard others) (sym (rounds_told rounds) ∙ e ∙ rounds_told others)

@@ -1,10 +1,10 @@
 //! The lines of a round.
 
-ghost use Rattle.std.specs.Prelude.{◌≡◌, ◌++◌, ◌∷◌, [], ◌<◌, length, decimal, flat_map, OnOk};
+ghost use Rattle.std.specs.Prelude.{◌≡◌, ◌++◌, ◌∷◌, [], ◌<◌, length, take, decimal, flat_map, OnOk};
 ghost use Rattle.hex.specs.Hex.{encode_lower};
 ghost use Rattle.auc_world.specs.Record.{subscriber_of};
-ghost use Rattle.auc_print.specs.Inner.{IsFrontOf};
-ghost use Rattle.auc_print.specs.Text.{RecordLine, bytes_words, closing_words, give_words, identities_of, imsi_of, line_text, record_words, spaced, stop_word, sync_words};
+ghost use Rattle.auc_print.specs.Inner.{IsFrontOf, answer_text};
+ghost use Rattle.auc_print.specs.Text.{bytes_text, bytes_words, closing_words, give_words, identities_of, imsi_of, record_words, spaced, stop_word, sync_words};
 
 use crate::word::{
     print_bytes, print_number, print_numbered, print_numbers, print_subject, print_word,
@@ -24,21 +24,22 @@ pub fn print_heading(word: &[u8], number: u64, out: &mut Octets) -> Result<(), N
     out.append(b"\n")
 }
 
-/// Appends the line of a job's record. A full print adds the line of its vector's bytes.
+/// Appends the line of a job's record. If it releases a vector and vectors are left, the line of the first
+/// one's bytes follows.
 pub fn print_answer(
     answer: &LineRecord,
+    vectors: &[Vector],
     subs: &Subscribers,
-    full: bool,
     out: &mut Octets,
 ) -> Result<(), NoMemory>
     requires { subscriber_of answer.now < length subs.now }
 
     ensures printed { OnOk result
-        (out.new ≡ out.old ++ line_text (identities_of subs.now) full (RecordLine answer.now)) }
+        (out.new ≡ out.old ++ answer_text (identities_of subs.now) answer.now vectors.now) }
     ensures grows { IsFrontOf out.old out.new }
 {
     match *answer {
-        LineRecord::Vector { sub, vector } => print_vector(sub, &vector, subs, full, out),
+        LineRecord::Vector { sub, n } => print_vector(sub, n, vectors, subs, out),
         LineRecord::Withheld { sub, n, stop } => print_withheld(sub, n, stop, subs, out),
         LineRecord::Exhausted { sub, word } => print_request(b"exhausted", sub, word, subs, out),
         LineRecord::Sync { sub, verdict } => print_sync(sub, verdict, subs, out),
@@ -72,25 +73,26 @@ pub fn print_closing(
     out.append(b"\n")
 }
 
-/// Appends the line of a vector that was released. A full print adds the line of its bytes.
+/// Appends the line of a number whose vector was released. The line of the first vector's bytes follows, if
+/// there is one.
 fn print_vector(
     sub: u32,
-    vector: &Vector,
+    n: u64,
+    vectors: &[Vector],
     subs: &Subscribers,
-    full: bool,
     out: &mut Octets,
 ) -> Result<(), NoMemory>
     requires { sub < length subs.now }
 
     ensures printed { OnOk result (out.new ≡ out.old
-        ++ line_text (identities_of subs.now) full (RecordLine (LineRecord.Vector sub vector.now))) }
+        ++ (spaced (record_words (identities_of subs.now) (LineRecord.Vector sub n))
+        ++ bytes_text (take 1 vectors.now))) }
     ensures grows { IsFrontOf out.old out.new }
 {
-    print_request(b"vector", sub, vector.n, subs, out)?;
-    if full {
-        print_parts(vector, out)
-    } else {
-        Ok(())
+    print_request(b"vector", sub, n, subs, out)?;
+    match vectors {
+        [vector, ..] => print_parts(vector, out),
+        [] => Ok(()),
     }
 }
 

@@ -1,13 +1,14 @@
-//! The text of a round. Further lines are seen in the stored runs of the program and in the tests of `auc_run`.
+//! The text of a transcript. Further lines are seen in the stored runs of the program and in the tests of `auc_run`.
 
 ghost use Rattle.std.specs.Prelude.{◌≡◌, IsTrue, All, ◌<◌};
 ghost use Rattle.auc_world.specs.Record.{subscriber_of, NamesBelow};
 
-use crate::print_round;
+use crate::line::print_answer;
+use crate::{print_restart, print_round};
 use auc_edge::{Items, NoMemory, Octets, Stop};
 use auc_subs::Subscribers;
-use auc_vector::Vector;
-use auc_world::{Closing, JobRecord, LineRecord, RoundRecord, SyncVerdict};
+use auc_vector::{Rands, Vector};
+use auc_world::{Closing, JobRecord, LineRecord, RoundRecord, Setting, SyncVerdict};
 use std::alloc::Global;
 use std::test::Fail;
 
@@ -61,13 +62,10 @@ fn vector() -> Vector {
 
 fn round(alloc: Global) -> Result<RoundRecord, NoMemory> {
     let records = [
-        LineRecord::Vector {
-            sub: 1,
-            vector: vector(),
-        },
+        LineRecord::Vector { sub: 1, n: 0 },
         LineRecord::Withheld {
             sub: 1,
-            n: 2,
+            n: u64::MAX,
             stop: Stop::Fault,
         },
         LineRecord::Withheld {
@@ -110,16 +108,18 @@ const SECOND: &[u8] =
     b"000007 465b5ce8b199b49faa5f0a2ee238a6bc opc cd63cb71954a9f4e48a5994e37a02baf 8000 0 0";
 
 // Written by hand: of each record its word, the IMSI, and its values in their order; of a closing the IMSI and
-// the six counts in their order.
-const FULL: &[u8] = b"round 7
+// the six counts in their order; of a vector its five parts in their order.
+const TEXT: &[u8] = b"round 7
 job 1
-vector 000007 1
-bytes 000102030405060708090a0b0c0d0e0f 101112131415161718191a1b1c1d1e1f a0a1a2a3a4a5a6a7 \
-c0c1c2c3c4c5c6c7c8c9cacbcccdcecf f0f1f2f3f4f5f6f7f8f9fafbfcfdfeff
-withheld 000007 2 fault
+vector 000007 0
+withheld 000007 18446744073709551615 fault
 withheld 001010000000001 3 full
 sync 001010000000001 beyond 8796093022207 0
 closed 000007 10 11 12 13 14 15
+restart
+vector 000007 1
+bytes 000102030405060708090a0b0c0d0e0f 101112131415161718191a1b1c1d1e1f a0a1a2a3a4a5a6a7 \
+c0c1c2c3c4c5c6c7c8c9cacbcccdcecf f0f1f2f3f4f5f6f7f8f9fafbfcfdfeff
 ";
 
 #[test]
@@ -128,10 +128,24 @@ fn each_value_is_printed_in_its_place(rt: HostRuntime) -> Result<(), Fail> {
     for line in [FIRST, SECOND] {
         subs.add(line)?;
     }
+    assert!(rt; 1 < subs.len());
     let round = round(rt.alloc())?;
     assert!(rt; names_below(&round, subs.len() as usize));
+    let rands = Rands::new([0; 32]);
+    let set = Setting {
+        subs: &subs,
+        rands: &rands,
+        realm: b"",
+    };
     let mut text = Octets::new(rt.alloc());
-    print_round(&round, &subs, true, &mut text)?;
-    assert_eq!(rt; text.as_slice(), FULL);
+    print_round(&round, &[], &set, false, &mut text)?;
+    print_restart(&mut text)?;
+    print_answer(
+        &LineRecord::Vector { sub: 1, n: 1 },
+        &[vector()],
+        &subs,
+        &mut text,
+    )?;
+    assert_eq!(rt; text.as_slice(), TEXT);
     Ok(())
 }

@@ -1,6 +1,6 @@
 //! The words of a line.
 
-ghost use Rattle.std.specs.Prelude.{◌≡◌, ◌*◌, ◌++◌, ◌∷◌, ◌<◌, ◌≤◌, length, decimal, flat_map, OnOk, OnErr};
+ghost use Rattle.std.specs.Prelude.{◌≡◌, ◌*◌, ◌++◌, ◌∷◌, ◌<◌, ◌≤◌, length, drop, decimal, flat_map, OnOk, OnErr};
 ghost use Rattle.hex.specs.Hex.{encode_lower};
 ghost use Rattle.auc_print.specs.Inner.{IsFrontOf};
 ghost use Rattle.auc_print.specs.Text.{identities_of, imsi_of};
@@ -70,8 +70,26 @@ pub fn print_number(number: u64, out: &mut Octets) -> Result<(), NoMemory>
     ensures printed { OnOk result (out.new ≡ out.old ++ 32 ∷ decimal number) }
     ensures grows { IsFrontOf out.old out.new }
 {
-    out.append(b" ")?;
-    out.append_number(number)
+    let mut room = [0; 21];
+    let start = write_number(number, &mut room);
+    out.append(&room[start..])
+}
+
+/// Writes a space and the decimal digits of a number at the end of `room`. It answers where they begin.
+fn write_number(number: u64, room: &mut [u8; 21]) -> usize
+    ensures within { result ≤ 21 }
+    ensures written { drop result room.new ≡ 32 ∷ decimal number }
+{
+    let mut place = 21;
+    let mut rest = number;
+    while rest >= 10 {
+        place -= 1;
+        room[place] = b'0' + (rest % 10) as u8;
+        rest /= 10;
+    }
+    room[place - 1] = b'0' + rest as u8;
+    room[place - 2] = b' ';
+    place - 2
 }
 
 /// Appends a space and up to 16 bytes in lower-case hexadecimal digits.

@@ -12,8 +12,8 @@ use Rattle.auc_history.specs.Split.{Splits, all_entries, times}
 use Rattle.auc_history.specs.declared.entry.Entry.{Entry}
 use Rattle.auc_history.specs.declared.entry.Entry.TheVariants.{Drawn, Moved, Look}
 use Rattle.auc_history.proofs.Facts.{times-append, times-numbers_after}
-use Rattle.auc_transcript.specs.Entries.{reports, entries_of_verdict, entries_of_line, entries_of_lines, entries_of_jobs}
-use Rattle.auc_transcript.specs.Lines.{released_by, numbers_of, all_lines}
+use Rattle.auc_world.specs.Entries.{reports, entries_of_verdict, entries_of_line, entries_of_lines, entries_of_jobs}
+use Rattle.auc_world.specs.Lines.{released_by, numbers_of, all_lines}
 use Rattle.auc_world.specs.Record.{subscriber_of}
 use Rattle.auc_world.specs.declared.record.LineRecord.{LineRecord}
 use Rattle.auc_world.specs.declared.record.LineRecord.TheVariants.{Vector, Withheld, Exhausted, Sync, Give}
@@ -102,7 +102,7 @@ SeenWithin closing verdict.WrongMac = Unit {0}
 
 -- a word that a line tells is at most another
 abbrev pub WordWithin : ℕ → LineRecord → Type 0
-WordWithin closing (Vector s vector) = Unit {0}
+WordWithin closing (Vector s n) = Unit {0}
 WordWithin closing (Withheld s n stop) = Unit {0}
 WordWithin closing (Exhausted s word) = word ≤ closing
 WordWithin closing (Sync s answer) = SeenWithin closing answer
@@ -140,7 +140,7 @@ verdict_within sub closing before verdict.WrongMac reported within = tt
 -- a line of the subscriber whose entry reaches no further
 line_within : (sub closing : ℕ) (before : List LineRecord) (line : LineRecord) → ReportsWithin sub closing before
     → All (IsWithin closing) (entries_of_line sub before line) → subscriber_of line ≡ sub → WordWithin closing line
-line_within sub closing before (Vector s vector) reported within named = tt
+line_within sub closing before (Vector s n) reported within named = tt
 line_within sub closing before (Withheld s n stop) reported within named = tt
 line_within sub closing before (Exhausted s word) reported within named =
     mark_within (list_any (reports sub word) before) closing word (reported word)
@@ -163,7 +163,7 @@ reports_more sub closing before line reported here word told =
     either false false is first second = absurd (cc)
 
     tells : (line : LineRecord) → (subscriber_of line ≡ sub → WordWithin closing line) → reports sub word line ≡ true → word ≤ closing
-    tells (Vector s vector) here is = absurd (cc)
+    tells (Vector s n) here is = absurd (cc)
     tells (Withheld s n stop) here is = absurd (cc)
     tells (Exhausted s read) here is =
         let same : s ≡ sub = grind (arith, nat_tests) in
@@ -196,7 +196,7 @@ lines_within sub closing before (line ∷ lines) reported within =
 
 -- a line releases no more than it draws
 released_fewer : (sub : ℕ) (before : List LineRecord) (line : LineRecord) → length (released_by sub line) ≤ length (drawn (entries_of_line sub before line))
-released_fewer sub before (Vector s vector) = vector_fewer (s == sub) vector.n
+released_fewer sub before (Vector s n) = vector_fewer (s == sub) n
   where
     vector_fewer : (there : Bool) (n : ℕ) → length (if there then n ∷ [] else []) ≤ length (drawn (if there then Drawn n ∷ [] else []))
     vector_fewer true n = omega arith

@@ -1,14 +1,14 @@
 -- For the top call: a scenario that was read asks only for what can be served.
-use Rattle.std.proofs.Common.{ℕ, ◌^◌, ◌<◌, List, [], ◌∷◌, length, All, Option, Some, None, arith}
+use Rattle.std.proofs.Common.{◌^◌, ◌<◌, List, [], ◌∷◌, length, All, arith}
 use Rattle.std.proofs.lemmas.List.{length-append}
 use Rattle.std.proofs.lemmas.List.Elements.{All-nil, All-cons, All-head, All-tail, All-weaker}
-use Rattle.auc_jobs.specs.Serving.{IsBit as IsServedBit, IsKnownLine, AreKnown}
-use Rattle.auc_script.specs.Limits.{IsBit, IsLine, IsPart, IsWithin}
-use Rattle.auc_script.specs.Scenario.{jobs_of}
-use Rattle.auc_script.specs.declared.part.Line.{Line}
-use Rattle.auc_script.specs.declared.part.Line.TheVariants.{Draw, Sync, Give}
-use Rattle.auc_script.specs.declared.part.Part.{Part}
-use Rattle.auc_script.specs.declared.part.Part.TheVariants.{Round}
+use Rattle.auc_jobs.specs.Serving.{IsKnownLine, AreKnown}
+use Rattle.auc_script.specs.Limits.{IsLine, IsPart, IsWithin}
+use Rattle.auc_lines.specs.Part.{jobs_of}
+use Rattle.auc_lines.specs.declared.part.Line.{Line}
+use Rattle.auc_lines.specs.declared.part.Line.TheVariants.{Draw, Sync, Give}
+use Rattle.auc_lines.specs.declared.part.Part.{Part}
+use Rattle.auc_lines.specs.declared.part.Part.TheVariants.{Round, Restart}
 use Rattle.auc_script.specs.declared.script.Script.{Script}
 use Rattle.auc_subs.specs.Subscriber.{AreSubscribers}
 use Rattle.auc_subs.specs.declared.row.Row.{Row}
@@ -20,28 +20,25 @@ pub record Known (rows : List Row) (script : Script) : Type 0 where
   pub parts : All (IsKnownPart (length rows)) script.parts
   pub count : length script.parts < 2 ^ 32
 
--- a bit
-known_bit : (bit : Option ℕ) → IsBit bit → IsServedBit bit
-known_bit None is = tt
-known_bit (Some bit) is = omega arith
-
 -- a line
 known_line : (rows : List Row) (line : Line) → IsLine rows line → IsKnownLine (length rows) line
 known_line rows (Draw sub count) is = is.0
-known_line rows (Sync sub seq bit count) is = (is.0, is.1, known_bit bit is.2)
+known_line rows (Sync sub seq bit count) is = (is.0, is.1, is.2)
 known_line rows (Give sub n) is = (is.0, is.1, is.2)
 
 -- parts that have not too many jobs together
 known_parts : (rows : List Row) (parts : List Part) → All (IsPart rows) parts → length (jobs_of parts) < 2 ^ 32 → All (IsKnownPart (length rows)) parts
 known_parts rows [] each few = All-nil (IsKnownPart (length rows))
+known_parts rows (Restart ∷ parts) each few = absurd (All-head (IsPart rows) Restart parts each)
 known_parts rows (Round jobs ∷ parts) each few =
     let cut = length-append jobs (jobs_of parts) in
     let here = All-head (IsPart rows) (Round jobs) parts each in
-    All-cons (IsKnownPart (length rows)) (Round jobs) parts (
-      All-weaker (λ job. All (IsLine rows) job) (AreKnown (length rows))
-          (λ job lines. All-weaker (IsLine rows) (IsKnownLine (length rows)) (known_line rows) job lines) jobs here.lines,
-      omega (arith, cut),
-    )
+    All-cons (IsKnownPart (length rows)) (Round jobs) parts (record {
+      known = All-weaker (λ job. All (IsLine rows) job) (AreKnown (length rows))
+          (λ job lines. All-weaker (IsLine rows) (IsKnownLine (length rows)) (known_line rows) job lines) jobs here.lines;
+      apart = here.apart;
+      few = omega (arith, cut);
+    })
     (known_parts rows parts (All-tail (IsPart rows) (Round jobs) parts each) (omega (arith, cut)))
 
 -- those of a script that was read

@@ -7,16 +7,17 @@ use Rattle.auc_history.specs.Resynchronise as found
 use Rattle.auc_aes.specs.Bytes.{IsBytes}
 use Rattle.auc_jobs.specs.Serving.{IsKnownLine, AreAllKnown}
 use Rattle.auc_print.specs.OneText.{GiveFits}
-use Rattle.auc_script.specs.declared.part.Line.{Line}
-use Rattle.auc_script.specs.declared.part.Line.TheVariants as line
+use Rattle.auc_lines.specs.declared.part.Line.{Line}
+use Rattle.auc_lines.specs.declared.part.Line.TheVariants as line
 use Rattle.auc_sqn.specs.Past.{Past, verdict_of}
 use Rattle.auc_sqn.specs.Number.{max_seq}
 use Rattle.auc_sqn.specs.declared.verdict.Verdict.{Verdict}
 use Rattle.auc_sqn.specs.declared.verdict.Verdict.TheVariants.{Fresh, Old, Far}
 use Rattle.auc_subs.specs.declared.row.Row.{Row}
 use Rattle.auc_subs.specs.Subscriber.{AreSubscribers, IsRow}
-use Rattle.auc_transcript.specs.Given.{Setting, Before, DrawGives, SyncGives, JobGives, JobsGive, LineGives, IsVector, IsVerdict, IsGiven, UsimAnswers as Answers, VectorsFollow as FollowsVerdict, auts_for, is_released, past_before, behind, verdict_for}
-use Rattle.auc_transcript.specs.Lines.{all_lines}
+use Rattle.auc_world.specs.Given.{Before, DrawGives, SyncGives, JobGives, JobsGive, LineGives, IsReleasable, IsVerdict, IsGiven, UsimAnswers as Answers, VectorsFollow as FollowsVerdict, auts_for, is_released, past_before, behind, verdict_for}
+use Rattle.auc_world.specs.Setting.{Setting}
+use Rattle.auc_world.specs.Lines.{all_lines}
 use Rattle.auc_vector.specs.Auts.{read_auts_of}
 use Rattle.auc_vector.specs.Random.{rand_of}
 use Rattle.auc_vector.specs.declared.auts.Auts.{Auts}
@@ -35,9 +36,9 @@ SeqFits (verdict.InRange seen seq_ms) = seq_ms < 2 ^ 64
 SeqFits (verdict.Beyond seen seq_ms) = seq_ms < 2 ^ 64
 SeqFits verdict.WrongMac = Unit {0}
 
--- what a line is by itself: it names a subscriber; a vector is the one of its number; numbers are such
+-- what a line is by itself: it names a subscriber, and its numbers are such
 abbrev pub IsMade : Setting → LineRecord → Type 0
-IsMade set (Vector sub vector) = (sub < length set.rows) × IsVector set sub vector
+IsMade set (Vector sub n) = IsReleasable set sub n
 IsMade set (Withheld sub n stop) = (sub < length set.rows) × (n ≤ max_seq)
 IsMade set (Exhausted sub word) = sub < length set.rows
 IsMade set (Sync sub answer) = (sub < length set.rows) × SeqFits answer
@@ -51,8 +52,8 @@ none_made set lines none = All-same (IsMade set) lines [] none (All-nil (IsMade 
 draw_made : (set : Setting) (sub count : ℕ) (lines : List LineRecord) → sub < length set.rows → DrawGives set sub count lines → All (IsMade set) lines
 draw_made set sub zero lines inside gives = none_made set lines gives
 draw_made set sub (suc count) [] inside gives = absurd gives
-draw_made set sub (suc count) (Vector s vector ∷ lines) inside (same, is, more) =
-    All-cons (IsMade set) (Vector s vector) lines (omega arith, subst (λ (k : ℕ). IsVector set k vector) (sym same) is)
+draw_made set sub (suc count) (Vector s n ∷ lines) inside (same, is, more) =
+    All-cons (IsMade set) (Vector s n) lines (subst (λ (k : ℕ). IsReleasable set k n) (sym same) is)
     (draw_made set sub count lines inside more)
 draw_made set sub (suc count) (Withheld s n stop ∷ lines) inside (same, first, last, none) =
     All-cons (IsMade set) (Withheld s n stop) lines (omega arith, last) (none_made set lines none)

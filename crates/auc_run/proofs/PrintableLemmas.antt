@@ -1,36 +1,34 @@
--- For the transcript: a lawful one names subscribers alone, its values have their sizes, and its vectors are
--- those of their subscribers and numbers, so its text is its own.
-use Rattle.std.proofs.Common.{◌≡◌, ℕ, suc, ◌+◌, ◌^◌, ◌<◌, Bool, true, false, List, [], ◌∷◌, ◌++◌, length, get_or, All, Option, Some, None, refl, sym, ◌∙◌, ap, subst, arith, min}
-use Rattle.std.specs.Prelude.{◌==◌, if◌then◌else◌, slice_get}
+-- For the transcript: a lawful one names subscribers alone, and its values have their sizes, so its text is its own.
+use Rattle.std.proofs.Common.{◌≡◌, ℕ, suc, ◌+◌, ◌^◌, ◌<◌, Bool, true, false, List, [], ◌∷◌, ◌++◌, length, get_or, All, Option, None, refl, ap, subst, arith, min}
+use Rattle.std.specs.Prelude.{◌==◌, if◌then◌else◌}
 use Rattle.std.proofs.lemmas.List.{length-map}
 use Rattle.std.proofs.lemmas.List.Elements.{All-nil, All-cons, All-head, All-tail, All-append, All-same, All-weaker}
 use Rattle.auc_history.specs.History.{drawn, skipped}
 use Rattle.auc_history.specs.Split.{all_entries}
 use Rattle.auc_history.specs.declared.entry.Entry.{Entry}
 use Rattle.auc_history.proofs.Facts.{split_counts_its_numbers}
-use Rattle.auc_print.specs.OneText.{AnswerFits, SyncFits, ClosingFits, RoundFits, HasVector, HasVectors}
-use Rattle.auc_script.specs.declared.part.Line.{Line}
-use Rattle.auc_script.specs.declared.part.Part.{Part}
-use Rattle.auc_script.specs.declared.part.Part.TheVariants.{Round}
+use Rattle.auc_edge.specs.declared.stop.Stop.{Stop}
+use Rattle.auc_print.specs.OneText.{AnswerFits, SyncFits, ClosingFits, RoundFits}
+use Rattle.auc_lines.specs.declared.part.Line.{Line}
+use Rattle.auc_lines.specs.declared.part.Part.{Part}
+use Rattle.auc_lines.specs.declared.part.Part.TheVariants.{Round, Restart}
 use Rattle.auc_sqn.specs.Number.{max_seq}
 use Rattle.auc_subs.specs.Subscriber.{AreSubscribers}
-use Rattle.auc_subs.specs.declared.row.Row.{Row}
-use Rattle.auc_transcript.specs.Entries.{entries_of_jobs}
-use Rattle.auc_transcript.specs.Given.{Setting}
-use Rattle.auc_transcript.specs.Lines.{numbers_of, withheld_of, all_lines}
-use Rattle.auc_transcript.specs.Round.{IsLawfulRound, closing_of, closings_from}
-use Rattle.auc_transcript.specs.Transcript.{AreLawful}
-use Rattle.auc_vector.specs.Random.{rand_of}
-use Rattle.auc_vector.specs.Vector.{vector_of}
-use Rattle.auc_vector.specs.declared.parts.Vector.{Vector as AuthenticationVector}
+use Rattle.auc_world.specs.Entries.{entries_of_jobs}
+use Rattle.auc_world.specs.Setting.{Setting}
+use Rattle.auc_world.specs.Lines.{numbers_of, withheld_of, all_lines}
+use Rattle.auc_world.specs.Round.{IsLawfulRound, closing_of, closings_from}
+use Rattle.auc_world.specs.Transcript.{Course, Leads, stop_before}
 use Rattle.auc_world.specs.Record.{subscriber_of, NamesBelow}
 use Rattle.auc_world.specs.declared.record.Closing.{Closing}
 use Rattle.auc_world.specs.declared.record.LineRecord.{LineRecord}
 use Rattle.auc_world.specs.declared.record.LineRecord.TheVariants.{Vector, Withheld, Exhausted, Sync, Give}
+use Rattle.auc_world.specs.declared.record.PartRecord.{PartRecord}
+use Rattle.auc_world.specs.declared.record.PartRecord.TheVariants as record_of
 use Rattle.auc_world.specs.declared.record.RoundRecord.{RoundRecord}
 use Rattle.auc_world.specs.declared.record.SyncVerdict.{SyncVerdict}
 use Rattle.auc_world.specs.declared.record.SyncVerdict.TheVariants as verdict
-use Rattle.auc_run.specs.Inner.{IsKnownPart}
+use Rattle.auc_run.specs.Inner.{IsKnownPart, IsKnownRound}
 use Rattle.auc_run.proofs.EntryLemmas.{IsWithin, SeenWithin, WordWithin, all_entries-of_jobs, splits_within, lines_within, length-numbers}
 use Rattle.auc_run.proofs.MadeLemmas.{IsMade, SeqFits, jobs_made, length-given}
 
@@ -49,26 +47,9 @@ each_job P (job ∷ jobs) all = All-cons (All P) job jobs (left job all) (each_j
 
 -- ---- lines
 
--- the vector of a subscriber's number
-vector_for : Option Row → List ℕ → ℕ → ℕ → AuthenticationVector
-vector_for None key sub n = record { n = n; rand = []; autn = []; xres = []; ck = []; ik = [] }
-vector_for (Some row) key sub n = vector_of row.secret row.amf n (rand_of key sub n)
-
-pub vector_at : Setting → ℕ → ℕ → AuthenticationVector
-vector_at set sub n = vector_for (slice_get set.rows sub) set.key sub n
-
--- a line of a lawful round has it
-has_vector : (set : Setting) (line : LineRecord) → IsMade set line → HasVector (vector_at set) line
-unfolding vector_for vector_at
-has_vector set (Vector sub vector) (inside, is) = is.made ∙ sym (ap (λ (row : Option Row). vector_for row set.key sub vector.n) is.there)
-has_vector set (Withheld sub n stop) is = tt
-has_vector set (Exhausted sub word) is = tt
-has_vector set (Sync sub answer) is = tt
-has_vector set (Give sub n answer) is = tt
-
 -- a line names a subscriber
 made_named : (set : Setting) (line : LineRecord) → IsMade set line → subscriber_of line < length set.rows
-made_named set (Vector sub vector) is = is.0
+made_named set (Vector sub n) is = is.known
 made_named set (Withheld sub n stop) is = is.0
 made_named set (Exhausted sub word) is = is
 made_named set (Sync sub answer) is = is.0
@@ -83,7 +64,7 @@ sync_fits closing verdict.WrongMac fits within bound = tt
 
 -- the values of a line have their sizes
 answer_fits : (set : Setting) (closing : ℕ) (line : LineRecord) → IsMade set line → WordWithin closing line → closing < 2 ^ 64 → AnswerFits line
-answer_fits set closing (Vector sub vector) (inside, is) within bound = let last = is.last in omega (arith, last)
+answer_fits set closing (Vector sub n) is within bound = let last = is.last in omega (arith, last)
 answer_fits set closing (Withheld sub n stop) (inside, last) within bound = omega arith
 answer_fits set closing (Exhausted sub word) is within bound = omega arith
 answer_fits set closing (Sync sub answer) (inside, fits) within bound = sync_fits closing answer fits within bound
@@ -91,7 +72,7 @@ answer_fits set closing (Give sub n answer) (inside, last, fits) within bound = 
 
 -- a round of which each line is such, between openings and words of as many subscribers
 record IsRound (set : Setting) (early : List LineRecord) (openings : List ℕ) (jobs : List (List Line)) (round : RoundRecord) (words : List ℕ) : Type 0 where
-  lawful : IsLawfulRound set early openings jobs round words
+  lawful : IsLawfulRound set None early openings jobs round words
   count : length openings ≡ length set.rows
   made : All (IsMade set) (all_lines round.jobs)
 
@@ -184,7 +165,7 @@ counts_fit set early openings jobs round words is sub inside =
     let whole = split_counts_its_numbers max_seq (get_or openings sub 0) (get_or words sub 0) (entries_of_jobs sub [] round.jobs) (is.lawful.split sub inside) in
     let fewer = length-numbers sub [] (all_lines round.jobs) in
     let same = ap (λ (es : List Entry). length (drawn es)) (all_entries-of_jobs sub [] round.jobs) in
-    let none = ap length (is.lawful.released sub) in
+    let none = ap length (is.lawful.withheld sub) in
     record {
       named = omega (arith, count);
       first = omega (arith, bound, whole);
@@ -207,21 +188,21 @@ round_closings set early openings jobs round words is =
 
 -- ---- rounds
 
--- a round that can be printed, and whose vectors are those of their subscribers and numbers
+-- a round that can be printed
 pub record Prints (set : Setting) (round : RoundRecord) : Type 0 where
   pub named : NamesBelow (length set.rows) round
   pub fits : RoundFits round
-  pub vectors : HasVectors (vector_at set) round
 
 -- a lawful round is such
 pub round_prints : (set : Setting) (early : List LineRecord) (openings : List ℕ) (jobs : List (List Line)) (round : RoundRecord) (words : List ℕ)
-    → AreSubscribers set.rows → length openings ≡ length set.rows → IsKnownPart (length set.rows) (Round jobs) → round.number < 2 ^ 64
-    → IsLawfulRound set early openings jobs round words → Prints set round
-round_prints set early openings jobs round words are count (known, few) number lawful =
-    let made = jobs_made set early [] jobs round.jobs are known lawful.given in
+    → AreSubscribers set.rows → length openings ≡ length set.rows → IsKnownRound (length set.rows) jobs → round.number < 2 ^ 64
+    → IsLawfulRound set None early openings jobs round words → Prints set round
+round_prints set early openings jobs round words are count known number lawful =
+    let made = jobs_made set early [] jobs round.jobs are known.known lawful.given in
     let many = length-given set early [] jobs round.jobs lawful.given in
     let is : IsRound set early openings jobs round words = record { lawful = lawful; count = count; made = made } in
     let closings = round_closings set early openings jobs round words is in
+    let few = known.few in
     record {
       named = record {
         jobs = each_job (λ line. subscriber_of line < length set.rows) round.jobs
@@ -230,25 +211,38 @@ round_prints set early openings jobs round words are count (known, few) number l
       };
       fits = record {
         number = number;
-        count = omega (arith, many);
+        count = omega (arith, many, few);
         jobs = each_job AnswerFits round.jobs (lines_fit set early openings jobs round words is);
         closings = All-weaker (IsClosing (length set.rows)) ClosingFits (λ closing is. is.fits) round.closings closings;
       };
-      vectors = each_job (HasVector (vector_at set)) round.jobs
-          (All-weaker (IsMade set) (HasVector (vector_at set)) (has_vector set) (all_lines round.jobs) made);
     }
 
--- the rounds of a lawful transcript
-pub rounds_print : (set : Setting) (number : ℕ) (early : List LineRecord) (openings : List ℕ) (parts : List Part) (rounds : List RoundRecord)
-    → AreSubscribers set.rows → length openings ≡ length set.rows → All (IsKnownPart (length set.rows)) parts → number + length parts < 2 ^ 64
-    → AreLawful set number early openings parts rounds → All (Prints set) rounds
-rounds_print set number early openings [] rounds are count known few lawful = rw lawful (All-nil (Prints set))
-rounds_print set number early openings (Round jobs ∷ parts) [] are count known few lawful = absurd lawful
-rounds_print set number early openings (Round jobs ∷ parts) (round ∷ rounds) are count known few (next, (is_number, words, lawful, is_next), rest) =
+-- a part that can be printed
+abbrev pub PartPrints : Setting → PartRecord → Type 0
+PartPrints set (record_of.Round round) = Prints set round
+PartPrints set record_of.Restart = Unit {0}
+
+-- the parts of a lawful transcript
+pub parts_print : (set : Setting) (at : Course) (parts : List Part) (records : List PartRecord) (end : Course)
+    → AreSubscribers set.rows → length at.openings ≡ length set.rows → All (IsKnownPart (length set.rows)) parts → at.number + length parts < 2 ^ 64
+    → Leads set None at parts records end → All (PartPrints set) records
+parts_print set at [] records end are count known few (none, same) = rw none (All-nil (PartPrints set))
+parts_print set at (part ∷ parts) [] end are count known few leads = absurd leads
+parts_print set at (Restart ∷ parts) (first ∷ records) end are count known few leads = absurd (All-head (IsKnownPart (length set.rows)) Restart parts known)
+parts_print set at (Round jobs ∷ parts) (record_of.Restart ∷ records) end are count known few (next, serves, rest) = absurd serves
+parts_print set at (Round jobs ∷ parts) (record_of.Round round ∷ records) end are count known few (next, serves, rest) =
+    let numbered = serves.numbered in
+    let lawful : IsLawfulRound set None at.early at.openings jobs round serves.words =
+    subst (λ (s : Option Stop). IsLawfulRound set s at.early at.openings jobs round serves.words) (no_stop_before records) serves.lawful in
     let sizes = lawful.sizes in
-    let kept = length-map words (λ (word : ℕ). min word max_seq) in
-    let same = ap length is_next in
-    All-cons (Prints set) round rounds
-    (round_prints set early openings jobs round words are count (All-head (IsKnownPart (length set.rows)) (Round jobs) parts known) (omega arith) lawful)
-    (rounds_print set (number + 1) (early ++ all_lines round.jobs) next parts rounds are (omega (arith, sizes, kept, same, count))
-    (All-tail (IsKnownPart (length set.rows)) (Round jobs) parts known) (omega arith) rest)
+    let kept = length-map serves.words (λ (word : ℕ). min word max_seq) in
+    let opens = ap (λ (c : Course). length c.openings) serves.leads in
+    let counts = ap (λ (c : Course). c.number) serves.leads in
+    All-cons (PartPrints set) (record_of.Round round) records
+    (round_prints set at.early at.openings jobs round serves.words are count (All-head (IsKnownPart (length set.rows)) (Round jobs) parts known) (omega (arith, numbered)) lawful)
+    (parts_print set next parts records end are (omega (arith, sizes, kept, opens, count))
+    (All-tail (IsKnownPart (length set.rows)) (Round jobs) parts known) (omega (arith, counts)) rest)
+  where
+    no_stop_before : (records : List PartRecord) → stop_before None records ≡ None
+    no_stop_before [] = refl
+    no_stop_before (first ∷ records) = refl

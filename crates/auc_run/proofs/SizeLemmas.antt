@@ -1,5 +1,5 @@
 -- For the lines of a resynchronisation and of a USIM's answer: SQN_MS is made of bytes, and its number has 64 bits.
-use Rattle.std.proofs.Common.{◌≡◌, ℕ, zero, suc, ◌+◌, ◌*◌, ◌%◌, ◌-◌, ◌^◌, ◌<◌, ◌≤◌, Bool, true, false, List, [], ◌∷◌, ◌++◌, length, take, bit_xor, Option, Some, None, refl, sym, ap, subst, arith}
+use Rattle.std.proofs.Common.{◌≡◌, ℕ, zero, suc, ◌+◌, ◌*◌, ◌%◌, ◌^◌, ◌<◌, ◌≤◌, Bool, true, false, List, [], ◌∷◌, ◌++◌, length, take, bit_xor, Option, Some, None, refl, sym, ap, subst, arith}
 use Rattle.std.specs.Prelude.{if◌then◌else◌}
 use Rattle.std.specs.Str.{bytes_eq}
 use Rattle.std.specs.Int.{w64, to_be_bytes, byte_at, bytes_high_first}
@@ -11,8 +11,9 @@ use Rattle.auc_milenage.proofs.Facts.{out_block}
 use Rattle.auc_sqn.specs.Number.{seq_of, value_of, sqn_with, sqn_bytes}
 use Rattle.auc_subs.specs.declared.row.Row.{Row}
 use Rattle.auc_subs.specs.Subscriber.{IsRow}
-use Rattle.auc_transcript.specs.Given.{Setting, auts_for, turned, bit_mask}
-use Rattle.auc_transcript.proofs.Facts.{bit_mask_is_bytes}
+use Rattle.auc_world.specs.Given.{auts_for, turned, bit_mask}
+use Rattle.auc_world.specs.Setting.{Setting}
+use Rattle.auc_world.proofs.Facts.{bit_mask_is_bytes}
 use Rattle.auc_vector.specs.Auts.{read_auts_of, sqn_ms_in, mac_s_in, xmac_s}
 use Rattle.auc_vector.specs.Random.{rand_of}
 use Rattle.auc_vector.specs.declared.auts.Auts.{Auts}

@@ -1,5 +1,5 @@
 -- Inner facts: what only private contracts of this crate cite.
-use Rattle.std.specs.Prelude.{◌≡◌, ℕ, ◌^◌, ◌<◌, ◌⊎◌, ◌++◌, Bool, List, length, Option, Some, None, Ok, Err}
+use Rattle.std.specs.Prelude.{◌≡◌, ℕ, ◌+◌, ◌^◌, ◌<◌, ◌⊎◌, AllPairs, Bool, List, length, Option, Some, None, Ok, Err}
 use Rattle.std.specs.Option.{option_copied}
 use Rattle.auc_edge.specs.Shelf.{File, IsLongerFile}
 use Rattle.auc_edge.specs.Sink.{Appends}
@@ -7,10 +7,12 @@ use Rattle.auc_edge.specs.declared.read_refusal.ReadRefusal.{ReadRefusal}
 use Rattle.auc_edge.specs.declared.read_refusal.ReadRefusal.TheVariants as unread
 use Rattle.auc_jobs.specs.Serving.{AreAllKnown}
 use Rattle.auc_jobs.specs.State.{Standing, StandsAt}
-use Rattle.auc_print.specs.Text.{identities_of, round_text}
+use Rattle.auc_print.specs.Text.{part_text}
 use Rattle.auc_script.specs.Reading.{script_of}
-use Rattle.auc_script.specs.declared.part.Part.{Part}
-use Rattle.auc_script.specs.declared.part.Part.TheVariants.{Round}
+use Rattle.auc_lines.specs.Part.{AreApart}
+use Rattle.auc_lines.specs.declared.part.Line.{Line}
+use Rattle.auc_lines.specs.declared.part.Part.{Part}
+use Rattle.auc_lines.specs.declared.part.Part.TheVariants.{Round, Restart}
 use Rattle.auc_script.specs.declared.refusal.ScriptRefusal.{ScriptRefusal}
 use Rattle.auc_script.specs.declared.refusal.ScriptRefusal.TheVariants as wrong_script
 use Rattle.auc_script.specs.declared.script.Script.{Script}
@@ -18,14 +20,12 @@ use Rattle.auc_subs.specs.File.{subscribers_in}
 use Rattle.auc_subs.specs.declared.refusal.SubsRefusal.{SubsRefusal}
 use Rattle.auc_subs.specs.declared.refusal.SubsRefusal.TheVariants as wrong_subs
 use Rattle.auc_subs.specs.declared.row.Row.{Row}
-use Rattle.auc_transcript.specs.Given.{Setting}
-use Rattle.auc_transcript.specs.Lines.{all_lines}
-use Rattle.auc_transcript.specs.Transcript.{IsLawful, ServesPart}
-use Rattle.auc_world.specs.declared.record.LineRecord.{LineRecord}
-use Rattle.auc_world.specs.declared.record.RoundRecord.{RoundRecord}
+use Rattle.auc_world.specs.Setting.{Setting}
+use Rattle.auc_world.specs.Transcript.{Course, ServesPart}
+use Rattle.auc_world.specs.declared.record.PartRecord.{PartRecord}
 use Rattle.auc_run.specs.Algorithm.{values_named}
 use Rattle.auc_run.specs.Outcome.{HasText, AreRead, AreWrong, max_file}
-use Rattle.auc_run.specs.Output.{setting_of, text_of}
+use Rattle.auc_run.specs.Output.{IsTranscript, text_of}
 use Rattle.auc_run.specs.Refusal.{status_of, line_of}
 use Rattle.auc_run.specs.Words.{Files, files_named}
 use Rattle.auc_run.specs.declared.algorithm.AlgorithmWords.{AlgorithmWords}
@@ -124,24 +124,38 @@ Tells refusal status old new = ((status ≡ status_of refusal) × Appends old ne
 
 -- ---- the rounds, one after the other
 
--- each line of a part is one of known subscribers, and its jobs can be counted
+-- each line of a round is one of known subscribers, no two of its jobs give to one USIM, and its jobs can be counted
+pub record IsKnownRound (count : ℕ) (jobs : List (List Line)) : Type 0 where
+  pub known : AreAllKnown count jobs
+  pub apart : AllPairs AreApart jobs
+  pub few : length jobs < 2 ^ 32
+
+-- a part that can be served: such a round
 abbrev pub IsKnownPart : ℕ → Part → Type 0
-IsKnownPart count (Round jobs) = AreAllKnown count jobs × (length jobs < 2 ^ 32)
+IsKnownPart count (Round jobs) = IsKnownRound count jobs
+IsKnownPart count Restart = ⊥
 
--- a part was served after the lines of earlier rounds, and its text was written
-pub record WritesPart (set : Setting) (full : Bool) (number : ℕ) (early : List LineRecord) (openings : List ℕ) (part : Part) (next : Standing) (old new : Option (List ℕ)) : Type 0 where
-  pub round : RoundRecord
-  pub served : ServesPart set number early openings part round next.words
-  pub stands : StandsAt set (early ++ all_lines round.jobs) next
-  pub written : Appends old new (round_text (identities_of set.rows) full round)
+-- a state is the one at which a part of a transcript goes on
+pub record StandsOn (set : Setting) (number : ℕ) (at : Course) (state : Standing) : Type 0 where
+  pub numbered : at.number ≡ number
+  pub stands : StandsAt set at.early state
+  pub opens : state.words ≡ at.openings
 
--- the same after any lines at which the state before it stands
+-- a part was served, and its text was written
+pub record WritesPart (set : Setting) (full : Bool) (number : ℕ) (at : Course) (part : Part) (next : Standing) (old new : Option (List ℕ)) : Type 0 where
+  pub made : PartRecord
+  pub after : Course
+  pub served : ServesPart set None at part made after
+  pub on : StandsOn set (number + 1) after next
+  pub written : Appends old new (part_text set full made)
+
+-- the same from wherever the state before it stands
 abbrev pub Continues : Setting → Bool → ℕ → Standing → Part → Standing → Option (List ℕ) → Option (List ℕ) → Type 0
 Continues set full number state part next old new =
-    (early : List LineRecord) → StandsAt set early state → WritesPart set full number early state.words part next old new
+    (at : Course) → StandsOn set number at state → WritesPart set full number at part next old new
 
 -- the text of a lawful transcript of a script was written
 pub record WritesScript (rows : List Row) (script : Script) (old new : Option (List ℕ)) : Type 0 where
-  pub rounds : List RoundRecord
-  pub lawful : IsLawful (setting_of rows script) script.parts rounds
-  pub written : Appends old new (text_of rows script rounds)
+  pub records : List PartRecord
+  pub lawful : IsTranscript rows script records
+  pub written : Appends old new (text_of rows script records)

@@ -1,24 +1,25 @@
 //! The rounds of a scenario, each written when it has ended.
 
-ghost use Rattle.std.specs.Prelude.{◌≡◌, ◌≢◌, ◌<◌, ◌^◌, List, All, length, OnOk, IfOk, IfErr, IsErrOf, Err};
+ghost use Rattle.std.specs.Prelude.{◌≡◌, ◌≢◌, ◌<◌, ◌^◌, List, [], All, map, length, OnOk, IfOk, IfErr, IsErrOf, Err, if◌then◌else◌};
 ghost use Rattle.auc_edge.specs.Faults.{Rose};
 ghost use Rattle.auc_edge.specs.Sink.{Appends};
-ghost use Rattle.auc_jobs.specs.State.{StandsAt};
-ghost use Rattle.auc_print.specs.Text.{identities_of, round_text};
-ghost use Rattle.auc_script.specs.declared.part.Part.TheVariants as part;
+ghost use Rattle.auc_print.specs.Text.{round_text};
+ghost use Rattle.auc_lines.specs.declared.part.Part.TheVariants as part;
 ghost use Rattle.auc_subs.specs.Subscriber.{AreSubscribers};
 ghost use Rattle.auc_world.specs.Record.{NamesBelow};
-ghost use Rattle.auc_world.specs.declared.record.LineRecord.{LineRecord};
-ghost use Rattle.auc_run.specs.Inner.{Continues, IsKnownPart, OutputStops, WritesScript};
+ghost use Rattle.auc_world.specs.Transcript.{Course};
+ghost use Rattle.auc_world.specs.Vectors.{vectors_in};
+ghost use Rattle.auc_run.specs.Inner.{Continues, IsKnownPart, OutputStops, StandsOn, WritesScript};
 
 use crate::refusal::Refusal;
 use auc_edge::{Octets, Sink, write_whole};
-use auc_jobs::{Setting, State, serve};
+use auc_jobs::{Ran, Served, State, serve};
+use auc_lines::{Part, RoundPart};
 use auc_print::print_round;
-use auc_script::{Part, RoundPart, Script};
+use auc_script::Script;
 use auc_subs::Subscribers;
 use auc_vector::Rands;
-use auc_world::RoundRecord;
+use auc_world::Setting;
 use std::alloc::Global;
 use std::sync::Wait;
 
@@ -33,20 +34,22 @@ pub(crate) struct Settings<'a> {
 fn write_round<K: Sink>(
     alloc: Global,
     settings: &Settings,
-    round: &RoundRecord,
+    ran: &Ran,
     out: &mut K,
 ) -> Result<(), Refusal>
-    requires { NamesBelow (length settings.now.set.rows) round.now }
+    requires named { NamesBelow (length settings.now.set.rows) ran.now.round }
+    requires vectors { ran.now.vectors
+        ≡ (if settings.now.full then map (vectors_in settings.now.set) ran.now.round.jobs else []) }
 
     ensures written { OnOk result (Appends (K.written out.old) (K.written out.new)
-        (round_text (identities_of settings.now.set.rows) settings.now.full round.now)) }
+        (round_text settings.now.set settings.now.full ran.now.round)) }
     ensures refused { IfErr result OutputStops }
     ensures quiet { result ≢ Err Refusal.WriteFault → K.faults out.new ≡ K.faults out.old }
     ensures fault { IsErrOf result Refusal.WriteFault → Rose (K.faults out.old) (K.faults out.new) }
 {
     let mut text = Octets::new(alloc);
-    let set = &settings.set;
-    print_round(round, set.subs, settings.full, &mut text)?;
+    let vectors = ran.vectors.as_slice();
+    print_round(&ran.round, vectors, &settings.set, settings.full, &mut text)?;
     write_whole(out, text.as_slice())?;
     Ok(())
 }
@@ -64,7 +67,7 @@ fn serve_and_write<R: Wait, K: Sink>(
 ) -> Result<State, Refusal>
     requires subscribers { AreSubscribers settings.now.set.rows }
     requires known { IsKnownPart (length settings.now.set.rows) (part.Round jobs.now) }
-    requires stands { (early : List LineRecord) × StandsAt settings.now.set early state }
+    requires stands { (at : Course) × StandsOn settings.now.set number at state }
 
     ensures written { IfOk result (λ next. Continues settings.now.set settings.now.full number state
         (part.Round jobs.now) next (K.written out.old) (K.written out.new)) }
@@ -72,9 +75,19 @@ fn serve_and_write<R: Wait, K: Sink>(
     ensures quiet { result ≢ Err Refusal.WriteFault → K.faults out.new ≡ K.faults out.old }
     ensures fault { IsErrOf result Refusal.WriteFault → Rose (K.faults out.old) (K.faults out.new) }
 {
-    let served = serve(rt, alloc, number, jobs.as_slice(), &settings.set, state)?;
-    write_round(alloc, settings, &served.round, out)?;
-    Ok(served.state)
+    let set = &settings.set;
+    let Served { state, result } = serve(
+        rt,
+        alloc,
+        number,
+        jobs.as_slice(),
+        set,
+        settings.full,
+        state,
+    );
+    let ran = result?;
+    write_round(alloc, settings, &ran, out)?;
+    Ok(state)
 }
 
 /// Serves a part of a scenario and writes it. It answers the state for the next part.
@@ -89,7 +102,7 @@ fn serve_part<R: Wait, K: Sink>(
 ) -> Result<State, Refusal>
     requires subscribers { AreSubscribers settings.now.set.rows }
     requires known { IsKnownPart (length settings.now.set.rows) part.now }
-    requires stands { (early : List LineRecord) × StandsAt settings.now.set early state }
+    requires stands { (at : Course) × StandsOn settings.now.set number at state }
 
     ensures written { IfOk result (λ next. Continues settings.now.set settings.now.full number state
         part.now next (K.written out.old) (K.written out.new)) }
@@ -99,6 +112,7 @@ fn serve_part<R: Wait, K: Sink>(
 {
     match part {
         Part::Round(jobs) => serve_and_write(rt, alloc, settings, number, jobs, state, out),
+        Part::Restart => unreachable!(),
     }
 }
 
@@ -125,6 +139,7 @@ pub(crate) fn serve_parts<R: Wait, K: Sink>(
         set: Setting {
             subs,
             rands: &rands,
+            realm: script.realm.as_slice(),
         },
         full: script.full,
     };

@@ -12,15 +12,17 @@ use Rattle.std.proofs.lemmas.List.Sums.{sum_by-append}
 use Rattle.auc_subs.specs.declared.row.Row.{Row}
 use Rattle.auc_script.specs.declared.givers.Givers.{Givers}
 use Rattle.auc_script.specs.declared.so_far.SoFar.{SoFar}
-use Rattle.auc_script.specs.declared.part.Line.{Line}
-use Rattle.auc_script.specs.declared.part.Line.TheVariants.{Draw, Give, Sync}
-use Rattle.auc_script.specs.declared.part.Part.{Part}
-use Rattle.auc_script.specs.declared.part.Part.TheVariants.{Round}
+use Rattle.auc_lines.specs.declared.part.Line.{Line}
+use Rattle.auc_lines.specs.declared.part.Line.TheVariants.{Draw, Give, Sync}
+use Rattle.auc_lines.specs.declared.part.Part.{Part}
+use Rattle.auc_lines.specs.declared.part.Part.TheVariants.{Round, Restart}
 use Rattle.auc_script.specs.Numbers.{most_jobs, most_rounds, most_vectors}
 use Rattle.auc_script.specs.declared.round_so_far.RoundSoFar.{RoundSoFar}
 use Rattle.auc_script.specs.declared.word.JobWord.{JobWord}
-use Rattle.auc_script.specs.Limits.{AreApart, AreJobs, AreWithin, IsLine, IsPart}
-use Rattle.auc_script.specs.Scenario.{Scenario, asked, asked_by, gives_to, is_busy, is_give_to, jobs_in, job_line, jobs_of, line_of, no_jobs, of_job_line, parts_of, round_line, with_round}
+use Rattle.auc_script.specs.Limits.{AreJobs, AreWithin, IsLine, IsPart}
+use Rattle.auc_lines.specs.Part.{AreApart}
+use Rattle.auc_script.specs.Scenario.{Scenario, is_busy, jobs_in, job_line, line_of, no_jobs, of_job_line, parts_of, round_line, with_round}
+use Rattle.auc_lines.specs.Part.{asked, asked_by, gives_to, is_give_to, jobs_of}
 use Rattle.auc_script.specs.declared.refusal.ScriptWhy.TheVariants.{Limit}
 use Rattle.auc_script.specs.Field.{no_field}
 use Rattle.auc_script.specs.InnerSoFar.{AreMarks, IsBetween, IsMark, IsSoFar, marked, with_line}
@@ -28,6 +30,7 @@ use Rattle.auc_script.specs.InnerSoFar.{AreMarks, IsBetween, IsMark, IsSoFar, ma
 -- the jobs of parts with one more round
 pub jobs_with : (ended : List Part) (jobs : List (List Line)) → jobs_of (ended ++ Round jobs ∷ []) ≡ jobs_of ended ++ jobs
 jobs_with [] jobs = append-nil jobs
+jobs_with (Restart ∷ more) jobs = jobs_with more jobs
 jobs_with (Round first ∷ more) jobs = ap (λ rest. first ++ rest) (jobs_with more jobs) ∙ sym (append_assoc first (jobs_of more) jobs)
 
 -- how many they are, and what they ask for

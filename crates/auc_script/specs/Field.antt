@@ -6,7 +6,7 @@ use Rattle.auc_edge.specs.Identity.{number_of}
 use Rattle.auc_text.specs.Text.{is_text}
 use Rattle.auc_script.specs.declared.refusal.ScriptWhy.{ScriptWhy}
 use Rattle.auc_script.specs.declared.refusal.ScriptWhy.TheVariants as why
-use Rattle.auc_script.specs.Numbers.{last_bit}
+use Rattle.auc_lines.specs.Part.{last_bit}
 
 -- a test that has to hold
 abbrev pub require : Bool → ScriptWhy → Result (Unit {0}) ScriptWhy

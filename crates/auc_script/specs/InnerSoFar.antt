@@ -3,11 +3,12 @@ use Rattle.std.specs.Prelude.{ℕ, ◌≡◌, ◌<◌, ◌≤◌, ◌+◌, ◌++
 use Rattle.std.specs.List.{list_any}
 use Rattle.auc_subs.specs.declared.row.Row.{Row}
 use Rattle.auc_script.specs.declared.header.Header.{Header}
-use Rattle.auc_script.specs.declared.part.Line.{Line}
-use Rattle.auc_script.specs.declared.part.Line.TheVariants.{Draw, Give, Sync}
+use Rattle.auc_lines.specs.declared.part.Line.{Line}
+use Rattle.auc_lines.specs.declared.part.Line.TheVariants.{Draw, Give, Sync}
 use Rattle.auc_script.specs.declared.round_so_far.RoundSoFar.{RoundSoFar}
 use Rattle.auc_script.specs.declared.so_far.SoFar.{SoFar}
-use Rattle.auc_script.specs.Scenario.{Scenario, asked, gives_to, jobs_in, jobs_of, with_round}
+use Rattle.auc_script.specs.Scenario.{Scenario, jobs_in, with_round}
+use Rattle.auc_lines.specs.Part.{asked, gives_to, jobs_of}
 use Rattle.auc_script.specs.Limits.{AreWithin}
 use Rattle.auc_script.specs.Numbers.{longest_realm, most_workers}
 

@@ -22,7 +22,3 @@ most_workers = 64
 -- how many bytes a realm may have
 abbrev pub longest_realm : ℕ
 longest_realm = 255
-
--- the last of the 112 bits of an AUTS (TS 33.102 §6.3.3)
-abbrev pub last_bit : ℕ
-last_bit = 111

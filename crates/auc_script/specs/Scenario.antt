@@ -16,7 +16,7 @@
 --
 -- All lines together ask for 1000000 vectors at most. A line without a word and a comment say nothing.
 -- What isn't served so far is told before all else: the lines of other words, and more than one worker.
-use Rattle.std.specs.Prelude.{ℕ, ◌+◌, ◌==◌, ◌++◌, ◌&&◌, ◌||◌, not, nat_le, nat_lt, Bool, false, List, [], ◌∷◌, length, codes, sum_by, Option, Some, None, is_some, Result, Ok, Err, if◌then◌else◌}
+use Rattle.std.specs.Prelude.{ℕ, ◌+◌, ◌==◌, ◌++◌, ◌&&◌, ◌||◌, not, nat_le, nat_lt, Bool, false, List, [], ◌∷◌, length, codes, Option, Some, None, is_some, Result, Ok, Err, if◌then◌else◌}
 use Rattle.std.specs.List.{join_with_byte, list_any}
 use Rattle.std.specs.Option.{ok_or, option_to_list}
 use Rattle.auc_edge.specs.Identity.{identity_of, number_of}
@@ -26,10 +26,11 @@ use Rattle.auc_subs.specs.declared.refusal.SubsWhy.{SubsWhy}
 use Rattle.auc_text.specs.Field.{octets_in}
 use Rattle.auc_text.specs.Text.{is_text, words_of}
 use Rattle.auc_subs.specs.Subscriber.{place_of, rows_after}
-use Rattle.auc_script.specs.declared.part.Line.{Line}
-use Rattle.auc_script.specs.declared.part.Line.TheVariants.{Draw, Give, Sync}
-use Rattle.auc_script.specs.declared.part.Part.{Part}
-use Rattle.auc_script.specs.declared.part.Part.TheVariants.{Round}
+use Rattle.auc_lines.specs.declared.part.Line.{Line}
+use Rattle.auc_lines.specs.declared.part.Line.TheVariants.{Draw, Give, Sync}
+use Rattle.auc_lines.specs.declared.part.Part.{Part}
+use Rattle.auc_lines.specs.declared.part.Part.TheVariants.{Round}
+use Rattle.auc_lines.specs.Part.{asked, asked_by, gives_to, jobs_of}
 use Rattle.auc_script.specs.Numbers.{longest_realm, most_count, most_jobs, most_rounds, most_vectors, most_workers}
 use Rattle.auc_script.specs.declared.refusal.ScriptWhy.{ScriptWhy}
 use Rattle.auc_script.specs.declared.refusal.ScriptWhy.TheVariants as why
@@ -53,20 +54,6 @@ pub record Scenario : Type 0 where
   pub ended : List Part
   pub round : Option RoundSoFar
 
--- how many vectors a line asks for, and all lines of some jobs
-abbrev pub asked_by : Line → ℕ
-asked_by (Draw sub count) = count
-asked_by (Sync sub seq bit count) = count
-asked_by (Give sub number) = 0
-
-abbrev pub asked : List (List Line) → ℕ
-asked jobs = sum_by (λ job. sum_by asked_by job) jobs
-
--- the jobs of some parts
-abbrev pub jobs_of : List Part → List (List Line)
-jobs_of [] = []
-jobs_of (Round jobs ∷ more) = jobs ++ jobs_of more
-
 -- the jobs of the present round
 abbrev pub jobs_in : RoundSoFar → List (List Line)
 jobs_in round = round.jobs ++ option_to_list round.job
@@ -79,15 +66,6 @@ with_round ended (Some round) = ended ++ Round (jobs_in round) ∷ []
 -- the parts of a scenario
 abbrev pub parts_of : Scenario → List Part
 parts_of s = with_round s.ended s.round
-
--- a line gives to the USIM of a subscriber, a job has such a line
-abbrev pub is_give_to : ℕ → Line → Bool
-is_give_to sub (Draw other count) = false
-is_give_to sub (Sync other seq bit count) = false
-is_give_to sub (Give other number) = other == sub
-
-abbrev pub gives_to : ℕ → List Line → Bool
-gives_to sub job = list_any (is_give_to sub) job
 
 -- an earlier job of the round gives to the USIM to which a line is to give
 abbrev pub is_busy : RoundSoFar → Line → Bool

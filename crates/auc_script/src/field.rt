@@ -4,7 +4,7 @@ ghost use Rattle.std.specs.Prelude.{◌≡◌, ◌≤◌, ◌<◌, nat_le, Match
 ghost use Rattle.auc_edge.specs.Identity.{number_of};
 ghost use Rattle.auc_text.specs.Text.{words_of};
 ghost use Rattle.auc_script.specs.Field.{bit_in, four_fields, full_in, is_number, no_field, number_between, one_field, two_fields};
-ghost use Rattle.auc_script.specs.Limits.{IsBit};
+ghost use Rattle.auc_lines.specs.Part.{IsBit};
 
 use crate::refusal::ScriptWhy;
 use auc_text::{are_digits, next_word, read_decimal};

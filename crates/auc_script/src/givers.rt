@@ -4,9 +4,9 @@ ghost use Rattle.std.specs.Prelude.{◌≡◌, ◌<◌, ◌+◌, ◌^◌, [], le
 ghost use Rattle.auc_script.specs.Scenario.{is_busy};
 ghost use Rattle.auc_script.specs.InnerSoFar.{AreMarks, marked, whose};
 
-use crate::part::Line;
 use crate::round_so_far::RoundSoFar;
 use auc_edge::NoMemory;
+use auc_lines::Line;
 use std::alloc::Global;
 
 /// For each USIM the job that gave to it last, by its number from 1 over all rounds.
@@ -39,13 +39,13 @@ impl Givers {
     }
 
     /// Whether an earlier job of the round gives to the USIM to which a line is to give.
-    pub fn is_busy(&self, round: &RoundSoFar, line: Line) -> bool
-        requires known { whose line < length self.now.marks.items }
+    pub fn is_busy(&self, round: &RoundSoFar, line: &Line) -> bool
+        requires known { whose line.now < length self.now.marks.items }
         requires marks { AreMarks self.now.before self.now.marks.items round.now }
         requires room { self.now.before + length round.now.jobs < 2 ^ 32 }
-        ensures { result ≡ is_busy round.now line }
+        ensures { result ≡ is_busy round.now line.now }
     {
-        let Line::Give { sub, .. } = line else {
+        let Line::Give { sub, .. } = *line else {
             return false;
         };
         let mark = self.marks[sub as usize];
@@ -53,14 +53,14 @@ impl Givers {
     }
 
     /// Notes a line of the present job.
-    pub fn note(&mut self, round: &RoundSoFar, line: Line)
-        requires known { whose line < length self.old.marks.items }
+    pub fn note(&mut self, round: &RoundSoFar, line: &Line)
+        requires known { whose line.now < length self.old.marks.items }
         requires room { self.old.before + length round.now.jobs + 1 < 2 ^ 32 }
         ensures before { self.new.before ≡ self.old.before }
         ensures marks { self.new.marks.items
-            ≡ marked self.old.marks.items (self.old.before + length round.now.jobs + 1) line }
+            ≡ marked self.old.marks.items (self.old.before + length round.now.jobs + 1) line.now }
     {
-        let Line::Give { sub, .. } = line else {
+        let Line::Give { sub, .. } = *line else {
             return;
         };
         self.marks[sub as usize] = self.before + round.jobs.len() as u32 + 1;

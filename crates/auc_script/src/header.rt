@@ -7,7 +7,7 @@ ghost use Rattle.auc_script.specs.InnerSoFar.{IsHeader};
 ghost use Rattle.auc_script.specs.Scenario.{header_with, key_line, print_line, realm_line, workers_line};
 
 use crate::field::{one_field, read_full, read_number};
-use crate::part::{MAX_REALM, MAX_WORKERS};
+use crate::limits::{MAX_REALM, MAX_WORKERS};
 use crate::refusal::{LineRefusal, ScriptWhy};
 use crate::word::HeaderWord;
 use auc_edge::Octets;

@@ -6,10 +6,11 @@ ghost use Rattle.auc_script.specs.Limits.{IsLine};
 ghost use Rattle.auc_script.specs.Scenario.{draw_of, give_of, line_of, sync_of};
 
 use crate::field::{four_fields, read_bit, read_number, two_fields};
-use crate::part::{Line, MAX_COUNT};
+use crate::limits::MAX_COUNT;
 use crate::refusal::ScriptWhy;
 use crate::word::JobWord;
 use auc_edge::Imsi;
+use auc_lines::Line;
 use auc_sqn::MAX_SEQ;
 use auc_subs::Subscribers;
 

@@ -6,7 +6,8 @@
 //! of these, or stands in a wrong place, or has a wrong field, or passes a limit, is refused by its number
 //! and its first cause, a [`ScriptWhy`].
 //!
-//! Contracts see the lists of a [`Script`] as lists; its subscribers go to `auc_subs`.
+//! The parts and lines of a scenario are types of `auc_lines`. Contracts see the lists of a [`Script`] as
+//! lists; its subscribers go to `auc_subs`. No text is read as a restart yet.
 #![tactic(auto)]
 
 mod field;
@@ -14,7 +15,7 @@ mod givers;
 mod header;
 mod job_line;
 mod law;
-mod part;
+mod limits;
 mod refusal;
 mod round_so_far;
 mod script;
@@ -23,12 +24,10 @@ mod so_far;
 mod tests;
 mod word;
 
+pub use auc_lines::{JobPart, Line, Part, RoundPart};
 pub use law::{
     refused_line_is_the_first_wrong, right_text_is_read_whole, text_that_is_read_is_right,
 };
-pub use part::{
-    JobPart, Line, MAX_COUNT, MAX_JOBS, MAX_REALM, MAX_ROUNDS, MAX_VECTORS, MAX_WORKERS, Part,
-    RoundPart,
-};
+pub use limits::{MAX_COUNT, MAX_JOBS, MAX_REALM, MAX_ROUNDS, MAX_VECTORS, MAX_WORKERS};
 pub use refusal::{ScriptRefusal, ScriptWhy};
 pub use script::Script;

@@ -4,8 +4,8 @@ ghost use Rattle.std.specs.Prelude.{◌≡◌, [], IfOk, OnOk};
 ghost use Rattle.auc_script.specs.Scenario.{jobs_in};
 ghost use Rattle.auc_script.specs.InnerSoFar.{with_last};
 
-use crate::part::{JobPart, Line, RoundPart};
 use auc_edge::{Items, NoMemory};
+use auc_lines::{JobPart, Line, RoundPart};
 use std::alloc::Global;
 
 /// The present round, as far as it was read.

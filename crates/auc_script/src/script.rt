@@ -4,10 +4,10 @@ ghost use Rattle.std.specs.Prelude.{ℕ, ◌≡◌, ◌≤◌, length, IfOk, IfE
 ghost use Rattle.auc_subs.specs.Subscriber.{AreSubscribers};
 ghost use Rattle.auc_script.specs.Limits.{IsWithin};
 
-use crate::part::Part;
 use crate::refusal::{ScriptRefusal, ScriptWhy};
 use crate::so_far::SoFar;
 use auc_edge::{Items, NoMemory, Octets};
+use auc_lines::Part;
 use auc_subs::Subscribers;
 use auc_text::next_line;
 use std::alloc::Global;

@@ -16,12 +16,13 @@ use crate::field::{is_number, no_field, one_field};
 use crate::givers::Givers;
 use crate::header::Header;
 use crate::job_line::read_line;
-use crate::part::{Line, MAX_JOBS, MAX_ROUNDS, MAX_VECTORS, Part};
+use crate::limits::{MAX_JOBS, MAX_ROUNDS, MAX_VECTORS};
 use crate::refusal::{LineRefusal, ScriptWhy};
 use crate::round_so_far::RoundSoFar;
 use crate::script::Script;
 use crate::word::{HeaderWord, JobWord, Word, is_comment, is_later, read_word};
 use auc_edge::{Items, NoMemory, Octets};
+use auc_lines::{Line, Part};
 use auc_subs::{AddRefusal, Subscribers};
 use auc_text::{joined, next_word, read_decimal, word_count};
 use std::alloc::Global;
@@ -222,14 +223,14 @@ impl SoFar {
             return Err(LineRefusal::Why(ScriptWhy::OutOfOrder));
         };
         let line = read_line(subs, word, fields)?;
-        if self.givers.is_busy(round, line) {
+        if self.givers.is_busy(round, &line) {
             return Err(LineRefusal::Why(ScriptWhy::UsimBusy));
         }
         let asked = self.asked + line.count();
         if asked > MAX_VECTORS {
             return Err(LineRefusal::Why(ScriptWhy::Limit));
         }
-        self.givers.note(round, line);
+        self.givers.note(round, &line);
         put_in_round(&mut self.round, line)?;
         self.asked = asked;
         Ok(())

@@ -83,7 +83,9 @@ fn each_line_is_read(rt: HostRuntime) -> Result<(), Fail> {
             n: 8796093022207,
         },
     ];
-    let Part::Round(jobs) = script.parts.get(0).ok_or("a round")?;
+    let Some(Part::Round(jobs)) = script.parts.get(0) else {
+        return Err(Fail::from("no round"));
+    };
     let job = jobs.get(0).ok_or("a job")?;
     for (place, line) in lines.iter().enumerate() {
         assert_eq!(rt; *job.get(place).ok_or("a line")?, *line, "at {place}");

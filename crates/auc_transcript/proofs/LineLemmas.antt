@@ -1,6 +1,7 @@
 -- For the laws: how often lines name a number of a subscriber.
-use Rattle.std.proofs.Common.{◌≡◌, ℕ, zero, suc, ◌+◌, ◌≤◌, ◌==◌, ◌||◌, Bool, true, false, cond, List, [], ◌∷◌, ◌++◌, All, Contains, ◌∙◌, ap, subst, arith, inl, inr}
-use Rattle.std.specs.Prelude.{if◌then◌else◌}
+use Rattle.std.proofs.Common.{◌≡◌, ℕ, zero, suc, ◌+◌, ◌≤◌, ◌==◌, ◌||◌, Bool, true, false, cond, ◌<◌, List, [], ◌∷◌, ◌++◌, length, map, get_or, All, Contains, refl, sym, ◌∙◌, ap, subst, arith, inl, inr}
+use Rattle.std.specs.Prelude.{if◌then◌else◌, flat_map}
+use Rattle.std.proofs.Math.ListN.{get_or-map, length-map}
 use Rattle.std.proofs.lemmas.Bool.{cases_eq}
 use Rattle.std.proofs.lemmas.Bool.Decides.{nat_tests}
 use Rattle.std.proofs.lemmas.List.Concat.{flat_map-append}
@@ -10,11 +11,15 @@ use Rattle.auc_history.specs.declared.entry.Entry.TheVariants.{Drawn}
 use Rattle.auc_history.specs.History.{drawn, drawn_by}
 use Rattle.auc_history.specs.Split.{times}
 use Rattle.auc_history.proofs.Facts.{times-cons, times-append, times_at}
+use Rattle.auc_sqn.specs.Number.{max_seq, sqn_bytes}
+use Rattle.auc_sqn.proofs.Facts.{each_number_has_its_own_sqn}
+use Rattle.auc_world.specs.declared.record.GiveVerdict.{GiveVerdict}
+use Rattle.auc_world.specs.declared.record.GiveVerdict.TheVariants as given
 use Rattle.auc_world.specs.declared.record.LineRecord.{LineRecord}
 use Rattle.auc_world.specs.declared.record.LineRecord.TheVariants.{Vector, Withheld, Exhausted, Sync, Give}
-use Rattle.auc_transcript.specs.Lines.{released_by, numbers_of, accepted_by, accepted}
-use Rattle.auc_transcript.specs.Entries.{entries_of_line, entries_of_lines}
-use Rattle.auc_transcript.specs.Given.{is_in}
+use Rattle.auc_world.specs.Lines.{released_by, numbers_of, taken, accepted}
+use Rattle.auc_world.specs.Entries.{entries_of_line, entries_of_lines}
+use Rattle.auc_world.specs.Given.{is_in}
 
 -- ---- how often a number stands in a list
 
@@ -50,9 +55,20 @@ times-from_is_in n (x ∷ xs) found =
     step true later few all cut found rest = omega arith
     step false later few all cut found rest = let some = rest found in omega arith
 
+-- a number that stands in a list is found
+pub is_in-from_times : (n : ℕ) (xs : List ℕ) → 1 ≤ times n xs → is_in n xs ≡ true
+is_in-from_times n [] there = absurd (omega arith)
+is_in-from_times n (x ∷ xs) there =
+    let cut = times-cons n x xs in
+    step (x == n) (is_in n xs) (times n xs) (times n (x ∷ xs)) cut there (is_in-from_times n xs)
+  where
+    step : (here later : Bool) (few all : ℕ) → all ≡ cond here 1 0 + few → 1 ≤ all → (1 ≤ few → later ≡ true) → (here || later) ≡ true
+    step true later few all cut some rest = refl
+    step false later few all cut some rest = rest (omega (arith, cut, some))
+
 -- ---- released numbers are drawn
 
--- a number doesn't stand more often in a list than in a longer one
+-- a number that stands no more often in one list than in another does so with one more element in both
 times-further : (n m : ℕ) (xs ys : List ℕ) → times n xs ≤ times n ys → times n (m ∷ xs) ≤ times n (m ∷ ys)
 times-further n m xs ys rest = let these = times-cons n m xs in let those = times-cons n m ys in omega (arith, these, those)
 
@@ -70,9 +86,9 @@ drawn-vector false n m numbers entries rest = rest
 -- the numbers of the vectors of some lines are drawn by their entries
 pub times-numbers : (n sub : ℕ) (before lines : List LineRecord) → times n (numbers_of sub lines) ≤ times n (drawn (entries_of_lines sub before lines))
 times-numbers n sub before [] = omega arith
-times-numbers n sub before (Vector s vector ∷ lines) =
-    drawn-vector (s == sub) n vector.n (numbers_of sub lines) (entries_of_lines sub (before ++ Vector s vector ∷ []) lines)
-    (times-numbers n sub (before ++ Vector s vector ∷ []) lines)
+times-numbers n sub before (Vector s m ∷ lines) =
+    drawn-vector (s == sub) n m (numbers_of sub lines) (entries_of_lines sub (before ++ Vector s m ∷ []) lines)
+    (times-numbers n sub (before ++ Vector s m ∷ []) lines)
 times-numbers n sub before (Withheld s m stop ∷ lines) =
     drawn-further n (numbers_of sub lines) (entries_of_line sub before (Withheld s m stop)) (entries_of_lines sub (before ++ Withheld s m stop ∷ []) lines)
     (times-numbers n sub (before ++ Withheld s m stop ∷ []) lines)
@@ -84,12 +100,66 @@ times-numbers n sub before (Sync s answer ∷ lines) =
     (times-numbers n sub (before ++ Sync s answer ∷ []) lines)
 times-numbers n sub before (Give s m answer ∷ lines) = times-numbers n sub (before ++ Give s m answer ∷ []) lines
 
--- ---- lines and further lines
+-- ---- two lists of lines
 
--- how often a number is released by lines and further lines
+-- how often two lists of lines release a number
 pub times-numbers-append : (n sub : ℕ) (xs ys : List LineRecord) → times n (numbers_of sub (xs ++ ys)) ≡ times n (numbers_of sub xs) + times n (numbers_of sub ys)
 times-numbers-append n sub xs ys = ap (times n) (flat_map-append (released_by sub) xs ys) ∙ times-append n (numbers_of sub xs) (numbers_of sub ys)
 
--- how often it is accepted by them
-pub times-accepted-append : (n sub : ℕ) (xs ys : List LineRecord) → times n (accepted sub (xs ++ ys)) ≡ times n (accepted sub xs) + times n (accepted sub ys)
-times-accepted-append n sub xs ys = ap (times n) (flat_map-append (accepted_by sub) xs ys) ∙ times-append n (accepted sub xs) (accepted sub ys)
+-- ---- accepted numbers
+
+-- the presented number, if it was accepted
+abbrev pub number_taken : ℕ → GiveVerdict → List ℕ
+number_taken n given.Accepted = n ∷ []
+number_taken n (given.Sync sqn_ms) = []
+number_taken n given.Absent = []
+
+-- the number that a line says a subscriber's USIM accepted
+abbrev pub number_accepted_by : ℕ → LineRecord → List ℕ
+number_accepted_by sub (Vector s m) = []
+number_accepted_by sub (Withheld s m stop) = []
+number_accepted_by sub (Exhausted s word) = []
+number_accepted_by sub (Sync s answer) = []
+number_accepted_by sub (Give s m answer) = if s == sub then number_taken m answer else []
+
+-- the numbers that a subscriber's USIM accepted
+abbrev pub numbers_accepted : ℕ → List LineRecord → List ℕ
+numbers_accepted sub lines = flat_map (number_accepted_by sub) lines
+
+-- how often two lists of lines say that a number was accepted
+pub times-accepted-append : (n sub : ℕ) (xs ys : List LineRecord)
+    → times n (numbers_accepted sub (xs ++ ys)) ≡ times n (numbers_accepted sub xs) + times n (numbers_accepted sub ys)
+times-accepted-append n sub xs ys = ap (times n) (flat_map-append (number_accepted_by sub) xs ys) ∙ times-append n (numbers_accepted sub xs) (numbers_accepted sub ys)
+
+-- one line before others
+accepted_further : (mine : Bool) (m : ℕ) (answer : GiveVerdict) (sqns : List (List ℕ)) (numbers : List ℕ) → sqns ≡ map sqn_bytes numbers
+    → (if mine then taken m answer else []) ++ sqns ≡ map sqn_bytes ((if mine then number_taken m answer else []) ++ numbers)
+accepted_further true m given.Accepted sqns numbers same = ap (λ (rest : List (List ℕ)). sqn_bytes m ∷ rest) same
+accepted_further true m (given.Sync sqn_ms) sqns numbers same = same
+accepted_further true m given.Absent sqns numbers same = same
+accepted_further false m answer sqns numbers same = same
+
+-- the accepted SQNs are those of the accepted numbers
+pub accepted-numbers : (sub : ℕ) (lines : List LineRecord) → accepted sub lines ≡ map sqn_bytes (numbers_accepted sub lines)
+accepted-numbers sub [] = refl
+accepted-numbers sub (Vector s m ∷ lines) = accepted-numbers sub lines
+accepted-numbers sub (Withheld s m stop ∷ lines) = accepted-numbers sub lines
+accepted-numbers sub (Exhausted s word ∷ lines) = accepted-numbers sub lines
+accepted-numbers sub (Sync s answer ∷ lines) = accepted-numbers sub lines
+accepted-numbers sub (Give s m answer ∷ lines) =
+    accepted_further (s == sub) m answer (accepted sub lines) (numbers_accepted sub lines) (accepted-numbers sub lines)
+
+-- the SQN of a number of a list is one of the list's SQNs
+pub Contains-sqns : (n : ℕ) (numbers : List ℕ) → 1 ≤ times n numbers → Contains (map sqn_bytes numbers) (sqn_bytes n)
+Contains-sqns n numbers there =
+    let (k, inside, at) = Contains-from_times n numbers there in
+    let size = length-map numbers sqn_bytes in (k, omega (arith, size, inside), get_or-map sqn_bytes numbers k n ∙ ap sqn_bytes at)
+
+-- a number stands in a list if its SQN is one of the list's, and all are numbers that vectors may have
+pub times-from_sqns : (n : ℕ) (numbers : List ℕ) → n ≤ max_seq → All (λ m. m ≤ max_seq) numbers → Contains (map sqn_bytes numbers) (sqn_bytes n) → 1 ≤ times n numbers
+times-from_sqns n numbers within all (k, k<n, at) =
+    let size = length-map numbers sqn_bytes in
+    let inside : k < length numbers = omega (arith, size, k<n) in
+    let sqns = sym (get_or-map sqn_bytes numbers k n) ∙ at in
+    let same = each_number_has_its_own_sqn (get_or numbers k n) n (all k n inside) within sqns in
+    subst (λ (m : ℕ). 1 ≤ times m numbers) same (times_at numbers k n inside)

@@ -1,103 +1,165 @@
--- For the laws: the entries of a subscriber over all rounds cover a range of numbers, each once.
-use Rattle.std.proofs.Common.{◌≡◌, ℕ, ◌+◌, ◌<◌, ◌≤◌, ◌&&◌, nat_lt, nat_le, List, [], ◌∷◌, ◌++◌, length, get_or, sym, ◌∙◌, ap, subst, arith, min}
+-- For the laws: what the entries of a subscriber in one round cover and draw.
+use Rattle.std.proofs.Common.{◌≡◌, ℕ, ◌+◌, ◌≤◌, ◌==◌, ◌&&◌, nat_lt, nat_le, Bool, true, false, List, [], ◌∷◌, ◌++◌, get_or, refl, sym, ◌∙◌, ap, arith, min, max, append_assoc, append-nil}
 use Rattle.std.specs.Prelude.{if◌then◌else◌}
-use Rattle.std.proofs.Math.ListN.{get_or-map, length-map}
+use Rattle.std.proofs.Math.ListN.{get_or-map}
 use Rattle.std.proofs.lemmas.Bool.Decides.{nat_tests}
 use Rattle.std.proofs.lemmas.List.Concat.{flat_map-append}
 use Rattle.auc_sqn.specs.Number.{max_seq}
 use Rattle.auc_history.specs.declared.entry.Entry.{Entry}
+use Rattle.auc_history.specs.declared.entry.Entry.TheVariants.{Drawn, Look}
 use Rattle.auc_history.specs.History.{covers, covered, drawn, drawn_by}
 use Rattle.auc_history.specs.Split.{all_entries, times}
-use Rattle.auc_history.proofs.Facts.{times-append}
-use Rattle.auc_script.specs.declared.part.Part.{Part}
-use Rattle.auc_script.specs.declared.part.Part.TheVariants.{Round}
+use Rattle.auc_history.proofs.Facts.{times-append, times-cons}
 use Rattle.auc_world.specs.declared.record.LineRecord.{LineRecord}
+use Rattle.auc_world.specs.declared.record.LineRecord.TheVariants.{Vector, Withheld, Exhausted, Sync, Give}
 use Rattle.auc_world.specs.declared.record.RoundRecord.{RoundRecord}
-use Rattle.auc_transcript.specs.Lines.{numbers_of, all_lines}
-use Rattle.auc_transcript.specs.Entries.{entries_of_lines, entries_of_jobs}
-use Rattle.auc_transcript.specs.Given.{Setting}
-use Rattle.auc_transcript.specs.Transcript.{reopened, AreLawful, lines_of_rounds, entries_of_rounds}
-use Rattle.auc_transcript.proofs.LineLemmas.{times-numbers, times-numbers-append}
+use Rattle.auc_world.specs.declared.record.SyncVerdict.{SyncVerdict}
+use Rattle.auc_world.specs.declared.record.SyncVerdict.TheVariants as verdict
+use Rattle.auc_world.specs.Lines.{numbers_of, withheld_of, all_lines}
+use Rattle.auc_world.specs.Entries.{is_reported, entries_of_verdict, entries_of_line, entries_of_lines, entries_of_jobs}
+use Rattle.auc_world.specs.Setting.{Setting}
+use Rattle.auc_world.specs.Transcript.{reopened, entries_of}
+use Rattle.auc_transcript.proofs.LineLemmas.{times-numbers}
+use Rattle.auc_transcript.proofs.ServedLemmas.{AreServed}
+
+-- ---- what entries cover
 
 -- a subscriber's entries cover each number above a low one up to a high one once, and no other number that a
 -- vector may have
 pub record CoversRange (low high : ℕ) (entries : List Entry) : Type 0 where
   pub forward : low ≤ high
-  pub within : high ≤ max_seq
   pub once : (n : ℕ) → n ≤ max_seq → times n (covered entries) ≡ (if nat_lt low n && nat_le n high then 1 else 0)
 
--- how often entries and further ones cover a number
+-- no entries cover nothing
+nothing_between : (n low : ℕ) → ◌≡◌ {A = ℕ} 0 (if nat_lt low n && nat_le n low then 1 else 0)
+nothing_between n low = grind (arith, nat_tests)
+
+pub covers_nothing : (low : ℕ) → CoversRange low low []
+covers_nothing low = record { forward = omega arith; once = λ n within. nothing_between n low }
+
+-- how often two lists of entries cover a number
 times-covered-append : (n : ℕ) (xs ys : List Entry) → times n (covered (xs ++ ys)) ≡ times n (covered xs) + times n (covered ys)
 times-covered-append n xs ys = ap (times n) (flat_map-append covers xs ys) ∙ times-append n (covered xs) (covered ys)
 
--- how often they draw it
-times-drawn-append : (n : ℕ) (xs ys : List Entry) → times n (drawn (xs ++ ys)) ≡ times n (drawn xs) + times n (drawn ys)
+-- how often two lists of entries draw a number
+pub times-drawn-append : (n : ℕ) (xs ys : List Entry) → times n (drawn (xs ++ ys)) ≡ times n (drawn xs) + times n (drawn ys)
 times-drawn-append n xs ys = ap (times n) (flat_map-append drawn_by xs ys) ∙ times-append n (drawn xs) (drawn ys)
 
 -- two ranges, one after the other
-ranges_joined : (n low closing next high : ℕ) → n ≤ max_seq → next ≡ min closing max_seq → low ≤ closing → low ≤ max_seq → next ≤ high
-    → (if nat_lt low n && nat_le n closing then 1 else 0) + (if nat_lt next n && nat_le n high then 1 else 0) ≡ (if nat_lt low n && nat_le n high then 1 else 0)
+ranges_joined : (n low closing next high : ℕ) → n ≤ max_seq → next ≡ min closing max_seq → low ≤ closing → next ≤ high
+    → (if nat_lt low n && nat_le n closing then 1 else 0) + (if nat_lt next n && nat_le n high then 1 else 0) ≡ (if nat_lt low n && nat_le n (max low high) then 1 else 0)
 ranges_joined n low closing next high = grind (arith, nat_tests)
 
 -- the word at which a subscriber is opened again
-get_or-reopened : (words : List ℕ) (sub : ℕ) → get_or (reopened words) sub 0 ≡ min (get_or words sub 0) max_seq
+pub get_or-reopened : (words : List ℕ) (sub : ℕ) → get_or (reopened words) sub 0 ≡ min (get_or words sub 0) max_seq
 get_or-reopened words sub = get_or-map (λ (word : ℕ). min word max_seq) words sub 0
 
--- the range that a round covers, and the range of the rounds after it
-round_joined : (low closing next high : ℕ) (xs ys : List Entry) → next ≡ min closing max_seq → low ≤ closing → low ≤ max_seq
-    → ((n : ℕ) → times n (covered xs) ≡ (if nat_lt low n && nat_le n closing then 1 else 0)) → CoversRange next high ys → CoversRange low high (xs ++ ys)
-round_joined low closing next high xs ys again forward below once covers =
+-- a range that a round covers, and the range of the rounds after it
+pub round_joined : (low closing next high : ℕ) (xs ys : List Entry) → next ≡ min closing max_seq → low ≤ closing
+    → ((n : ℕ) → times n (covered xs) ≡ (if nat_lt low n && nat_le n closing then 1 else 0)) → CoversRange next high ys → CoversRange low (max low high) (xs ++ ys)
+round_joined low closing next high xs ys again forward once covers =
     let up = covers.forward in record {
       forward = omega arith;
-      within = covers.within;
       once = λ n within.
           let cut = times-covered-append n xs ys in
           let first = once n in
           let others = covers.once n within in
-          let joined = ranges_joined n low closing next high within again forward below up in
+          let joined = ranges_joined n low closing next high within again forward up in
           omega (arith, cut, first, others, joined);
     }
 
--- what the rounds of a lawful transcript cover
-pub rounds_cover : (set : Setting) (sub number : ℕ) (early : List LineRecord) (openings : List ℕ) (parts : List Part) (rounds : List RoundRecord) → sub < length openings
-    → get_or openings sub 0 ≤ max_seq → AreLawful set number early openings parts rounds → (high : ℕ) × CoversRange (get_or openings sub 0) high (entries_of_rounds sub rounds)
-rounds_cover set sub number early openings [] rounds inside below lawful = (
-  get_or openings sub 0,
-  subst (λ (rs : List RoundRecord). CoversRange (get_or openings sub 0) (get_or openings sub 0) (entries_of_rounds sub rs)) (sym lawful)
-      (record { forward = omega arith; within = below; once = λ n within. nothing n (get_or openings sub 0) }),
-)
-  where
-    nothing : (n low : ℕ) → ◌≡◌ {A = ℕ} 0 (if nat_lt low n && nat_le n low then 1 else 0)
-    nothing n low = grind (arith, nat_tests)
-rounds_cover set sub number early openings (part ∷ parts) [] inside below lawful = absurd lawful
-rounds_cover set sub number early openings (Round jobs ∷ parts) (round ∷ rounds) inside below (next, (is_number, words, lawful, is_next), rest) =
-    let more = subst (λ (ws : List ℕ). AreLawful set (number + 1) (early ++ all_lines round.jobs) ws parts rounds) is_next rest in
-    let again = get_or-reopened words sub in
-    let known : sub < length (reopened words) = let sizes = lawful.sizes in let kept = length-map words (λ (word : ℕ). min word max_seq) in omega (arith, sizes, kept) in
-    let splits = lawful.split sub inside in
-    let (high, covers) = rounds_cover set sub (number + 1) (early ++ all_lines round.jobs) (reopened words) parts rounds known (omega (arith, again)) more in (
-      high,
-      round_joined (get_or openings sub 0) (get_or words sub 0) (get_or (reopened words) sub 0) high (all_entries (entries_of_jobs sub [] round.jobs)) (entries_of_rounds sub rounds)
-          again splits.forward below splits.once covers,
-    )
+-- ---- the entries of a round are those of all its lines
 
--- the numbers of the vectors of a round's jobs are drawn by their entries
-jobs_drawn : (n sub : ℕ) (before : List LineRecord) (jobs : List (List LineRecord))
-    → times n (numbers_of sub (all_lines jobs)) ≤ times n (drawn (all_entries (entries_of_jobs sub before jobs)))
-jobs_drawn n sub before [] = omega arith
-jobs_drawn n sub before (job ∷ jobs) =
-    let first = times-numbers n sub before job in
-    let others = jobs_drawn n sub (before ++ job) jobs in
-    let these = times-numbers-append n sub job (all_lines jobs) in
-    let those = times-drawn-append n (entries_of_lines sub before job) (all_entries (entries_of_jobs sub (before ++ job) jobs)) in
-    omega (arith, first, others, these, those)
+-- the entries of two lists of lines
+entries_of_lines-append : (sub : ℕ) (before xs ys : List LineRecord) → entries_of_lines sub before (xs ++ ys) ≡ entries_of_lines sub before xs ++ entries_of_lines sub (before ++ xs) ys
+entries_of_lines-append sub before [] ys = ap (λ (ls : List LineRecord). entries_of_lines sub ls ys) (sym (append-nil before))
+entries_of_lines-append sub before (x ∷ xs) ys =
+    ap (λ es. entries_of_line sub before x ++ es) (entries_of_lines-append sub (before ++ x ∷ []) xs ys
+    ∙ ap (λ (ls : List LineRecord). entries_of_lines sub (before ++ x ∷ []) xs ++ entries_of_lines sub ls ys) (append_assoc before (x ∷ []) xs))
+    ∙ sym (append_assoc (entries_of_line sub before x) (entries_of_lines sub (before ++ x ∷ []) xs) (entries_of_lines sub (before ++ x ∷ xs) ys))
 
--- the same for all rounds
-pub rounds_drawn : (n sub : ℕ) (rounds : List RoundRecord) → times n (numbers_of sub (lines_of_rounds rounds)) ≤ times n (drawn (entries_of_rounds sub rounds))
-rounds_drawn n sub [] = omega arith
-rounds_drawn n sub (round ∷ rounds) =
-    let first = jobs_drawn n sub [] round.jobs in
-    let others = rounds_drawn n sub rounds in
-    let these = times-numbers-append n sub (all_lines round.jobs) (lines_of_rounds rounds) in
-    let those = times-drawn-append n (all_entries (entries_of_jobs sub [] round.jobs)) (entries_of_rounds sub rounds) in
-    omega (arith, first, others, these, those)
+-- the entries of all jobs
+entries_of_jobs-lines : (sub : ℕ) (before : List LineRecord) (jobs : List (List LineRecord))
+    → all_entries (entries_of_jobs sub before jobs) ≡ entries_of_lines sub before (all_lines jobs)
+entries_of_jobs-lines sub before [] = refl
+entries_of_jobs-lines sub before (job ∷ jobs) =
+    ap (λ es. entries_of_lines sub before job ++ es) (entries_of_jobs-lines sub (before ++ job) jobs) ∙ sym (entries_of_lines-append sub before job (all_lines jobs))
+
+-- the numbers of the vectors of a round are drawn by its entries
+pub round_drawn : (n sub : ℕ) (round : RoundRecord) → times n (numbers_of sub (all_lines round.jobs)) ≤ times n (drawn (entries_of sub round))
+round_drawn n sub round =
+    let same = ap (λ es. times n (drawn es)) (entries_of_jobs-lines sub [] round.jobs) in
+    let lines = times-numbers n sub [] (all_lines round.jobs) in omega (arith, same, lines)
+
+-- ---- drawn numbers that vectors may have are released or withheld
+
+-- a released number
+told_vector : (there : Bool) (n m many : ℕ) (numbers : List ℕ) (entries : List Entry) → times n (drawn entries) ≤ times n numbers + many
+    → times n (drawn ((if there then Drawn m ∷ [] else []) ++ entries)) ≤ times n ((if there then m ∷ [] else []) ++ numbers) + many
+told_vector true n m many numbers entries rest =
+    let these = times-cons n m (drawn entries) in let those = times-cons n m numbers in omega (arith, rest, these, those)
+told_vector false n m many numbers entries rest = rest
+
+-- a withheld one
+told_withheld : (there : Bool) (n m many : ℕ) (numbers : List ℕ) (entries : List Entry) → times n (drawn entries) ≤ many + times n numbers
+    → times n (drawn ((if there then Drawn m ∷ [] else []) ++ entries)) ≤ many + times n ((if there then m ∷ [] else []) ++ numbers)
+told_withheld true n m many numbers entries rest =
+    let these = times-cons n m (drawn entries) in let those = times-cons n m numbers in omega (arith, rest, these, those)
+told_withheld false n m many numbers entries rest = rest
+
+-- a mark is above all of them
+mark_apart : (n word : ℕ) → n ≤ max_seq → max_seq ≤ word → times n ((word + 1) ∷ []) ≡ 0
+mark_apart n word within spent = let cut = times-cons n (word + 1) [] in grind (arith, nat_tests, cut)
+
+no_mark : (there known : Bool) (n word : ℕ) → n ≤ max_seq → max_seq ≤ word
+    → times n (drawn (if there then (if known then [] else Drawn (word + 1) ∷ []) else [])) ≡ 0
+no_mark true true n word within spent = refl
+no_mark true false n word within spent = mark_apart n word within spent
+no_mark false known n word within spent = refl
+
+-- a resynchronisation draws nothing
+no_look : (known : Bool) (n seen : ℕ) → times n (drawn (if known then [] else Look seen ∷ [])) ≡ 0
+no_look true n seen = refl
+no_look false n seen = refl
+
+no_draw : (n sub : ℕ) (before : List LineRecord) (answer : SyncVerdict) → times n (drawn (entries_of_verdict sub before answer)) ≡ 0
+no_draw n sub before (verdict.Moved from to) = refl
+no_draw n sub before (verdict.InRange seen seq_ms) = no_look (is_reported sub seen before) n seen
+no_draw n sub before (verdict.Beyond seen seq_ms) = no_look (is_reported sub seen before) n seen
+no_draw n sub before verdict.WrongMac = refl
+
+no_draw_of : (there : Bool) (n sub : ℕ) (before : List LineRecord) (answer : SyncVerdict) → times n (drawn (if there then entries_of_verdict sub before answer else [])) ≡ 0
+no_draw_of true n sub before answer = no_draw n sub before answer
+no_draw_of false n sub before answer = refl
+
+-- entries that don't draw it change nothing
+told_apart : (n many : ℕ) (xs ys : List Entry) → times n (drawn xs) ≡ 0 → times n (drawn ys) ≤ many → times n (drawn (xs ++ ys)) ≤ many
+told_apart n many xs ys none rest = let cut = times-drawn-append n xs ys in omega (arith, cut, none, rest)
+
+-- what lines draw, they release or withhold
+drawn_told : (set : Setting) (n sub : ℕ) (start before lines : List LineRecord) → n ≤ max_seq → AreServed set start lines
+    → times n (drawn (entries_of_lines sub before lines)) ≤ times n (numbers_of sub lines) + times n (withheld_of sub lines)
+drawn_told set n sub start before [] within served = omega arith
+drawn_told set n sub start before (Vector s m ∷ lines) within (is, more) =
+    told_vector (s == sub) n m (times n (withheld_of sub lines)) (numbers_of sub lines) (entries_of_lines sub (before ++ Vector s m ∷ []) lines)
+    (drawn_told set n sub (start ++ Vector s m ∷ []) (before ++ Vector s m ∷ []) lines within more)
+drawn_told set n sub start before (Withheld s m stop ∷ lines) within (is, more) =
+    told_withheld (s == sub) n m (times n (numbers_of sub lines)) (withheld_of sub lines) (entries_of_lines sub (before ++ Withheld s m stop ∷ []) lines)
+    (drawn_told set n sub (start ++ Withheld s m stop ∷ []) (before ++ Withheld s m stop ∷ []) lines within more)
+drawn_told set n sub start before (Exhausted s word ∷ lines) within (spent, more) =
+    told_apart n (times n (numbers_of sub lines) + times n (withheld_of sub lines)) (entries_of_line sub before (Exhausted s word)) (entries_of_lines sub (before ++ Exhausted s word ∷ []) lines)
+    (no_mark (s == sub) (is_reported sub word before) n word within spent)
+    (drawn_told set n sub (start ++ Exhausted s word ∷ []) (before ++ Exhausted s word ∷ []) lines within more)
+drawn_told set n sub start before (Sync s answer ∷ lines) within (is, more) =
+    told_apart n (times n (numbers_of sub lines) + times n (withheld_of sub lines)) (entries_of_line sub before (Sync s answer)) (entries_of_lines sub (before ++ Sync s answer ∷ []) lines)
+    (no_draw_of (s == sub) n sub before answer)
+    (drawn_told set n sub (start ++ Sync s answer ∷ []) (before ++ Sync s answer ∷ []) lines within more)
+drawn_told set n sub start before (Give s m answer ∷ lines) within (is, more) =
+    drawn_told set n sub (start ++ Give s m answer ∷ []) (before ++ Give s m answer ∷ []) lines within more
+
+-- what a round draws, it releases or withholds
+pub round_told : (set : Setting) (n sub : ℕ) (early : List LineRecord) (round : RoundRecord) → n ≤ max_seq → AreServed set early (all_lines round.jobs)
+    → times n (drawn (entries_of sub round)) ≤ times n (numbers_of sub (all_lines round.jobs)) + times n (withheld_of sub (all_lines round.jobs))
+round_told set n sub early round within served =
+    let same = ap (λ es. times n (drawn es)) (entries_of_jobs-lines sub [] round.jobs) in
+    let told = drawn_told set n sub early [] (all_lines round.jobs) within served in omega (arith, same, told)

@@ -1,12 +1,13 @@
 -- For the laws: what each line of a lawful transcript is, by all lines before it.
-use Rattle.std.proofs.Common.{◌≡◌, ◌≢◌, ℕ, zero, suc, ◌+◌, ◌%◌, ◌≤◌, Bool, true, false, List, [], ◌∷◌, ◌++◌, Some, refl, sym, subst, arith, inl, inr, append_assoc, append-nil}
+use Rattle.std.proofs.Common.{◌≡◌, ◌≢◌, ℕ, zero, suc, ◌%◌, ◌≤◌, Bool, true, false, Option, List, [], ◌∷◌, ◌++◌, Some, refl, sym, subst, arith, inl, inr, append_assoc, append-nil}
 use Rattle.std.specs.Prelude.{slice_get}
 use Rattle.std.proofs.lemmas.Bool.{or_cases}
+use Rattle.auc_edge.specs.declared.stop.Stop.{Stop}
 use Rattle.auc_history.specs.Split.{times}
-use Rattle.auc_script.specs.declared.part.Line.{Line}
-use Rattle.auc_script.specs.declared.part.Line.TheVariants as line
-use Rattle.auc_script.specs.declared.part.Part.{Part}
-use Rattle.auc_script.specs.declared.part.Part.TheVariants.{Round}
+use Rattle.auc_lines.specs.declared.part.Line.{Line}
+use Rattle.auc_lines.specs.declared.part.Line.TheVariants as line
+use Rattle.auc_lines.specs.declared.part.Part.{Part}
+use Rattle.auc_lines.specs.declared.part.Part.TheVariants.{Round, Restart}
 use Rattle.auc_sqn.specs.Past.{verdict_of}
 use Rattle.auc_sqn.specs.Number.{max_seq}
 use Rattle.auc_subs.specs.declared.row.Row.{Row}
@@ -14,36 +15,39 @@ use Rattle.auc_world.specs.declared.record.GiveVerdict.{GiveVerdict}
 use Rattle.auc_world.specs.declared.record.GiveVerdict.TheVariants as given
 use Rattle.auc_world.specs.declared.record.LineRecord.{LineRecord}
 use Rattle.auc_world.specs.declared.record.LineRecord.TheVariants.{Vector, Withheld, Exhausted, Sync, Give}
-use Rattle.auc_world.specs.declared.record.RoundRecord.{RoundRecord}
+use Rattle.auc_world.specs.declared.record.PartRecord.{PartRecord}
+use Rattle.auc_world.specs.declared.record.PartRecord.TheVariants as record_of
 use Rattle.auc_world.specs.declared.record.SyncVerdict.{SyncVerdict}
 use Rattle.auc_world.specs.declared.record.SyncVerdict.TheVariants as verdict
-use Rattle.auc_transcript.specs.Lines.{numbers_of, accepted, all_lines}
-use Rattle.auc_transcript.specs.Given.{Setting, Before, DrawGives, VectorsFollow, is_released, past_of, past_before, UsimAnswers, IsGiven, LineGives, behind, JobGives, JobsGive}
-use Rattle.auc_transcript.specs.Transcript.{AreLawful, lines_of_rounds}
+use Rattle.auc_world.specs.Lines.{numbers_of, accepted, all_lines}
+use Rattle.auc_world.specs.Given.{Before, DrawGives, VectorsFollow, is_released, past_of, past_before, UsimAnswers, IsGiven, LineGives, behind, JobGives, JobsGive}
+use Rattle.auc_world.specs.Setting.{Setting}
+use Rattle.auc_world.specs.Transcript.{Course, Leads, after_round, after_restart, lines_of}
 use Rattle.auc_transcript.proofs.LineLemmas.{times-from_is_in, times-numbers-append}
 
--- a presented vector was released, and its USIM answered by all numbers that it had accepted
+-- a presented vector was released, and its USIM answered by all that it had accepted
 pub record IsAnswered (set : Setting) (before : List LineRecord) (sub n : ℕ) (answer : GiveVerdict) : Type 0 where
   pub row : Row
   pub there : slice_get set.rows sub ≡ Some row
   pub released : 1 ≤ times n (numbers_of sub before)
   pub answers : UsimAnswers (verdict_of (past_of row.usim (accepted sub before)) n (n % 32)) (past_of row.usim (accepted sub before)) answer
 
--- what a line is, after the earlier lines: a vector has a number, and a presented vector was answered
+-- what a line is, after the lines before it: a vector has a number, the word of a spent subscriber is no number
+-- that one may still have, and a presented vector was answered
 abbrev pub IsServed : Setting → List LineRecord → LineRecord → Type 0
-IsServed set before (Vector s vector) = vector.n ≤ max_seq
+IsServed set before (Vector s m) = m ≤ max_seq
 IsServed set before (Withheld s n stop) = Unit {0}
-IsServed set before (Exhausted s word) = Unit {0}
+IsServed set before (Exhausted s word) = max_seq ≤ word
 IsServed set before (Sync s answer) = Unit {0}
 IsServed set before (Give s n answer) = answer ≢ given.Absent → IsAnswered set before s n answer
 
--- what further lines are, one after the other
+-- what lines are, one after the other
 abbrev pub AreServed : Setting → List LineRecord → List LineRecord → Type 0
 AreServed set before [] = Unit {0}
 AreServed set before (line ∷ lines) = IsServed set before line × AreServed set (before ++ line ∷ []) lines
 
--- lines and further lines
-AreServed-append : (set : Setting) (before xs ys : List LineRecord) → AreServed set before xs → AreServed set (before ++ xs) ys → AreServed set before (xs ++ ys)
+-- two lists of lines
+pub AreServed-append : (set : Setting) (before xs ys : List LineRecord) → AreServed set before xs → AreServed set (before ++ xs) ys → AreServed set before (xs ++ ys)
 AreServed-append set before [] ys these those = subst (λ (ls : List LineRecord). AreServed set ls ys) (append-nil before) those
 AreServed-append set before (x ∷ xs) ys (first, these) those = (
   first,
@@ -63,12 +67,12 @@ served_at set start (x ∷ before) after line (first, rest) =
 draw_served : (set : Setting) (before : List LineRecord) (sub count : ℕ) (lines : List LineRecord) → DrawGives set sub count lines → AreServed set before lines
 draw_served set before sub zero lines gives = subst (λ (ls : List LineRecord). AreServed set before ls) (sym gives) tt
 draw_served set before sub (suc count) [] gives = absurd gives
-draw_served set before sub (suc count) (Vector s vector ∷ lines) (same, is, more) =
-    (is.last, draw_served set (before ++ Vector s vector ∷ []) sub count lines more)
+draw_served set before sub (suc count) (Vector s m ∷ lines) (same, is, more) =
+    (is.last, draw_served set (before ++ Vector s m ∷ []) sub count lines more)
 draw_served set before sub (suc count) (Withheld s n stop ∷ lines) (same, first, last, none) =
     (tt, subst (λ (ls : List LineRecord). AreServed set (before ++ Withheld s n stop ∷ []) ls) (sym none) tt)
 draw_served set before sub (suc count) (Exhausted s word ∷ lines) (same, spent, none) =
-    (tt, subst (λ (ls : List LineRecord). AreServed set (before ++ Exhausted s word ∷ []) ls) (sym none) tt)
+    (spent, subst (λ (ls : List LineRecord). AreServed set (before ++ Exhausted s word ∷ []) ls) (sym none) tt)
 draw_served set before sub (suc count) (Sync s answer ∷ lines) gives = absurd gives
 draw_served set before sub (suc count) (Give s n answer ∷ lines) gives = absurd gives
 
@@ -84,7 +88,7 @@ follows_served set before sub count verdict.WrongMac lines follows = subst (λ (
 abbrev all_before : Before → List LineRecord
 all_before place = place.early ++ place.beside ++ place.own
 
--- a released number stands among the numbers of all earlier lines
+-- a released number stands among the numbers of all lines before
 released_before : (place : Before) (sub n : ℕ) → is_released place sub n ≡ true → 1 ≤ times n (numbers_of sub (all_before place))
 released_before place sub n released =
     let outer = times-numbers-append n sub (place.early ++ place.beside) place.own in
@@ -120,7 +124,7 @@ job_served set place (l ∷ job) records (front, rest, cut, gives, more) =
     (subst (λ (ls : List LineRecord). AreServed set ls rest) (sym (append_assoc (place.early ++ place.beside) place.own front)) (job_served set (behind place front) job rest more)))
 
 -- what the jobs of a round give
-jobs_served : (set : Setting) (early beside : List LineRecord) (jobs : List (List Line)) (records : List (List LineRecord))
+pub jobs_served : (set : Setting) (early beside : List LineRecord) (jobs : List (List Line)) (records : List (List LineRecord))
     → JobsGive set early beside jobs records → AreServed set (early ++ beside) (all_lines records)
 jobs_served set early beside [] records gives = subst (λ (rs : List (List LineRecord)). AreServed set (early ++ beside) (all_lines rs)) (sym gives) tt
 jobs_served set early beside (job ∷ jobs) [] gives = absurd gives
@@ -130,13 +134,23 @@ jobs_served set early beside (job ∷ jobs) (lines ∷ records) (gives, more) =
     (subst (λ (ls : List LineRecord). AreServed set ls lines) (append-nil (early ++ beside)) first)
     (subst (λ (ls : List LineRecord). AreServed set ls (all_lines records)) (sym (append_assoc early beside lines)) (jobs_served set early (beside ++ lines) jobs records more))
 
--- what the rounds of a lawful transcript have
-pub rounds_served : (set : Setting) (number : ℕ) (early : List LineRecord) (openings : List ℕ) (parts : List Part) (rounds : List RoundRecord)
-    → AreLawful set number early openings parts rounds → AreServed set early (lines_of_rounds rounds)
-rounds_served set number early openings [] rounds lawful = subst (λ (rs : List RoundRecord). AreServed set early (lines_of_rounds rs)) (sym lawful) tt
-rounds_served set number early openings (part ∷ parts) [] lawful = absurd lawful
-rounds_served set number early openings (Round jobs ∷ parts) (round ∷ rounds) (next, (is_number, words, lawful, is_next), rest) =
-    let first = jobs_served set early [] jobs round.jobs lawful.given in
-    AreServed-append set early (all_lines round.jobs) (lines_of_rounds rounds)
-    (subst (λ (ls : List LineRecord). AreServed set ls (all_lines round.jobs)) (append-nil early) first)
-    (rounds_served set (number + 1) (early ++ all_lines round.jobs) next parts rounds rest)
+-- what a round has, after the lines of earlier rounds
+pub round_served : (set : Setting) (early : List LineRecord) (jobs : List (List Line)) (records : List (List LineRecord)) → JobsGive set early [] jobs records
+    → AreServed set early (all_lines records)
+round_served set early jobs records gives =
+    subst (λ (ls : List LineRecord). AreServed set ls (all_lines records)) (append-nil early) (jobs_served set early [] jobs records gives)
+
+-- what the parts of a lawful transcript have
+pub parts_served : (set : Setting) (stop : Option Stop) (at : Course) (parts : List Part) (records : List PartRecord) (end : Course)
+    → Leads set stop at parts records end → AreServed set at.early (lines_of records)
+parts_served set stop at [] records end (none, same) = subst (λ (rs : List PartRecord). AreServed set at.early (lines_of rs)) (sym none) tt
+parts_served set stop at (part ∷ parts) [] end leads = absurd leads
+parts_served set stop at (Round jobs ∷ parts) (record_of.Round round ∷ records) end (next, serves, rest) =
+    let more = subst (λ (c : Course). Leads set stop c parts records end) serves.leads rest in
+    AreServed-append set at.early (all_lines round.jobs) (lines_of records) (round_served set at.early jobs round.jobs serves.lawful.given)
+    (parts_served set stop (after_round at round serves.words) parts records end more)
+parts_served set stop at (Round jobs ∷ parts) (record_of.Restart ∷ records) end (next, serves, rest) = absurd serves
+parts_served set stop at (Restart ∷ parts) (record_of.Round round ∷ records) end (next, serves, rest) = absurd serves
+parts_served set stop at (Restart ∷ parts) (record_of.Restart ∷ records) end (next, restarts, rest) =
+    let more = subst (λ (c : Course). Leads set stop c parts records end) restarts.leads rest in
+    parts_served set stop (after_restart set.rows at restarts.limits) parts records end more

@@ -1,27 +1,32 @@
 -- The law of vectors: no two vectors of a subscriber have the same SQN.
-use Rattle.std.proofs.Common.{◌≢◌, ℕ, ◌<◌, ◌≤◌, ◌==◌, ◌&&◌, nat_lt, nat_le, Bool, true, false, List, [], ◌∷◌, ◌++◌, length, get_or, map, All, AllPairs, arith, inl, inr}
+use Rattle.std.proofs.Common.{◌≡◌, ◌≢◌, ℕ, ◌<◌, ◌≤◌, ◌==◌, ◌&&◌, nat_lt, nat_le, min, Bool, true, false, Option, List, [], ◌∷◌, ◌++◌, length, get_or, map, All, AllPairs, ◌∙◌, ap, subst, arith, inl, inr, append_assoc, append-nil}
 use Rattle.std.specs.Prelude.{if◌then◌else◌}
 use Rattle.std.proofs.Math.ListN.{length-map}
 use Rattle.std.proofs.lemmas.Bool.{cases_lt}
 use Rattle.std.proofs.lemmas.Bool.Decides.{nat_tests}
-use Rattle.std.proofs.lemmas.List.Elements.{All-nil, All-cons, All-head, All-tail, All-append, All-map, All-weaker}
+use Rattle.std.proofs.lemmas.List.Elements.{All-nil, All-cons, All-head, All-tail, All-append, All-map}
+use Rattle.auc_edge.specs.declared.stop.Stop.{Stop}
+use Rattle.auc_history.specs.History.{covered}
 use Rattle.auc_history.specs.Split.{times}
 use Rattle.auc_history.proofs.Facts.{differ_from_times, AllPairs-cons, AllPairs-head, AllPairs-tail, times-drawn}
 use Rattle.auc_sqn.specs.Number.{sqn_bytes, max_seq}
 use Rattle.auc_sqn.proofs.Facts.{each_number_has_its_own_sqn}
-use Rattle.auc_script.specs.declared.part.Part.{Part}
-use Rattle.auc_subs.specs.declared.row.Row.{Row}
-use Rattle.auc_subs.specs.Subscriber.{IsRow, AreSubscribers}
+use Rattle.auc_lines.specs.declared.part.Part.{Part}
+use Rattle.auc_lines.specs.declared.part.Part.TheVariants.{Round, Restart}
 use Rattle.auc_world.specs.declared.record.LineRecord.{LineRecord}
 use Rattle.auc_world.specs.declared.record.LineRecord.TheVariants.{Vector, Withheld, Exhausted, Sync, Give}
+use Rattle.auc_world.specs.declared.record.PartRecord.{PartRecord}
+use Rattle.auc_world.specs.declared.record.PartRecord.TheVariants as record_of
 use Rattle.auc_world.specs.declared.record.RoundRecord.{RoundRecord}
-use Rattle.auc_transcript.specs.Lines.{numbers_of}
-use Rattle.auc_transcript.specs.Given.{Setting}
-use Rattle.auc_transcript.specs.Transcript.{IsLawful, lines_of_rounds, entries_of_rounds}
+use Rattle.auc_world.specs.Lines.{numbers_of, all_lines}
+use Rattle.auc_world.specs.Limits.{opened}
+use Rattle.auc_world.specs.Setting.{Setting}
+use Rattle.auc_world.specs.Transcript.{Course, Leads, IsLawful, after_round, after_restart, beginning, reopened, lines_of, entries_of}
 use Rattle.auc_transcript.specs.Headline.{EachTranscriptKeepsNumbersApart}
-use Rattle.auc_transcript.proofs.LineLemmas.{All-times}
-use Rattle.auc_transcript.proofs.ServedLemmas.{AreServed, rounds_served}
-use Rattle.auc_transcript.proofs.RoundLemmas.{CoversRange, rounds_cover, rounds_drawn}
+use Rattle.auc_transcript.proofs.LineLemmas.{All-times, times-numbers-append}
+use Rattle.auc_world.proofs.Facts.{length-opened, opened_above}
+use Rattle.auc_transcript.proofs.ServedLemmas.{AreServed, round_served, parts_served}
+use Rattle.auc_transcript.proofs.RoundLemmas.{get_or-reopened, round_drawn}
 
 -- different numbers that vectors may have have different SQNs
 pub sqns_differ : (numbers : List ℕ) → All (λ n. n ≤ max_seq) numbers → AllPairs ◌≢◌ numbers → AllPairs ◌≢◌ (map sqn_bytes numbers)
@@ -42,52 +47,115 @@ within_one false n within = All-nil (λ m. m ≤ max_seq)
 -- the numbers of all vectors are numbers that vectors may have
 pub numbers_within : (set : Setting) (sub : ℕ) (before lines : List LineRecord) → AreServed set before lines → All (λ n. n ≤ max_seq) (numbers_of sub lines)
 numbers_within set sub before [] served = All-nil (λ n. n ≤ max_seq)
-numbers_within set sub before (Vector s vector ∷ lines) (is, more) =
-    All-append (λ n. n ≤ max_seq) (if s == sub then vector.n ∷ [] else []) (numbers_of sub lines) (within_one (s == sub) vector.n is)
-    (numbers_within set sub (before ++ Vector s vector ∷ []) lines more)
+numbers_within set sub before (Vector s m ∷ lines) (is, more) =
+    All-append (λ n. n ≤ max_seq) (if s == sub then m ∷ [] else []) (numbers_of sub lines) (within_one (s == sub) m is)
+    (numbers_within set sub (before ++ Vector s m ∷ []) lines more)
 numbers_within set sub before (Withheld s n stop ∷ lines) (is, more) = numbers_within set sub (before ++ Withheld s n stop ∷ []) lines more
 numbers_within set sub before (Exhausted s word ∷ lines) (is, more) = numbers_within set sub (before ++ Exhausted s word ∷ []) lines more
 numbers_within set sub before (Sync s answer ∷ lines) (is, more) = numbers_within set sub (before ++ Sync s answer ∷ []) lines more
 numbers_within set sub before (Give s n answer ∷ lines) (is, more) = numbers_within set sub (before ++ Give s n answer ∷ []) lines more
 
 -- what the lines of a lawful transcript are
-pub transcript_served : (set : Setting) (parts : List Part) (rounds : List RoundRecord) → IsLawful set parts rounds → AreServed set [] (lines_of_rounds rounds)
-transcript_served set parts rounds lawful = rounds_served set 1 [] (map (λ (row : Row). row.seq) set.rows) parts rounds lawful
+pub transcript_served : (set : Setting) (reserved : List ℕ) (stop : Option Stop) (parts : List Part) (records : List PartRecord) → IsLawful set reserved stop parts records
+    → AreServed set [] (lines_of records)
+transcript_served set reserved stop parts records (end, leads) = parts_served set stop (beginning set.rows reserved) parts records end leads
 
--- what the entries of a subscriber cover in a lawful transcript
-pub transcript_covers : (set : Setting) (parts : List Part) (rounds : List RoundRecord) (sub : ℕ) → AreSubscribers set.rows → IsLawful set parts rounds → sub < length set.rows
-    → (low : ℕ) × (high : ℕ) × CoversRange low high (entries_of_rounds sub rounds)
-transcript_covers set parts rounds sub known lawful inside =
-    let openings = map (λ (row : Row). row.seq) set.rows in
-    let size = length-map set.rows (λ (row : Row). row.seq) in
-    let known_seqs = All-map (λ (seq : ℕ). seq ≤ max_seq) (λ (row : Row). row.seq) set.rows
-    (All-weaker IsRow (λ (row : Row). row.seq ≤ max_seq) (λ row is. is.drawn) set.rows known.each) in
-    let there : sub < length openings = omega (arith, size) in
-    let (high, covers) = rounds_cover set sub 1 [] openings parts rounds there (known_seqs sub 0 there) lawful in
-    (get_or openings sub 0, high, covers)
+-- ---- from part to part
 
--- no number is counted twice in a range
+-- each vector of a subscriber was released once so far, and its number is at most the word at which the next round opens
+-- the subscriber
+record AreApart (sub : ℕ) (early : List LineRecord) (opening : ℕ) : Type 0 where
+  once : (n : ℕ) → times n (numbers_of sub early) ≤ 1
+  below : (n : ℕ) → 1 ≤ times n (numbers_of sub early) → (n ≤ opening) × (n ≤ max_seq)
+
+-- no number is counted twice in a range, and what is counted is in it
 range_once : (often n low high : ℕ) → often ≤ (if nat_lt low n && nat_le n high then 1 else 0) → often ≤ 1
 range_once often n low high = grind (arith, nat_tests)
 
+in_range : (often n low high : ℕ) → 1 ≤ often → often ≤ (if nat_lt low n && nat_le n high then 1 else 0) → (low < n) × (n ≤ high)
+in_range often n low high = grind (arith, nat_tests)
+
+-- a number that a round releases stands once among those that it covers
+round_counts : (sub opening closing n : ℕ) (round : RoundRecord) → ((n : ℕ) → times n (covered (entries_of sub round)) ≡ (if nat_lt opening n && nat_le n closing then 1 else 0))
+    → times n (numbers_of sub (all_lines round.jobs)) ≤ (if nat_lt opening n && nat_le n closing then 1 else 0)
+round_counts sub opening closing n round covers =
+    let first = round_drawn n sub round in
+    let second = times-drawn n (entries_of sub round) in
+    let third = covers n in
+    omega (arith, first, second, third)
+
+-- it is above the round's opening and at most its closing
+pub round_between : (sub opening closing n : ℕ) (round : RoundRecord) → ((n : ℕ) → times n (covered (entries_of sub round)) ≡ (if nat_lt opening n && nat_le n closing then 1 else 0))
+    → 1 ≤ times n (numbers_of sub (all_lines round.jobs)) → (opening < n) × (n ≤ closing)
+round_between sub opening closing n round covers some =
+    in_range (times n (numbers_of sub (all_lines round.jobs))) n opening closing some (round_counts sub opening closing n round covers)
+
+-- it is so after a round
+apart_round : (sub opening closing next : ℕ) (early : List LineRecord) (round : RoundRecord) → next ≡ min closing max_seq → opening ≤ closing
+    → ((n : ℕ) → times n (covered (entries_of sub round)) ≡ (if nat_lt opening n && nat_le n closing then 1 else 0))
+    → All (λ n. n ≤ max_seq) (numbers_of sub (all_lines round.jobs)) → AreApart sub early opening → AreApart sub (early ++ all_lines round.jobs) next
+apart_round sub opening closing next early round again forward covers within are = record {
+  once = λ n.
+      let cut = times-numbers-append n sub early (all_lines round.jobs) in
+      let here = round_counts sub opening closing n round covers in
+      let one = range_once (times n (numbers_of sub (all_lines round.jobs))) n opening closing here in
+      let before = are.once n in
+      elim (cases_lt 0 (times n (numbers_of sub (all_lines round.jobs)))) [
+        | inl some ↦ (let (up, down) = round_between sub opening closing n round covers some in
+            elim (cases_lt 0 (times n (numbers_of sub early))) [
+              | inl twice ↦ absurd (let (low, few) = are.below n twice in omega arith)
+              | inr none ↦ omega (arith, cut, one, none)
+            ])
+        | inr none ↦ omega (arith, cut, before, none)
+      ];
+  below = λ n some.
+      let cut = times-numbers-append n sub early (all_lines round.jobs) in
+      elim (cases_lt 0 (times n (numbers_of sub (all_lines round.jobs)))) [
+        | inl here ↦ (let (up, down) = round_between sub opening closing n round covers here in
+            let few = All-times (λ m. m ≤ max_seq) n (numbers_of sub (all_lines round.jobs)) within here in (omega (arith, again, down, few), few))
+        | inr none ↦ (let (low, few) = are.below n (omega (arith, cut, none, some)) in (omega (arith, again, low, few, forward), few))
+      ];
+}
+
+-- it is so after a restart
+apart_restart : (sub opening next : ℕ) (early : List LineRecord) → ((n : ℕ) → 1 ≤ times n (numbers_of sub early) → n ≤ next) → AreApart sub early opening → AreApart sub early next
+apart_restart sub opening next early above are = record { once = are.once; below = λ n some. let (low, few) = are.below n some in (above n some, few) }
+
+-- it is so at the end
+parts_apart : (set : Setting) (stop : Option Stop) (sub : ℕ) (at : Course) (parts : List Part) (records : List PartRecord) (end : Course) → sub < length set.rows
+    → length at.openings ≡ length set.rows → AreApart sub at.early (get_or at.openings sub 0) → Leads set stop at parts records end
+    → (n : ℕ) → times n (numbers_of sub (at.early ++ lines_of records)) ≤ 1
+parts_apart set stop sub at [] records end inside sizes are (nothing, stands) n =
+    let all : (at.early ++ lines_of records) ≡ at.early = ap (λ (rs : List PartRecord). at.early ++ lines_of rs) nothing ∙ append-nil at.early in
+    let same = ap (λ (ls : List LineRecord). times n (numbers_of sub ls)) all in
+    let one = are.once n in omega (arith, same, one)
+parts_apart set stop sub at (part ∷ parts) [] end inside sizes are leads n = absurd leads
+parts_apart set stop sub at (Round jobs ∷ parts) (record_of.Round round ∷ records) end inside sizes are (next, serves, rest) n =
+    let words = serves.words in
+    let more = subst (λ (c : Course). Leads set stop c parts records end) serves.leads rest in
+    let kept = length-map words (λ (word : ℕ). min word max_seq) in
+    let same = serves.lawful.sizes in
+    let splits = serves.lawful.split sub (omega (arith, inside, sizes)) in
+    let within = numbers_within set sub at.early (all_lines round.jobs) (round_served set at.early jobs round.jobs serves.lawful.given) in
+    let here = apart_round sub (get_or at.openings sub 0) (get_or words sub 0) (get_or (reopened words) sub 0) at.early round (get_or-reopened words sub) splits.forward splits.once within are in
+    let further = parts_apart set stop sub (after_round at round words) parts records end inside (omega (arith, kept, same, sizes)) here more n in
+    subst (λ (ls : List LineRecord). times n (numbers_of sub ls) ≤ 1) (append_assoc at.early (all_lines round.jobs) (lines_of records)) further
+parts_apart set stop sub at (Round jobs ∷ parts) (record_of.Restart ∷ records) end inside sizes are (next, serves, rest) n = absurd serves
+parts_apart set stop sub at (Restart ∷ parts) (record_of.Round round ∷ records) end inside sizes are (next, serves, rest) n = absurd serves
+parts_apart set stop sub at (Restart ∷ parts) (record_of.Restart ∷ records) end inside sizes are (next, restarts, rest) n =
+    let limits = restarts.limits in
+    let more = subst (λ (c : Course). Leads set stop c parts records end) restarts.leads rest in
+    let here = apart_restart sub (get_or at.openings sub 0) (get_or (opened set.rows limits) sub 0) at.early
+    (λ m some.
+    let low = All-times (λ (k : ℕ). k ≤ get_or limits sub 0) m (numbers_of sub at.early) (restarts.raises.covers sub inside) some in
+    let high = opened_above set.rows limits sub inside in omega (arith, low, high))
+    are in
+    parts_apart set stop sub (after_restart set.rows at limits) parts records end inside (length-opened set.rows limits) here more n
+
 -- no vector of a subscriber comes twice
 pub keeps_numbers_apart : EachTranscriptKeepsNumbersApart
-keeps_numbers_apart set parts rounds known lawful sub inside =
-    let within = numbers_within set sub [] (lines_of_rounds rounds) (transcript_served set parts rounds lawful) in
-    let (low, high, covers) = transcript_covers set parts rounds sub known lawful inside in
-    sqns_differ (numbers_of sub (lines_of_rounds rounds)) within (differ_from_times (numbers_of sub (lines_of_rounds rounds))
-    (λ n. elim (cases_lt max_seq n) [
-      | inl above ↦ at_most_none n (numbers_of sub (lines_of_rounds rounds)) within above
-      | inr below ↦
-          let first = rounds_drawn n sub rounds in
-          let second = times-drawn n (entries_of_rounds sub rounds) in
-          let third = covers.once n below in
-          range_once (times n (numbers_of sub (lines_of_rounds rounds))) n low high (omega (arith, first, second, third))
-    ]))
-  where
-    at_most_none : (n : ℕ) (numbers : List ℕ) → All (λ m. m ≤ max_seq) numbers → max_seq < n → times n numbers ≤ 1
-    at_most_none n numbers within above =
-        elim (cases_lt 0 (times n numbers)) [
-          | inl some ↦ absurd (let low = All-times (λ m. m ≤ max_seq) n numbers within (omega arith) in omega arith)
-          | inr none ↦ omega arith
-        ]
+keeps_numbers_apart set reserved stop parts records lawful sub inside =
+    let within = numbers_within set sub [] (lines_of records) (transcript_served set reserved stop parts records lawful) in
+    let none : AreApart sub [] (get_or (opened set.rows reserved) sub 0) = record { once = λ n. omega arith; below = λ n some. absurd (omega (arith, some)) } in
+    sqns_differ (numbers_of sub (lines_of records)) within (differ_from_times (numbers_of sub (lines_of records))
+    (parts_apart set stop sub (beginning set.rows reserved) parts records lawful.0 inside (length-opened set.rows reserved) none lawful.1))

@@ -1,33 +1,37 @@
 -- What every lawful transcript promises of a subscriber's vectors and its USIM.
-use Rattle.std.specs.Prelude.{◌≡◌, ◌≢◌, ◌↔◌, ℕ, ◌+◌, ◌*◌, ◌^◌, ◌<◌, ◌≤◌, ◌&&◌, max, nat_le, nat_lt, not, Bool, true, false, List, ◌∷◌, ◌++◌, length, filter, fold, map, All, AllPairs, Contains, Some, slice_get}
+use Rattle.std.specs.Prelude.{◌≡◌, ◌≢◌, ◌↔◌, ℕ, ◌+◌, ◌*◌, ◌^◌, ◌<◌, ◌≤◌, ◌&&◌, ◌||◌, max, nat_le, nat_lt, not, Bool, true, false, Option, Some, None, List, [], ◌∷◌, ◌++◌, length, filter, fold, map, All, AllPairs, Contains, slice_get, if◌then◌else◌}
 use Rattle.std.specs.List.{list_any}
+use Rattle.auc_edge.specs.declared.stop.Stop.{Stop}
 use Rattle.auc_history.specs.declared.entry.Entry.{Entry}
 use Rattle.auc_history.specs.declared.entry.Entry.TheVariants.{Drawn, Moved, Look}
 use Rattle.auc_history.specs.History.{drawn}
-use Rattle.auc_script.specs.declared.part.Part.{Part}
-use Rattle.auc_sqn.specs.Number.{sqn_bytes}
+use Rattle.auc_history.specs.Split.{all_entries}
+use Rattle.auc_lines.specs.declared.part.Part.{Part}
+use Rattle.auc_lines.specs.declared.part.Part.TheVariants.{Restart}
+use Rattle.auc_sqn.specs.Number.{max_seq, seq_of, sqn_bytes}
 use Rattle.auc_subs.specs.declared.row.Row.{Row}
-use Rattle.auc_subs.specs.Subscriber.{AreSubscribers}
 use Rattle.auc_world.specs.declared.record.GiveVerdict.{GiveVerdict}
 use Rattle.auc_world.specs.declared.record.GiveVerdict.TheVariants as given
 use Rattle.auc_world.specs.declared.record.LineRecord.{LineRecord}
 use Rattle.auc_world.specs.declared.record.LineRecord.TheVariants.{Give}
-use Rattle.auc_world.specs.declared.record.RoundRecord.{RoundRecord}
-use Rattle.auc_transcript.specs.Lines.{numbers_of, accepted}
-use Rattle.auc_transcript.specs.Given.{Setting}
-use Rattle.auc_transcript.specs.Transcript.{IsLawful, lines_of_rounds, entries_of_rounds}
+use Rattle.auc_world.specs.declared.record.PartRecord.{PartRecord}
+use Rattle.auc_world.specs.declared.record.PartRecord.TheVariants as record_of
+use Rattle.auc_world.specs.Given.{is_in}
+use Rattle.auc_world.specs.Lines.{numbers_of, accepted}
+use Rattle.auc_world.specs.Setting.{Setting}
+use Rattle.auc_world.specs.Transcript.{IsLawful, lines_of, stretches_of}
 
 -- ---- vectors
 
 -- no two vectors that a transcript releases for one of so many subscribers have the same SQN
-abbrev pub VectorsDiffer : ℕ → List RoundRecord → Type 0
-VectorsDiffer count rounds = (sub : ℕ) → sub < count → AllPairs ◌≢◌ (map sqn_bytes (numbers_of sub (lines_of_rounds rounds)))
+abbrev pub VectorsDiffer : ℕ → List PartRecord → Type 0
+VectorsDiffer count records = (sub : ℕ) → sub < count → AllPairs ◌≢◌ (map sqn_bytes (numbers_of sub (lines_of records)))
 
 -- ---- the USIM
 
 -- no USIM of so many subscribers accepts an SQN twice
-abbrev pub AcceptsNoneTwice : ℕ → List RoundRecord → Type 0
-AcceptsNoneTwice count rounds = (sub : ℕ) → sub < count → AllPairs ◌≢◌ (map sqn_bytes (accepted sub (lines_of_rounds rounds)))
+abbrev pub AcceptsNoneTwice : ℕ → List PartRecord → Type 0
+AcceptsNoneTwice count records = (sub : ℕ) → sub < count → AllPairs ◌≢◌ (accepted sub (lines_of records))
 
 -- ---- periods and places
 
@@ -37,36 +41,56 @@ moves_between low high (Drawn n) = false
 moves_between low high (Moved from to) = nat_le low from && nat_lt from high
 moves_between low high (Look seen) = false
 
--- whether a subscriber's second number is of a later period than the first: a resynchronisation moved the
--- centre's number between the two
-abbrev pub is_of_later_period : List Entry → ℕ → ℕ → Bool
-is_of_later_period entries m n = list_any (moves_between m n) entries
+-- whether a resynchronisation moved the centre's number between two numbers of a stretch, the first below the second.
+-- The numbers of a stretch rise, so a move between the numbers stands between their draws (`Position`)
+abbrev pub is_moved : List Entry → ℕ → ℕ → Bool
+is_moved entries m n = list_any (moves_between m n) entries
+
+-- whether a subscriber's second number is of a later period than the first: it was drawn in a later stretch, or in the
+-- same one after a move. Numbers of different stretches aren't compared, since a restart may open a subscriber below
+-- numbers that an earlier move passed over
+abbrev pub is_later : List (List Entry) → ℕ → ℕ → Bool
+is_later [] m n = false
+is_later (entries ∷ more) m n =
+    is_in m (drawn entries) && (is_in n (drawn (all_entries more)) || (is_in n (drawn entries) && is_moved entries m n)) || is_later more m n
 
 -- whether two numbers of a subscriber are of one period
-abbrev pub is_one_period : List Entry → ℕ → ℕ → Bool
-is_one_period entries m n = not (is_of_later_period entries m n) && not (is_of_later_period entries n m)
+abbrev pub is_one_period : List (List Entry) → ℕ → ℕ → Bool
+is_one_period stretches m n = not (is_later stretches m n) && not (is_later stretches n m)
 
--- the place of a number in its period, counted from 1: how many drawn numbers of the period are at most that
--- number, since a subscriber's numbers rise
-abbrev pub place_in_period : List Entry → ℕ → ℕ
-place_in_period entries n = length (filter (λ m. nat_le m n && is_one_period entries m n) (drawn entries))
+-- the place of a number of a stretch in its period, counted from 1: how many drawn numbers are at most that number and
+-- have no move between it and them
+abbrev pub place_in : List Entry → ℕ → ℕ
+place_in entries n = length (filter (λ m. nat_le m n && not (is_moved entries m n)) (drawn entries))
 
--- a number fails by its place: it was accepted before, or a number was that was drawn in its period a positive
--- multiple of 32 places later
-pub record FailsByPlace (entries : List Entry) (before : List ℕ) (n : ℕ) : Type 0 where
+-- the place of a number in its period: its place in the stretch in which it was drawn
+abbrev pub place_of : List (List Entry) → ℕ → ℕ
+place_of [] n = 0
+place_of (entries ∷ more) n = if is_in n (drawn entries) then place_in entries n else place_of more n
+
+-- a number fails by its place: its SQN was accepted before, or the SQN of a number that was drawn in its period a
+-- positive multiple of 32 places later
+pub record FailsByPlace (stretches : List (List Entry)) (before : List (List ℕ)) (n : ℕ) : Type 0 where
   pub other : ℕ
-  pub was_accepted : Contains before other
-  pub one_period : is_one_period entries other n ≡ true
+  -- it is no mark: a mark has the 6 bytes of a lesser number's SQN
+  pub within : other ≤ max_seq
+  pub was_accepted : Contains before (sqn_bytes other)
+  pub one_period : is_one_period stretches other n ≡ true
   pub turns : ℕ
-  pub later : place_in_period entries other ≡ place_in_period entries n + 32 * turns
+  pub later : place_of stretches other ≡ place_of stretches n + 32 * turns
 
 -- ---- failures
 
--- a presented number is in reach: no number that was accepted before is of a later period, the number is at most
--- 2 ^ 28 above the greatest that counts as accepted, and it is above the USIM's opening
-pub record IsInReach (entries : List Entry) (opening : ℕ) (before : List ℕ) (n : ℕ) : Type 0 where
-  pub earlier : All (λ m. is_of_later_period entries n m ≡ false) before
-  pub near : n ≤ fold max opening before + 2 ^ 28
+-- the SQN of a number that was drawn for the subscriber, and is no mark
+abbrev pub IsGenuine : List (List Entry) → List ℕ → Type 0
+IsGenuine stretches sqn = (m : ℕ) × (m ≤ max_seq) × Contains (drawn (all_entries stretches)) m × (sqn ≡ sqn_bytes m)
+
+-- a presented number is in reach: each SQN that was accepted before was drawn for the subscriber, none of a later period,
+-- the number is at most 2 ^ 28 above the greatest that counts as accepted, and it is above the USIM's opening
+pub record IsInReach (stretches : List (List Entry)) (opening : ℕ) (before : List (List ℕ)) (n : ℕ) : Type 0 where
+  pub genuine : All (IsGenuine stretches) before
+  pub earlier : All (λ sqn. is_later stretches n (seq_of sqn) ≡ false) before
+  pub near : n ≤ fold max opening (map seq_of before) + 2 ^ 28
   pub above : opening < n
 
 -- a USIM's answer is a synchronisation failure
@@ -76,28 +100,33 @@ IsFailure (given.Sync sqn_ms) = Unit {0}
 IsFailure given.Absent = ⊥
 
 -- a vector is presented to its subscriber's USIM after some lines of a transcript
-pub record IsPresented (rounds : List RoundRecord) (before : List LineRecord) (sub n : ℕ) (answer : GiveVerdict) : Type 0 where
+pub record IsPresented (records : List PartRecord) (before : List LineRecord) (sub n : ℕ) (answer : GiveVerdict) : Type 0 where
   pub after : List LineRecord
-  pub lines_are : lines_of_rounds rounds ≡ before ++ Give sub n answer ∷ after
+  pub lines_are : lines_of records ≡ before ++ Give sub n answer ∷ after
   pub released : answer ≢ given.Absent
 
 -- each released vector that is in reach gets a synchronisation failure if and only if it fails by its place
-abbrev pub FailsExactlyByPlace : List Row → List RoundRecord → Type 0
-FailsExactlyByPlace rows rounds = (before : List LineRecord) (sub n : ℕ) (answer : GiveVerdict) (row : Row)
-    → IsPresented rounds before sub n answer → slice_get rows sub ≡ Some row
-    → IsInReach (entries_of_rounds sub rounds) row.usim (accepted sub before) n
-    → IsFailure answer ↔ FailsByPlace (entries_of_rounds sub rounds) (accepted sub before) n
+abbrev pub FailsExactlyByPlace : List Row → List PartRecord → Type 0
+FailsExactlyByPlace rows records = (before : List LineRecord) (sub n : ℕ) (answer : GiveVerdict) (row : Row)
+    → IsPresented records before sub n answer → slice_get rows sub ≡ Some row
+    → IsInReach (stretches_of sub records) row.usim (accepted sub before) n
+    → IsFailure answer ↔ FailsByPlace (stretches_of sub records) (accepted sub before) n
 
 -- ---- the laws
 
 abbrev pub EachTranscriptKeepsNumbersApart : Type 0
-EachTranscriptKeepsNumbersApart = (set : Setting) (parts : List Part) (rounds : List RoundRecord) → AreSubscribers set.rows
-    → IsLawful set parts rounds → VectorsDiffer (length set.rows) rounds
+EachTranscriptKeepsNumbersApart = (set : Setting) (reserved : List ℕ) (stop : Option Stop) (parts : List Part) (records : List PartRecord)
+    → IsLawful set reserved stop parts records → VectorsDiffer (length set.rows) records
 
 abbrev pub EachUsimAcceptsNoneTwice : Type 0
-EachUsimAcceptsNoneTwice = (set : Setting) (parts : List Part) (rounds : List RoundRecord) → AreSubscribers set.rows
-    → IsLawful set parts rounds → AcceptsNoneTwice (length set.rows) rounds
+EachUsimAcceptsNoneTwice = (set : Setting) (reserved : List ℕ) (stop : Option Stop) (parts : List Part) (records : List PartRecord)
+    → IsLawful set reserved stop parts records → AcceptsNoneTwice (length set.rows) records
 
 abbrev pub EachFailureIsByPlace : Type 0
-EachFailureIsByPlace = (set : Setting) (parts : List Part) (rounds : List RoundRecord) → AreSubscribers set.rows
-    → IsLawful set parts rounds → FailsExactlyByPlace set.rows rounds
+EachFailureIsByPlace = (set : Setting) (reserved : List ℕ) (stop : Option Stop) (parts : List Part) (records : List PartRecord)
+    → IsLawful set reserved stop parts records → FailsExactlyByPlace set.rows records
+
+-- a restart may follow every lawful transcript: some limits meet what is asked of them
+abbrev pub EachTranscriptMayRestart : Type 0
+EachTranscriptMayRestart = (set : Setting) (reserved : List ℕ) (parts : List Part) (records : List PartRecord) → All (λ limit. limit ≤ max_seq) reserved
+    → IsLawful set reserved None parts records → IsLawful set reserved None (parts ++ Restart ∷ []) (records ++ record_of.Restart ∷ [])

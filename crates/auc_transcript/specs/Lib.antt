@@ -1,7 +1,3 @@
-pub mod Lines
-pub mod Entries
-pub mod Given
-pub mod Pieces
-pub mod Round
-pub mod Transcript
 pub mod Headline
+pub mod Position
+pub mod Rounds

@@ -1,6 +1,30 @@
-//! The records of a round: the answers to the lines of its jobs, and how each subscriber's numbers closed.
+//! The records of a scenario's rounds, with what they are served with; and what a lawful transcript is.
+//!
+//! A transcript is a list of parts: the records of a round, or a restart. A round is lawful if its records
+//! are what its jobs ask for, and if the jobs' entries of each subscriber split a legal history of its
+//! numbers (`specs/Given`, `specs/Round`). A transcript is lawful if each round is opened where the part before it
+//! leads (`specs/Transcript`). The centre's answers are free within that. No definition speaks of an order
+//! between the steps of different jobs.
+//!
+//! Two laws are about a round that several workers serve, each without the others' lines (`specs/Pieces`).
+//! Put together, the workers' pieces are what the jobs give, and their entries split the same history. Two more
+//! say that a restart opens no subscriber below a released number, and that a USIM remembers what it accepted.
+//!
+//! The record of a released vector has its subscriber and its number. They determine the vector's bytes
+//! (`specs/Vectors`), so a transcript has no bytes of vectors.
 #![tactic(auto)]
 
+mod auts;
+mod law;
 mod record;
+mod setting;
 
-pub use record::{Closing, GiveVerdict, JobRecord, LineRecord, RoundRecord, SyncVerdict};
+pub use auts::auts_of;
+pub use law::{
+    jobs_give_after_all_lines, past_has_each_accepted_sqn, pieces_split_the_round,
+    restart_opens_above_released_numbers,
+};
+pub use record::{
+    Closing, GiveVerdict, JobRecord, JobVectors, LineRecord, PartRecord, RoundRecord, SyncVerdict,
+};
+pub use setting::Setting;

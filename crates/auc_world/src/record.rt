@@ -4,12 +4,12 @@ use auc_edge::{Items, Stop};
 use auc_vector::Vector;
 
 /// What one line of the output says of a job.
-#[derive(Clone, Copy, Debug, PartialEq, Eq)]
+#[derive(Debug, Drop, PartialEq, Eq)]
 pub enum LineRecord {
-    /// The authentication vector was released for the subscriber.
+    /// The authentication vector of the number was released for the subscriber.
     Vector {
         sub: u32,
-        vector: Vector,
+        n: u64,
     },
     /// The number was drawn for the subscriber, and its vector withheld.
     Withheld {
@@ -34,6 +34,24 @@ pub enum LineRecord {
         n: u64,
         verdict: GiveVerdict,
     },
+}
+
+impl LineRecord {
+    ghost use Rattle.std.specs.Prelude.{◌≡◌};
+    ghost use Rattle.auc_world.specs.Record.{subscriber_of};
+
+    /// The subscriber that the line names, by its place.
+    pub fn subscriber(&self) -> u32
+        ensures { result ≡ subscriber_of self.now }
+    {
+        match *self {
+            LineRecord::Vector { sub, .. }
+            | LineRecord::Withheld { sub, .. }
+            | LineRecord::Exhausted { sub, .. }
+            | LineRecord::Sync { sub, .. }
+            | LineRecord::Give { sub, .. } => sub,
+        }
+    }
 }
 
 /// What the home network makes of an AUTS (TS 33.102 §6.3.5).
@@ -66,6 +84,9 @@ pub enum GiveVerdict {
 /// The records of a job's lines, in their order.
 pub type JobRecord = Items<LineRecord>;
 
+/// The vectors that a job's lines released, in the order of these lines.
+pub type JobVectors = Items<Vector>;
+
 /// How the numbers of a subscriber stood at the end of a round in which they moved.
 #[derive(Clone, Copy, Debug, PartialEq, Eq)]
 pub struct Closing {
@@ -91,4 +112,14 @@ pub struct RoundRecord {
     pub number: u32,
     pub jobs: Items<JobRecord>,
     pub closings: Items<Closing>,
+}
+
+/// What one part of a scenario did.
+#[derive(Drop)]
+pub enum PartRecord {
+    /// A round.
+    Round(RoundRecord),
+    /// The authentication centre started again. The words at which it opened its subscribers show in the
+    /// next round.
+    Restart,
 }

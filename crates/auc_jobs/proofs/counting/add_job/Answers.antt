@@ -1,14 +1,9 @@
 use Rattle.std.proofs.Common.{◌++◌, take}
 use Rattle.std.proofs.lemmas.List.{take_more}
 use Rattle.auc_jobs.proofs.CountLemmas.{counted_take}
-use Rattle.auc_jobs.proofs.StateLemmas.{released_take}
 use Rattle.auc_jobs.proofs.counting.add_job.Goals as goal
 
 pub loop-line-preserved : goal.loop-line-preserved
-loop-line-preserved c = record {
-  counted = λ before are.
-      counted_take _ before c.args.lines.now c.loop-line.line-index _ (take_more _ _ _ c.loop-line-test.true)
-      (c.add_line.ensures (before ++ take c.loop-line.line-index c.args.lines.now) (c.loop-line.invariant.counted before are));
-  noted = λ before are.
-      released_take _ _ before c.args.lines.now c.loop-line.line-index _ (take_more _ _ _ c.loop-line-test.true) (c.loop-line.invariant.noted before are) c.in_ok-note.ensures.noted;
-}
+loop-line-preserved c = λ before are.
+    counted_take _ before c.args.lines.now c.loop-line.line-index _ (take_more _ _ _ c.loop-line-test.true)
+    (c.add_line.ensures (before ++ take c.loop-line.line-index c.args.lines.now) (c.loop-line.invariant before are))

@@ -1,19 +1,16 @@
-use Rattle.std.proofs.Common.{◌≡◌, ◌+◌, ◌++◌, List, take, drop, length, ◌∙◌, append-nil, arith, subst, sym}
+use Rattle.std.proofs.Common.{◌≡◌, ◌+◌, ◌++◌, List, take, drop, length, arith, subst, sym, ◌∙◌}
 use Rattle.std.proofs.lemmas.Grind.{common_steps}
 use Rattle.std.proofs.lemmas.List.{take_more}
-use Rattle.auc_transcript.specs.Lines.{all_lines}
+use Rattle.auc_world.specs.Lines.{all_lines}
 use Rattle.auc_jobs.specs.declared.counting.Count.{Count}
 use Rattle.auc_jobs.specs.InnerClosings.{AreCounted}
-use Rattle.auc_jobs.specs.Numbers.{AreReleased}
 use Rattle.auc_jobs.proofs.CountLemmas.{counted_job, counted_none}
-use Rattle.auc_jobs.proofs.StateLemmas.{released_job}
 use Rattle.auc_jobs.proofs.counting.counts.Goals as goal
 
 pub loop-job-init : goal.loop-job-init
 loop-job-init c = record {
   size = grind (arith, common_steps);
   counted = counted_none c.in_ok-counts.counts.items c.args.subs (c.in_ok-counts.ensures.items_if_clones_equal (λ y same. same));
-  noted = λ before are. subst (AreReleased c.args.released.now) (sym (append-nil before)) are;
 }
 
 pub loop-job-preserved : goal.loop-job-preserved
@@ -24,8 +21,5 @@ loop-job-preserved c =
       counted = subst (λ (counts : List Count). AreCounted (all_lines (take (c.loop-job.job-index + 1) c.args.records.now)) counts) (sym same)
           (counted_job c.add_job.new.counts c.args.records.now c.loop-job.job-index _ c.as_slice.result.now (take_more _ _ c.job-item.result c.loop-job-test.true)
           (c.as_slice.ensures ∙ c.job-item.is)
-          (c.in_ok-add_job.ensures.counted (all_lines (take c.loop-job.job-index c.args.records.now)) (rw c.deref_mut.ensures.value c.loop-job.invariant.counted)));
-      noted = λ before are.
-          released_job _ before c.args.records.now c.loop-job.job-index _ c.as_slice.result.now (take_more _ _ c.job-item.result c.loop-job-test.true) (c.as_slice.ensures ∙ c.job-item.is)
-          (c.in_ok-add_job.ensures.noted (before ++ all_lines (take c.loop-job.job-index c.args.records.now)) (c.loop-job.invariant.noted before are));
+          (c.add_job.ensures (all_lines (take c.loop-job.job-index c.args.records.now)) (rw c.deref_mut.ensures.value c.loop-job.invariant.counted)));
     }

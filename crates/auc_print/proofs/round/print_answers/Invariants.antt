@@ -1,7 +1,12 @@
--- The lines of the previous records were appended.
-use Rattle.std.proofs.Common.{◌≡◌, ◌++◌, flat_map, take}
-use Rattle.auc_print.specs.Text.{identities_of, line_text, RecordLine}
+-- The text with the remaining records and the vectors that are left is the text of all.
+use Rattle.std.proofs.Common.{◌≡◌, ◌++◌, drop}
+use Rattle.auc_print.specs.Inner.{IsFrontOf, answers_text}
+use Rattle.auc_print.specs.Text.{identities_of}
 use Rattle.auc_print.proofs.round.print_answers.Given as goal
 
 abbrev pub invariant-loop-answer : goal.invariant-loop-answer
-invariant-loop-answer l = l.out ≡ l.initial.out ++ flat_map (λ answer. line_text (identities_of l.subs) l.full (RecordLine answer)) (take l.answer-index l.job)
+invariant-loop-answer l = record {
+  printed : l.out ++ answers_text (identities_of l.subs) (drop l.answer-index l.job) l.left
+      ≡ l.initial.out ++ answers_text (identities_of l.subs) l.job l.vectors;
+  grows : IsFrontOf l.initial.out l.out;
+}

@@ -1,7 +1,6 @@
 use Rattle.std.proofs.Common.{ℕ, ◌+◌, List, ◌∷◌, drop, ◌∙◌, sym, ap, subst, refl}
 use Rattle.std.proofs.lemmas.List.{drop_more, drop_all}
-use Rattle.auc_script.specs.declared.part.Part.{Part}
-use Rattle.auc_transcript.specs.Transcript.{lines_of_rounds as lines_of}
+use Rattle.auc_lines.specs.declared.part.Part.{Part}
 use Rattle.auc_run.proofs.OutputLemmas.{Serving, Serving-none, Serving-part, Serving-all}
 use Rattle.auc_run.proofs.rounds.serve_parts.Goals as goal
 
@@ -9,7 +8,7 @@ pub loop-part-init : goal.loop-part-init
 loop-part-init g c = record {
   number = refl;
   quiet = refl;
-  serving = Serving-none _ _ _ _ _ c.in_ok-state.ensures.words (c.in_ok-state.ensures.stands (record { key = c.new-rands.result; rows = c.args.subs.now }) refl);
+  serving = Serving-none _ _ _ _ _ c.in_ok-state.ensures.words (c.in_ok-state.ensures.stands (record { key = c.new-rands.result; rows = c.args.subs.now; realm = c.as_slice.result.now }) refl);
 }
 
 pub loop-part-preserved : goal.loop-part-preserved
@@ -21,7 +20,7 @@ loop-part-preserved g c =
       serving = Serving-part _ _ _ _ _ _ _ _ _ _ _ _ _
           (drop_more _ _ c.part-item.result c.loop-part-test.true
           ∙ ap (λ (part : Part). part ∷ drop (c.loop-part.part-index + 1) c.as_slice-parts.result.now) (sym c.part-item.is))
-          refl serving (c.in_ok-state-2.ensures.written (lines_of serving.rounds) serving.stands);
+          refl serving (c.in_ok-state-2.ensures.written serving.course serving.on);
     }
 
 pub returns-clause-written : goal.returns-clause-written
@@ -31,7 +30,13 @@ returns-clause-written g c =
     let number = c.loop-part.number + 1 in
     let old = g.K.Sink.written c.args.out.now in
     let new = g.K.Sink.written c.loop-part.out in
-    let of_script = subst (λ (parts : List Part). Serving (record { key = c.new-rands.result; rows = c.args.subs.now }) full number c.loop-part.state left parts old new)
+    let rows = c.args.subs.now in
+    let state = c.loop-part.state in
+    let realm = c.as_slice.result.now in
+    let of_script = subst (λ (parts : List Part). Serving (record { key = c.new-rands.result; rows = rows; realm = realm }) full number state left parts old new)
     c.as_slice-parts.ensures c.loop-part.invariant.serving in
-    Serving-all c.args.subs.now c.args.script.now number c.loop-part.state left old new (drop_all _ _ c.loop-part-test.false)
-    (subst (λ (key : List ℕ). Serving (record { key = key; rows = c.args.subs.now }) full number c.loop-part.state left c.args.script.now.parts old new) c.new-rands.ensures of_script)
+    let of_key = subst (λ (key : List ℕ). Serving (record { key = key; rows = rows; realm = realm }) full number state left c.args.script.now.parts old new)
+    c.new-rands.ensures of_script in
+    Serving-all rows c.args.script.now number state left old new (drop_all _ _ c.loop-part-test.false)
+    (subst (λ (r : List ℕ). Serving (record { key = c.args.script.now.key; rows = rows; realm = r }) full number state left c.args.script.now.parts old new)
+    c.as_slice.ensures of_key)

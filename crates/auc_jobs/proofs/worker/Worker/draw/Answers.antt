@@ -1,7 +1,8 @@
+use Rattle.auc_jobs.specs.InnerUsims.{usim_in}
 use Rattle.std.proofs.Common.{◌≡◌, ◌-◌, ◌+◌, ◌++◌, ◌∙◌, arith, ap, subst, true, false}
 use Rattle.std.proofs.Math.Nat.{sub-zero}
-use Rattle.auc_transcript.specs.Given.{DrawGives}
-use Rattle.auc_jobs.specs.InnerServing.{AreTold, AreOfRow, is_vector}
+use Rattle.auc_world.specs.Given.{DrawGives}
+use Rattle.auc_jobs.specs.InnerServing.{AreTold, is_vector}
 use Rattle.auc_jobs.specs.InnerWorker.{AreForRows, WorkerState}
 use Rattle.auc_jobs.proofs.DrawingLemmas.{Adding, adding_none, adding_vector, adding_end, adding_all}
 use Rattle.auc_jobs.proofs.WorkerLemmas.{worker_adds}
@@ -9,12 +10,11 @@ use Rattle.auc_jobs.proofs.worker.Worker.draw.Goals as goal
 
 pub loop-init : goal.loop-init
 loop-init g c = record {
-  rows = subst (λ (w : WorkerState g.row.C.Denot). AreForRows w.set.rows (g.C.Centre.subs c.self.inside.centre) (g.C.Centre.top c.self.inside.centre) w.usims) c.self.view_is c.self.invariant;
+  rows = subst (λ (w : WorkerState g.row.C.Denot). AreForRows w.set.rows (g.C.Centre.subs c.self.inside.centre) (g.C.Centre.top c.self.inside.centre) (usim_in w.usims)) c.self.view_is c.self.invariant;
   set = ap (λ (w : WorkerState g.row.C.Denot). w.set) c.self.view_is;
   released = ap (λ (w : WorkerState g.row.C.Denot). w.released) c.self.view_is;
   usims = ap (λ (w : WorkerState g.row.C.Denot). w.usims) c.self.view_is;
   name = ap (λ (w : WorkerState g.row.C.Denot). g.C.Centre.name w.centre) c.self.view_is;
-  vectors = subst (λ (w : WorkerState g.row.C.Denot). AreOfRow w.set.key w.set.rows c.args.sub c.vectors_of-vectors.result) c.self.view_is c.vectors_of-vectors.ensures;
   adding = λ beside. subst (λ (w : WorkerState g.row.C.Denot). AreTold (g.C.Centre.kept w.centre) (beside ++ w.lines)
       → Adding (λ i es ws. g.C.Centre.goes w.centre i es ws c.self.inside.centre) (g.C.Centre.kept c.self.inside.centre) w.set c.args.sub (c.args.count - 0) c.args.count
       beside w.lines c.self.inside.lines) c.self.view_is
@@ -22,8 +22,8 @@ loop-init g c = record {
       c.args.sub c.args.count beside c.self.inside.lines (λ i. g.met.C.Centre.stays c.self.inside.centre i) told));
 }
 
-pub returns-then-not-is_vector-clause-drawn : goal.returns-then-not-is_vector-clause-drawn
-returns-then-not-is_vector-clause-drawn g c = λ early beside stands.
+pub returns-then-not-goes_on-clause-drawn : goal.returns-then-not-goes_on-clause-drawn
+returns-then-not-goes_on-clause-drawn g c = λ early beside stands.
     let ends : is_vector c.draw_one-line.result ≡ false = cc in
     worker_adds (λ i es ws. g.C.Centre.goes c.args.self.now.centre i es ws c.draw_one-line.new.centre) (g.C.Centre.kept c.args.self.now.centre) (g.C.Centre.kept c.draw_one-line.new.centre)
     early beside c.args.self.now c.loop.self-inside.usims c.push.new.self (DrawGives c.args.self.now.set c.args.sub c.args.count) c.loop.invariant.usims stands
@@ -33,7 +33,7 @@ returns-then-not-is_vector-clause-drawn g c = λ early beside stands.
     c.args.self.now.set c.args.sub (c.args.count - c.loop.counter) (c.args.count - (c.loop.counter + 1)) c.args.count
     beside c.args.self.now.lines c.loop.self-inside.lines _ c.draw_one-line.result
     (λ i es fs ws vs. g.met.C.Centre.joins c.args.self.now.centre c.loop.self-inside.centre c.draw_one-line.new.centre i es fs ws vs)
-    (omega arith) c.in_ok-push.ensures (c.draw_one-line.ensures.line c.args.self.now.set c.loop.invariant.vectors) ends c.draw_one-line.ensures.said
+    (omega arith) c.in_ok-push.ensures (c.draw_one-line.ensures.line c.args.self.now.set c.requires) ends c.draw_one-line.ensures.said
     (c.loop.invariant.adding beside stands.told))
 
 pub loop-preserved : goal.loop-preserved
@@ -43,13 +43,12 @@ loop-preserved g c = record {
       size = c.draw_one-line.ensures.subs ∙ c.loop.invariant.rows.is_centre.size;
       greatest = λ sub. c.draw_one-line.ensures.top sub ∙ c.loop.invariant.rows.is_centre.greatest sub;
     };
-    of_rows = c.loop.invariant.rows.of_rows;
+    secrets = c.loop.invariant.rows.secrets;
   };
   set = c.loop.invariant.set;
   released = c.loop.invariant.released;
   usims = c.loop.invariant.usims;
   name = c.draw_one-line.ensures.name ∙ c.loop.invariant.name;
-  vectors = rw c.draw_one-line.ensures.vectors c.loop.invariant.vectors;
   adding = λ beside told.
       let goes_on : is_vector c.draw_one-line.result ≡ true = cc in
       adding_vector (λ i es ws. g.C.Centre.goes c.args.self.now.centre i es ws c.loop.self-inside.centre)
@@ -58,7 +57,7 @@ loop-preserved g c = record {
       c.args.self.now.set c.args.sub (c.args.count - c.loop.counter) (c.args.count - (c.loop.counter + 1)) c.args.count
       beside c.args.self.now.lines c.loop.self-inside.lines _ c.draw_one-line.result
       (λ i es fs ws vs. g.met.C.Centre.joins c.args.self.now.centre c.loop.self-inside.centre c.draw_one-line.new.centre i es fs ws vs)
-      (omega arith) c.in_ok-push.ensures (c.draw_one-line.ensures.line c.args.self.now.set c.loop.invariant.vectors) goes_on c.draw_one-line.ensures.said
+      (omega arith) c.in_ok-push.ensures (c.draw_one-line.ensures.line c.args.self.now.set c.requires) goes_on c.draw_one-line.ensures.said
       (c.loop.invariant.adding beside told);
 }
 

@@ -1,18 +1,18 @@
 use Rattle.std.proofs.Common.{◌≡◌, ◌-◌, ◌++◌, List}
 use Rattle.auc_world.specs.declared.record.LineRecord.{LineRecord}
-use Rattle.auc_jobs.specs.InnerServing.{AreTold, AreOfRow}
+use Rattle.auc_jobs.specs.InnerServing.{AreTold}
+use Rattle.auc_jobs.specs.InnerUsims.{usim_in}
 use Rattle.auc_jobs.specs.InnerWorker.{AreForRows}
 use Rattle.auc_jobs.proofs.DrawingLemmas.{Adding}
 use Rattle.auc_jobs.proofs.worker.Worker.draw.Given as goal
 
 abbrev pub invariant-loop : goal.invariant-loop
 invariant-loop g l = record {
-  rows : AreForRows l.fn.self.set.rows (g.C.Centre.subs l.self-inside.centre) (g.C.Centre.top l.self-inside.centre) l.fn.self.usims;
+  rows : AreForRows l.fn.self.set.rows (g.C.Centre.subs l.self-inside.centre) (g.C.Centre.top l.self-inside.centre) (usim_in l.fn.self.usims);
   set : l.self-inside.set.now ≡ l.fn.self.set;
   released : l.self-inside.released.now ≡ l.fn.self.released;
   usims : l.self-inside.usims ≡ l.fn.self.usims;
   name : g.C.Centre.name l.self-inside.centre ≡ g.C.Centre.name l.fn.self.centre;
-  vectors : AreOfRow l.fn.self.set.key l.fn.self.set.rows l.sub l.vectors;
   adding : (beside : List LineRecord) → AreTold (g.C.Centre.kept l.fn.self.centre) (beside ++ l.fn.self.lines)
       → Adding (λ i es ws. g.C.Centre.goes l.fn.self.centre i es ws l.self-inside.centre) (g.C.Centre.kept l.self-inside.centre) l.fn.self.set l.sub (l.count - l.counter) l.count
       beside l.fn.self.lines l.self-inside.lines;

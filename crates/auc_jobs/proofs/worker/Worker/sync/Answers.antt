@@ -1,5 +1,6 @@
+use Rattle.auc_jobs.specs.InnerUsims.{usim_in}
 use Rattle.std.proofs.Common.{◌≡◌, true, false, subst}
-use Rattle.auc_transcript.specs.Given.{SyncGives}
+use Rattle.auc_world.specs.Given.{SyncGives}
 use Rattle.auc_jobs.specs.InnerServing.{is_accepted_next}
 use Rattle.auc_jobs.specs.InnerWorker.{WorkerState, WorkerServes}
 use Rattle.auc_jobs.proofs.JobLemmas.{serves_adds}
@@ -20,7 +21,7 @@ returns-then-not-is_accepted_next-clause-synced g c =
     subst (λ (w : WorkerState g.row.C.Denot). WorkerServes g.C.Centre.kept g.C.Centre.goes w new (λ before. SyncGives w.set c.args.sub c.args.seq c.args.bit c.args.count)) c.self.view_is
     (λ early beside stands.
     serves_adds (λ i es ws. g.C.Centre.goes c.self.inside.centre i es ws c.verdict_on-verdict.new.centre) c.self.inside.set.now.rows early beside c.self.inside.lines c.push.new.self
-    (g.C.Centre.kept c.self.inside.centre) (g.C.Centre.kept c.verdict_on-verdict.new.centre) c.self.inside.released.now c.self.inside.usims
+    (g.C.Centre.kept c.self.inside.centre) (g.C.Centre.kept c.verdict_on-verdict.new.centre) c.self.inside.released.now (usim_in c.self.inside.usims)
     (SyncGives c.self.inside.set.now c.args.sub c.args.seq c.args.bit c.args.count) stands
     (sync_alone (λ i es ws. g.C.Centre.goes c.self.inside.centre i es ws c.verdict_on-verdict.new.centre) (g.C.Centre.kept c.self.inside.centre)
     (g.C.Centre.kept c.verdict_on-verdict.new.centre) c.self.inside.set.now c.args.sub c.args.seq c.args.bit c.args.count beside c.self.inside.lines c.push.new.self
@@ -37,6 +38,6 @@ returns-clause-synced g c =
     (λ i es ws. g.C.Centre.goes c.verdict_on-verdict.new.centre i es ws c.draw.new.self.centre) (λ i es ws. g.C.Centre.goes c.self.inside.centre i es ws c.draw.new.self.centre)
     (g.C.Centre.kept c.self.inside.centre) (g.C.Centre.kept c.verdict_on-verdict.new.centre) (g.C.Centre.kept c.draw.new.self.centre)
     c.self.inside.set.now c.args.sub c.args.seq c.args.bit c.args.count early beside c.self.inside.lines c.push.new.self c.draw.new.self.lines
-    c.self.inside.released.now c.self.inside.usims c.draw.new.self.usims c.reported-auts.result c.verdict_on-verdict.result
+    c.self.inside.released.now (usim_in c.self.inside.usims) (usim_in c.draw.new.self.usims) c.reported-auts.result c.verdict_on-verdict.result
     (λ i es fs ws vs. g.met.C.Centre.joins c.self.inside.centre c.verdict_on-verdict.new.centre c.draw.new.self.centre i es fs ws vs)
     c.reported-auts.ensures.value c.verdict_on-verdict.ensures.verdict goes_on c.in_ok-push.ensures c.verdict_on-verdict.ensures.said stands (drawn early beside)))

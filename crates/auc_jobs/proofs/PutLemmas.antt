@@ -1,0 +1,87 @@
+-- For the USIMs after a round: its jobs' own ones were put back.
+use Rattle.std.proofs.Common.{◌≡◌, ℕ, ◌<◌, ◌⊎◌, Bool, true, false, List, [], ◌∷◌, ◌++◌, AllPairs, length, refl, sym, ◌∙◌, ap, subst, append-nil, append_assoc, inl, inr}
+use Rattle.std.specs.Prelude.{All, Option, Some, None, is_some, slice_get}
+use Rattle.std.proofs.lemmas.Bool.{false≢true}
+use Rattle.std.proofs.lemmas.Option.{slice_get_within}
+use Rattle.auc_history.proofs.Facts.{AllPairs-tail}
+use Rattle.std.proofs.lemmas.List.Elements.{All-head}
+use Rattle.auc_lines.specs.declared.part.Line.{Line}
+use Rattle.auc_lines.specs.Part.{AreApart, gives_to}
+use Rattle.auc_sqn.specs.Past.{Remembers}
+use Rattle.auc_subs.specs.declared.row.Row.{Row}
+use Rattle.auc_usim.specs.Usim.{Memory}
+use Rattle.auc_world.specs.declared.record.LineRecord.{LineRecord}
+use Rattle.auc_world.specs.Given.{past_of}
+use Rattle.auc_world.specs.Lines.{accepted, all_lines}
+use Rattle.auc_world.specs.Pieces.{IsQuiet}
+use Rattle.auc_world.proofs.Facts.{accepted-append}
+use Rattle.auc_jobs.specs.Usims.{AreOfRows, AreBehind}
+use Rattle.auc_jobs.specs.InnerRound.{IsSettled, AreSettled}
+use Rattle.auc_jobs.specs.InnerUsims.{OwnUsims, usim_in, put_at, ArePut, ArePutBack}
+use Rattle.auc_jobs.proofs.PieceLemmas.{quiet_rest}
+
+-- the subscribers' USIMs after some lines
+pub record ArePlaced (rows : List Row) (lines : List LineRecord) (usims : List Memory) : Type 0 where
+  pub of_rows : AreOfRows rows usims
+  pub behind : AreBehind rows lines (slice_get usims)
+
+-- what a place has is the job's USIM, if the job gives there, or what it had
+put_is : (b : Bool) (own old : Option Memory) (usim : Memory) → is_some own ≡ b → put_at b own old ≡ Some usim → ((b ≡ true) × (own ≡ Some usim)) ⊎ ((b ≡ false) × (old ≡ Some usim))
+put_is true None old usim has is = absurd (false≢true has)
+put_is true (Some kept) old usim has is = inl (refl, is)
+put_is false own old usim has is = inr (refl, is)
+
+put_cases : (rows : List Row) (early lines : List LineRecord) (old new : List Memory) (job : List Line) (own : ℕ → Option Memory) (sub : ℕ) (usim : Memory) → IsSettled rows early job lines own
+    → ArePut old job own new → slice_get new sub ≡ Some usim → ((gives_to sub job ≡ true) × (own sub ≡ Some usim)) ⊎ ((gives_to sub job ≡ false) × (slice_get old sub ≡ Some usim))
+put_cases rows early lines old new job own sub usim settled put there =
+    let inside : sub < length old = subst (λ (n : ℕ). sub < n) put.sizes (slice_get_within new sub usim there) in
+    put_is (gives_to sub job) (own sub) (slice_get old sub) usim (settled.keyed sub) (sym (put.each sub inside) ∙ there)
+
+-- what it accepted
+own_accepted : (sub : ℕ) (early front lines : List LineRecord) → accepted sub front ≡ [] → accepted sub (early ++ lines) ≡ accepted sub (early ++ (front ++ lines))
+own_accepted sub early front lines quiet =
+    accepted-append sub early lines
+    ∙ sym (accepted-append sub early (front ++ lines)
+    ∙ ap (λ (sqns : List (List ℕ)). accepted sub early ++ sqns) (accepted-append sub front lines ∙ ap (λ (sqns : List (List ℕ)). sqns ++ accepted sub lines) quiet))
+
+old_accepted : (sub : ℕ) (early front lines : List LineRecord) → accepted sub lines ≡ [] → accepted sub (early ++ front) ≡ accepted sub (early ++ (front ++ lines))
+old_accepted sub early front lines quiet =
+    accepted-append sub early front
+    ∙ sym (accepted-append sub early (front ++ lines)
+    ∙ ap (λ (sqns : List (List ℕ)). accepted sub early ++ sqns)
+    (accepted-append sub front lines ∙ ap (λ (sqns : List (List ℕ)). accepted sub front ++ sqns) quiet ∙ append-nil (accepted sub front)))
+
+-- a job's own USIMs were put back
+placed_job : (rows : List Row) (early front lines : List LineRecord) (old new : List Memory) (job : List Line) (own : ℕ → Option Memory) → IsQuiet front job
+    → IsSettled rows early job lines own → ArePut old job own new → ArePlaced rows (early ++ front) old → ArePlaced rows (early ++ (front ++ lines)) new
+placed_job rows early front lines old new job own quiet settled put placed = record {
+  of_rows = record { sizes = put.sizes ∙ placed.of_rows.sizes; secrets = λ sub row usim at there. secret sub row usim at (put_cases rows early lines old new job own sub usim settled put there) };
+  behind = λ sub row usim at there. remember sub row usim at (put_cases rows early lines old new job own sub usim settled put there);
+}
+  where
+    secret : (sub : ℕ) (row : Row) (usim : Memory) → slice_get rows sub ≡ Some row
+        → ((gives_to sub job ≡ true) × (own sub ≡ Some usim)) ⊎ ((gives_to sub job ≡ false) × (slice_get old sub ≡ Some usim)) → usim.secret ≡ row.secret
+    secret sub row usim at (inl (gives, is)) = settled.secrets sub row usim at is
+    secret sub row usim at (inr (other, is)) = placed.of_rows.secrets sub row usim at is
+
+    remember : (sub : ℕ) (row : Row) (usim : Memory) → slice_get rows sub ≡ Some row
+        → ((gives_to sub job ≡ true) × (own sub ≡ Some usim)) ⊎ ((gives_to sub job ≡ false) × (slice_get old sub ≡ Some usim))
+        → Remembers usim.array (past_of row.usim (accepted sub (early ++ (front ++ lines))))
+    remember sub row usim at (inl (gives, is)) =
+        subst (λ (sqns : List (List ℕ)). Remembers usim.array (past_of row.usim sqns)) (own_accepted sub early front lines (quiet sub gives)) (settled.behind sub row usim at is)
+    remember sub row usim at (inr (other, is)) =
+        subst (λ (sqns : List (List ℕ)). Remembers usim.array (past_of row.usim sqns)) (old_accepted sub early front lines (settled.quiet sub other)) (placed.behind sub row usim at is)
+
+-- those of all jobs were
+pub placed_jobs : (rows : List Row) (early front : List LineRecord) (old new : List Memory) (jobs : List (List Line)) (records : List (List LineRecord)) (own : List OwnUsims)
+    → AllPairs AreApart jobs → All (IsQuiet front) jobs → AreSettled rows early jobs records own → ArePutBack old jobs own new → ArePlaced rows (early ++ front) old
+    → ArePlaced rows (early ++ (front ++ all_lines records)) new
+placed_jobs rows early front old new [] records own apart quiet settled put placed =
+    subst (λ (usims : List Memory). ArePlaced rows (early ++ (front ++ all_lines records)) usims) (sym put)
+    (subst (λ (lines : List LineRecord). ArePlaced rows (early ++ lines) old) (sym (ap (λ (rs : List (List LineRecord)). front ++ all_lines rs) settled.0 ∙ append-nil front)) placed)
+placed_jobs rows early front old new (job ∷ jobs) [] own apart quiet settled put placed = absurd settled
+placed_jobs rows early front old new (job ∷ jobs) (lines ∷ records) [] apart quiet settled put placed = absurd settled
+placed_jobs rows early front old new (job ∷ jobs) (lines ∷ records) (usims ∷ own) apart quiet (here, rest) (mid, put, more) placed =
+    subst (λ (ls : List LineRecord). ArePlaced rows (early ++ ls) new) (append_assoc front lines (all_lines records))
+    (placed_jobs rows early (front ++ lines) mid new jobs records own (AllPairs-tail AreApart job jobs apart) (quiet_rest front lines job jobs quiet apart here.quiet) rest more
+    (placed_job rows early front lines old mid job (usim_in usims) (All-head (IsQuiet front) job jobs quiet) here put placed))

@@ -1,0 +1,130 @@
+-- For a job: its lines with its own USIMs, after its worker's earlier lines.
+use Rattle.std.proofs.Common.{◌≡◌, ℕ, zero, suc, true, List, [], ◌∷◌, ◌++◌, length, refl, sym, ◌∙◌, ap, subst, append-nil, arith}
+use Rattle.std.specs.Prelude.{Option, Some, All}
+use Rattle.std.proofs.lemmas.List.Elements.{All-append}
+use Rattle.auc_history.specs.declared.entry.Entry.{Entry}
+use Rattle.auc_lines.specs.declared.part.Line.{Line}
+use Rattle.auc_lines.specs.declared.part.Line.TheVariants as line
+use Rattle.auc_lines.specs.Part.{gives_to}
+use Rattle.auc_sqn.specs.Past.{Remembers}
+use Rattle.auc_subs.specs.declared.row.Row.{Row}
+use Rattle.auc_usim.specs.Usim.{Memory}
+use Rattle.auc_world.specs.declared.record.LineRecord.{LineRecord}
+use Rattle.auc_world.specs.declared.record.LineRecord.TheVariants.{Vector, Withheld, Exhausted, Sync, Give}
+use Rattle.auc_world.specs.declared.record.SyncVerdict.{SyncVerdict}
+use Rattle.auc_world.specs.declared.record.SyncVerdict.TheVariants as verdict
+use Rattle.auc_world.specs.Given.{Before, behind, past_of, DrawGives, VectorsFollow, LineGives, JobGives}
+use Rattle.auc_world.specs.Lines.{accepted}
+use Rattle.auc_world.specs.Setting.{Setting}
+use Rattle.auc_world.proofs.Facts.{accepted-append, job_quiet}
+use Rattle.auc_jobs.specs.Numbers.{Released}
+use Rattle.auc_jobs.specs.Serving.{IsKnownLine}
+use Rattle.auc_jobs.specs.Usims.{HaveSecrets, AreOfRows}
+use Rattle.auc_jobs.specs.InnerRound.{JobBegins, ServesJob}
+use Rattle.auc_jobs.specs.InnerServing.{before_at, IsReleasableLine, Stands, ServesLines}
+use Rattle.auc_jobs.specs.InnerUsims.{has_usim, AreCopies}
+use Rattle.auc_jobs.proofs.CopyLemmas.{copies_found, copies_keyed}
+
+-- ---- before the job
+
+-- copies have the rows' secrets
+pub copies_secrets : (rows : List Row) (usims : List Memory) (job : List Line) (own : ℕ → Option Memory) → AreOfRows rows usims → AreCopies usims job own → HaveSecrets rows own
+copies_secrets rows usims job own are copies sub row usim at there = are.secrets sub row usim at ((copies_found usims job own sub usim copies there).1)
+
+-- what a USIM accepted by lines before a job, of which those of the round accepted nothing
+quiet_before : (sub : ℕ) (early beside : List LineRecord) → accepted sub beside ≡ [] → accepted sub ((early ++ beside) ++ []) ≡ accepted sub early
+quiet_before sub early beside quiet =
+    ap (accepted sub) (append-nil (early ++ beside)) ∙ accepted-append sub early beside ∙ ap (λ (sqns : List (List ℕ)). accepted sub early ++ sqns) quiet ∙ append-nil (accepted sub early)
+
+-- so its copies remember what all lines before it say
+pub begins_stands : (rows : List Row) (early beside : List LineRecord) (kept : ℕ → Option ℕ) (released : Released) (usims : List Memory) (job : List Line) (own : ℕ → Option Memory)
+    → AreCopies usims job own → JobBegins rows early beside kept released usims job → Stands rows (before_at early beside []) kept released own
+begins_stands rows early beside kept released usims job own copies begins = record {
+  told = λ sub. rw (append-nil beside) (begins.told sub);
+  earlier = begins.earlier;
+  pasts = λ sub row usim at there.
+      let found = copies_found usims job own sub usim copies there in
+      subst (λ (sqns : List (List ℕ)). Remembers usim.array (past_of row.usim sqns)) (sym (quiet_before sub early beside (begins.quiet sub found.0)))
+      (begins.pasts sub row usim at found.1);
+}
+
+-- ---- after the job
+
+-- what a USIM accepted by the lines of a job, without those beside it
+quiet_beside : (sub : ℕ) (early beside lines : List LineRecord) → accepted sub beside ≡ [] → accepted sub ((early ++ beside) ++ lines) ≡ accepted sub (early ++ lines)
+quiet_beside sub early beside lines quiet =
+    accepted-append sub (early ++ beside) lines
+    ∙ ap (λ (sqns : List (List ℕ)). sqns ++ accepted sub lines)
+    (accepted-append sub early beside ∙ ap (λ (sqns : List (List ℕ)). accepted sub early ++ sqns) quiet ∙ append-nil (accepted sub early))
+    ∙ sym (accepted-append sub early lines)
+
+-- a USIM that is there is among those of its job
+given_there : (job : List Line) (own : ℕ → Option Memory) (sub : ℕ) (usim : Memory) → has_usim own sub ≡ gives_to sub job → own sub ≡ Some usim → gives_to sub job ≡ true
+given_there job own sub usim keyed there = sym keyed ∙ rw there refl
+
+-- the job's lines and its own USIMs
+pub job_settles : (goes : ℕ → List Entry → List ℕ → Type 0) (set : Setting) (early beside : List LineRecord) (old kept : ℕ → Option ℕ) (released : Released) (usims : List Memory)
+    (job : List Line) (lines : List LineRecord) (copies own : ℕ → Option Memory) → length usims ≡ length set.rows → All (IsKnownLine (length set.rows)) job → AreCopies usims job copies
+    → ((sub : ℕ) → has_usim own sub ≡ has_usim copies sub) → HaveSecrets set.rows own → JobBegins set.rows early beside old released usims job
+    → ServesLines goes set early beside kept released own job lines → ServesJob goes set early beside kept job lines own
+job_settles goes set early beside old kept released usims job lines copies own size known are same secrets begins s = record {
+  given = s.given;
+  made = s.made;
+  told = s.stands.told;
+  settled = record {
+    keyed = keyed;
+    secrets = secrets;
+    behind = λ sub row usim at there.
+        subst (λ (sqns : List (List ℕ)). Remembers usim.array (past_of row.usim sqns))
+        (quiet_beside sub early beside lines (begins.quiet sub (given_there job own sub usim (keyed sub) there))) (s.stands.pasts sub row usim at there);
+    quiet = λ sub other. job_quiet set (before_at early beside []) job sub lines s.given other;
+  };
+}
+  where
+    keyed : (sub : ℕ) → has_usim own sub ≡ gives_to sub job
+    keyed sub = same sub ∙ copies_keyed (length set.rows) usims job copies sub size known are
+
+-- ---- the vectors that a job's lines release
+
+-- two lists of such lines
+both_releasable : (set : Setting) (front rest : List LineRecord) → All (IsReleasableLine set) front → All (IsReleasableLine set) rest → All (IsReleasableLine set) (front ++ rest)
+both_releasable set front rest first more = All-append (IsReleasableLine set) front rest first more
+
+-- a line and such lines
+one_releasable : (set : Setting) (l : LineRecord) (lines : List LineRecord) → IsReleasableLine set l → All (IsReleasableLine set) lines → All (IsReleasableLine set) (l ∷ lines)
+one_releasable set l lines here rest zero d lt = here
+one_releasable set l lines here rest (suc k) d lt = rest k d (omega arith)
+
+none_releasable : (set : Setting) (lines : List LineRecord) → lines ≡ [] → All (IsReleasableLine set) lines
+none_releasable set lines none = subst (All (IsReleasableLine set)) (sym none) (λ k d lt. absurd (omega arith))
+
+-- those of a draw
+draw_releasable : (set : Setting) (sub count : ℕ) (lines : List LineRecord) → DrawGives set sub count lines → All (IsReleasableLine set) lines
+draw_releasable set sub zero lines gives = none_releasable set lines gives
+draw_releasable set sub (suc count) [] gives = absurd gives
+draw_releasable set sub (suc count) (Vector s n ∷ lines) (same, is, more) =
+    one_releasable set (Vector s n) lines (subst (λ (k : ℕ). IsReleasableLine set (Vector k n)) (sym same) is) (draw_releasable set sub count lines more)
+draw_releasable set sub (suc count) (Withheld s n stop ∷ lines) (same, first, last, none) = one_releasable set (Withheld s n stop) lines tt (none_releasable set lines none)
+draw_releasable set sub (suc count) (Exhausted s word ∷ lines) (same, spent, none) = one_releasable set (Exhausted s word) lines tt (none_releasable set lines none)
+draw_releasable set sub (suc count) (Sync s answer ∷ lines) gives = absurd gives
+draw_releasable set sub (suc count) (Give s n answer ∷ lines) gives = absurd gives
+
+follows_releasable : (set : Setting) (sub count : ℕ) (answer : SyncVerdict) (lines : List LineRecord) → VectorsFollow set sub count answer lines → All (IsReleasableLine set) lines
+follows_releasable set sub count (verdict.Moved seen seq_ms) lines follows = draw_releasable set sub count lines follows
+follows_releasable set sub count (verdict.InRange seen seq_ms) lines follows = draw_releasable set sub count lines follows
+follows_releasable set sub count (verdict.Beyond seen seq_ms) lines follows = none_releasable set lines follows
+follows_releasable set sub count verdict.WrongMac lines follows = none_releasable set lines follows
+
+-- those of a line
+line_releasable : (set : Setting) (before : Before) (l : Line) (lines : List LineRecord) → LineGives set before l lines → All (IsReleasableLine set) lines
+line_releasable set before (line.Draw sub count) lines gives = draw_releasable set sub count lines gives
+line_releasable set before (line.Sync sub seq bit count) lines gives =
+    subst (All (IsReleasableLine set)) (sym gives.lines_are) (one_releasable set (Sync sub gives.answer) gives.more tt (follows_releasable set sub count gives.answer gives.more gives.follows))
+line_releasable set before (line.Give sub n) lines gives =
+    subst (All (IsReleasableLine set)) (sym gives.lines_are) (one_releasable set (Give sub n gives.answer) [] tt (none_releasable set [] refl))
+
+-- those of a job
+pub job_releasable : (set : Setting) (before : Before) (job : List Line) (lines : List LineRecord) → JobGives set before job lines → All (IsReleasableLine set) lines
+job_releasable set before [] lines gives = none_releasable set lines gives
+job_releasable set before (l ∷ job) lines (front, rest, is, first, more) =
+    subst (All (IsReleasableLine set)) (sym is) (both_releasable set front rest (line_releasable set before l front first) (job_releasable set (behind before front) job rest more))

@@ -1,0 +1,16 @@
+use Rattle.std.proofs.Common.{◌++◌, List, subst}
+use Rattle.auc_world.specs.Lines.{all_lines}
+use Rattle.auc_world.specs.declared.record.LineRecord.{LineRecord}
+use Rattle.auc_jobs.specs.InnerUsims.{ArePutBack}
+use Rattle.auc_jobs.specs.Numbers.{AreReleased}
+use Rattle.auc_jobs.specs.State.{Standing}
+use Rattle.auc_jobs.proofs.state.State.advance.Goals as goal
+
+pub returns-clause-advanced : goal.returns-clause-advanced
+returns-clause-advanced c = record {
+  opened = c.in_ok-words.ensures.value;
+  within = c.in_ok-words.ensures.bound;
+  put = subst (λ (s : Standing). ArePutBack s.usims c.args.jobs.now c.args.usims.now c.put_back.new.self) c.self.view_is c.put_back.ensures;
+  noted = subst (λ (s : Standing). (before : List LineRecord) → AreReleased s.released before → AreReleased c.note_all.new.self (before ++ all_lines c.args.records.now)) c.self.view_is
+      c.in_ok-note_all.ensures.noted;
+}

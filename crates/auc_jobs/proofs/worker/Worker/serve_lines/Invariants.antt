@@ -1,0 +1,17 @@
+use Rattle.auc_jobs.specs.InnerUsims.{has_usim, usim_in}
+use Rattle.std.proofs.Common.{◌≡◌, ℕ, List, drop}
+use Rattle.auc_world.specs.declared.record.LineRecord.{LineRecord}
+use Rattle.auc_jobs.specs.InnerWorker.{WorkerStands}
+use Rattle.auc_jobs.proofs.JobLemmas.{ServingLines}
+use Rattle.auc_jobs.proofs.worker.Worker.serve_lines.Given as goal
+
+abbrev pub invariant-loop-line : goal.invariant-loop-line
+invariant-loop-line g l = record {
+  name : g.C.Centre.name l.self.centre ≡ g.C.Centre.name l.fn.self.centre;
+  set : l.self.set ≡ l.fn.self.set;
+  released : l.self.released ≡ l.fn.self.released;
+  keyed : (sub : ℕ) → has_usim (usim_in l.self.usims) sub ≡ has_usim (usim_in l.fn.self.usims) sub;
+  serving : (early : List LineRecord) (beside : List LineRecord) → WorkerStands g.C.Centre.kept early beside l.fn.self
+      → ServingLines (λ i es ws. g.C.Centre.goes l.fn.self.centre i es ws l.self.centre) l.fn.self.set early beside (g.C.Centre.kept l.self.centre) l.fn.self.released (usim_in l.self.usims)
+      (drop l.line-index l.job) l.job l.self.lines;
+}

@@ -1,0 +1,100 @@
+-- Inner facts: what only private contracts of this crate cite. Here: the jobs of a round, each served after its worker's
+-- earlier lines and with its own USIMs, and what their pieces come to.
+use Rattle.std.specs.Prelude.{◌≡◌, ℕ, ◌≤◌, false, List, [], ◌∷◌, ◌++◌, All, length, Option, slice_get, slice_index}
+use Rattle.auc_history.specs.declared.entry.Entry.{Entry}
+use Rattle.auc_history.specs.Split.{Splits}
+use Rattle.auc_lines.specs.declared.part.Line.{Line}
+use Rattle.auc_lines.specs.Part.{gives_to}
+use Rattle.auc_sqn.specs.Number.{max_seq}
+use Rattle.auc_subs.specs.declared.row.Row.{Row}
+use Rattle.auc_usim.specs.Usim.{Memory}
+use Rattle.auc_world.specs.declared.record.LineRecord.{LineRecord}
+use Rattle.auc_world.specs.Entries.{entries_of_lines}
+use Rattle.auc_world.specs.Given.{JobGives}
+use Rattle.auc_world.specs.Lines.{accepted, withheld_of, all_lines}
+use Rattle.auc_world.specs.Pieces.{Piece, lines_of_pieces, entries_of_pieces, ReportsAreEarlier, IsQuiet, PiecesGive}
+use Rattle.auc_world.specs.Setting.{Setting}
+use Rattle.auc_world.specs.Transcript.{reopened}
+use Rattle.auc_jobs.specs.Numbers.{Released, AreReleased}
+use Rattle.auc_jobs.specs.State.{Standing}
+use Rattle.auc_jobs.specs.Usims.{HaveSecrets, AreBehind}
+use Rattle.auc_jobs.specs.InnerServing.{before_at, AreTold}
+use Rattle.auc_jobs.specs.InnerUsims.{OwnUsims, usim_in, has_usim, ArePutBack}
+
+-- ---- a job
+
+-- what stands before a job: its worker's earlier lines report the words that the centre keeps, the released numbers are
+-- those of the earlier rounds, the subscribers' USIMs are those after the earlier rounds, and by the worker's earlier
+-- lines no USIM to which the job gives has accepted a number
+pub record JobBegins (rows : List Row) (early beside : List LineRecord) (kept : ℕ → Option ℕ) (released : Released) (usims : List Memory) (job : List Line) : Type 0 where
+  pub told : AreTold kept beside
+  pub earlier : AreReleased released early
+  pub pasts : AreBehind rows early (slice_get usims)
+  pub quiet : IsQuiet beside job
+
+-- a job's own USIMs after its lines. They have forgotten who served the job
+pub record IsSettled (rows : List Row) (early : List LineRecord) (job : List Line) (lines : List LineRecord) (own : ℕ → Option Memory) : Type 0 where
+  pub keyed : (sub : ℕ) → has_usim own sub ≡ gives_to sub job
+  pub secrets : HaveSecrets rows own
+  pub behind : AreBehind rows (early ++ lines) own
+  pub quiet : (sub : ℕ) → gives_to sub job ≡ false → accepted sub lines ≡ []
+
+-- what a job gave, after earlier rounds and its worker's earlier lines
+pub record ServesJob (goes : ℕ → List Entry → List ℕ → Type 0) (set : Setting) (early beside : List LineRecord) (kept : ℕ → Option ℕ)
+    (job : List Line) (lines : List LineRecord) (own : ℕ → Option Memory) : Type 0 where
+  pub given : JobGives set (before_at early beside []) job lines
+  pub made : (sub : ℕ) → goes sub (entries_of_lines sub beside lines) (withheld_of sub lines)
+  pub told : AreTold kept (beside ++ lines)
+  pub settled : IsSettled set.rows early job lines own
+
+-- ---- the jobs of a round
+
+-- the USIMs of each job
+abbrev pub AreSettled : List Row → List LineRecord → List (List Line) → List (List LineRecord) → List OwnUsims → Type 0
+AreSettled rows early [] records usims = (records ≡ []) × (usims ≡ [])
+AreSettled rows early (job ∷ jobs) [] usims = ⊥
+AreSettled rows early (job ∷ jobs) (lines ∷ records) [] = ⊥
+AreSettled rows early (job ∷ jobs) (lines ∷ records) (own ∷ usims) = IsSettled rows early job lines (usim_in own) × AreSettled rows early jobs records usims
+
+-- the pieces of one worker: each job's lines, after those of all its earlier jobs
+abbrev pub pieces_after : List LineRecord → List (List LineRecord) → List Piece
+pieces_after earlier [] = []
+pieces_after earlier (lines ∷ records) = (record { earlier = earlier; lines = lines }) ∷ pieces_after (earlier ++ lines) records
+
+-- what stands before the first job of a worker
+pub record RoundBegins (rows : List Row) (early : List LineRecord) (kept : ℕ → Option ℕ) (released : Released) (usims : List Memory) : Type 0 where
+  pub told : AreTold kept []
+  pub earlier : AreReleased released early
+  pub pasts : AreBehind rows early (slice_get usims)
+
+-- what the jobs of a worker gave, after earlier rounds
+pub record ServesJobs (goes : ℕ → List Entry → List ℕ → Type 0) (set : Setting) (early : List LineRecord)
+    (jobs : List (List Line)) (records : List (List LineRecord)) (usims : List OwnUsims) : Type 0 where
+  pub given : PiecesGive set early jobs (pieces_after [] records)
+  pub made : (sub : ℕ) → goes sub (entries_of_lines sub [] (all_lines records)) (withheld_of sub (all_lines records))
+  pub settled : AreSettled set.rows early jobs records usims
+
+-- ---- the pieces of a round
+
+-- the records of a round's jobs are pieces, each of some worker. They lead each subscriber from its opening to its word,
+-- and nothing is withheld
+pub record ArePieces (set : Setting) (early : List LineRecord) (openings : List ℕ) (jobs : List (List Line)) (records : List (List LineRecord)) (words : List ℕ) : Type 0 where
+  pub pieces : List Piece
+  pub lines : records ≡ lines_of_pieces pieces
+  pub give : PiecesGive set early jobs pieces
+  pub reports : (sub : ℕ) → ReportsAreEarlier sub [] pieces
+  pub split : (sub : ℕ) → Splits max_seq (slice_index openings sub) (slice_index words sub) (entries_of_pieces sub pieces)
+  pub released : (sub : ℕ) → withheld_of sub (all_lines records) ≡ []
+
+-- a round's pieces, and its jobs' USIMs, after the state in which it begins
+pub record AreServed (set : Setting) (early : List LineRecord) (state : Standing) (jobs : List (List Line)) (records : List (List LineRecord)) (usims : List OwnUsims) (words : List ℕ) : Type 0 where
+  pub pieces : ArePieces set early state.words jobs records words
+  pub settled : AreSettled set.rows early jobs records usims
+  pub size : length words ≡ length state.words
+
+-- the state after a round: where the round's words lead, with the jobs' USIMs put back and the released numbers noted
+pub record IsAdvanced (old : Standing) (jobs : List (List Line)) (records : List (List LineRecord)) (usims : List OwnUsims) (words : List ℕ) (new : Standing) : Type 0 where
+  pub opened : new.words ≡ reopened words
+  pub within : All (λ word. word ≤ max_seq) new.words
+  pub put : ArePutBack old.usims jobs usims new.usims
+  pub noted : (before : List LineRecord) → AreReleased old.released before → AreReleased new.released (before ++ all_lines records)

@@ -1,0 +1,93 @@
+//! The vectors that a job's lines release.
+
+ghost use Rattle.std.specs.Prelude.{◌≡◌, ◌≤◌, ◌<◌, [], ◌∷◌, All, length, IfOk, if◌then◌else◌};
+ghost use Rattle.auc_sqn.specs.Number.{max_seq};
+ghost use Rattle.auc_world.specs.Vectors.{vector_at as vector_there, vectors_in, vector_in};
+ghost use Rattle.auc_jobs.specs.InnerServing.{AreOfRow, IsOfRow, IsReleasableLine};
+ghost use Rattle.auc_jobs.specs.InnerVectors.{IsSourceOf};
+
+use auc_edge::{Items, NoMemory};
+use auc_vector::{Vector, Vectors};
+use auc_world::{JobVectors, LineRecord, Setting};
+use std::alloc::Global;
+
+/// The vectors of a subscriber, by its row.
+fn vectors_of(set: &Setting, sub: u32) -> Vectors
+    requires { sub < length set.now.rows }
+    ensures { AreOfRow set.now.key set.now.rows sub result }
+{
+    prove!(sub < set.subs.len());
+    let row = set.subs.row(sub);
+    Vectors::new(&row.secret, row.amf, set.rands.stream(sub))
+}
+
+/// The vector of a subscriber's number, with the RAND of both.
+pub(crate) fn vector_at(set: &Setting, sub: u32, n: u64) -> Vector
+    requires known { sub < length set.now.rows }
+    requires first { 1 ≤ n }
+    requires last { n ≤ max_seq }
+    ensures row { IsOfRow set.now.key set.now.rows sub n result }
+{
+    vectors_of(set, sub).vector_of(n)
+}
+
+/// What the vectors of one subscriber are made with.
+#[derive(Drop)]
+pub(crate) struct Source {
+    pub(crate) sub: u32,
+    pub(crate) vectors: Vectors,
+}
+
+/// The source of a subscriber's vectors: the last one, if it is this subscriber's.
+fn source_of(set: &Setting, last: Option<Source>, sub: u32) -> Source
+    requires known { sub < length set.now.rows }
+    requires source { IsSourceOf set.now last }
+    ensures { (result.sub ≡ sub) × AreOfRow set.now.key set.now.rows sub result.vectors }
+{
+    match last {
+        Some(source) if source.sub == sub => source,
+        _ => Source {
+            sub,
+            vectors: vectors_of(set, sub),
+        },
+    }
+}
+
+/// The vectors that a job's lines release, in the order of the lines. Consecutive lines of one subscriber share its key
+/// schedule and its generator.
+pub(crate) fn job_vectors(
+    alloc: Global,
+    set: &Setting,
+    lines: &[LineRecord],
+) -> Result<JobVectors, NoMemory>
+    requires { All (IsReleasableLine set.now) lines.now }
+    ensures { IfOk result (λ vectors. vectors ≡ vectors_in set.now lines.now) }
+{
+    let mut all = Items::new(alloc);
+    let mut last = None;
+    for line in lines {
+        if let LineRecord::Vector { sub, n } = *line {
+            let mut source = source_of(set, last, sub);
+            all.push(source.vectors.vector_of(n))?;
+            last = Some(source);
+        }
+    }
+    Ok(all)
+}
+
+/// The same for the full print; the brief print needs no vectors.
+pub(crate) fn printed_vectors(
+    alloc: Global,
+    set: &Setting,
+    lines: &[LineRecord],
+    full: bool,
+) -> Result<JobVectors, NoMemory>
+    requires { All (IsReleasableLine set.now) lines.now }
+    ensures { IfOk result (λ vectors. vectors ≡ (if full then vectors_in set.now lines.now else [])) }
+{
+    if full {
+        job_vectors(alloc, set, lines)
+    } else {
+        Ok(Items::new(alloc))
+    }
+}

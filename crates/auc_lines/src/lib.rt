@@ -1,0 +1,9 @@
+//! What a scenario asks for: rounds of jobs of lines, and restarts between them.
+//!
+//! `auc_script` reads these parts from a text, and the crates above serve and print them. Contracts see
+//! a list of parts as a list.
+#![tactic(auto)]
+
+mod part;
+
+pub use part::{JobPart, Line, Part, RoundPart};

@@ -1,0 +1,15 @@
+-- The text of the job at the place is that of its lines, with the bytes of its vectors in a full print.
+use Rattle.std.proofs.Common.{◌∙◌, ap, arith}
+use Rattle.auc_world.specs.Setting.{Setting}
+use Rattle.auc_print.proofs.TextLemmas.{front_more, jobs_step}
+use Rattle.auc_print.proofs.round.print_jobs.Goals as goal
+
+pub loop-place-preserved : goal.loop-place-preserved
+loop-place-preserved c =
+    let rows = ap (λ (s : Setting). s.rows) c.set.view_is in
+    record {
+      printed = jobs_step c.args.set.now c.args.full _ c.args.jobs.now c.args.vectors.now c.loop-place.place _ _ _ c.loop-place.out _
+          rows c.requires.named c.requires.vectors (omega arith) c.index-jobs-place.is c.as_slice.ensures c.vectors_of-own.ensures c.in_ok-print_job.ensures.printed
+          ∙ c.loop-place.invariant.printed;
+      grows = front_more _ _ _ c.loop-place.invariant.grows c.in_ok-print_job.ensures.grows;
+    }

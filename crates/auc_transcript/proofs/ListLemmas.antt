@@ -1,0 +1,37 @@
+-- For the laws of positions: pairs of a list's front and end, and filters that nothing or everything passes.
+use Rattle.std.proofs.Common.{◌≡◌, ◌+◌, Bool, true, false, List, [], ◌∷◌, ◌++◌, length, get_or, arith, All, AllPairs, filter, refl, ap, ◌∙◌}
+use Rattle.std.proofs.lemmas.Bool.{cond-true, cond-false}
+use Rattle.std.proofs.lemmas.List.{get_or_append_left, get_or-append-add, length-append}
+use Rattle.std.proofs.lemmas.List.Elements.{All-head, All-tail}
+
+-- the pairs of a front
+pub AllPairs-left : {X : Type 0} (R : X → X → Type 0) (xs ys : List X) → AllPairs R (xs ++ ys) → AllPairs R xs
+AllPairs-left R xs ys all i j d i<j j<n =
+    let more = length-append xs ys in
+    let at_i = get_or_append_left xs ys d i (omega arith) in
+    let at_j = get_or_append_left xs ys d j j<n in
+    let pair : R (get_or (xs ++ ys) i d) (get_or (xs ++ ys) j d) = all i j d i<j (omega arith) in
+    rw (← at_i, ← at_j) pair
+
+-- the pairs of an end
+pub AllPairs-right : {X : Type 0} (R : X → X → Type 0) (xs ys : List X) → AllPairs R (xs ++ ys) → AllPairs R ys
+AllPairs-right R xs ys all i j d i<j j<n =
+    let more = length-append xs ys in
+    let at_i = get_or-append-add xs ys i d in
+    let at_j = get_or-append-add xs ys j d in
+    let pair : R (get_or (xs ++ ys) (length xs + i) d) (get_or (xs ++ ys) (length xs + j) d) = all (length xs + i) (length xs + j) d (omega arith) (omega arith) in
+    rw (← at_i, ← at_j) pair
+
+-- a filter that nothing passes
+pub filter_none : {X : Type 0} (p : X → Bool) (xs : List X) → All (λ x. p x ≡ false) xs → filter p xs ≡ []
+filter_none p [] none = refl
+filter_none p (x ∷ xs) none =
+    cond-false (p x) (x ∷ filter p xs) (filter p xs) (All-head (λ y. p y ≡ false) x xs none)
+    ∙ filter_none p xs (All-tail (λ y. p y ≡ false) x xs none)
+
+-- a filter that everything passes
+pub filter_all : {X : Type 0} (p : X → Bool) (xs : List X) → All (λ x. p x ≡ true) xs → filter p xs ≡ xs
+filter_all p [] all = refl
+filter_all {X} p (x ∷ xs) all =
+    cond-true (p x) (x ∷ filter p xs) (filter p xs) (All-head (λ y. p y ≡ true) x xs all)
+    ∙ ap (λ (ys : List X). x ∷ ys) (filter_all p xs (All-tail (λ y. p y ≡ true) x xs all))

@@ -1,6 +1,0 @@
--- The law is a lemma on pieces.
-use Rattle.auc_transcript.proofs.ApartLemmas.{jobs_give_after_all_lines}
-use Rattle.auc_transcript.proofs.law.jobs_give_after_all_lines.Goals as goal
-
-pub returns : goal.returns
-returns c = jobs_give_after_all_lines

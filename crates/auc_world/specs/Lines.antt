@@ -1,0 +1,53 @@
+-- What the lines of jobs say of a subscriber, in the order of the lines.
+use Rattle.std.specs.Prelude.{ℕ, ◌==◌, List, [], ◌∷◌, flat_map, if◌then◌else◌}
+use Rattle.auc_sqn.specs.Number.{sqn_bytes}
+use Rattle.auc_world.specs.declared.record.LineRecord.{LineRecord}
+use Rattle.auc_world.specs.declared.record.LineRecord.TheVariants.{Vector, Withheld, Exhausted, Sync, Give}
+use Rattle.auc_world.specs.declared.record.GiveVerdict.{GiveVerdict}
+use Rattle.auc_world.specs.declared.record.GiveVerdict.TheVariants as given
+
+-- the number of the vector that a line releases for a subscriber
+abbrev pub released_by : ℕ → LineRecord → List ℕ
+released_by sub (Vector s n) = if s == sub then n ∷ [] else []
+released_by sub (Withheld s n stop) = []
+released_by sub (Exhausted s word) = []
+released_by sub (Sync s verdict) = []
+released_by sub (Give s n verdict) = []
+
+-- the numbers of the vectors that some lines release for a subscriber
+abbrev pub numbers_of : ℕ → List LineRecord → List ℕ
+numbers_of sub lines = flat_map (released_by sub) lines
+
+-- the number that a line says was drawn for a subscriber and withheld
+abbrev pub withheld_by : ℕ → LineRecord → List ℕ
+withheld_by sub (Vector s n) = []
+withheld_by sub (Withheld s n stop) = if s == sub then n ∷ [] else []
+withheld_by sub (Exhausted s word) = []
+withheld_by sub (Sync s verdict) = []
+withheld_by sub (Give s n verdict) = []
+
+-- the numbers that were withheld from a subscriber
+abbrev pub withheld_of : ℕ → List LineRecord → List ℕ
+withheld_of sub lines = flat_map (withheld_by sub) lines
+
+-- the SQN of a presented number, if it was accepted
+abbrev pub taken : ℕ → GiveVerdict → List (List ℕ)
+taken n given.Accepted = sqn_bytes n ∷ []
+taken n (given.Sync sqn_ms) = []
+taken n given.Absent = []
+
+-- the SQN that a line says a subscriber's USIM accepted
+abbrev pub accepted_by : ℕ → LineRecord → List (List ℕ)
+accepted_by sub (Vector s n) = []
+accepted_by sub (Withheld s n stop) = []
+accepted_by sub (Exhausted s word) = []
+accepted_by sub (Sync s verdict) = []
+accepted_by sub (Give s n verdict) = if s == sub then taken n verdict else []
+
+-- the SQNs that a subscriber's USIM accepted, 6 bytes each
+abbrev pub accepted : ℕ → List LineRecord → List (List ℕ)
+accepted sub lines = flat_map (accepted_by sub) lines
+
+-- the lines of all jobs, one job after the other
+abbrev pub all_lines : List (List LineRecord) → List LineRecord
+all_lines jobs = flat_map (λ job. job) jobs

@@ -1,0 +1,69 @@
+-- A lawful round: what its jobs ask of its records, and what the records say of each subscriber's history.
+-- Nothing here speaks of an order between the steps of different jobs.
+use Rattle.std.specs.Prelude.{◌≡◌, ℕ, ◌+◌, ◌^◌, ◌<◌, ◌==◌, Option, Some, None, List, [], ◌∷◌, ◌++◌, All, length, slice_index, if◌then◌else◌}
+use Rattle.auc_edge.specs.declared.stop.Stop.{Stop}
+use Rattle.auc_history.specs.History.{drawn, skipped}
+use Rattle.auc_history.specs.Split.{Splits, all_entries}
+use Rattle.auc_lines.specs.declared.part.Line.{Line}
+use Rattle.auc_sqn.specs.Number.{max_seq}
+use Rattle.auc_world.specs.declared.record.Closing.{Closing}
+use Rattle.auc_world.specs.declared.record.LineRecord.{LineRecord}
+use Rattle.auc_world.specs.declared.record.LineRecord.TheVariants.{Vector, Withheld, Exhausted, Sync, Give}
+use Rattle.auc_world.specs.declared.record.RoundRecord.{RoundRecord}
+use Rattle.auc_world.specs.Entries.{entries_of_jobs}
+use Rattle.auc_world.specs.Given.{JobsGive}
+use Rattle.auc_world.specs.Lines.{numbers_of, withheld_of, all_lines}
+use Rattle.auc_world.specs.Setting.{Setting}
+
+-- the closing of a subscriber whose word moved from an opening to a closing, with the counts of its entries and of
+-- its vectors; there is none if the word stood
+abbrev pub closing_of : ℕ → ℕ → ℕ → List (List LineRecord) → List Closing
+closing_of sub opening closing jobs =
+    if opening == closing then [] else record {
+      sub = sub;
+      first = opening;
+      last = closing;
+      drawn = length (drawn (all_entries (entries_of_jobs sub [] jobs)));
+      skipped = skipped (all_entries (entries_of_jobs sub [] jobs));
+      released = length (numbers_of sub (all_lines jobs));
+      withheld = length (withheld_of sub (all_lines jobs));
+    } ∷ []
+
+-- the closings of the subscribers from one on, in their order
+abbrev pub closings_from : ℕ → List ℕ → List ℕ → List (List LineRecord) → List Closing
+closings_from sub [] words jobs = []
+closings_from sub (opening ∷ openings) [] jobs = []
+closings_from sub (opening ∷ openings) (word ∷ words) jobs =
+    closing_of sub opening word jobs ++ closings_from (sub + 1) openings words jobs
+
+-- a line that withholds a number names this cause
+abbrev pub NamesStop : Stop → LineRecord → Type 0
+NamesStop stop (Vector s n) = Unit {0}
+NamesStop stop (Withheld s n cause) = cause ≡ stop
+NamesStop stop (Exhausted s word) = Unit {0}
+NamesStop stop (Sync s answer) = Unit {0}
+NamesStop stop (Give s n answer) = Unit {0}
+
+-- what is withheld in a round in which the reservation of numbers stopped: each line names the cause of the stop, and each
+-- withheld number is above each number that the round releases for its subscriber
+pub record WithholdsAbove (stop : Stop) (lines : List LineRecord) : Type 0 where
+  pub causes : All (NamesStop stop) lines
+  pub above : (sub : ℕ) → All (λ m. All (λ n. n < m) (numbers_of sub lines)) (withheld_of sub lines)
+
+-- what the lines of a round withhold: nothing, if the reservation of numbers didn't stop in it
+abbrev pub Withholds : Option Stop → List LineRecord → Type 0
+Withholds None lines = (sub : ℕ) → withheld_of sub lines ≡ []
+Withholds (Some stop) lines = WithholdsAbove stop lines
+
+-- a round that opens each subscriber at a word and closes it at a word, after the lines of earlier rounds: its
+-- records are what its jobs give, and the jobs' entries of each subscriber split a legal history from the one word
+-- to the other. The reservation of numbers may have stopped in it
+pub record IsLawfulRound (set : Setting) (stop : Option Stop) (early : List LineRecord) (openings : List ℕ) (jobs : List (List Line)) (round : RoundRecord) (words : List ℕ) : Type 0 where
+  pub sizes : length words ≡ length openings
+  pub fits : (sub : ℕ) → sub < length words → slice_index words sub < 2 ^ 64
+  pub given : JobsGive set early [] jobs round.jobs
+  pub split : (sub : ℕ) → sub < length openings
+      → Splits max_seq (slice_index openings sub) (slice_index words sub) (entries_of_jobs sub [] round.jobs)
+  pub closings : round.closings ≡ closings_from 0 openings words round.jobs
+  -- each drawn number that isn't a mark was released or withheld
+  pub withheld : Withholds stop (all_lines round.jobs)

@@ -1,0 +1,31 @@
+-- The vectors of a transcript's records: a function of the subscriber, the number and the setting.
+use Rattle.std.specs.Prelude.{ℕ, List, [], ◌∷◌, flat_map, Option, Some, None, slice_get}
+use Rattle.auc_subs.specs.declared.row.Row.{Row}
+use Rattle.auc_vector.specs.Random.{rand_of}
+use Rattle.auc_vector.specs.Vector.{vector_of}
+use Rattle.auc_vector.specs.declared.parts.Vector.{Vector as AuthVector}
+use Rattle.auc_world.specs.Setting.{Setting}
+use Rattle.auc_world.specs.declared.record.LineRecord.{LineRecord}
+use Rattle.auc_world.specs.declared.record.LineRecord.TheVariants.{Vector, Withheld, Exhausted, Sync, Give}
+
+-- the vector of a number, made with a row and a RAND; a subscriber without a row has no vectors, and no line that is
+-- served names one
+abbrev pub vector_with : Option Row → ℕ → List ℕ → List AuthVector
+vector_with None n rand = []
+vector_with (Some row) n rand = vector_of row.secret row.amf n rand ∷ []
+
+-- the vector of a subscriber's number, with the RAND of both
+abbrev pub vector_at : Setting → ℕ → ℕ → List AuthVector
+vector_at set sub n = vector_with (slice_get set.rows sub) n (rand_of set.key sub n)
+
+-- the vector that a line releases
+abbrev pub vector_in : Setting → LineRecord → List AuthVector
+vector_in set (Vector sub n) = vector_at set sub n
+vector_in set (Withheld sub n stop) = []
+vector_in set (Exhausted sub word) = []
+vector_in set (Sync sub verdict) = []
+vector_in set (Give sub n verdict) = []
+
+-- the vectors that some lines release, in the order of the lines
+abbrev pub vectors_in : Setting → List LineRecord → List AuthVector
+vectors_in set lines = flat_map (vector_in set) lines
