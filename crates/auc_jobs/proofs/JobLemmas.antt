@@ -1,4 +1,4 @@
--- For jobs: what their lines have given so far, and what stands behind them.
+-- For jobs: what their lines have given so far, and what stands after them.
 use Rattle.std.proofs.Common.{◌≡◌, ℕ, Bool, true, false, List, [], ◌∷◌, ◌++◌, refl, sym, ◌∙◌, ap, subst, append_assoc, append-nil, inl, inr, ◌⊎◌, ◌≢◌, eqb}
 use Rattle.std.specs.Prelude.{Option, Some, slice_get, ◌||◌}
 use Rattle.std.proofs.lemmas.Bool.Decides.{eqb_tells}
@@ -20,12 +20,13 @@ use Rattle.auc_jobs.specs.Numbers.{Released, has, AreReleased}
 use Rattle.auc_jobs.specs.InnerUsims.{Presents}
 use Rattle.auc_jobs.specs.Usims.{AreBehind}
 use Rattle.auc_jobs.specs.InnerServing.{AreTold, IsTold, Stands, Adds, Serves, ServesLines, IsAnswered, AddsGive, before_at}
-use Rattle.auc_jobs.proofs.LineLemmas.{accepted-append, withheld_of-append, entries_of_lines-append}
+use Rattle.auc_jobs.proofs.LineLemmas.{withheld_of-append, entries_of_lines-append}
+use Rattle.auc_world.proofs.Facts.{accepted-append}
 use Rattle.auc_jobs.proofs.SayingLemmas.{told_quiet}
 
 -- ---- the USIMs
 
--- lines that tell no acceptance leave the USIMs behind them
+-- lines that tell no acceptance leave the USIMs as they are
 pub behind_quiet : (rows : List Row) (before lines : List LineRecord) (usims : ℕ → Option Memory) → ((i : ℕ) → accepted i lines ≡ [])
     → AreBehind rows before usims → AreBehind rows (before ++ lines) usims
 behind_quiet rows before lines usims quiet behind sub row usim at there =
@@ -78,7 +79,7 @@ give_added set early beside own new sub n answer usims row at added is = record 
 
 -- ---- a line of a job
 
--- lines that were drawn, or drawn behind a resynchronisation
+-- lines that were drawn, after a resynchronisation too
 pub serves_adds : (goes : ℕ → List Entry → List ℕ → Type 0) (rows : List Row) (early beside own new : List LineRecord) (old kept : ℕ → Option ℕ)
     (released : Released) (usims : ℕ → Option Memory) (Gives : List LineRecord → Type 0)
     → Stands rows (before_at early beside own) old released usims → Adds goes kept beside own new Gives

@@ -26,11 +26,11 @@ use Rattle.auc_world.specs.declared.record.LineRecord.{LineRecord}
 use Rattle.auc_world.specs.declared.record.LineRecord.TheVariants.{Give}
 use Rattle.auc_jobs.specs.InnerUsims.{has_usim, Challenges, Presents}
 use Rattle.auc_jobs.specs.Usims.{HaveSecrets, AreOfRows, AreBehind}
-use Rattle.auc_jobs.proofs.LineLemmas.{accepted-append}
+use Rattle.auc_world.proofs.Facts.{accepted-append}
 
 -- ---- a list with one more element
 
--- an element of a list with one more is one of the list's, or the one behind
+-- an element of a list with one more is one of the list's, or the last
 pub pushed_cases : {X : Type 0} (xs : List X) (x y : X) (k : ℕ) → slice_get (xs ++ x ∷ []) k ≡ Some y
     → (slice_get xs k ≡ Some y) ⊎ ((k ≡ length xs) × (x ≡ y))
 pushed_cases [] x y zero there = inr (refl, cc)
@@ -115,7 +115,7 @@ fails s past rand autn Fresh auts sqn is = absurd (cc)
 fails s past rand autn (Old entry) auts sqn (sqn_ms, is, e) = (sqn_ms, is, cc)
 fails s past rand autn (Far greatest) auts sqn (sqn_ms, is, e) = (sqn_ms, is, cc)
 
--- ---- the USIMs behind a challenge
+-- ---- the USIMs after a challenge
 
 -- each of them is the challenged one, or another as it was
 challenge_cases : (old new : ℕ → Option Memory) (sub : ℕ) (rand autn : List ℕ) (answer : Answer) (i : ℕ) (usim : Memory) (c : Challenges old sub rand autn answer new)
@@ -151,7 +151,7 @@ challenged_keys old new sub rand autn answer c i = step (eqb_tells sub i)
         subst (λ (k : ℕ). has_usim new k ≡ has_usim old k) same (ap (λ (m : Option Memory). is_some m) c.here ∙ sym (ap (λ (m : Option Memory). is_some m) c.there))
     step (inr (e, other)) = ap (λ (m : Option Memory). is_some m) (c.others i other)
 
--- the numbers that a USIM accepted, behind the line of another one's or its own
+-- the SQNs that a USIM accepted, after a line of its own or of another one's
 accepted_here : (sub n : ℕ) (lines : List LineRecord) → accepted sub (lines ++ Give sub n given.Accepted ∷ []) ≡ accepted sub lines ++ sqn_bytes n ∷ []
 accepted_here sub n lines = accepted-append sub lines (Give sub n given.Accepted ∷ []) ∙ step (eqb_tells sub sub)
   where
@@ -235,7 +235,7 @@ answer_follows rows lines old sub n rand amf answer new row d =
     (subst (λ (s : Secret). IsAnswer s (past_at lines sub row) rand (autn_of row.secret.k row.secret.opc rand amf n) answer) secret
     (d.challenge.answers (past_at lines sub row) remembers))
 
--- the USIMs behind the line, where the challenged one remembers the past that the line tells
+-- the USIMs after the line, if the challenged one remembers the past that the line tells
 behind_line : (rows : List Row) (lines : List LineRecord) (old : ℕ → Option Memory) (sub n : ℕ) (rand amf : List ℕ) (answer : Answer) (new : ℕ → Option Memory) (row : Row) (verdict : GiveVerdict)
     → Challenged rows lines old sub n rand amf answer new row
     → past_after_answer (past_at lines sub row) answer ≡ past_of row.usim (accepted sub (lines ++ Give sub n verdict ∷ []))
