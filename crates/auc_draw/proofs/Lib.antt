@@ -1,6 +1,7 @@
 pub mod Facts
 mod BookLemmas
 mod CoverLemmas
+mod OrderLemmas
 mod PassLemmas
 mod SeatLemmas
 mod StepLemmas
