@@ -8,6 +8,7 @@ use Rattle.auc_attr.specs.declared.refusal.AttrRefusal.TheVariants as refusal
 use Rattle.auc_attr.specs.Item.{Item, item_of, items, is_named}
 use Rattle.auc_attr.specs.InnerFront.{item_at}
 use Rattle.auc_attr.specs.Grammar.{IsAttr, IsFault, Ends, Walks, FirstFault}
+use Rattle.auc_attr.specs.Laws.{is_value}
 use Rattle.auc_attr.specs.Inner.{Marks}
 use Rattle.auc_attr.specs.Spelling.{stands_in}
 use Rattle.auc_attr.proofs.Tools.{IsBytes, and_parts, and_from, ok_is, some_is}
@@ -123,26 +124,28 @@ ended bytes is marks rest p e =
 pub record IsListedTo (bytes : List ℕ) (list : List Attr) (marks : List Bool) (rest : List ℕ) : Type 0 where
   pub read : IsReadTo bytes (items list) marks rest
   pub named : list_all is_named list ≡ true
+  pub valued : list_all is_value list ≡ true
 
--- one more attribute that goes by its own name
-all_named : (list : List Attr) (a : Attr) → list_all is_named list ≡ true → is_named a ≡ true → list_all is_named (list ++ a ∷ []) ≡ true
-all_named [] a e f = and_from (is_named a) true f refl
-all_named (b ∷ list) a e f =
-    let p = and_parts (is_named b) (list_all is_named list) e in
-    and_from (is_named b) (list_all is_named (list ++ a ∷ [])) p.0 (all_named list a p.1 f)
+-- one more attribute that passes a test
+all_push : (test : Attr → Bool) (list : List Attr) (a : Attr) → list_all test list ≡ true → test a ≡ true → list_all test (list ++ a ∷ []) ≡ true
+all_push test [] a e f = and_from (test a) true f refl
+all_push test (b ∷ list) a e f =
+    let p = and_parts (test b) (list_all test list) e in
+    and_from (test b) (list_all test (list ++ a ∷ [])) p.0 (all_push test list a p.1 f)
 
 -- one more attribute is put on the list
 pub list_goes_on : (bytes : List ℕ) (list longer : List Attr) (marks after : List Bool) (rest : List ℕ) (a : Attr) (i : Item) (more : List ℕ) → IsListedTo bytes list marks rest
-    → IsAttr (kinds (items list)) i rest more → item_of a ≡ i → is_named a ≡ true → longer ≡ list ++ a ∷ [] → ((ks : List ℕ) → Marks marks ks → Marks after (ks ++ i.kind ∷ []))
+    → IsAttr (kinds (items list)) i rest more → item_of a ≡ i → is_named a ≡ true → is_value a ≡ true → longer ≡ list ++ a ∷ [] → ((ks : List ℕ) → Marks marks ks → Marks after (ks ++ i.kind ∷ []))
     → IsListedTo bytes longer after more
-list_goes_on bytes list longer marks after rest a i more p attr is named push m =
+list_goes_on bytes list longer marks after rest a i more p attr is named valued push m =
     let grown : items (list ++ a ∷ []) ≡ items list ++ i ∷ [] = map_push item_of list a ∙ ap (λ (x : Item). items list ++ x ∷ []) is in
     subst (λ (l : List Attr). IsListedTo bytes l after more) (sym push) (record {
       read = subst (λ (x : List Item). IsReadTo bytes x after more) (sym grown) (goes_on bytes (items list) marks after rest i more p.read attr m);
-      named = all_named list a p.named named;
+      named = all_push is_named list a p.named named;
+      valued = all_push is_value list a p.valued valued;
     })
 
 -- the list is empty at first
 pub list_begins : (bytes : List ℕ) (list : List Attr) (marks : List Bool) → list ≡ [] → IsBytes bytes → Marks marks [] → IsListedTo bytes list marks bytes
 list_begins bytes list marks e fits m =
-    subst (λ (l : List Attr). IsListedTo bytes l marks bytes) (sym e) (record { read = begins bytes marks fits m; named = refl })
+    subst (λ (l : List Attr). IsListedTo bytes l marks bytes) (sym e) (record { read = begins bytes marks fits m; named = refl; valued = refl })

@@ -2,6 +2,7 @@
 
 ghost use Rattle.std.specs.Prelude.{◌≡◌, true, IfOk};
 ghost use Rattle.auc_attr.specs.Item.{item, item_of, is_named, is_skipped_row};
+ghost use Rattle.auc_attr.specs.Laws.{is_value};
 ghost use Rattle.auc_attr.specs.Spelling.{fits_item};
 ghost use Rattle.auc_attr.specs.InnerParts.{value_bytes};
 
@@ -17,6 +18,7 @@ pub fn attr_of(alloc: Global, kind: u8, value: &[u8]) -> Result<Attr, NoMemory>
     requires { fits_item (item kind value.now) ≡ true }
     ensures value { IfOk result (λ a. item_of a ≡ item kind value.now) }
     ensures named { IfOk result (λ a. is_named a ≡ true) }
+    ensures values { IfOk result (λ a. is_value a ≡ true) }
 {
     match kind {
         1 => Ok(Attr::Rand(block_of(value))),

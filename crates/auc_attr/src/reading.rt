@@ -1,7 +1,9 @@
 //! Attributes from bytes.
 
-ghost use Rattle.std.specs.Prelude.{IfOk, IfErr};
+ghost use Rattle.std.specs.Prelude.{◌≡◌, true, IfOk, IfErr};
+ghost use Rattle.std.specs.List.{list_all};
 ghost use Rattle.auc_attr.specs.Grammar.{ReadsAttrs, FirstFault};
+ghost use Rattle.auc_attr.specs.Laws.{is_value};
 
 use crate::attr_list::AttrList;
 use crate::conversion::attr_of;
@@ -14,6 +16,7 @@ use std::alloc::Global;
 /// over, and an unknown type from 128 on is `Skipped`.
 pub fn read_attrs(alloc: Global, bytes: &[u8]) -> Result<AttrList, AttrRefusal>
     ensures read { IfOk result (λ list. ReadsAttrs bytes.now list) }
+    ensures values { IfOk result (λ list. list_all is_value list ≡ true) }
     ensures fault { IfErr result (λ fault. FirstFault bytes.now fault) }
 {
     let mut list = AttrList::new(alloc);

@@ -1,10 +1,11 @@
 //! Packets from bytes.
 
-ghost use Rattle.std.specs.Prelude.{◌≡◌, ◌≢◌, IfOk, IfErr, Err, ℕ, List};
+ghost use Rattle.std.specs.Prelude.{◌≡◌, ◌≢◌, true, IfOk, IfErr, Err, ℕ, List};
 ghost use Rattle.auc_attr.specs.Frame.{Ended, Named, Message, frame_at, IsFramed};
 ghost use Rattle.auc_attr.specs.FrameView.{frame_of};
 ghost use Rattle.auc_attr.specs.Grammar.{FirstFault};
 ghost use Rattle.auc_attr.specs.PacketFault.{IsFaultWithin};
+ghost use Rattle.auc_packet.specs.Laws.{has_values};
 ghost use Rattle.auc_packet.specs.Packet.{ReadsPacket, FirstPacketFault};
 
 use crate::packet::Packet;
@@ -18,6 +19,7 @@ use std::alloc::Global;
 /// §8.1), else one of the attributes. Reserved bytes, fill and the bytes after Length are skipped.
 pub fn read_packet(alloc: Global, bytes: &[u8]) -> Result<Packet, PacketRefusal>
     ensures read { IfOk result (λ packet. ReadsPacket bytes.now packet) }
+    ensures values { IfOk result (λ packet. has_values packet ≡ true) }
     ensures fault { IfErr result (λ fault. FirstPacketFault bytes.now fault) }
 {
     match read_frame(bytes) {

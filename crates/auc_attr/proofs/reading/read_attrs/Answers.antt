@@ -29,7 +29,7 @@ loop-rest-preserved c =
     let some : 0 < length c.loop-rest.rest.now = grind (arith, nat_tests) in
     list_goes_on _ _ _ _ _ _ c.in_ok-attr.attr _ _ c.loop-rest.invariant
     (taken _ _ _ _ _ _ _ c.loop-rest.invariant.read some c.is_marked.ensures c.in_ok-found.ensures)
-    c.in_ok-attr.ensures.value c.in_ok-attr.ensures.named c.in_ok-push.ensures.pushed c.mark.ensures
+    c.in_ok-attr.ensures.value c.in_ok-attr.ensures.named c.in_ok-attr.ensures.values c.in_ok-push.ensures.pushed c.mark.ensures
 
 pub returns-clause-read : goal.returns-clause-read
 returns-clause-read c =
