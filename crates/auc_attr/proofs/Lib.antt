@@ -10,4 +10,5 @@ mod ConditionLemmas
 mod FrameLemmas
 mod FrameFaultLemmas
 mod MacLemmas
+mod PlaceLemmas
 mod LawLemmas

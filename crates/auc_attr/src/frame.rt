@@ -77,8 +77,8 @@ fn frame_by_steps(bytes: &[u8]) -> Result<Framed<'_>, FrameFault>
     sized(bytes[0], bytes[1], length_of(bytes), bytes)
 }
 
-/// The bytes that a packet says that it has.
-fn length_of(bytes: &[u8]) -> usize
+/// The number of bytes that Length counts.
+pub fn length_of(bytes: &[u8]) -> usize
     requires { 4 ≤ length bytes.now }
     ensures { result ≡ length_of bytes.now }
 {

@@ -28,7 +28,7 @@ mod writing;
 
 pub use attr::Attr;
 pub use attr_list::AttrList;
-pub use frame::{FrameFault, Framed, read_frame};
+pub use frame::{FrameFault, Framed, length_of, read_frame};
 pub use law::{
     bytes_are_one_list, bytes_have_one_first_fault, bytes_have_one_reading_or_one_fault,
     found_frames_stand_there, read_attributes_may_be_written, refused_bytes_are_not_read,

@@ -1,3 +1,4 @@
 pub mod Hmac
 pub mod States
 pub mod Piece
+pub mod Mac

@@ -1,5 +1,4 @@
 mod PlaceLemmas
-mod BlockLemmas
 mod CheckcodeLemmas
 mod SealLemmas
 mod PaddingLemmas

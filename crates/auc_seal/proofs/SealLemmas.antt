@@ -18,8 +18,9 @@ use Rattle.auc_attr.specs.Mac.{mac_from, mac_place_of as mac_of, IsMacIn, IsMacO
 use Rattle.auc_attr.proofs.Facts.{IsBytes, some_is, attr_size, mac_within, frame_again, found_is_framed}
 use Rattle.auc_hmac.specs.declared.method.Method.{Method}
 use Rattle.auc_aes.specs.Bytes.{with_block}
-use Rattle.auc_seal.specs.Mac.{no_mac, mac_input, right_mac, mac_value, IsRight}
-use Rattle.auc_seal.specs.Mac as seal
+use Rattle.auc_hmac.specs.Mac.{no_mac, mac_input, mac_value}
+use Rattle.auc_hmac.specs.Mac as value
+use Rattle.auc_seal.specs.Mac.{right_mac, IsRight}
 
 -- ---- a block set in bytes that have two parts
 
@@ -241,11 +242,11 @@ pub sealed_is_right : (method : Method) (k_aut packet extra sealed : List ℕ) (
 sealed_is_right method k_aut packet extra sealed place fits there whole is =
     let block = right_mac method k_aut packet place extra in
     let s = set_frame packet block place (frame_at packet) fits whole refl there in
-    let input : mac_input (with_block packet place block) place extra ≡ mac_input packet place extra =
+    let input : mac_input (length_of (with_block packet place block)) (with_block packet place block) place extra ≡ mac_input (length_of packet) packet place extra =
     ap (λ (b : List ℕ). take (length_of (with_block packet place block)) b ++ extra) (block_twice packet block place whole s.within no_mac)
     ∙ ap (λ (n : ℕ). take n (with_block packet place no_mac) ++ extra) s.size in
     subst (λ (b : List ℕ). IsRight method k_aut b extra) (sym is) (record {
       place = place;
       there = s.there;
-      right = block_is packet block place whole s.within ∙ ap (λ (t : List ℕ). seal.mac_of method k_aut t) (sym input);
+      right = block_is packet block place whole s.within ∙ ap (λ (t : List ℕ). value.mac_of method k_aut t) (sym input);
     })

@@ -1,17 +1,15 @@
 //! The message authentication code of a packet.
 
-ghost use Rattle.std.specs.Prelude.{◌≡◌, ℕ, ◌+◌, ◌≤◌, length, take, Some};
+ghost use Rattle.std.specs.Prelude.{◌≡◌, ℕ, ◌+◌, ◌≤◌, length, Some};
 ghost use Rattle.auc_aes.specs.Bytes.{with_block};
 ghost use Rattle.auc_attr.specs.Frame.{length_of};
 ghost use Rattle.auc_attr.specs.Laws.{AreBytes};
 ghost use Rattle.auc_attr.specs.Mac.{IsMacPlace};
-ghost use Rattle.auc_hmac.specs.Hmac.{hmac_sha1, hmac_sha256};
-ghost use Rattle.auc_seal.specs.Inner.{input_bytes};
 ghost use Rattle.auc_seal.specs.Mac.{right_mac, IsRight, Checks};
 
 use auc_aes::{block_at, put_block};
-use auc_attr::mac_place;
-use auc_hmac::{HmacSha1, HmacSha256, Method};
+use auc_attr::{length_of, mac_place};
+use auc_hmac::{Method, mac_at};
 
 /// The result of checking a packet's message authentication code.
 #[derive(Clone, Copy, Debug, PartialEq, Eq)]
@@ -22,16 +20,6 @@ pub enum Mac {
     Wrong,
     /// The bytes have a fault or no AT_MAC.
     Absent,
-}
-
-// What is authenticated, in consecutive pieces: the packet up to the value of its AT_MAC, 16 bytes in place
-// of the value, the packet after it, and further bytes.
-#[derive(Clone, Copy)]
-pub(crate) struct Pieces<'a> {
-    pub(crate) front: &'a [u8],
-    pub(crate) value: [u8; 16],
-    pub(crate) back: &'a [u8],
-    pub(crate) extra: &'a [u8],
 }
 
 /// Checks the value of a packet's AT_MAC (RFC 4187 §10.15, RFC 9048 §3.4.2). The right value is the first 16
@@ -79,46 +67,5 @@ fn right_mac(
     ensures value { result ≡ right_mac method k_aut.now packet.now place extra.now }
     ensures bytes { AreBytes packet.now }
 {
-    let pieces = Pieces {
-        front: &packet[..place],
-        value: [0; 16],
-        back: &packet[place + 16..length_of(packet)],
-        extra,
-    };
-    match method {
-        Method::Aka => mac_aka(&k_aut[..16], &pieces),
-        Method::Prime => mac_prime(k_aut, &pieces),
-    }
-}
-
-// HMAC-SHA1-128.
-fn mac_aka(key: &[u8], pieces: &Pieces) -> [u8; 16]
-    ensures { result ≡ take 16 (hmac_sha1 key.now (input_bytes pieces.now)) }
-{
-    let mut mac = HmacSha1::new(key);
-    mac.update(pieces.front);
-    mac.update(&pieces.value);
-    mac.update(pieces.back);
-    mac.update(pieces.extra);
-    block_at(&mac.finish(), 0)
-}
-
-// HMAC-SHA-256-128.
-fn mac_prime(key: &[u8], pieces: &Pieces) -> [u8; 16]
-    ensures { result ≡ take 16 (hmac_sha256 key.now (input_bytes pieces.now)) }
-{
-    let mut mac = HmacSha256::new(key);
-    mac.update(pieces.front);
-    mac.update(&pieces.value);
-    mac.update(pieces.back);
-    mac.update(pieces.extra);
-    block_at(&mac.finish(), 0)
-}
-
-// How many bytes a packet has by its Length.
-fn length_of(packet: &[u8]) -> usize
-    requires { 4 ≤ length packet.now }
-    ensures { result ≡ length_of packet.now }
-{
-    u16::from_be_bytes([packet[2], packet[3]]) as usize
+    mac_at(method, k_aut, length_of(packet), packet, place, extra)
 }
