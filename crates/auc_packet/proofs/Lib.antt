@@ -1,2 +1,3 @@
 pub mod Facts
 mod LawLemmas
+mod ReceivedLemmas

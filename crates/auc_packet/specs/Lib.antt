@@ -2,3 +2,4 @@ pub mod Packet
 pub mod Spelling
 pub mod Head
 pub mod Laws
+pub mod Received

@@ -1,6 +1,7 @@
 //! Laws of the grammar that no single call shows.
 
 ghost use Rattle.auc_packet.specs.Laws.{OnePacket, OneFault, RefusedIsNotRead, WrittenIsRead, ReadIsWritable};
+ghost use Rattle.auc_packet.specs.Received.{OneReceived};
 
 /// Bytes are one packet.
 pub fn bytes_are_one_packet()
@@ -26,4 +27,9 @@ pub fn written_packets_are_read()
 /// than there are: only reserved bytes and fill differ.
 pub fn read_packets_may_be_written()
     ensures { ReadIsWritable }
+{}
+
+/// Equal bytes are received alike: as the same packet or with the same first fault, and with the same AT_MAC.
+pub fn equal_bytes_are_received_alike()
+    ensures { OneReceived }
 {}

@@ -14,17 +14,19 @@ mod first_bytes;
 mod law;
 mod packet;
 mod reading;
+mod received;
 mod refusal;
 mod subtype;
 mod writing;
 
 pub use first_bytes::head;
 pub use law::{
-    bytes_are_one_packet, bytes_have_one_first_fault, read_packets_may_be_written,
-    refused_bytes_are_no_packet, written_packets_are_read,
+    bytes_are_one_packet, bytes_have_one_first_fault, equal_bytes_are_received_alike,
+    read_packets_may_be_written, refused_bytes_are_no_packet, written_packets_are_read,
 };
 pub use packet::{Head, Packet};
 pub use reading::read_packet;
+pub use received::{Reading, Received, receive};
 pub use refusal::PacketRefusal;
 pub use subtype::Subtype;
 pub use writing::{put_packet, write_packet};
