@@ -1,6 +1,10 @@
--- Bytes as they were received, and what they are.
-use Rattle.std.specs.Prelude.{◌≡◌, ◌≢◌, ℕ, true, List, Option}
+-- Bytes as they were received: what they are, and whether the value of their AT_MAC is right.
+use Rattle.std.specs.Prelude.{◌≡◌, ◌≢◌, ℕ, Bool, true, false, List, Option, Some, None}
+use Rattle.std.specs.Str.{bytes_eq}
+use Rattle.auc_attr.specs.Frame.{length_of}
 use Rattle.auc_attr.specs.Mac.{IsMacPlace}
+use Rattle.auc_hmac.specs.Mac.{mac_value, mac_at}
+use Rattle.auc_hmac.specs.declared.method.Method.{Method}
 use Rattle.auc_packet.specs.declared.received.Reading.{Reading}
 use Rattle.auc_packet.specs.declared.received.Reading.TheVariants as reading
 use Rattle.auc_packet.specs.declared.received.Received.{Received}
@@ -25,6 +29,16 @@ seen_of received = record { bytes = received.bytes.now; reading = received.readi
 pub record IsReceived (seen : Seen) : Type 0 where
   pub reads : IsReading seen.bytes seen.reading
   pub placed : IsMacPlace seen.bytes seen.place
+
+-- whether the value of AT_MAC that begins at a place is right; without a place it isn't
+abbrev pub is_sealed_at : Method → List ℕ → List ℕ → List ℕ → Option ℕ → Bool
+is_sealed_at method k_aut extra bytes None = false
+is_sealed_at method k_aut extra bytes (Some place) =
+    bytes_eq (mac_value bytes place) (mac_at method k_aut (length_of bytes) bytes place extra)
+
+-- whether received bytes have AT_MAC, and its value is right
+unfoldable pub is_sealed : Method → List ℕ → List ℕ → Seen → Bool
+is_sealed method k_aut extra seen = is_sealed_at method k_aut extra seen.bytes seen.place
 
 -- equal bytes are received alike
 abbrev pub OneReceived : Type 0

@@ -26,7 +26,7 @@ pub use law::{
 };
 pub use packet::{Head, Packet};
 pub use reading::read_packet;
-pub use received::{Reading, Received, receive};
+pub use received::{Reading, Received, is_sealed, receive};
 pub use refusal::PacketRefusal;
 pub use subtype::Subtype;
 pub use writing::{put_packet, write_packet};

@@ -1,14 +1,16 @@
 //! Bytes as they are received.
 
-ghost use Rattle.std.specs.Prelude.{◌≡◌, ℕ, List, IfOk};
+ghost use Rattle.std.specs.Prelude.{◌≡◌, ℕ, List, Some, IfOk};
+ghost use Rattle.auc_attr.specs.Mac.{IsMacPlace};
 ghost use Rattle.auc_packet.specs.Packet.{FirstPacketFault};
-ghost use Rattle.auc_packet.specs.Received.{IsReading, IsReceived, seen_of};
+ghost use Rattle.auc_packet.specs.Received.{IsReading, IsReceived, is_sealed, is_sealed_at, seen_of};
 
 use crate::packet::Packet;
 use crate::reading::read_packet;
 use crate::refusal::PacketRefusal;
-use auc_attr::mac_place;
+use auc_attr::{length_of, mac_place};
 use auc_edge::NoMemory;
+use auc_hmac::{Method, mac_at, piece_of};
 use std::alloc::Global;
 
 /// What bytes are.
@@ -62,4 +64,27 @@ fn reading_of(fault: PacketRefusal) -> Result<Reading, NoMemory>
         PacketRefusal::NoMemory => Err(NoMemory),
         _ => Ok(Reading::Fault(fault)),
     }
+}
+
+/// Whether received bytes have AT_MAC, and its value is right (RFC 4187 §10.15, RFC 9048 §3.4.2). The message
+/// authenticates `extra` besides the packet. The key of EAP-AKA is the first 16 bytes of `k_aut`, that of EAP-AKA'
+/// all 32. Takes no memory.
+#[tactic(auto, unfolding(crate::specs::Received::is_sealed))]
+pub fn is_sealed(received: &Received, method: Method, k_aut: &[u8; 32], extra: &[u8]) -> bool
+    requires { IsReceived (seen_of received.now) }
+    ensures { result ≡ is_sealed method k_aut.now extra.now (seen_of received.now) }
+{
+    match received.place {
+        None => false,
+        Some(place) => is_sealed_at(received.bytes, place, method, k_aut, extra),
+    }
+}
+
+/// Whether the value of AT_MAC that begins at a place is right.
+fn is_sealed_at(packet: &[u8], place: usize, method: Method, k_aut: &[u8; 32], extra: &[u8]) -> bool
+    requires { IsMacPlace packet.now (Some place) }
+    ensures { result ≡ is_sealed_at method k_aut.now extra.now packet.now (Some place) }
+{
+    let size = length_of(packet);
+    piece_of::<16>(packet, place) == mac_at(method, k_aut, size, packet, place, extra)
 }
