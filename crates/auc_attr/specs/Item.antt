@@ -1,6 +1,7 @@
 -- An attribute as its type and the bytes of its value, without length, reserved bytes and fill. A number
 -- is two bytes, the bit D is one byte, 0 or 1.
-use Rattle.std.specs.Prelude.{ℕ, Bool, true, false, List, [], ◌∷◌, map, Option, Some, None}
+use Rattle.std.specs.Prelude.{ℕ, ◌==◌, Bool, true, false, List, [], ◌∷◌, map, Option, Some, None}
+use Rattle.std.specs.List.{list_any}
 use Rattle.std.specs.Int.{w16, to_be_bytes}
 use Rattle.auc_attr.specs.declared.attr.Attr.{Attr}
 use Rattle.auc_attr.specs.declared.attr.Attr.TheVariants as attr
@@ -62,3 +63,7 @@ is_named _ = true
 
 abbrev pub items : List Attr → List Item
 items list = map item_of list
+
+-- whether an attribute of a type is in a list
+abbrev pub has : List Attr → ℕ → Bool
+has list kind = list_any (λ a. (item_of a).kind == kind) list

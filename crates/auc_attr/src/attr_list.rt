@@ -2,6 +2,7 @@
 
 ghost use Rattle.std.specs.Prelude.{◌≡◌, ◌++◌, [], ◌∷◌, ◌<◌, length, true, IfOk, OnOk, OnErr, slice_get};
 ghost use Rattle.std.specs.Option.{option_copied};
+ghost use Rattle.auc_attr.specs.Item.{has};
 ghost use Rattle.auc_edge.specs.Reserved.{Reserved};
 
 use crate::attr::Attr;
@@ -63,6 +64,13 @@ impl AttrList {
         ensures { option_copied result ≡ slice_get self.now place }
     {
         self.attrs.get(place)
+    }
+
+    /// Whether there is an attribute of a type.
+    pub fn has(&self, kind: u8) -> bool
+        ensures { result ≡ has self.now kind }
+    {
+        self.as_slice().iter().any(|attr| attr.kind() == kind)
     }
 
     /// The attributes.

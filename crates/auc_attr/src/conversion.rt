@@ -112,6 +112,15 @@ pub fn parts_of(attr: &Attr) -> Parts<'_>
     Parts { kind, value }
 }
 
+impl Attr {
+    /// The attribute's type.
+    pub fn kind(&self) -> u8
+        ensures { result ≡ (item_of self.now).kind }
+    {
+        parts_of(self).kind
+    }
+}
+
 /// Whether an attribute goes by its own name: only an attribute of an unknown type is `Skipped`.
 pub fn is_named(attr: &Attr) -> bool
     ensures { result ≡ is_named attr.now }

@@ -1,3 +1,4 @@
 pub mod Facts
 mod LawLemmas
 mod ReceivedLemmas
+mod SealedLemmas

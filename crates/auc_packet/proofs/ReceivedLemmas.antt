@@ -10,7 +10,7 @@ use Rattle.auc_packet.specs.Received.{Seen, IsReading, OneReceived}
 use Rattle.auc_packet.proofs.LawLemmas.{one_packet, one_first_fault, refused_is_no_packet}
 
 -- bytes have one reading
-one_reading : (bytes : List ℕ) (r s : Reading) → IsReading bytes r → IsReading bytes s → r ≡ s
+pub one_reading : (bytes : List ℕ) (r s : Reading) → IsReading bytes r → IsReading bytes s → r ≡ s
 one_reading bytes (reading.Read p) (reading.Read q) (a, u) (b, v) = ap (λ (x : Packet). reading.Read x) (one_packet bytes p q u v a b)
 one_reading bytes (reading.Read p) (reading.Fault f) (a, u) (b, v) = absurd (refused_is_no_packet bytes p f v b a)
 one_reading bytes (reading.Fault f) (reading.Read q) (a, u) (b, v) = absurd (refused_is_no_packet bytes q f u a b)

@@ -3,3 +3,5 @@ pub mod Spelling
 pub mod Head
 pub mod Laws
 pub mod Received
+pub mod Sealed
+pub mod InnerSealed

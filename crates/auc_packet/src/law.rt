@@ -2,6 +2,7 @@
 
 ghost use Rattle.auc_packet.specs.Laws.{OnePacket, OneFault, RefusedIsNotRead, WrittenIsRead, ReadIsWritable};
 ghost use Rattle.auc_packet.specs.Received.{OneReceived};
+ghost use Rattle.auc_packet.specs.Sealed.{SealedIsRead, SealedIsRight};
 
 /// Bytes are one packet.
 pub fn bytes_are_one_packet()
@@ -32,4 +33,14 @@ pub fn read_packets_may_be_written()
 /// Equal bytes are received alike: as the same packet or with the same first fault, and with the same AT_MAC.
 pub fn equal_bytes_are_received_alike()
     ensures { OneReceived }
+{}
+
+/// A sealed message is received as the message that it is, whatever follows it.
+pub fn sealed_messages_are_read()
+    ensures { SealedIsRead }
+{}
+
+/// A sealed message is received with a right MAC, whatever follows it.
+pub fn sealed_messages_are_right()
+    ensures { SealedIsRight }
 {}

@@ -16,18 +16,21 @@ mod packet;
 mod reading;
 mod received;
 mod refusal;
+mod sealing;
 mod subtype;
 mod writing;
 
 pub use first_bytes::head;
 pub use law::{
     bytes_are_one_packet, bytes_have_one_first_fault, equal_bytes_are_received_alike,
-    read_packets_may_be_written, refused_bytes_are_no_packet, written_packets_are_read,
+    read_packets_may_be_written, refused_bytes_are_no_packet, sealed_messages_are_read,
+    sealed_messages_are_right, written_packets_are_read,
 };
 pub use packet::{Head, Packet};
 pub use reading::read_packet;
 pub use received::{Reading, Received, is_sealed, receive};
 pub use refusal::PacketRefusal;
+pub use sealing::{Draft, put_sealed};
 pub use subtype::Subtype;
 pub use writing::{put_packet, write_packet};
 

@@ -1,8 +1,12 @@
 // Each Subtype, each attribute at its least and its greatest size, and a packet of 4096 bytes: see the stored run of
 // auc_packet_cli.
-use super::{Head, PacketRefusal, head, put_packet, read_packet, write_packet};
-use auc_attr::AttrRefusal;
+use super::{
+    Draft, Head, PacketRefusal, Subtype, head, is_sealed, put_packet, put_sealed, read_packet,
+    receive, write_packet,
+};
+use auc_attr::{Attr, AttrList, AttrRefusal};
 use auc_edge::{Octets, Room};
+use auc_hmac::Method;
 use std::test::Fail;
 
 // RFC 3748 §4, RFC 4187 §8.1 and §10, by hand.
@@ -88,4 +92,62 @@ fn head_tells_code_identifier_and_type(rt: HostRuntime) {
     assert_eq!(rt; head(&[1, 9, 0, 5, 3]), head_as(1, Some(3)));
     assert_eq!(rt; head(&[1, 9, 0, 8, 23, 3, 0, 0]), head_as(1, Some(23)));
     assert_eq!(rt; head(&[1, 9, 0, 7, 23, 3, 0, 0]), None);
+}
+
+// 0x20, 0x21, .. 0x3f.
+const K_AUT: [u8; 32] = [
+    32, 33, 34, 35, 36, 37, 38, 39, 40, 41, 42, 43, 44, 45, 46, 47, 48, 49, 50, 51, 52, 53, 54, 55,
+    56, 57, 58, 59, 60, 61, 62, 63,
+];
+
+// 0xa0, 0xa1, .. 0xaf.
+const NONCE_S: [u8; 16] = [
+    160, 161, 162, 163, 164, 165, 166, 167, 168, 169, 170, 171, 172, 173, 174, 175,
+];
+
+// Python's `hmac`: `hmac.new(key, packet + nonce, 'sha1' or 'sha256').digest()[:16]`, the key 16 or 32 bytes, of a
+// Reauthentication response with an empty AT_CHECKCODE.
+#[test]
+fn sealed_message_is_received_with_a_right_mac(rt: HostRuntime) -> Result<(), Fail> {
+    let cases: [(Method, u8, [u8; 16]); 2] = [
+        (
+            Method::Aka,
+            23,
+            [
+                0x35, 0xf8, 0x4d, 0x44, 0x8f, 0x72, 0x6d, 0xdb, 0xaf, 0xb0, 0x8d, 0x84, 0x22, 0x59,
+                0x2e, 0xd9,
+            ],
+        ),
+        (
+            Method::Prime,
+            50,
+            [
+                0x40, 0x16, 0xa4, 0x76, 0x94, 0x9a, 0x99, 0x75, 0x06, 0x67, 0x87, 0xc5, 0x55, 0x7a,
+                0x59, 0x5d,
+            ],
+        ),
+    ];
+    for (method, kind, mac) in cases {
+        let mut attrs = AttrList::new(rt.alloc());
+        attrs.push(Attr::Checkcode(Octets::new(rt.alloc())))?;
+        let draft = Draft {
+            method,
+            request: false,
+            id: 9,
+            subtype: Subtype::Reauthentication,
+            attrs,
+        };
+        assert!(rt; draft.writable());
+        let mut room = Room::new(rt.alloc(), 4096)?;
+        put_sealed(&draft, &K_AUT, &NONCE_S, &mut room);
+        let bytes = room.into_octets();
+        let mut expected = [0u8; 32];
+        expected[..16].copy_from_slice(&[2, 9, 0, 32, kind, 13, 0, 0, 134, 1, 0, 0, 11, 5, 0, 0]);
+        expected[16..].copy_from_slice(&mac);
+        assert_eq!(rt; bytes.as_slice(), expected.as_slice(), "of type {kind}");
+        let received = receive(rt.alloc(), bytes.as_slice())?;
+        assert!(rt; is_sealed(&received, method, &K_AUT, &NONCE_S));
+        assert!(rt; !is_sealed(&received, method, &K_AUT, &[]));
+    }
+    Ok(())
 }

@@ -93,22 +93,23 @@ impl Packet {
                 method: _,
                 subtype: _,
                 attrs,
-            } => attrs.writable() && are_short(attrs),
+            } => attrs.writable() && are_short(attrs, 4088),
         }
     }
 }
 
-fn are_short(attrs: &AttrList) -> bool
+/// Whether attributes take at most so many bytes.
+pub(crate) fn are_short(attrs: &AttrList, most: usize) -> bool
     requires { writable attrs.now ≡ true }
-    ensures { IsTrue result ↔ (length (spelling attrs.now) ≤ 4088) }
+    ensures { IsTrue result ↔ (length (spelling attrs.now) ≤ most) }
 {
     match attrs.size() {
-        Some(size) => size <= 4088,
+        Some(size) => size <= most,
         None => false,
     }
 }
 
-fn size_of_attrs(attrs: &AttrList) -> usize
+pub(crate) fn size_of_attrs(attrs: &AttrList) -> usize
     requires writable { writable attrs.now ≡ true }
     requires small { length (spelling attrs.now) ≤ 4096 }
     ensures { result ≡ length (spelling attrs.now) }
@@ -120,7 +121,7 @@ fn size_of_attrs(attrs: &AttrList) -> usize
 }
 
 /// Code, Identifier and Length.
-fn put_head(room: &mut Room, code: u8, id: u8, size: usize)
+pub(crate) fn put_head(room: &mut Room, code: u8, id: u8, size: usize)
     requires small { size ≤ 4096 }
     requires room { 4 ≤ room.old.left }
     ensures { room.new ≡ wrote room.old (code ∷ id ∷ to_be_bytes w16 size) }
@@ -129,7 +130,7 @@ fn put_head(room: &mut Room, code: u8, id: u8, size: usize)
     room.put(&(size as u16).to_be_bytes());
 }
 
-fn message_code(request: bool) -> u8
+pub(crate) fn message_code(request: bool) -> u8
     ensures { result ≡ message_code request }
 {
     if request { 1 } else { 2 }
