@@ -5,3 +5,4 @@ pub mod Laws
 pub mod Received
 pub mod Sealed
 pub mod InnerSealed
+pub mod Messages

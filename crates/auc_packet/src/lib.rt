@@ -2,16 +2,18 @@
 //!
 //! [`read_packet`] reads bytes as a packet, or reports their first fault: each fault has a condition of its own,
 //! listed in their order in `auc_attr`'s `specs/Frame` and `specs/Fault`. [`head`] reads code, Identifier and
-//! type alone. [`write_packet`] writes the one spelling of a packet, and [`put_packet`] does so into memory that
-//! was taken before.
+//! type alone. [`receive`] takes bytes as one value, and [`is_sealed`] tells whether their AT_MAC is right.
+//! [`write_packet`] writes the one spelling of a packet, [`put_packet`] does so into memory that was taken
+//! before, and [`put_sealed`] with the right AT_MAC. [`is_malformed`] and [`is_missing`] test a message's types.
 //!
 //! `specs/Packet` relates bytes to packets and leaves reserved bytes, fill and the bytes after Length free. A
-//! written packet is read as the same packet, whatever follows it. Reading takes memory for texts and
-//! attributes; `head` and `put_packet` take none.
+//! written packet is read as the same packet, whatever follows it. Contracts see a [`Received`] as its `Seen`.
+//! `read_packet`, `receive` and `write_packet` take memory; no other call does.
 #![tactic(auto)]
 
 mod first_bytes;
 mod law;
+mod messages;
 mod packet;
 mod reading;
 mod received;
@@ -26,6 +28,7 @@ pub use law::{
     read_packets_may_be_written, refused_bytes_are_no_packet, sealed_messages_are_read,
     sealed_messages_are_right, written_packets_are_read,
 };
+pub use messages::{is_malformed, is_missing};
 pub use packet::{Head, Packet};
 pub use reading::read_packet;
 pub use received::{Reading, Received, is_sealed, receive};

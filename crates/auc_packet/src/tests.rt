@@ -1,10 +1,10 @@
 // Each Subtype, each attribute at its least and its greatest size, and a packet of 4096 bytes: see the stored run of
 // auc_packet_cli.
 use super::{
-    Draft, Head, PacketRefusal, Subtype, head, is_sealed, put_packet, put_sealed, read_packet,
-    receive, write_packet,
+    Draft, Head, PacketRefusal, Subtype, head, is_malformed, is_missing, is_sealed, put_packet,
+    put_sealed, read_packet, receive, write_packet,
 };
-use auc_attr::{Attr, AttrList, AttrRefusal};
+use auc_attr::{Attr, AttrList, AttrRefusal, read_attrs};
 use auc_edge::{Octets, Room};
 use auc_hmac::Method;
 use std::test::Fail;
@@ -148,6 +148,98 @@ fn sealed_message_is_received_with_a_right_mac(rt: HostRuntime) -> Result<(), Fa
         let received = receive(rt.alloc(), bytes.as_slice())?;
         assert!(rt; is_sealed(&received, method, &K_AUT, &NONCE_S));
         assert!(rt; !is_sealed(&received, method, &K_AUT, &[]));
+    }
+    Ok(())
+}
+
+// Attributes of these types, with values of zero bytes.
+fn list_of(rt: &HostRuntime, kinds: &[u8]) -> Result<AttrList, Fail> {
+    let mut bytes = Vec::new(rt.alloc());
+    for &kind in kinds {
+        match kind {
+            1 | 2 | 11 | 21 | 129 => {
+                bytes.extend_from_slice(&[kind, 5])?;
+                bytes.extend_from_slice(&[0; 18])?;
+            }
+            3 => bytes.extend_from_slice(&[3, 2, 0, 32, 0, 0, 0, 0])?,
+            4 => {
+                bytes.extend_from_slice(&[4, 4])?;
+                bytes.extend_from_slice(&[0; 14])?;
+            }
+            _ => bytes.extend_from_slice(&[kind, 1, 0, 0])?,
+        }
+    }
+    Ok(read_attrs(rt.alloc(), bytes.as_slice())?)
+}
+
+// RFC 4187 §9 and §10.1, RFC 9048 §3: the types below 128 that a message may have.
+#[test]
+fn each_message_may_have_the_attributes_of_its_row(rt: HostRuntime) -> Result<(), Fail> {
+    let rows: [(Subtype, bool, Method, &[u8]); 14] = [
+        (Subtype::Identity, true, Method::Aka, &[10, 13, 17]),
+        (Subtype::Identity, false, Method::Aka, &[14]),
+        (Subtype::Challenge, true, Method::Aka, &[1, 2, 11]),
+        (Subtype::Challenge, true, Method::Prime, &[1, 2, 11, 23, 24]),
+        (Subtype::Challenge, false, Method::Prime, &[3, 11]),
+        (Subtype::AuthenticationReject, false, Method::Aka, &[]),
+        (Subtype::SynchronizationFailure, false, Method::Aka, &[4]),
+        (
+            Subtype::SynchronizationFailure,
+            false,
+            Method::Prime,
+            &[4, 24],
+        ),
+        (Subtype::Notification, true, Method::Aka, &[11, 12]),
+        (Subtype::Notification, false, Method::Aka, &[]),
+        (Subtype::Reauthentication, true, Method::Aka, &[11]),
+        (Subtype::Reauthentication, false, Method::Aka, &[11]),
+        (Subtype::ClientError, false, Method::Aka, &[22]),
+        (Subtype::ClientError, true, Method::Aka, &[]),
+    ];
+    let kinds = [
+        1, 2, 3, 4, 6, 10, 11, 12, 13, 14, 17, 19, 20, 21, 22, 23, 24, 129, 130, 132, 133, 134,
+        135, 136, 200,
+    ];
+    for (subtype, request, method, row) in rows {
+        for kind in kinds {
+            assert_eq!(rt;
+                is_malformed(subtype, request, method, &list_of(&rt, &[kind])?),
+                kind < 128 && !row.contains(&kind),
+                "type {kind} in {subtype:?}"
+            );
+        }
+    }
+    Ok(())
+}
+
+// RFC 4187 §9, by hand.
+#[test]
+fn message_without_a_needed_attribute_is_told(rt: HostRuntime) -> Result<(), Fail> {
+    let cases: [(Subtype, bool, &[u8], bool); 17] = [
+        (Subtype::Identity, true, &[], true),
+        (Subtype::Identity, true, &[13], false),
+        (Subtype::Identity, true, &[10, 17], true),
+        (Subtype::Identity, false, &[], true),
+        (Subtype::Challenge, true, &[1, 2, 11], false),
+        (Subtype::Challenge, true, &[2, 11], true),
+        (Subtype::Challenge, true, &[1, 11], true),
+        (Subtype::Challenge, true, &[1, 2], true),
+        (Subtype::Challenge, false, &[3, 11], false),
+        (Subtype::Challenge, false, &[3], true),
+        (Subtype::AuthenticationReject, false, &[], false),
+        (Subtype::SynchronizationFailure, false, &[24], true),
+        (Subtype::Notification, true, &[11], true),
+        (Subtype::Notification, false, &[], false),
+        (Subtype::Reauthentication, true, &[11, 129], true),
+        (Subtype::Reauthentication, false, &[11, 129, 130], false),
+        (Subtype::ClientError, false, &[], true),
+    ];
+    for (subtype, request, kinds, missing) in cases {
+        assert_eq!(rt;
+            is_missing(subtype, request, &list_of(&rt, kinds)?),
+            missing,
+            "{kinds:?} in {subtype:?}"
+        );
     }
     Ok(())
 }
