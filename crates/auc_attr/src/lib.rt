@@ -38,6 +38,3 @@ pub use mac::mac_place;
 pub use reading::read_attrs;
 pub use refusal::AttrRefusal;
 pub use writing::{put_attrs, write_attrs};
-
-#[cfg(test)]
-mod tests;

@@ -20,8 +20,6 @@ mod refusal;
 mod round_so_far;
 mod script;
 mod so_far;
-#[cfg(test)]
-mod tests;
 mod word;
 
 pub use auc_lines::{JobPart, Line, Part, RoundPart};

@@ -28,6 +28,3 @@ pub use law::{
 };
 pub use mac::{Mac, check_mac, seal_mac};
 pub use refusal::SealRefusal;
-
-#[cfg(test)]
-mod tests;

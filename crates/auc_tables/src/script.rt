@@ -1,7 +1,7 @@
 //! Scenarios, and the lines at which they are refused with their causes.
 
-use crate::{Line, Part, Script, ScriptRefusal, ScriptWhy};
 use auc_edge::{NoMemory, Octets};
+use auc_script::{Line, Part, Script, ScriptRefusal, ScriptWhy};
 use auc_subs::{SubsWhy, Subscribers};
 use std::alloc::Global;
 use std::test::Fail;

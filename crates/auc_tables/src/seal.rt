@@ -1,7 +1,10 @@
-use super::*;
 use auc_attr::{Attr, AttrList, AttrRefusal, mac_place, read_attrs, write_attrs};
 use auc_edge::{Octets, Places};
 use auc_hmac::Method;
+use auc_seal::{
+    CheckValue, Checkcode, EncryptionRoom, Mac, SealRefusal, check_mac, decrypt_attrs,
+    encrypt_attrs, may_be_encrypted, put_encrypted, seal_mac,
+};
 use std::test::Fail;
 
 // 0x20, 0x21, .. 0x3f.

@@ -1,6 +1,6 @@
 // Each attribute with a value of distinct bytes, at its least and its greatest size, empty and twice, the bits beside D,
 // no attribute and the most that a packet holds: see the stored run of auc_packet_cli.
-use super::{
+use auc_attr::{
     Attr, AttrList, AttrRefusal, FrameFault, mac_place, put_attrs, read_attrs, read_frame,
     write_attrs,
 };
