@@ -141,9 +141,9 @@ fn sealed_message_is_received_with_a_right_mac(rt: HostRuntime) -> Result<(), Fa
         let mut room = Room::new(rt.alloc(), 4096)?;
         put_sealed(&draft, &K_AUT, &NONCE_S, &mut room);
         let bytes = room.into_octets();
-        let mut expected = [0u8; 32];
-        expected[..16].copy_from_slice(&[2, 9, 0, 32, kind, 13, 0, 0, 134, 1, 0, 0, 11, 5, 0, 0]);
-        expected[16..].copy_from_slice(&mac);
+        let mut expected = Octets::new(rt.alloc());
+        expected.append(&[2, 9, 0, 32, kind, 13, 0, 0, 134, 1, 0, 0, 11, 5, 0, 0])?;
+        expected.append(&mac)?;
         assert_eq!(rt; bytes.as_slice(), expected.as_slice(), "of type {kind}");
         let received = receive(rt.alloc(), bytes.as_slice())?;
         assert!(rt; is_sealed(&received, method, &K_AUT, &NONCE_S));
