@@ -8,11 +8,16 @@
 //! [`Octets`] is a string of bytes and [`Items`] a list of records; contracts see both as lists.
 //! [`Imsi`] is a subscriber's identity (TS 23.003 §2.2), which contracts see as the record of how many
 //! digits it has and of their value. [`NoMemory`] is the answer if memory runs out, and stands for
-//! nothing else. [`Stop`] names why numbers are withheld. Nothing here waits for another thread.
+//! nothing else. [`Stop`] names why numbers are withheld.
+//!
+//! A [`Gate`] is told which jobs of a round begin and end. It means nothing to a contract: [`OpenGate`] holds nobody, and
+//! at a [`TurnGate`] two jobs wait for each other, which is how a test sees that they are served at the same time. Nothing
+//! else here waits for another thread.
 #![tactic(auto)]
 
 mod failed;
 mod file_shelf;
+mod gate;
 mod imsi;
 mod items;
 mod law;
@@ -32,6 +37,7 @@ mod writing;
 
 pub use failed::Failed;
 pub use file_shelf::FileShelf;
+pub use gate::{Gate, OpenGate, TurnGate};
 pub use imsi::Imsi;
 pub use items::Items;
 pub use law::{each_identity_is_read_back, each_text_is_written_back};

@@ -159,3 +159,16 @@ fn standard_output_takes_a_text(rt: HostRuntime) {
     let mut out = StdSink::new(&rt);
     assert!(rt; write_whole(&mut out, b"a line of the test\n").is_ok());
 }
+
+// A job alone at the gate is held until the limit; the others aren't held.
+#[test]
+fn gate_holds_one_of_two_jobs(rt: HostRuntime) {
+    let gate = TurnGate::new(3);
+    gate.enter(&rt, 2);
+    gate.leave(&rt, 3);
+    assert_eq!(rt; (gate.left(), gate.expired()), (1, false));
+    gate.leave(&rt, 1);
+    assert_eq!(rt; (gate.left(), gate.expired()), (2, true));
+    gate.leave(&rt, 2);
+    assert_eq!(rt; gate.left(), 3);
+}
