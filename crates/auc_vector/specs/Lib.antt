@@ -3,3 +3,4 @@ pub mod Centre
 pub mod Random
 pub mod Stretch
 pub mod Vector
+pub mod Notes

@@ -6,25 +6,30 @@
 //! makes them with one key schedule and one generator. [`read_auts`] reads a USIM's AUTS.
 //!
 //! A [`Centre`] gives numbers and resynchronises them; its ghost members say which entries of a subscriber's history
-//! each call made. [`CoreCentre`] is the one over the pure core.
+//! each call made. [`CoreCentre`] is the one over the pure core. [`ask`] and [`report`] call a centre and note its answer;
+//! a [`Turn`] is what an end of a session does with what it received, with its [`Notes`].
 //!
 //! Contracts see a `Rands` as the 32 bytes of its key, a `RandStream` and a `Vectors` as what they are made from
 //! (`specs/Random`, `specs/Vector`), and a `CoreCentre` as the list of its subscribers' words. Nothing here takes memory
 //! or can fail. A `Centre`'s calls may wait, and those of `CoreCentre` wait for nobody.
 #![tactic(auto)]
 
+mod asking;
 mod auts;
 mod centre;
 mod core_centre;
 mod law;
 mod making;
+mod notes;
 mod parts;
 mod rand_stream;
 mod rands;
 #[cfg(test)]
 mod tests;
+mod turn;
 mod vectors;
 
+pub use asking::{ask, report};
 pub use auts::{Auts, read_auts};
 pub use centre::{Centre, CentreRefusal, Resynced};
 pub use core_centre::CoreCentre;
@@ -33,7 +38,9 @@ pub use law::{
     each_auts_is_read_back,
 };
 pub use making::vector;
+pub use notes::{CounterNote, Notes, NumberNote, ResyncNote, UsimNote};
 pub use parts::Vector;
 pub use rand_stream::RandStream;
 pub use rands::Rands;
+pub use turn::{Outcome, Reason, Step, Turn};
 pub use vectors::Vectors;

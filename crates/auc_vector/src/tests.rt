@@ -2,7 +2,10 @@
 
 ghost use Rattle.std.specs.Prelude.{◌≡◌, ◌<◌};
 
-use crate::{Auts, Centre, CentreRefusal, CoreCentre, Rands, Resynced, Vectors, read_auts, vector};
+use crate::{
+    Auts, Centre, CentreRefusal, CoreCentre, NumberNote, Rands, ResyncNote, Resynced, Vectors, ask,
+    read_auts, report, vector,
+};
 use auc_core::Core;
 use auc_milenage::{Secret, make_auts};
 use auc_sqn::{MAX_SEQ, sqn_of};
@@ -241,5 +244,19 @@ fn an_auts_with_one_bit_turned_over_moves_nothing(rt: HostRuntime) -> Result<(),
         }
     }
     assert_eq!(rt; centre.word(0), 10);
+    Ok(())
+}
+
+// By hand: a draw, a report that is in range, one that moves the number to the last, and a draw that is refused.
+#[test]
+fn notes_name_the_answers_of_a_centre(rt: HostRuntime) -> Result<(), Fail> {
+    let mut centre = CoreCentre::new(Core::new(rt.alloc(), &[10])?);
+    assert_eq!(rt; ask(&rt, &mut centre, 0), NumberNote::Drew(11));
+    assert_eq!(rt; report(&rt, &mut centre, 0, 3), ResyncNote::InRange(11, 3));
+    let moved = ResyncNote::Moved(11, MAX_SEQ);
+    assert_eq!(rt; report(&rt, &mut centre, 0, MAX_SEQ), moved);
+    assert_eq!(rt; ask(&rt, &mut centre, 0), NumberNote::Exhausted(MAX_SEQ));
+    let beyond = ResyncNote::Beyond(MAX_SEQ, 5);
+    assert_eq!(rt; report(&rt, &mut centre, 0, 5), beyond);
     Ok(())
 }
