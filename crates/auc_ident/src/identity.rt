@@ -1,6 +1,6 @@
 //! The text of a permanent identity.
 
-ghost use Rattle.std.specs.Prelude.{◌≡◌, ◌≤◌, take};
+ghost use Rattle.std.specs.Prelude.{◌≡◌, ◌≤◌, length, take};
 
 use std::marker::Model;
 
@@ -36,7 +36,8 @@ impl Permanent {
 
     /// The bytes.
     pub fn as_slice(&self) -> &[u8]
-        ensures { result.now ≡ self.now }
+        ensures bytes { result.now ≡ self.now }
+        ensures size { length result.now ≤ 16 }
     {
         &self.text[..self.size]
     }

@@ -1,8 +1,8 @@
 //! Identities of subscribers.
 
-ghost use Rattle.std.specs.Prelude.{◌≡◌, length};
+ghost use Rattle.std.specs.Prelude.{◌≡◌, ◌<◌, ◌==◌, length, position, IfSome};
 ghost use Rattle.auc_edge.specs.Identity.{last_digits};
-ghost use Rattle.auc_ident.specs.Permanent.{leading, permanent_text};
+ghost use Rattle.auc_ident.specs.Permanent.{leading, permanent_in, permanent_text, username};
 
 use crate::identity::{MOST, Permanent};
 use auc_edge::Imsi;
@@ -17,6 +17,36 @@ pub fn permanent(method: Method, imsi: Imsi) -> Permanent
     let size = 1 + usize::from(imsi.digits());
     write_digits(&mut text[1..size], imsi.number());
     Permanent::front_of(text, size)
+}
+
+/// The IMSI whose permanent identity by the method a text is, or `None` if the text is no such identity. The text
+/// has no realm: [`username`] takes the realm away.
+pub fn permanent_in(method: Method, text: &[u8]) -> Option<Imsi>
+    ensures { result ≡ permanent_in method text.now }
+{
+    match text {
+        [first, digits @ ..] if *first == leading(method) => Imsi::read(digits),
+        _ => None,
+    }
+}
+
+/// The username of an identity: the text before the first `@` (RFC 4187 §4.1.1.1, RFC 4282 §2.1), and the whole text
+/// if it has no `@`.
+pub fn username(text: &[u8]) -> &[u8]
+    ensures { result.now ≡ username text.now }
+{
+    match first_at(text) {
+        None => text,
+        Some(end) => &text[..end],
+    }
+}
+
+// The place of the first `@`.
+fn first_at(text: &[u8]) -> Option<usize>
+    ensures place { result ≡ position (λ byte. byte == 64) text.now }
+    ensures within { IfSome result (λ place. place < length text.now) }
+{
+    text.iter().position(|byte| *byte == b'@')
 }
 
 // The ASCII code of the first digit of an identity of the method.

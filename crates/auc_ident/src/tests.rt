@@ -18,3 +18,27 @@ fn permanent_identities_begin_with_the_digit_of_the_method(rt: HostRuntime) {
         }
     }
 }
+
+// By hand: the leading digit, the IMSI and the realm.
+#[test]
+fn identities_are_read_back_without_their_realm(rt: HostRuntime) {
+    let cases: [(Method, &[u8], Option<Imsi>); 6] = [
+        (
+            Method::Aka,
+            b"0001010000000001",
+            Imsi::read(b"001010000000001"),
+        ),
+        (
+            Method::Aka,
+            b"0001010000000001@a@b",
+            Imsi::read(b"001010000000001"),
+        ),
+        (Method::Prime, b"0001010000000001", None),
+        (Method::Prime, b"6000000@wlan", Imsi::read(b"000000")),
+        (Method::Aka, b"000101000000000a", None),
+        (Method::Aka, b"@0001010000000001", None),
+    ];
+    for (method, text, imsi) in cases {
+        assert_eq!(rt; permanent_in(method, username(text)), imsi);
+    }
+}
