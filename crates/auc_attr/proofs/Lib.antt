@@ -10,5 +10,6 @@ mod ConditionLemmas
 mod FrameLemmas
 mod FrameFaultLemmas
 mod MacLemmas
+mod ValueInLemmas
 mod PlaceLemmas
 mod LawLemmas

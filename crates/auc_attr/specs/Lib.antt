@@ -7,9 +7,11 @@ pub mod Grammar
 pub mod Frame
 pub mod FrameView
 pub mod Mac
+pub mod Value
 pub mod PacketFault
 pub mod Laws
 pub mod Inner
 pub mod InnerFront
 pub mod InnerFrame
 pub mod InnerParts
+pub mod InnerValue

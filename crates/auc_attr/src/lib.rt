@@ -2,12 +2,13 @@
 //!
 //! [`read_attrs`] reads bytes as attributes, or reports their first fault: each fault has a condition of its
 //! own, and `specs/Fault` lists them in their order. [`write_attrs`] writes the one spelling of attributes, and
-//! [`put_attrs`] does so into memory that was taken before. [`read_frame`] reads what stands before the
-//! attributes of a packet, and [`mac_place`] finds its AT_MAC.
+//! [`put_attrs`] does so into memory that was taken before. [`first_fault`] tells whether bytes are attributes, and
+//! [`value_in`] finds the value of a type in them. [`read_frame`] reads what stands before the attributes of a
+//! packet, and [`mac_place`] finds its AT_MAC.
 //!
 //! Contracts see an [`AttrList`] as the list of its [`Attr`]s. `specs/Grammar` relates bytes to attributes
 //! and leaves reserved bytes and fill free; `specs/Table` has the table of attributes. Reading takes memory
-//! for the values; `read_frame`, `mac_place` and `put_attrs` take none.
+//! for the values; `first_fault`, `value_in`, `read_frame`, `mac_place` and `put_attrs` take none.
 #![tactic(auto)]
 
 mod attr;
@@ -24,6 +25,7 @@ mod reading;
 mod refusal;
 mod table;
 mod values;
+mod walking;
 mod writing;
 
 pub use attr::Attr;
@@ -37,4 +39,5 @@ pub use law::{
 pub use mac::mac_place;
 pub use reading::read_attrs;
 pub use refusal::AttrRefusal;
+pub use walking::{first_fault, value_in};
 pub use writing::{put_attrs, write_attrs};

@@ -1,0 +1,65 @@
+//! Bytes as attributes, without memory for the attributes.
+
+ghost use Rattle.std.specs.Prelude.{◌≡◌, ◌≢◌, List, IfSome, IfNone};
+ghost use Rattle.std.specs.Option.{option_copied};
+ghost use Rattle.auc_attr.specs.declared.refusal.AttrRefusal.TheVariants as refusal;
+ghost use Rattle.auc_attr.specs.Grammar.{FirstFault, Reads};
+ghost use Rattle.auc_attr.specs.Item.{Item};
+ghost use Rattle.auc_attr.specs.InnerValue.{value_or};
+ghost use Rattle.auc_attr.specs.Value.{IsValueIn};
+
+use crate::front::item_at;
+use crate::marks::{is_marked, mark, no_marks};
+use crate::refusal::AttrRefusal;
+
+/// The first fault of bytes as attributes, or `None` if the bytes are attributes: the fault that
+/// [`crate::read_attrs`] reports. Takes no memory.
+pub fn first_fault(bytes: &[u8]) -> Option<AttrRefusal>
+    ensures fault { IfSome result (λ fault. FirstFault bytes.now fault) }
+    ensures named { IfSome result (λ fault. fault ≢ refusal.NoMemory) }
+    ensures none { IfNone result ((items : List Item) × Reads bytes.now items) }
+{
+    let mut seen = no_marks();
+    let mut rest = bytes;
+    while !rest.is_empty() {
+        let found = match item_at(is_marked(&seen, rest[0]), rest) {
+            Ok(found) => found,
+            Err(fault) => return Some(fault),
+        };
+        mark(&mut seen, found.kind);
+        rest = found.rest;
+    }
+    None
+}
+
+/// The value of the first attribute of a type (RFC 4187 §8.1), without length, reserved bytes and fill; a number
+/// takes two bytes, and the bit D of AT_BIDDING one. `None` if no attribute has the type, or if the bytes have a
+/// fault. Takes no memory.
+pub fn value_in(bytes: &[u8], kind: u8) -> Option<&[u8]>
+    ensures { IsValueIn kind bytes.now (option_copied result) }
+{
+    let mut value = None;
+    let mut seen = no_marks();
+    let mut rest = bytes;
+    while !rest.is_empty() {
+        let found = match item_at(is_marked(&seen, rest[0]), rest) {
+            Ok(found) => found,
+            Err(_) => return None,
+        };
+        value = value_or(value, kind, found.kind, found.value);
+        mark(&mut seen, found.kind);
+        rest = found.rest;
+    }
+    value
+}
+
+/// The value that was found before, or that of an attribute if it has the wanted type.
+fn value_or<'a>(before: Option<&'a [u8]>, wanted: u8, kind: u8, value: &'a [u8]) -> Option<&'a [u8]>
+    ensures { option_copied result ≡ value_or (option_copied before.entry) wanted kind value.now }
+{
+    match before {
+        Some(_) => before,
+        None if kind == wanted => Some(value),
+        None => None,
+    }
+}
