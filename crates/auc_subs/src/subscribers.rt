@@ -109,8 +109,9 @@ impl Subscribers {
         self.admit(row)
     }
 
-    /// Puts a row after the last.
-    pub(crate) fn admit(&mut self, row: Row) -> Result<u32, AddRefusal>
+    /// Puts a row after the last, and answers its place. A row whose identity another one has is refused, and
+    /// so is one more than there may be. A refusal leaves the subscribers as they were.
+    pub fn admit(&mut self, row: Row) -> Result<u32, AddRefusal>
         requires { IsRow row }
 
         ensures added { OnOk result (rows_with self.old row ≡ Ok self.new) }

@@ -3,7 +3,7 @@
 ghost use Rattle.std.specs.Prelude.{◌≡◌, ◌%◌, ◌+◌, ◌^◌, ◌<◌, ◌++◌, [], ◌∷◌, slice_index};
 ghost use Rattle.std.specs.Int.{w32, to_le_bytes};
 ghost use Rattle.rand_chacha.specs.ChaCha.{word_at};
-ghost use Rattle.auc_vector.specs.Random.{rand_of as rand_by};
+ghost use Rattle.auc_vector.specs.Random.{rand_of as rand_by, sixteen_at};
 
 use rand_chacha::ChaCha20Rng;
 use rand_core::SeedableRng;
@@ -49,6 +49,16 @@ impl RandStream {
         seek(&mut self.words, 4 * u128::from(n));
         bytes_of(next_four(&mut self.words))
     }
+}
+
+/// The sixteen bytes of the four words from a place of a key's stream on.
+pub(crate) fn sixteen_from(key: [u8; 32], stream: u64, place: u64) -> [u8; 16]
+    ensures { result ≡ sixteen_at key stream place }
+{
+    let mut words = ChaCha20Rng::from_seed(key);
+    words.set_stream(stream);
+    seek(&mut words, u128::from(place));
+    bytes_of(next_four(&mut words))
 }
 
 /// Goes to a place of the stream, unless it is there.

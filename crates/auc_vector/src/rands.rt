@@ -1,9 +1,9 @@
 //! Random bytes by subscriber and number.
 
 ghost use Rattle.std.specs.Prelude.{◌≡◌};
-ghost use Rattle.auc_vector.specs.Random.{rand_of as rand_by};
+ghost use Rattle.auc_vector.specs.Random.{rand_of as rand_by, sixteen_at};
 
-use crate::rand_stream::RandStream;
+use crate::rand_stream::{RandStream, sixteen_from};
 use std::marker::Model;
 
 /// The random bytes of a key: ChaCha20, of which each subscriber has a stream. The same key gives the same
@@ -37,6 +37,14 @@ impl Rands {
         ensures { result ≡ rand_by self.now sub n }
     {
         self.stream(sub).rand_of(n)
+    }
+
+    /// Sixteen random bytes: the four words from a place of a stream on, each with its least significant byte
+    /// first. The streams below 2^32 are those of the subscribers' RANDs.
+    pub fn sixteen_at(&self, stream: u64, place: u64) -> [u8; 16]
+        ensures { result ≡ sixteen_at self.now stream place }
+    {
+        sixteen_from(self.key, stream, place)
     }
 
     /// The RANDs of a subscriber, with one generator for many of them.
