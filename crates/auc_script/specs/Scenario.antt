@@ -15,16 +15,16 @@
 --                                            whose USIM no earlier job of the round gives
 --
 -- All lines together ask for 1000000 vectors at most. A line without a word and a comment say nothing.
--- What isn't served so far is told before all else: the lines of other words, and more than one worker.
-use Rattle.std.specs.Prelude.{ℕ, ◌+◌, ◌==◌, ◌++◌, ◌&&◌, ◌||◌, not, nat_le, nat_lt, Bool, false, List, [], ◌∷◌, length, codes, Option, Some, None, is_some, Result, Ok, Err, if◌then◌else◌}
+-- What isn't served so far is told before all else: the lines of other words.
+use Rattle.std.specs.Prelude.{ℕ, ◌+◌, ◌==◌, ◌++◌, not, nat_le, nat_lt, Bool, false, List, [], ◌∷◌, length, Option, Some, None, is_some, Result, Ok, Err, if◌then◌else◌}
 use Rattle.std.specs.List.{join_with_byte, list_any}
 use Rattle.std.specs.Option.{ok_or, option_to_list}
-use Rattle.auc_edge.specs.Identity.{identity_of, number_of}
+use Rattle.auc_edge.specs.Identity.{identity_of}
 use Rattle.auc_sqn.specs.Number.{max_seq}
 use Rattle.auc_subs.specs.declared.row.Row.{Row}
 use Rattle.auc_subs.specs.declared.refusal.SubsWhy.{SubsWhy}
 use Rattle.auc_text.specs.Field.{octets_in}
-use Rattle.auc_text.specs.Text.{is_text, words_of}
+use Rattle.auc_text.specs.Text.{words_of}
 use Rattle.auc_subs.specs.Subscriber.{place_of, rows_after}
 use Rattle.auc_lines.specs.declared.part.Line.{Line}
 use Rattle.auc_lines.specs.declared.part.Line.TheVariants.{Draw, Give, Sync}
@@ -43,7 +43,7 @@ use Rattle.auc_script.specs.declared.word.JobWord.TheVariants as job
 use Rattle.auc_script.specs.declared.word.Word.{Word}
 use Rattle.auc_script.specs.declared.word.Word.TheVariants as word
 use Rattle.auc_subs.specs.Steps.{◌>>=◌}
-use Rattle.auc_script.specs.Field.{bit_in, four_fields, full_in, is_number, no_field, number_between, one_field, require, two_fields}
+use Rattle.auc_script.specs.Field.{bit_in, four_fields, full_in, no_field, number_between, one_field, require, two_fields}
 use Rattle.auc_script.specs.Word.{is_comment, is_later, word_of}
 
 -- what some lines say: the subscribers, the words of the header, the rounds before the present one, and
@@ -204,19 +204,10 @@ word_line s word.Round fields = round_line s fields
 word_line s word.Job fields = job_line s fields
 word_line s (word.OfJob which) fields = of_job_line s which fields
 
--- one field that is a number above 1
-abbrev pub is_above_1 : List (List ℕ) → Bool
-is_above_1 (number ∷ []) = is_number number && nat_lt 1 (number_of number)
-is_above_1 other = false
-
--- what isn't served so far
-abbrev pub is_not_yet : List ℕ → List (List ℕ) → Bool
-is_not_yet text fields = is_later text || (is_text text (codes "workers") && is_above_1 fields)
-
 -- a line that begins with a word
 abbrev pub served_line : Scenario → List ℕ → List (List ℕ) → Result Scenario ScriptWhy
 served_line s text fields = do
-  served ← require (not (is_not_yet text fields)) why.NotYet
+  served ← require (not (is_later text)) why.NotYet
   which ← ok_or (word_of text) why.UnknownWord
   word_line s which fields
 

@@ -9,10 +9,10 @@ ghost use Rattle.auc_script.specs.Limits.{IsWithin};
 ghost use Rattle.auc_script.specs.Numbers.{most_rounds};
 ghost use Rattle.auc_script.specs.Reading.{beginning, script_from};
 ghost use Rattle.auc_script.specs.InnerRefusal.{Becomes};
-ghost use Rattle.auc_script.specs.Scenario.{after_line, header_line, is_above_1, is_not_yet, job_line, of_job_line, round_line, subscriber_line, with_round, word_line};
+ghost use Rattle.auc_script.specs.Scenario.{after_line, header_line, job_line, of_job_line, round_line, subscriber_line, with_round, word_line};
 ghost use Rattle.auc_script.specs.InnerSoFar.{IsBetween, IsHeader, IsSoFar, scenario, with_line};
 
-use crate::field::{is_number, no_field, one_field};
+use crate::field::no_field;
 use crate::givers::Givers;
 use crate::header::Header;
 use crate::job_line::read_line;
@@ -24,7 +24,7 @@ use crate::word::{HeaderWord, JobWord, Word, is_comment, is_later, read_word};
 use auc_edge::{Items, NoMemory, Octets};
 use auc_lines::{Line, Part};
 use auc_subs::{AddRefusal, Subscribers};
-use auc_text::{joined, next_word, read_decimal, word_count};
+use auc_text::{joined, next_word, word_count};
 use std::alloc::Global;
 
 /// What the lines so far say, except the subscribers.
@@ -85,7 +85,7 @@ impl SoFar {
         let Some((text, fields)) = next_word(line) else {
             return Ok(());
         };
-        if is_not_yet(text, fields) {
+        if is_later(text) {
             return Err(LineRefusal::Why(ScriptWhy::NotYet));
         }
         match read_word(text) {
@@ -308,22 +308,5 @@ fn put_in_round(round: &mut Option<RoundSoFar>, line: Line) -> Result<(), NoMemo
     match round {
         Some(round) => round.put(line),
         None => Ok(()),
-    }
-}
-
-/// Whether a line isn't served so far, by its first word and its fields.
-fn is_not_yet(text: &[u8], fields: &[u8]) -> bool
-    ensures { result ≡ is_not_yet text.now (words_of fields.now) }
-{
-    is_later(text) || text == b"workers".as_slice() && is_above_1(fields)
-}
-
-/// Whether there is one field, a number above 1.
-fn is_above_1(fields: &[u8]) -> bool
-    ensures { result ≡ is_above_1 (words_of fields.now) }
-{
-    match one_field(fields) {
-        Ok(number) => is_number(number) && read_decimal(number, 20, 1).is_none(),
-        Err(_) => false,
     }
 }

@@ -57,14 +57,14 @@ fn each_line_is_read(rt: HostRuntime) -> Result<(), Fail> {
     let mut text = Octets::new(rt.alloc());
     write(
         &mut text,
-        b"workers 01\nprint full\r\nrandkey 000102030405060708090a0b0c0d0e0f101112131415161718191A1B1C1D1E1F\nrealm example.org\n@\tdraw  J 00000000000000001000\nsync I 5 111 0\r\ngive J 8796093022207",
+        b"workers 064\nprint full\r\nrandkey 000102030405060708090a0b0c0d0e0f101112131415161718191A1B1C1D1E1F\nrealm example.org\n@\tdraw  J 00000000000000001000\nsync I 5 111 0\r\ngive J 8796093022207",
         1,
     )?;
     let Ok(script) = read(rt.alloc(), text.as_slice())? else {
         return Err(Fail::from("refused"));
     };
     assert_eq!(rt; script.key[31], 31);
-    assert_eq!(rt; script.workers, 1);
+    assert_eq!(rt; script.workers, 64);
     assert!(rt; script.full);
     assert_eq!(rt; script.realm.as_slice(), b"example.org".as_slice());
     let lines = [
@@ -108,6 +108,9 @@ fn a_wrong_line_is_told_by_its_first_cause(rt: HostRuntime) -> Result<(), Fail> 
         (b"workers 000000000000000000002\n", 1, ScriptWhy::Fields),
         (b"subscriber a b c d e f\n", 1, ScriptWhy::Fields),
         (b"workers 0\n", 1, ScriptWhy::Number),
+        (b"workers 65\n", 1, ScriptWhy::Number),
+        (b"workers 2\nworkers 65\n", 2, ScriptWhy::Number),
+        (b"workers 2\nworkers 2\n", 2, ScriptWhy::Twice),
         (b"randkey 00\n", 1, ScriptWhy::Hex),
         (
             b"subscriber a b c d e f g\n",
@@ -116,8 +119,8 @@ fn a_wrong_line_is_told_by_its_first_cause(rt: HostRuntime) -> Result<(), Fail> 
         ),
         (b"print full\nprint full\n", 2, ScriptWhy::Twice),
         (b"print full\nprint all\n", 2, ScriptWhy::Fields),
-        (b"round\nworkers 65\n", 2, ScriptWhy::NotYet),
-        (b"workers 99999999999999999999\n", 1, ScriptWhy::NotYet),
+        (b"round\nworkers 65\n", 2, ScriptWhy::OutOfOrder),
+        (b"workers 99999999999999999999\n", 1, ScriptWhy::Number),
         (b"restart x\n", 1, ScriptWhy::NotYet),
         (b"session 1\n", 1, ScriptWhy::NotYet),
         (b"start\n", 1, ScriptWhy::NotYet),
