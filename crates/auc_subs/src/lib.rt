@@ -16,8 +16,6 @@ mod refusal;
 mod row;
 mod row_reading;
 mod subscribers;
-#[cfg(test)]
-mod tests;
 
 pub use law::{
     file_that_is_read_is_right, line_that_is_added_is_a_subscriber,
