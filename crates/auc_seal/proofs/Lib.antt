@@ -3,3 +3,4 @@ mod CheckcodeLemmas
 mod SealLemmas
 mod PaddingLemmas
 mod EncryptionLemmas
+mod OpeningLemmas

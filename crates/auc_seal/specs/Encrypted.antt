@@ -9,7 +9,8 @@ use Rattle.auc_attr.specs.declared.attr.Attr.{Attr}
 use Rattle.auc_attr.specs.declared.attr.Attr.TheVariants as attr
 use Rattle.auc_attr.specs.declared.refusal.AttrRefusal.{AttrRefusal}
 use Rattle.auc_attr.specs.declared.refusal.AttrRefusal.TheVariants as attr_refusal
-use Rattle.auc_attr.specs.Grammar.{ReadsAttrs, FirstFault}
+use Rattle.auc_attr.specs.Grammar.{Reads, ReadsAttrs, FirstFault}
+use Rattle.auc_attr.specs.Item.{Item}
 use Rattle.auc_attr.specs.Spelling.{writable, spelling}
 use Rattle.auc_seal.specs.declared.refusal.SealRefusal.{SealRefusal}
 use Rattle.auc_seal.specs.declared.refusal.SealRefusal.TheVariants as refusal
@@ -107,3 +108,24 @@ Decrypts k_encr list (Err refusal.NoIv) = decrypted_bytes k_encr list ≡ Err re
 Decrypts k_encr list (Err refusal.BadSize) = decrypted_bytes k_encr list ≡ Err refusal.BadSize
 Decrypts k_encr list (Err (refusal.Attr fault)) = IsFaulty k_encr list fault
 Decrypts k_encr list (Err refusal.NoMemory) = Unit {0}
+
+-- ---- opening: decryption that keeps the bytes
+
+abbrev pub bytes_or_none : Option (List ℕ) → List ℕ
+bytes_or_none None = []
+bytes_or_none (Some bytes) = bytes
+
+-- the ciphertext of a list, which is empty if there is none
+abbrev pub ciphertext_of : List Attr → List ℕ
+ciphertext_of list = bytes_or_none (first_value data_of list)
+
+-- the decrypted bytes of a list, and that they are attributes
+pub record IsOpened (k_encr : List ℕ) (list : List Attr) (bytes : List ℕ) : Type 0 where
+  pub plain : decrypted_bytes k_encr list ≡ Ok bytes
+  pub items : List Item
+  pub reads : Reads bytes items
+
+-- what opening answers; it takes no memory, so memory never runs out
+abbrev pub Opens : List ℕ → List Attr → Result (List ℕ) SealRefusal → Type 0
+Opens k_encr list (Ok bytes) = IsOpened k_encr list bytes
+Opens k_encr list (Err refused) = (refused ≢ refusal.NoMemory) × Decrypts k_encr list (Err refused)

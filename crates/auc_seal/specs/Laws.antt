@@ -3,12 +3,13 @@ use Rattle.std.specs.Prelude.{◌≡◌, ◌≢◌, ℕ, ◌+◌, Bool, true, Li
 use Rattle.std.specs.List.{list_all}
 use Rattle.auc_aes.specs.Bytes.{IsBlock}
 use Rattle.auc_attr.specs.declared.attr.Attr.{Attr}
+use Rattle.auc_attr.specs.Grammar.{ReadsAttrs}
 use Rattle.auc_attr.specs.Laws.{AreBytes, is_value}
 use Rattle.auc_attr.specs.Mac.{IsMacPlace}
 use Rattle.auc_attr.specs.Spelling.{writable, spelling}
 use Rattle.auc_seal.specs.declared.refusal.SealRefusal.{SealRefusal}
 use Rattle.auc_seal.specs.declared.refusal.SealRefusal.TheVariants as refusal
-use Rattle.auc_seal.specs.Encrypted.{padded, encrypted, MayBeEncrypted, HasNoneEncrypted, Decrypts}
+use Rattle.auc_seal.specs.Encrypted.{padded, encrypted, without_padding, MayBeEncrypted, HasNoneEncrypted, Decrypts, Opens}
 
 -- the value of AT_MAC has one place in a packet, or none
 abbrev pub OnePlace : Type 0
@@ -40,3 +41,20 @@ EncryptedIsWritable =
     → HasNoneEncrypted out → writable out ≡ true
     → (writable (out ++ encrypted k_encr iv inner) ≡ true)
     × (length (spelling (out ++ encrypted k_encr iv inner)) ≡ length (spelling out) + 24 + length (spelling (padded inner)))
+
+-- opening a list has one answer
+abbrev pub OneOpening : Type 0
+OneOpening =
+    (k_encr : List ℕ) (list : List Attr) (a b : Result (List ℕ) SealRefusal) → Opens k_encr list a → Opens k_encr list b → a ≡ b
+
+-- the opened bytes are the decrypted attributes and their padding, or both refuse for one reason
+abbrev pub AreAlike : Result (List ℕ) SealRefusal → Result (List Attr) SealRefusal → Type 0
+AreAlike (Ok bytes) (Ok inner) = (whole : List Attr) × ReadsAttrs bytes whole × (inner ≡ without_padding whole)
+AreAlike (Err refused) (Err other) = refused ≡ other
+AreAlike _ _ = ⊥
+
+-- a list is opened exactly if it decrypts, unless memory runs out
+abbrev pub OpensAsDecrypts : Type 0
+OpensAsDecrypts =
+    (k_encr : List ℕ) (list : List Attr) (opened : Result (List ℕ) SealRefusal) (decrypted : Result (List Attr) SealRefusal)
+    → decrypted ≢ Err refusal.NoMemory → Opens k_encr list opened → Decrypts k_encr list decrypted → AreAlike opened decrypted

@@ -41,7 +41,7 @@ pub fn decrypt_attrs(
 }
 
 /// The value of the first AT_ENCR_DATA.
-fn first_data(list: &AttrList) -> Option<&Octets>
+pub(crate) fn first_data(list: &AttrList) -> Option<&Octets>
     ensures { option_copied result ≡ first_value data_of list.now }
 {
     for attr in list.as_slice() {
@@ -63,7 +63,7 @@ fn data_of(attr: &Attr) -> Option<&Octets>
 }
 
 /// The value of the first AT_IV.
-fn first_iv(list: &AttrList) -> Option<[u8; 16]>
+pub(crate) fn first_iv(list: &AttrList) -> Option<[u8; 16]>
     ensures { result ≡ first_value iv_of list.now }
 {
     for attr in list.as_slice() {
@@ -85,7 +85,7 @@ fn iv_of(attr: &Attr) -> Option<[u8; 16]>
 }
 
 /// Whether bytes are one or more whole blocks.
-fn is_ciphertext(bytes: &[u8]) -> bool
+pub(crate) fn is_ciphertext(bytes: &[u8]) -> bool
     ensures { result ≡ is_ciphertext bytes.now }
 {
     !bytes.is_empty() && bytes.len() % 16 == 0

@@ -1,6 +1,6 @@
 //! Laws that no single call shows.
 
-ghost use Rattle.auc_seal.specs.Laws.{OnePlace, OneDecryption, EncryptedIsDecrypted, EncryptedIsWritable};
+ghost use Rattle.auc_seal.specs.Laws.{OnePlace, OneDecryption, OneOpening, OpensAsDecrypts, EncryptedIsDecrypted, EncryptedIsWritable};
 
 /// The value of AT_MAC has one place in a packet, or none.
 pub fn values_of_the_mac_have_one_place()
@@ -10,6 +10,16 @@ pub fn values_of_the_mac_have_one_place()
 /// The decryption of a list has one answer, unless memory runs out.
 pub fn decryption_has_one_answer()
     ensures { OneDecryption }
+{}
+
+/// Opening a list has one answer.
+pub fn opening_has_one_answer()
+    ensures { OneOpening }
+{}
+
+/// A list is opened exactly if it decrypts, to the bytes of the same attributes, and is refused for the same reason.
+pub fn lists_open_as_they_decrypt()
+    ensures { OpensAsDecrypts }
 {}
 
 /// Under any key and initialisation vector, decryption gives back the attributes that were encrypted and

@@ -3,8 +3,8 @@
 //!
 //! [`seal_mac`] sets the value of a packet's AT_MAC, [`check_mac`] tells whether it is right. A
 //! [`Checkcode`] hashes the packets of the AKA-Identity rounds in order. [`encrypt_attrs`] encrypts
-//! attributes, [`put_encrypted`] does so in memory that was taken before, and [`decrypt_attrs`] decrypts
-//! them.
+//! attributes, [`put_encrypted`] does so in memory that was taken before, [`decrypt_attrs`] decrypts them, and
+//! [`open_attrs`] decrypts their bytes into memory that was taken before.
 //!
 //! Contracts see a packet as the list of its bytes, and a `Checkcode` as its method and the packets that it
 //! was given. They see nothing of an [`EncryptionRoom`]. Only `encrypt_attrs`, `decrypt_attrs` and
@@ -17,6 +17,7 @@ mod decryption;
 mod encryption;
 mod law;
 mod mac;
+mod opening;
 mod refusal;
 
 pub use checkcode::{CheckValue, Checkcode};
@@ -24,7 +25,9 @@ pub use decryption::decrypt_attrs;
 pub use encryption::{EncryptionRoom, encrypt_attrs, may_be_encrypted, put_encrypted};
 pub use law::{
     decryption_has_one_answer, encrypted_attributes_are_decrypted,
-    encrypted_attributes_may_be_written, values_of_the_mac_have_one_place,
+    encrypted_attributes_may_be_written, lists_open_as_they_decrypt, opening_has_one_answer,
+    values_of_the_mac_have_one_place,
 };
 pub use mac::{Mac, check_mac, seal_mac};
+pub use opening::{ciphertext_size, open_attrs};
 pub use refusal::SealRefusal;
