@@ -1,245 +1,52 @@
--- For the set of released numbers: its blocks, their bits, and the lines whose numbers it has.
-use Rattle.std.proofs.Common.{◌≡◌, ℕ, ◌+◌, ◌*◌, ◌/◌, ◌%◌, ◌^◌, ◌<◌, Bool, true, false, cond, ◌&&◌, ◌||◌, List, [], ◌∷◌, ◌++◌, take, get_or, Option, Some, None, slice_get, position, refl, sym, ap, ◌∙◌, subst, inl, inr, arith, append_assoc, append-nil, true≢false}
-use Rattle.std.specs.Prelude.{◌==◌, All, IfSome, is_some}
-use Rattle.std.specs.Cmp.{IsEquivalence}
-use Rattle.std.specs.Int.{bit_at, w64}
-use Rattle.std.specs.Int.RustNames.{bit_or}
-use Rattle.std.specs.List.{list_any}
-use Rattle.std.specs.Map.{keys_of, lookup}
-use Rattle.std.proofs.lemmas.Bool.{and_parts, and_from, and_right, eqb-true, eq-eqb, ne_eqb, cases_eq, or_left, or_right, false_from_ne_true}
-use Rattle.std.proofs.lemmas.Cmp.{and_equiv, on_equiv, nat_eq_equiv}
-use Rattle.std.proofs.lemmas.List.{map-append}
-use Rattle.std.proofs.lemmas.List.Concat.{flat_map-append}
-use Rattle.std.proofs.lemmas.List.Elements.{All-append, All-head, All-push, All-tail, All-weaker, All-cons, All-nil}
+-- For the set of released numbers: the lines whose numbers it has.
+use Rattle.std.proofs.Common.{◌≡◌, ℕ, Bool, true, false, ◌&&◌, ◌||◌, List, [], ◌∷◌, ◌++◌, refl, sym, ap, ◌∙◌, inl, inr, eq-eqb}
+use Rattle.std.specs.Prelude.{◌==◌, flat_map, if◌then◌else◌}
+use Rattle.std.proofs.lemmas.Bool.{ne_eqb, cases_eq}
 use Rattle.std.proofs.lemmas.List.Folds.{list_any-append}
-use Rattle.std.proofs.lemmas.List.Quantifiers.{position-Some}
-use Rattle.std.proofs.lemmas.Map.Entries.{lookup_from_place}
-use Rattle.std.proofs.lemmas.Map.Keys.{any_passes_from_place}
-use Rattle.std.proofs.lemmas.Map.Made.{is_some-lookup}
-use Rattle.std.proofs.lemmas.Nat.{mod_below}
-use Rattle.std.proofs.lemmas.Nat.Bits.{bit_at-zero, bit_at_set_other, bit_at_set_same}
-use Rattle.std.proofs.lemmas.Option.{same_Some, slice_get-get_or, slice_get-map}
-use Rattle.std.specs.Option.{option_map}
-use Rattle.indexmap.specs.IndexMap.{IndexMap, IsUnique, with_value_at}
-use Rattle.indexmap.proofs.CallerLemmas.{updates-with_value_at}
+use Rattle.auc_released.specs.declared.numbers.Number.{Number}
 use Rattle.auc_world.specs.Given.{is_in}
-use Rattle.auc_world.specs.Lines.{numbers_of, released_by, all_lines}
+use Rattle.auc_world.specs.Lines.{numbers_of, released_by}
 use Rattle.auc_world.specs.declared.record.LineRecord.{LineRecord}
 use Rattle.auc_world.specs.declared.record.LineRecord.TheVariants.{Vector, Withheld, Exhausted, Sync, Give}
-use Rattle.auc_jobs.specs.Numbers.{Released, is_same_block, is_marked, has, AreReleased}
-use Rattle.auc_jobs.specs.InnerNumbers.{HasBlock, HasBlocksOf, HasBlockFor, HasBlocksFor, IsRoomier}
+use Rattle.auc_jobs.specs.Numbers.{Released, has, is_among, AreReleased}
+use Rattle.auc_jobs.specs.InnerNumbers.{numbers_by}
+use Rattle.auc_jobs.proofs.LineLemmas.{numbers_of-append}
 
--- ---- blocks
+-- numbers are compared in either order
+eqb_turn : (a b : ℕ) → (a == b) ≡ (b == a)
+eqb_turn a b = elim (cases_eq a b) [
+  | inl same ↦ eq-eqb a b same ∙ sym (eq-eqb b a (sym same))
+  | inr apart ↦ ne_eqb a b apart ∙ sym (ne_eqb b a (λ e. apart (sym e)))
+]
 
--- blocks are compared by an equivalence
-pub block_equiv : IsEquivalence is_same_block
-block_equiv = and_equiv (on_equiv (λ (b : ℕ × ℕ). b.0) nat_eq_equiv) (on_equiv (λ (b : ℕ × ℕ). b.1) nat_eq_equiv)
-
--- blocks that are compared as one are equal
-same_block : (a b : ℕ × ℕ) → is_same_block a b ≡ true → a ≡ b
-same_block a b e =
-    let parts = and_parts (a.0 == b.0) (a.1 == b.1) e in
-    λ i. (eqb-true a.0 b.0 parts.0 i, eqb-true a.1 b.1 parts.1 i)
-
--- the place of a block among the keys is where it stands
-pub block_at : (keys : List (ℕ × ℕ)) (block : ℕ × ℕ) (found : Option ℕ) → found ≡ position (is_same_block block) keys → IfSome found (λ i. slice_get keys i ≡ Some block)
-block_at keys block None e = tt
-block_at keys block (Some i) e =
-    let at = position-Some (is_same_block block) keys i block (sym e) in
-    slice_get-get_or keys i block at.0 ∙ ap Some (sym (same_block block (get_or keys i block) at.1))
-
--- a set has the block that stands among its keys
-pub has_block : (es : Released) (i sub n : ℕ) → slice_get (keys_of es) i ≡ Some (sub, n / 64) → HasBlock es sub n
-has_block es i sub n at = is_some-lookup (is_same_block (sub, n / 64)) es ∙ any_passes_from_place (is_same_block (sub, n / 64)) (keys_of es) i (sub, n / 64) at (block_equiv.refl (sub, n / 64))
-
--- the key of the entry at a place
-key_at : (es : Released) (i : ℕ) (key block : ℕ × ℕ) (word : ℕ) → slice_get es i ≡ Some (key, word) → slice_get (keys_of es) i ≡ Some block → key ≡ block
-key_at es i key block word entry at =
-    same_Some key block (sym (ap (option_map (λ (e : (ℕ × ℕ) × ℕ). e.0)) entry) ∙ sym (slice_get-map (λ (e : (ℕ × ℕ) × ℕ). e.0) es i) ∙ at)
-
--- ---- further blocks
-
--- a look-up in a list with further words of 0 finds the same bits
-module _ (test : ℕ × ℕ → Bool) (place : ℕ) where
-  skip : (b : Bool) (word : ℕ) (x y : Option ℕ) → is_marked x place ≡ is_marked y place → is_marked (cond b (Some word) x) place ≡ is_marked (cond b (Some word) y) place
-  skip true word x y e = refl
-  skip false word x y e = e
-
-  unmarked : (more : Released) → All (λ entry. entry.1 ≡ 0) more → is_marked (lookup test more) place ≡ false
-  unmarked [] empty = refl
-  unmarked (e ∷ es) empty =
-      let zero_word : is_marked (Some e.1) place ≡ false = ap (λ (w : ℕ). is_marked (Some w) place) (All-head (λ (x : (ℕ × ℕ) × ℕ). x.1 ≡ 0) e es empty) ∙ ap (λ (b : ℕ). b == 1) (bit_at-zero place) in
-      by (test e.0) (lookup test es) zero_word (unmarked es (All-tail (λ (x : (ℕ × ℕ) × ℕ). x.1 ≡ 0) e es empty))
-    where
-      by : (b : Bool) (x : Option ℕ) → is_marked (Some e.1) place ≡ false → is_marked x place ≡ false → is_marked (cond b (Some e.1) x) place ≡ false
-      by true x here rest = here
-      by false x here rest = rest
-
-  same_marks : (old more : Released) → All (λ entry. entry.1 ≡ 0) more → is_marked (lookup test (old ++ more)) place ≡ is_marked (lookup test old) place
-  same_marks [] more empty = unmarked more empty
-  same_marks (e ∷ es) more empty = skip (test e.0) e.1 (lookup test (es ++ more)) (lookup test es) (same_marks es more empty)
-
--- a set with further blocks has the same numbers
-pub roomier_has : (old new : Released) → IsRoomier old new → (s m : ℕ) → has new s m ≡ has old s m
-roomier_has old new roomier s m =
-    ap (λ (es : Released). has es s m) roomier.added ∙ same_marks (is_same_block (s, m / 64)) (m % 64) old roomier.more roomier.empty
-
--- and the blocks that it had
-pub roomier_blocks : (old new : Released) → IsRoomier old new → HasBlocksOf old new
-roomier_blocks old new roomier s m there =
-    let test : ℕ × ℕ → Bool = is_same_block (s, m / 64) in
-    ap (λ (es : Released). is_some (lookup test es)) roomier.added ∙ is_some-lookup test (old ++ roomier.more)
-    ∙ ap (list_any test) (map-append (λ (e : (ℕ × ℕ) × ℕ). e.0) old roomier.more) ∙ list_any-append test (keys_of old) (keys_of roomier.more)
-    ∙ or_left (list_any test (keys_of old)) (list_any test (keys_of roomier.more)) (sym (is_some-lookup test old) ∙ there)
-
--- a set is one with no further blocks
-pub roomier_same : (old new : Released) → new ≡ old → IsRoomier old new
-roomier_same old new same = record { more = []; added = same ∙ sym (append-nil old); empty = All-nil _ }
-
--- with one further block
-pub roomier_one : (old new : Released) (block : ℕ × ℕ) → new ≡ old ++ (block, 0) ∷ [] → IsRoomier old new
-roomier_one old new block added = record { more = (block, 0) ∷ []; added = added; empty = All-cons (λ (e : (ℕ × ℕ) × ℕ). e.1 ≡ 0) (block, 0) [] refl (All-nil _) }
-
--- and with blocks after blocks
-pub roomier_twice : (old mid new : Released) → IsRoomier old mid → IsRoomier mid new → IsRoomier old new
-roomier_twice old mid new first second = record {
-  more = first.more ++ second.more;
-  added = second.added ∙ ap (λ (es : Released). es ++ second.more) first.added ∙ append_assoc old first.more second.more;
-  empty = All-append (λ (x : (ℕ × ℕ) × ℕ). x.1 ≡ 0) first.more second.more first.empty second.empty;
-}
-
--- ---- the blocks of lines
-
--- the block of a line's number stays
-pub block_stays : (old new : Released) → HasBlocksOf old new → (line : LineRecord) → HasBlockFor old line → HasBlockFor new line
-block_stays old new kept (Vector sub n) there = kept sub n there
-block_stays old new kept (Withheld sub n stop) there = tt
-block_stays old new kept (Exhausted sub word) there = tt
-block_stays old new kept (Sync sub verdict) there = tt
-block_stays old new kept (Give sub n verdict) there = tt
-
--- those of some lines stay
-pub blocks_stay : (old new : Released) → HasBlocksOf old new → (lines : List LineRecord) → HasBlocksFor old lines → HasBlocksFor new lines
-blocks_stay old new kept lines there = All-weaker (HasBlockFor old) (HasBlockFor new) (block_stays old new kept) lines there
-
--- and those of the lines of some jobs
-pub all_blocks_stay : (old new : Released) → HasBlocksOf old new → (jobs : List (List LineRecord)) → All (HasBlocksFor old) jobs → All (HasBlocksFor new) jobs
-all_blocks_stay old new kept jobs there = All-weaker (HasBlocksFor old) (HasBlocksFor new) (blocks_stay old new kept) jobs there
-
--- the blocks of the first of some lines, and of one more
-pub blocks_take : (old new : Released) (lines : List LineRecord) (i : ℕ) (line : LineRecord) → HasBlocksOf old new → take (i + 1) lines ≡ take i lines ++ line ∷ []
-    → HasBlocksFor old (take i lines) → HasBlockFor new line → HasBlocksFor new (take (i + 1) lines)
-blocks_take old new lines i line kept cut there here =
-    subst (HasBlocksFor new) (sym cut) (All-push (HasBlockFor new) (take i lines) line (blocks_stay old new kept (take i lines) there) here)
-
--- and those of the lines of the first of some jobs, and of one more
-pub all_blocks_take : (old new : Released) (jobs : List (List LineRecord)) (i : ℕ) (job lines : List LineRecord) → HasBlocksOf old new → take (i + 1) jobs ≡ take i jobs ++ job ∷ []
-    → lines ≡ job → All (HasBlocksFor old) (take i jobs) → HasBlocksFor new lines → All (HasBlocksFor new) (take (i + 1) jobs)
-all_blocks_take old new jobs i job lines kept cut is there here =
-    subst (All (HasBlocksFor new)) (sym cut) (All-push (HasBlocksFor new) (take i jobs) job (all_blocks_stay old new kept (take i jobs) there) (subst (HasBlocksFor new) is here))
-
--- ---- a number more
-
--- a test that fails adds nothing
-no_more : (b c : Bool) → c ≡ false → b ≡ (b || c)
-no_more true c e = refl
-no_more false c e = sym e
-
--- after bit k of a word is set, a bit is set if it was, or if it is bit k
-bit_after : (word k l : ℕ) → k < 64 → (bit_at (bit_or word (1 * 2 ^ k % 2 ^ 64)) l == 1) ≡ ((bit_at word l == 1) || (l == k))
-bit_after word k l within =
-    elim (cases_eq l k) [
-      | inl same ↦
-          ap (λ (b : ℕ). b == 1) (ap (λ (i : ℕ). bit_at (bit_or word (1 * 2 ^ k % 2 ^ 64)) i) same ∙ bit_at_set_same w64 word k within)
-          ∙ sym (or_right (bit_at word l == 1) (l == k) (eq-eqb l k same))
-      | inr apart ↦ ap (λ (b : ℕ). b == 1) (bit_at_set_other w64 word k within l apart) ∙ no_more (bit_at word l == 1) (l == k) (ne_eqb l k apart)
-    ]
-
--- within a block, two numbers are one if their bits are
-same_number : (sub n s m : ℕ) → sub ≡ s → n / 64 ≡ m / 64 → (m % 64 == n % 64) ≡ (s == sub && m == n)
-same_number sub n s m subs blocks =
-    elim (cases_eq m n) [
-      | inl same ↦ eq-eqb (m % 64) (n % 64) (ap (λ (k : ℕ). k % 64) same) ∙ sym (and_from (s == sub) (m == n) (eq-eqb s sub (sym subs)) (eq-eqb m n same))
-      | inr apart ↦ ne_eqb (m % 64) (n % 64) (λ e. apart (omega (arith, e, blocks))) ∙ sym (and_right (s == sub) (m == n) (ne_eqb m n apart))
-    ]
-
--- a word of one block has become another one
-abbrev pub IsWordSet : Released → ℕ × ℕ → ℕ → Released → Type 0
-IsWordSet old block word new = (q : ℕ × ℕ) → lookup (is_same_block q) new ≡ cond (is_same_block block q) (Some word) (lookup (is_same_block q) old)
-
--- the blocks stay
-pub word_set_blocks : (old new : Released) (block : ℕ × ℕ) (word : ℕ) → IsWordSet old block word new → HasBlocksOf old new
-word_set_blocks old new block word set s m there =
-    ap is_some (set (s, m / 64)) ∙ by (is_same_block block (s, m / 64)) (lookup (is_same_block (s, m / 64)) old) there
+-- whether a number is that of a vector
+among_vector : (s m sub n : ℕ) → (((s == sub) && (m == n)) || false) ≡ is_in m (released_by s (Vector sub n))
+among_vector s m sub n =
+    ap (λ (b : Bool). (b && (m == n)) || false) (eqb_turn s sub) ∙ ap (λ (b : Bool). ((sub == s) && b) || false) (eqb_turn m n) ∙ by (sub == s)
   where
-    by : (b : Bool) (old_word : Option ℕ) → is_some old_word ≡ true → is_some (cond b (Some word) old_word) ≡ true
-    by true old_word h = refl
-    by false old_word h = h
+    by : (b : Bool) → ((b && (n == m)) || false) ≡ is_in m (if b then n ∷ [] else [])
+    by true = refl
+    by false = refl
 
--- a word was set at the place of a block
-module _ {S : Type 0} (m : IndexMap (ℕ × ℕ) ℕ S) (place : ℕ) (key block : ℕ × ℕ) (word : ℕ) where
-  pub word_found : IsUnique is_same_block m → slice_get m.entries place ≡ Some (key, word) → slice_get (keys_of m.entries) place ≡ Some block
-      → lookup (is_same_block block) m.entries ≡ Some word
-  word_found unique entry at =
-      subst (λ (b : ℕ × ℕ). lookup (is_same_block b) m.entries ≡ Some word) (key_at m.entries place key block word entry at) (lookup_from_place block_equiv m.entries place key word unique entry)
+-- whether a number is among those that lines release
+among_of : (s m : ℕ) (line : LineRecord) → is_among s m (numbers_by line) ≡ is_in m (released_by s line)
+among_of s m (Vector sub n) = among_vector s m sub n
+among_of s m (Withheld sub n stop) = refl
+among_of s m (Exhausted sub word) = refl
+among_of s m (Sync sub verdict) = refl
+among_of s m (Give sub n verdict) = refl
 
-  pub word_set : IsUnique is_same_block m → slice_get m.entries place ≡ Some (key, word) → slice_get (keys_of m.entries) place ≡ Some block
-      → (after : ℕ) → IsWordSet m.entries block after (with_value_at m place after).entries
-  word_set unique entry at after =
-      subst (λ (b : ℕ × ℕ). IsWordSet m.entries b after (with_value_at m place after).entries) (key_at m.entries place key block word entry at)
-      (updates-with_value_at m place after block_equiv unique key word entry).0
+pub among_lines : (s m : ℕ) (lines : List LineRecord) → is_among s m (flat_map numbers_by lines) ≡ is_in m (numbers_of s lines)
+among_lines s m [] = refl
+among_lines s m (line ∷ lines) =
+    list_any-append (λ (k : Number). s == k.sub && m == k.n) (numbers_by line) (flat_map numbers_by lines)
+    ∙ ap (λ (b : Bool). b || is_among s m (flat_map numbers_by lines)) (among_of s m line) ∙ ap (λ (b : Bool). is_in m (released_by s line) || b) (among_lines s m lines)
+    ∙ sym (list_any-append (λ (k : ℕ). k == m) (released_by s line) (numbers_of s lines))
 
--- if bit n % 64 was set in the word of block n / 64, the set has number n more
-pub word_set_has : (old new : Released) (sub n word : ℕ) → lookup (is_same_block (sub, n / 64)) old ≡ Some word
-    → IsWordSet old (sub, n / 64) (bit_or word (1 * 2 ^ (n % 64) % 2 ^ 64)) new → (s m : ℕ) → has new s m ≡ (has old s m || (s == sub && m == n))
-word_set_has old new sub n word there set s m = by (is_same_block (sub, n / 64) (s, m / 64)) refl
-  where
-    by : (b : Bool) → is_same_block (sub, n / 64) (s, m / 64) ≡ b → has new s m ≡ (has old s m || (s == sub && m == n))
-    by true e =
-        let block : (sub, n / 64) ≡ (s, m / 64) = same_block (sub, n / 64) (s, m / 64) e in
-        let was : lookup (is_same_block (s, m / 64)) old ≡ Some word = subst (λ (b : ℕ × ℕ). lookup (is_same_block b) old ≡ Some word) block there in
-        let is : lookup (is_same_block (s, m / 64)) new ≡ Some (bit_or word (1 * 2 ^ (n % 64) % 2 ^ 64)) =
-        set (s, m / 64) ∙ ap (λ (b : Bool). cond b (Some (bit_or word (1 * 2 ^ (n % 64) % 2 ^ 64))) (lookup (is_same_block (s, m / 64)) old)) e in
-        ap (λ (w : Option ℕ). is_marked w (m % 64)) is ∙ bit_after word (n % 64) (m % 64) (mod_below n 64 (omega arith))
-        ∙ ap (λ (b : Bool). b || (m % 64 == n % 64)) (sym (ap (λ (w : Option ℕ). is_marked w (m % 64)) was))
-        ∙ ap (λ (b : Bool). has old s m || b) (same_number sub n s m (ap (λ (b : ℕ × ℕ). b.0) block) (ap (λ (b : ℕ × ℕ). b.1) block))
-    by false e =
-        let is : has new s m ≡ has old s m =
-        ap (λ (w : Option ℕ). is_marked w (m % 64)) (set (s, m / 64) ∙ ap (λ (b : Bool). cond b (Some (bit_or word (1 * 2 ^ (n % 64) % 2 ^ 64))) (lookup (is_same_block (s, m / 64)) old)) e) in
-        is ∙ no_more (has old s m) (s == sub && m == n) (false_from_ne_true (s == sub && m == n) (λ same.
-        let parts = and_parts (s == sub) (m == n) same in
-        let again : is_same_block (sub, n / 64) (s, m / 64) ≡ true =
-        and_from (sub == s) (n / 64 == m / 64) (eq-eqb sub s (sym (eqb-true s sub parts.0))) (eq-eqb (n / 64) (m / 64) (ap (λ (k : ℕ). k / 64) (sym (eqb-true m n parts.1)))) in
-        true≢false (sym again ∙ e)))
-
--- ---- the numbers of lines
-
--- a set that has the same numbers has those of the same lines
-pub released_same : (old new : Released) → ((s m : ℕ) → has new s m ≡ has old s m) → (lines : List LineRecord) → AreReleased old lines → AreReleased new lines
-released_same old new same lines are sub n = same sub n ∙ are sub n
-
--- the numbers of a further line were added
-released_more : (old new : Released) (lines : List LineRecord) (line : LineRecord) → AreReleased old lines
-    → ((s m : ℕ) → has new s m ≡ (has old s m || is_in m (released_by s line))) → AreReleased new (lines ++ line ∷ [])
-released_more old new lines line are added sub n =
-    let e : numbers_of sub (lines ++ line ∷ []) ≡ numbers_of sub lines ++ released_by sub line =
-    flat_map-append (released_by sub) lines (line ∷ []) ∙ ap (λ (xs : List ℕ). numbers_of sub lines ++ xs) (append-nil (released_by sub line)) in
-    added sub n ∙ ap (λ (b : Bool). b || is_in n (released_by sub line)) (are sub n)
-    ∙ sym (ap (is_in n) e ∙ list_any-append (λ (m : ℕ). m == n) (numbers_of sub lines) (released_by sub line))
-
--- with the first of some lines and one more
-pub released_take : (old new : Released) (before lines : List LineRecord) (i : ℕ) (line : LineRecord) → take (i + 1) lines ≡ take i lines ++ line ∷ []
-    → AreReleased old (before ++ take i lines) → ((s m : ℕ) → has new s m ≡ (has old s m || is_in m (released_by s line)))
-    → AreReleased new (before ++ take (i + 1) lines)
-released_take old new before lines i line cut are added =
-    subst (AreReleased new) (append_assoc before (take i lines) (line ∷ []) ∙ ap (λ (ls : List LineRecord). before ++ ls) (sym cut))
-    (released_more old new (before ++ take i lines) line are added)
-
--- with the lines of the first of some jobs and of one more
-pub released_job : (new : Released) (before : List LineRecord) (jobs : List (List LineRecord)) (i : ℕ) (job lines : List LineRecord)
-    → take (i + 1) jobs ≡ take i jobs ++ job ∷ [] → lines ≡ job → AreReleased new ((before ++ all_lines (take i jobs)) ++ lines)
-    → AreReleased new (before ++ all_lines (take (i + 1) jobs))
-released_job new before jobs i job lines cut is are =
-    let whole : all_lines (take (i + 1) jobs) ≡ all_lines (take i jobs) ++ lines =
-    ap all_lines cut ∙ flat_map-append (λ (j : List LineRecord). j) (take i jobs) (job ∷ []) ∙ ap (λ (ls : List LineRecord). all_lines (take i jobs) ++ ls) (append-nil job ∙ sym is) in
-    subst (AreReleased new) (append_assoc before (all_lines (take i jobs)) lines ∙ ap (λ (ls : List LineRecord). before ++ ls) (sym whole)) are
+-- the numbers that lines release were added
+pub released_lines : (old new : Released) (numbers : List Number) (lines : List LineRecord) → numbers ≡ flat_map numbers_by lines
+    → ((s m : ℕ) → has new s m ≡ (has old s m || is_among s m numbers)) → (before : List LineRecord) → AreReleased old before → AreReleased new (before ++ lines)
+released_lines old new numbers lines is added before are sub n =
+    added sub n ∙ ap (λ (ks : List Number). has old sub n || is_among sub n ks) is ∙ ap (λ (b : Bool). has old sub n || b) (among_lines sub n lines)
+    ∙ ap (λ (b : Bool). b || is_in n (numbers_of sub lines)) (are sub n)
+    ∙ sym (ap (is_in n) (numbers_of-append sub before lines) ∙ list_any-append (λ (k : ℕ). k == n) (numbers_of sub before) (numbers_of sub lines))

@@ -1,22 +1,15 @@
 -- For the state: the numbers of the rows, and the released ones.
-use Rattle.std.proofs.Common.{◌≡◌, ℕ, ◌+◌, ◌<◌, ◌≤◌, Bool, List, [], ◌∷◌, ◌++◌, length, map, take, refl, sym, ◌∙◌, ap, subst, append-nil, append_assoc}
-use Rattle.std.specs.Prelude.{All, Some, slice_get, ◌||◌, ◌==◌}
+use Rattle.std.proofs.Common.{◌≡◌, ℕ, ◌+◌, ◌<◌, ◌≤◌, List, [], ◌∷◌, ◌++◌, length, map, take, refl, sym, ◌∙◌, ap, subst}
+use Rattle.std.specs.Prelude.{All, Some, slice_get}
 use Rattle.std.proofs.lemmas.List.{take_more, take_all, map-append, length-map}
 use Rattle.std.proofs.lemmas.List.Elements.{All-weaker, All-map}
-use Rattle.std.proofs.lemmas.List.Folds.{list_any-append}
 use Rattle.std.proofs.lemmas.Option.{get_or_from_slice_get}
 use Rattle.auc_sqn.specs.Number.{max_seq}
 use Rattle.auc_subs.specs.declared.row.Row.{Row}
 use Rattle.auc_subs.specs.Subscriber.{AreSubscribers, IsRow}
-use Rattle.auc_world.specs.Given.{is_in}
 use Rattle.auc_world.specs.Setting.{Setting}
-use Rattle.auc_world.specs.Lines.{numbers_of, released_by, all_lines}
-use Rattle.auc_world.specs.declared.record.LineRecord.{LineRecord}
-use Rattle.auc_jobs.specs.Numbers.{Released, has, AreReleased}
 use Rattle.auc_jobs.specs.Usims.{AreOfRows, AreBehind}
 use Rattle.auc_jobs.specs.State.{Standing, StandsAt}
-use Rattle.auc_jobs.proofs.LineLemmas.{numbers_of-append}
-use Rattle.auc_jobs.proofs.JobLemmas.{all_lines-push}
 
 -- the numbers of the first rows and of one more
 pub map-take_more : (rows : List Row) (sub : ℕ) (row : Row) (words : List ℕ) → words ≡ map (λ row. row.seq) (take sub rows)

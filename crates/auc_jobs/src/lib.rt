@@ -21,7 +21,7 @@ mod giving;
 mod job_lines;
 mod job_usims;
 mod jobs;
-mod numbers;
+mod noting;
 mod round;
 mod state;
 mod syncing;

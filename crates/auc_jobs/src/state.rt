@@ -8,10 +8,11 @@ ghost use Rattle.auc_jobs.specs.State.{StandsAt};
 
 use crate::closing::reopened;
 use crate::job_usims::JobUsims;
-use crate::numbers::Numbers;
+use crate::noting::note_all;
 use crate::usims::Usims;
 use auc_edge::{Items, NoMemory};
 use auc_lines::JobPart;
+use auc_released::Numbers;
 use auc_subs::Subscribers;
 use auc_world::JobRecord;
 use std::alloc::Global;
@@ -61,7 +62,7 @@ impl State {
         ensures kept { OnErr result (self.new ≡ self.old) }
     {
         let words = reopened(alloc, words)?;
-        self.released.note_all(records)?;
+        note_all(alloc, &mut self.released, records)?;
         self.usims.put_back(jobs, usims);
         self.words = words;
         Ok(())

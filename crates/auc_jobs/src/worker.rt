@@ -7,7 +7,7 @@ ghost use Rattle.auc_jobs.specs.Usims.{HaveSecrets};
 
 use crate::job_lines::JobLines;
 use crate::job_usims::JobUsims;
-use crate::numbers::Numbers;
+use auc_released::Numbers;
 use auc_vector::Centre;
 use auc_world::{JobRecord, Setting};
 use std::alloc::Global;

@@ -1,0 +1,15 @@
+//! Sets of subscribers' numbers, such as those whose vectors were released.
+//!
+//! [`Numbers`] is such a set. The numbers of a subscriber are mostly consecutive, so the set has a word of 64 bits for
+//! each block of 64 consecutive numbers of which it has one.
+//!
+//! Contracts see the list of these words, each after its subscriber and the number of its block, and speak of it by
+//! whether a subscriber's number stands in it (`specs/Numbers`). What adds numbers takes memory. If memory runs out, the
+//! set is as it was; that is the only refusal. Nothing here waits.
+#![tactic(auto)]
+
+mod numbers;
+#[cfg(test)]
+mod tests;
+
+pub use numbers::{Number, Numbers};

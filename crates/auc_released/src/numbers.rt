@@ -1,0 +1,149 @@
+//! Sets of subscribers' numbers, in blocks of 64 consecutive numbers.
+
+ghost use Rattle.std.specs.Prelude.{◌≡◌, ◌==◌, ◌&&◌, ◌||◌, ◌/◌, ℕ, [], Some, None, slice_get, OnOk, OnErr, IfSome, IfNone};
+ghost use Rattle.std.specs.Map.{keys_of, lookup};
+ghost use Rattle.auc_released.specs.Numbers.{has, is_among, is_same_block};
+ghost use Rattle.auc_released.specs.InnerBlocks.{HasBlock, HasBlocksOf, HasBlocksFor, IsRoomier};
+
+use auc_edge::NoMemory;
+use indexmap::IndexMap;
+use std::alloc::Global;
+use std::marker::Model;
+
+/// A number of a subscriber.
+#[derive(Clone, Copy, Debug, PartialEq, Eq)]
+pub struct Number {
+    /// The subscriber's place among the subscribers.
+    pub sub: u32,
+    /// The number.
+    pub n: u64,
+}
+
+/// A set of subscribers' numbers. Contracts see the list of its words, each after its subscriber and the number of its
+/// block.
+#[derive(Drop)]
+pub struct Numbers {
+    words: IndexMap<(u32, u64), u64>,
+    /// The index of the block that was added to last, which the next number is likely in.
+    last: usize,
+}
+
+impl Model for Numbers {
+    ghost use Rattle.auc_released.specs.Numbers.{Released};
+
+    ghost Value = { Released };
+
+    ghost view = { λ numbers. numbers.words.entries };
+}
+
+impl Numbers {
+    /// No numbers. It takes no memory yet.
+    pub fn new(alloc: Global) -> Numbers
+        ensures { result ≡ [] }
+    {
+        Numbers {
+            words: IndexMap::new(alloc),
+            last: 0,
+        }
+    }
+
+    /// Whether a subscriber's number is among them.
+    pub fn has(&self, sub: u32, n: u64) -> bool
+        ensures { result ≡ has self.now sub n }
+    {
+        match self.words.get(&(sub, n / 64)) {
+            Some(&word) => (word >> (n % 64)) & 1 == 1,
+            None => false,
+        }
+    }
+
+    /// Adds a number. If memory runs out, the set is as it was.
+    pub fn add(&mut self, number: Number) -> Result<(), NoMemory>
+        ensures added { OnOk result ((s : ℕ) (m : ℕ)
+            → has self.new s m ≡ (has self.old s m || (s == number.sub && m == number.n))) }
+        ensures kept { OnErr result (self.new ≡ self.old) }
+    {
+        self.add_block(number.sub, number.n)?;
+        self.mark(number.sub, number.n);
+        Ok(())
+    }
+
+    /// Adds some numbers. If memory runs out, the set is as it was, and none is added.
+    pub fn add_all(&mut self, numbers: &[Number]) -> Result<(), NoMemory>
+        ensures added { OnOk result ((s : ℕ) (m : ℕ)
+            → has self.new s m ≡ (has self.old s m || is_among s m numbers.now)) }
+        ensures kept { OnErr result (self.new ≡ self.old) }
+    {
+        let len = self.words.len();
+        if let Err(error) = self.make_room(numbers) {
+            self.words.truncate(len);
+            return Err(error);
+        }
+        self.mark_all(numbers);
+        Ok(())
+    }
+
+    /// The index of a number's block, if it is there. The block that was added to last is found without a look-up.
+    fn place_of(&self, sub: u32, n: u64) -> Option<usize>
+        ensures found { IfSome result (λ i. slice_get (keys_of self.now) i ≡ Some (sub, n / 64)) }
+        ensures absent { IfNone result (lookup (is_same_block (sub, n / 64)) self.now ≡ None) }
+    {
+        let block = (sub, n / 64);
+        match self.words.get_index(self.last) {
+            Some((last, _)) if *last == block => Some(self.last),
+            _ => self.words.get_index_of(&block),
+        }
+    }
+
+    /// Adds the block of a number, with no number in it, unless it is there.
+    fn add_block(&mut self, sub: u32, n: u64) -> Result<(), NoMemory>
+        ensures roomier { IsRoomier self.old self.new }
+        ensures there { OnOk result (HasBlock self.new sub n) }
+        ensures kept { OnErr result (self.new ≡ self.old) }
+    {
+        match self.place_of(sub, n) {
+            Some(place) => self.last = place,
+            None => {
+                self.last = self.words.len();
+                self.words.insert((sub, n / 64), 0)?;
+            }
+        }
+        Ok(())
+    }
+
+    /// Adds the blocks of some numbers. If memory runs out, some may be there.
+    fn make_room(&mut self, numbers: &[Number]) -> Result<(), NoMemory>
+        ensures roomier { IsRoomier self.old self.new }
+        ensures there { OnOk result (HasBlocksFor self.new numbers.now) }
+    {
+        for number in numbers {
+            self.add_block(number.sub, number.n)?;
+        }
+        Ok(())
+    }
+
+    /// Adds a number whose block is there.
+    fn mark(&mut self, sub: u32, n: u64)
+        requires { HasBlock self.old sub n }
+        ensures added { (s : ℕ) (m : ℕ)
+            → has self.new s m ≡ (has self.old s m || (s == sub && m == n)) }
+        ensures blocks { HasBlocksOf self.old self.new }
+    {
+        if let Some(place) = self.place_of(sub, n) {
+            self.last = place;
+            let (_, word) = self.words.pair_mut(place);
+            *word |= 1 << (n % 64);
+        }
+    }
+
+    /// Adds some numbers whose blocks are there.
+    fn mark_all(&mut self, numbers: &[Number])
+        requires { HasBlocksFor self.old numbers.now }
+        ensures added { (s : ℕ) (m : ℕ)
+            → has self.new s m ≡ (has self.old s m || is_among s m numbers.now) }
+    {
+        for number in numbers {
+            self.mark(number.sub, number.n);
+        }
+    }
+}
