@@ -10,7 +10,7 @@
 //! | `mac METHOD PACKET EXTRA` | the packet with its AT_MAC set, and what a check of it says |
 //! | `check METHOD PACKET EXTRA` | what a check of AT_MAC says |
 //! | `checkcode METHOD PACKET PACKET` | the checkcode of the two |
-//! | `encrypt ATTRS`, `decrypt DATA`, `bare DATA` | attributes encrypted; AT_ENCR_DATA decrypted, with and without AT_IV |
+//! | `encrypt ATTRS`, `decrypt DATA`, `bare DATA` | attributes encrypted; AT_ENCR_DATA decrypted and opened, with and without AT_IV |
 //! | `script TEXT` | how a scenario is read |
 //! | `file TEXT`, `record TEXT` | how a file of subscribers is read, or a line of a subscriber after another one |
 //!

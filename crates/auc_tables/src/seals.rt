@@ -1,11 +1,11 @@
 //! MACs, checkcodes and encrypted attributes.
 
 use auc_attr::{Attr, AttrList, mac_place, read_attrs, write_attrs};
-use auc_edge::{Octets, Places};
+use auc_edge::{Octets, Places, Room};
 use auc_hmac::Method;
 use auc_seal::{
-    CheckValue, Checkcode, EncryptionRoom, SealRefusal, check_mac, decrypt_attrs, encrypt_attrs,
-    may_be_encrypted, put_encrypted, seal_mac,
+    CheckValue, Checkcode, EncryptionRoom, SealRefusal, check_mac, ciphertext_size, decrypt_attrs,
+    encrypt_attrs, may_be_encrypted, open_attrs, put_encrypted, seal_mac,
 };
 use std::alloc::{AllocError, Global};
 
@@ -125,7 +125,7 @@ fn text_of_encrypted(alloc: Global, list: &AttrList) -> Result<String, AllocErro
     }
 }
 
-/// The attributes that AT_ENCR_DATA has, as bytes, or the cause of the refusal.
+/// The attributes that AT_ENCR_DATA has, as bytes, and all bytes to which it opens; or the cause of each refusal.
 pub fn decrypted(alloc: Global, has_iv: bool, data: &[u8]) -> Result<String, AllocError> {
     let mut list = AttrList::new(alloc);
     if has_iv {
@@ -135,9 +135,22 @@ pub fn decrypted(alloc: Global, has_iv: bool, data: &[u8]) -> Result<String, All
         Ok(data) => push(&mut list, Attr::EncrData(data))?,
         Err(_) => return Err(AllocError),
     }
-    match decrypt_attrs(alloc, K_ENCR, &list) {
-        Ok(inner) => text_of_attrs(alloc, &inner),
-        Err(SealRefusal::NoMemory) => Err(AllocError),
+    let opened = opened(alloc, &list)?;
+    let decrypted = match decrypt_attrs(alloc, K_ENCR, &list) {
+        Ok(inner) => text_of_attrs(alloc, &inner)?,
+        Err(SealRefusal::NoMemory) => return Err(AllocError),
+        Err(why) => format!(in alloc; "{why:?}")?,
+    };
+    format!(in alloc; "{decrypted}\n{opened}")
+}
+
+/// The bytes to which AT_ENCR_DATA opens, or the cause of the refusal.
+fn opened(alloc: Global, list: &AttrList) -> Result<String, AllocError> {
+    let Ok(room) = Room::new(alloc, ciphertext_size(list)) else {
+        return Err(AllocError);
+    };
+    match open_attrs(K_ENCR, list, room) {
+        Ok(bytes) => hex::encode(alloc, bytes.as_slice()),
         Err(why) => format!(in alloc; "{why:?}"),
     }
 }
