@@ -1,0 +1,104 @@
+-- No turn makes the keys of a server others than those of their inputs.
+use Rattle.std.proofs.Common.{◌≡◌, ℕ, Bool, true, false, List, Option, Some, None, refl}
+use Rattle.auc_packet.specs.Received.{Seen}
+use Rattle.auc_packet.specs.Spelling.{packet_text}
+use Rattle.auc_packet.specs.declared.packet.Packet.TheVariants as packet
+use Rattle.auc_vector.specs.declared.notes.Notes.{Notes}
+use Rattle.auc_vector.specs.declared.notes.NumberNote.{NumberNote}
+use Rattle.auc_vector.specs.declared.notes.NumberNote.TheVariants as number
+use Rattle.auc_vector.specs.declared.notes.ResyncNote.{ResyncNote}
+use Rattle.auc_vector.specs.declared.notes.ResyncNote.TheVariants as resync
+use Rattle.auc_vector.specs.declared.parts.Vector.{Vector}
+use Rattle.auc_vector.specs.declared.turn.Outcome.{Outcome}
+use Rattle.auc_vector.specs.declared.turn.Outcome.TheVariants as outcome
+use Rattle.auc_server.specs.Laws.{Fits}
+use Rattle.auc_server.specs.Messages.{keys_of}
+use Rattle.auc_server.specs.Rows.{server_row, text_in}
+use Rattle.auc_server.specs.Server.{ServerEnd}
+use Rattle.auc_server.specs.Setting.{Setting}
+use Rattle.auc_server.specs.Table.{challenge_of, challenged, challenged_with, ended, failed, identified, noted, notified, resynchronised, resynchronising, server_does, server_step, silent, succeeded, vector_at}
+use Rattle.auc_server.specs.declared.rows.Row.{Row}
+use Rattle.auc_server.specs.declared.rows.Row.TheVariants as row
+use Rattle.auc_server.specs.declared.server.Challenged.{Challenged}
+use Rattle.auc_server.specs.declared.server.ServerState.TheVariants as state
+use Rattle.auc_server.specs.declared.setting.HomeRow.{HomeRow}
+use Rattle.auc_server.specs.declared.why.ServerWhy.{ServerWhy}
+use Rattle.auc_server.specs.declared.why.ServerWhy.TheVariants as why
+use Rattle.auc_server.proofs.LawLemmas.{Says, says_row}
+
+no_notifying : (cause : ServerWhy) → state.Notifying cause ≡ state.AwaitIdentity → ⊥
+no_notifying cause e = cc
+
+no_ended : (result : Outcome ServerWhy) → state.Ended result ≡ state.AwaitIdentity → ⊥
+no_ended result e = cc
+
+no_challenge : state.AwaitChallenge ≡ state.AwaitIdentity → ⊥
+no_challenge e = cc
+
+no_sent : (c : Option Challenged) (sent : Challenged) → c ≡ None → c ≡ Some sent → ⊥
+no_sent c sent e f = cc
+
+same_sent : (a b : Challenged) → ◌≡◌ {A = Option Challenged} (Some a) (Some b) → b ≡ a
+same_sent a b e = cc
+
+-- a server that fits, with another identity before its first challenge
+identified_fits : (s : ServerEnd) (text : List ℕ) → s.state ≡ state.AwaitIdentity → Fits s → Fits (identified s text)
+identified_fits s text e f = record { first = f.first; keys = λ sent g. absurd (no_sent s.challenged sent (f.first e) g) }
+
+notified_fits : (s : ServerEnd) (cause : ServerWhy) (notes : Notes) (checked : Bool) → Fits s → Fits (notified s cause notes checked).0
+notified_fits s cause notes checked f = record { first = λ e. absurd (no_notifying cause e); keys = f.keys }
+
+ended_fits : (s : ServerEnd) (result : Outcome ServerWhy) (bytes : List ℕ) (checked : Bool) → Fits s → Fits (ended s result bytes checked).0
+ended_fits s result bytes checked f = record { first = λ e. absurd (no_ended result e); keys = f.keys }
+
+keys_are : (s : ServerEnd) (sub : ℕ) (v : Vector) (sent : Challenged) → sent ≡ challenge_of s sub v → sent.keys ≡ keys_of s.identity sent.vector
+keys_are s sub v sent e = rw e refl
+
+sent_fits : (s : ServerEnd) (sub : ℕ) (v : Option Vector) (notes : Notes) → Fits s → Fits (challenged_with s sub v notes).0
+sent_fits s sub None notes f = f
+sent_fits s sub (Some v) notes f = record {
+  first = λ e. absurd (no_challenge e);
+  keys = λ sent g. keys_are s sub v sent (same_sent (challenge_of s sub v) sent g);
+}
+
+challenged_fits : (set : Setting) (s : ServerEnd) (sub : ℕ) (resynced : Option ResyncNote) (drawn : Option NumberNote) → Fits s → Fits (challenged set s sub resynced drawn).0
+challenged_fits set s sub resynced None f = f
+challenged_fits set s sub resynced (Some (number.Drew n)) f = sent_fits s sub (vector_at set sub n) (noted resynced (Some (number.Drew n))) f
+challenged_fits set s sub resynced (Some (number.Exhausted w)) f = notified_fits s (why.Exhausted w) (noted resynced (Some (number.Exhausted w))) false f
+challenged_fits set s sub resynced (Some (number.Withheld n stop)) f = notified_fits s (why.Stopped n stop) (noted resynced (Some (number.Withheld n stop))) false f
+
+synced_fits : (s : ServerEnd) → Fits s → Fits (resynchronising s)
+synced_fits s f = record { first = f.first; keys = f.keys }
+
+resynchronised_fits : (set : Setting) (s : ServerEnd) (sub : ℕ) (resynced : Option ResyncNote) (drawn : Option NumberNote) → Fits s → Fits (resynchronised set s sub resynced drawn).0
+resynchronised_fits set s sub None drawn f = f
+resynchronised_fits set s sub (Some resync.BadAuts) drawn f = f
+resynchronised_fits set s sub (Some (resync.Beyond seen seq)) drawn f =
+    notified_fits (resynchronising s) (why.Beyond seen seq) (noted (Some (resync.Beyond seen seq)) None) false (synced_fits s f)
+resynchronised_fits set s sub (Some (resync.InRange seen seq)) drawn f = challenged_fits set (resynchronising s) sub (Some (resync.InRange seen seq)) drawn (synced_fits s f)
+resynchronised_fits set s sub (Some (resync.Moved seen seq)) drawn f = challenged_fits set (resynchronising s) sub (Some (resync.Moved seen seq)) drawn (synced_fits s f)
+
+succeeded_fits : (s : ServerEnd) (c : Option Challenged) → Fits s → Fits (succeeded s c).0
+succeeded_fits s None f = f
+succeeded_fits s (Some sent) f = ended_fits s (outcome.Success sent.keys) (packet_text (packet.Success s.id)) true f
+
+failed_fits : (s : ServerEnd) (cause : ServerWhy) → Fits s → Fits (failed s cause).0
+failed_fits s cause f = ended_fits s (outcome.Failure cause) (packet_text (packet.Failure s.id)) false f
+
+does_fits : (set : Setting) (s : ServerEnd) (seen : Seen) (text : List ℕ) (r : Row) (notes : Notes) → Says s seen r → Fits s → Fits (server_does set s text r notes).0
+does_fits set s seen text (row.Ignore cause) notes says f = f
+does_fits set s seen text row.UnknownIdentity notes says f = notified_fits (identified s text) why.UnknownIdentity silent false (identified_fits s text says f)
+does_fits set s seen text (row.Challenge sub) notes says f = challenged_fits set (identified s text) sub None notes.number (identified_fits s text says f)
+does_fits set s seen text row.WrongMac notes says f = notified_fits s why.WrongMac silent false f
+does_fits set s seen text row.WrongRes notes says f = notified_fits s why.WrongRes silent true f
+does_fits set s seen text row.WrongCheckcode notes says f = notified_fits s why.WrongCheckcode silent true f
+does_fits set s seen text row.Success notes says f = succeeded_fits s s.challenged f
+does_fits set s seen text row.SecondSync notes says f = notified_fits s why.SecondSync silent false f
+does_fits set s seen text row.BadAuts notes says f = notified_fits s why.BadAuts (noted (Some resync.BadAuts) None) false f
+does_fits set s seen text (row.Resynchronise sub seq) notes says f = resynchronised_fits set s sub notes.resync notes.number f
+does_fits set s seen text row.Rejected notes says f = failed_fits s why.Rejected f
+does_fits set s seen text (row.ClientError code) notes says f = failed_fits s (why.ClientError code) f
+does_fits set s seen text (row.Notified cause) notes says f = failed_fits s cause f
+
+pub each_turn_fits : (set : Setting) (homes : List HomeRow) (s : ServerEnd) (seen : Seen) (notes : Notes) → Fits s → Fits (server_step set homes s seen notes).0
+each_turn_fits set homes s seen notes f = does_fits set s seen (text_in seen.reading) (server_row set homes s seen) notes (says_row set homes s seen) f

@@ -1,0 +1,5 @@
+mod AskingLemmas
+mod FitsLemmas
+mod HomeLemmas
+mod LawLemmas
+mod MessageLemmas

@@ -1,0 +1,14 @@
+-- Memory for a turn of a server, of which nothing is used yet.
+use Rattle.std.specs.Prelude.{◌≡◌, ℕ, []}
+use Rattle.auc_attr.specs.declared.attr.Attr.{Attr}
+use Rattle.auc_edge.specs.Reserved.{Reserved}
+
+-- for the greatest request, the Challenge
+pub record IsFresh (room : Reserved ℕ) : Type 0 where
+  pub empty : room.written ≡ []
+  pub size : room.left ≡ 72
+
+-- for the attributes of the Challenge
+pub record HasPlaces (places : Reserved Attr) : Type 0 where
+  pub empty : places.written ≡ []
+  pub size : places.left ≡ 3

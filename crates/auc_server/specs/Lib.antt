@@ -1,0 +1,10 @@
+pub mod Attributes
+pub mod InnerRooms
+pub mod InnerRows
+pub mod Laws
+pub mod Messages
+pub mod Rows
+pub mod Server
+pub mod Setting
+pub mod Steps
+pub mod Table

@@ -1,0 +1,32 @@
+-- What an EAP server knows of its session (RFC 4187 §3).
+use Rattle.std.specs.Prelude.{ℕ, Bool, false, List, [], Option, None}
+use Rattle.auc_packet.specs.Spelling.{packet_text}
+use Rattle.auc_server.specs.Messages.{identity_request}
+use Rattle.auc_server.specs.declared.server.Challenged.{Challenged}
+use Rattle.auc_server.specs.declared.server.ServerState.{ServerState}
+use Rattle.auc_server.specs.declared.server.ServerState.TheVariants as state
+
+pub record ServerEnd : Type 0 where
+  -- what it waits for
+  pub state : ServerState
+  -- the Identifier of its last request
+  pub id : ℕ
+  -- its last request
+  pub last : List ℕ
+  -- the identity that it received last, empty before the first
+  pub identity : List ℕ
+  -- its last challenge
+  pub challenged : Option Challenged
+  -- whether a synchronisation failure led to a new challenge
+  pub synced : Bool
+
+-- after its first request, which asks for an identity under the Identifier 1
+abbrev pub started : ServerEnd
+started = record {
+  state = state.AwaitIdentity;
+  id = 1;
+  last = packet_text (identity_request 1);
+  identity = [];
+  challenged = None;
+  synced = false;
+}

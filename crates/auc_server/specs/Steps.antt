@@ -1,0 +1,48 @@
+-- A turn of a server: what it needs, and what it comes to.
+use Rattle.std.specs.Prelude.{◌≡◌, ℕ, ◌<◌, true, List, length, Option, Some, None, All}
+use Rattle.auc_history.specs.declared.entry.Entry.{Entry}
+use Rattle.auc_packet.specs.Received.{Seen, IsReceived}
+use Rattle.auc_sqn.specs.Number.{max_seq}
+use Rattle.auc_subs.specs.declared.row.Row as rows
+use Rattle.auc_vector.specs.Notes.{Asking, Asked}
+use Rattle.auc_vector.specs.declared.turn.Turn.{Turn}
+use Rattle.auc_server.specs.Rows.{is_held, server_row}
+use Rattle.auc_server.specs.Server.{ServerEnd}
+use Rattle.auc_server.specs.Setting.{Setting}
+use Rattle.auc_server.specs.Table.{server_step}
+use Rattle.auc_server.specs.declared.rows.Row.{Row}
+use Rattle.auc_server.specs.declared.rows.Row.TheVariants as row
+use Rattle.auc_server.specs.declared.server.Challenged.{Challenged}
+use Rattle.auc_server.specs.declared.setting.HomeRow.{HomeRow}
+use Rattle.auc_server.specs.declared.why.ServerWhy.{ServerWhy}
+
+-- a home: a row of the subscribers, and a subscriber of the centre, whose greatest number is that of all
+pub record IsHome (all : List rows.Row) (subs : ℕ) (top : ℕ → ℕ) (sub : ℕ) : Type 0 where
+  pub listed : sub < length all
+  pub known : sub < subs
+  pub greatest : top sub ≡ max_seq
+
+-- a challenged subscriber is one of the homes
+abbrev pub IsHeld : List HomeRow → Option Challenged → Type 0
+IsHeld homes None = Unit {0}
+IsHeld homes (Some sent) = is_held homes sent.sub ≡ true
+
+-- what a server needs of what it is served with
+pub record IsServed (all : List rows.Row) (subs : ℕ) (top : ℕ → ℕ) (homes : List HomeRow) (s : ServerEnd) : Type 0 where
+  pub each : All (λ home. IsHome all subs top home.sub) homes
+  pub held : IsHeld homes s.challenged
+
+-- what a row asks the centre for
+abbrev pub asking : Row → Option Asking
+asking (row.Challenge sub) = Some (record { sub = sub; reported = None })
+asking (row.Resynchronise sub seq) = Some (record { sub = sub; reported = Some seq })
+asking other = None
+
+-- bytes are received as something, new state and turn are those of the table, and the centre answered what the row
+-- asked, as the notes say
+pub record Steps {S : Type 0} (goes : S → ℕ → List Entry → List ℕ → S → Type 0) (kept : S → ℕ → Option ℕ) (top : S → ℕ → ℕ) (set : Setting) (homes : List HomeRow) (old : ServerEnd) (bytes : List ℕ) (before : S) (new : ServerEnd) (turn : Turn ServerWhy) (after : S) : Type 0 where
+  pub seen : Seen
+  pub received : IsReceived seen
+  pub of : seen.bytes ≡ bytes
+  pub same : (new, turn) ≡ server_step set homes old seen turn.notes
+  pub asked : Asked goes kept top (asking (server_row set homes old seen)) turn.notes before after

@@ -1,0 +1,178 @@
+//! A challenge: a number of the centre, its vector, and the message.
+
+ghost use Rattle.std.specs.Prelude.{◌≡◌, ◌≢◌, ◌≤◌, ◌<◌, ℕ, true, List, [], length, None, Some};
+ghost use Rattle.auc_sqn.specs.Number.{max_seq};
+ghost use Rattle.auc_vector.specs.Notes.{AnswersNumber, AskedOf, entries_noted, withheld_noted};
+ghost use Rattle.auc_server.specs.Rows.{is_held};
+ghost use Rattle.auc_server.specs.Steps.{IsHeld, IsHome};
+ghost use Rattle.auc_server.specs.declared.setting.HomeRow.{HomeRow};
+ghost use Rattle.auc_server.specs.Table.{challenged, first_challenge, resynchronised, sent_with, vector_at};
+
+use crate::messages::{challenge, keys_of};
+use crate::rooms::Rooms;
+use crate::server::{Challenged, Server, ServerState};
+use crate::setting::Setting;
+use crate::turns::noted;
+use crate::why::ServerWhy;
+use auc_edge::Octets;
+use auc_vector::{Centre, Notes, NumberNote, ResyncNote, Turn, Vector, ask, report, vector};
+use std::sync::Wait;
+
+/// The vector of a subscriber's number.
+fn vector_at(set: &Setting, sub: u32, n: u64) -> Vector
+    requires listed { sub < length set.now.rows }
+    requires first { 1 ≤ n }
+    requires last { n ≤ max_seq }
+    ensures { Some result ≡ vector_at set.now sub n }
+{
+    let home = set.subs.row(sub);
+    vector(&home.secret, home.amf, n, set.rands.rand_of(sub, n))
+}
+
+impl Server {
+    /// Sends a Challenge (RFC 4187 §9.3).
+    fn send_challenge(&mut self, sent: Challenged, notes: Notes, rooms: Rooms) -> Turn<ServerWhy>
+        ensures { (self.new, result) ≡ sent_with self.old sent notes }
+    {
+        let Rooms {
+            message,
+            kept,
+            attrs,
+            checkcode,
+        } = rooms;
+        let id = self.id.wrapping_add(1);
+        let bytes = challenge(id, &sent.vector, &sent.keys, checkcode, attrs, message);
+        self.challenged = Some(sent);
+        self.request(ServerState::AwaitChallenge, bytes, notes, false, kept)
+    }
+
+    /// Challenges a subscriber, if the centre gives a number.
+    fn challenge<C: Centre, R: Wait>(
+        &mut self,
+        rt: &R,
+        set: &Setting,
+        centre: &mut C,
+        sub: u32,
+        resynced: Option<ResyncNote>,
+        rooms: Rooms,
+    ) -> Turn<ServerWhy>
+        requires { IsHome set.now.rows (C.subs centre.old) (C.top centre.old) sub }
+
+        ensures step { (self.new, result) ≡ challenged set.now self.old sub resynced result.notes.number }
+        ensures resync { result.notes.resync ≡ resynced }
+
+        ensures number { AnswersNumber (C.top centre.old sub) (C.kept centre.old sub) result.notes.number }
+        ensures goes { C.goes centre.old sub (entries_noted (C.kept centre.old sub) result.notes.number)
+            (withheld_noted result.notes.number) centre.new }
+        ensures others { (i : ℕ) → i ≢ sub → C.goes centre.old i [] [] centre.new }
+
+        // A home stays one, also if it is challenged now.
+        ensures held { (homes : List HomeRow) → IsHeld homes self.old.challenged → is_held homes sub ≡ true
+            → IsHeld homes self.new.challenged }
+
+        ensures subs { C.subs centre.new ≡ C.subs centre.old }
+        ensures top { (i : ℕ) → C.top centre.new i ≡ C.top centre.old i }
+        ensures name { C.name centre.new ≡ C.name centre.old }
+    {
+        match ask(rt, centre, sub) {
+            NumberNote::Drew(n) => {
+                let vector = vector_at(set, sub, n);
+                let keys = keys_of(self.identity.as_slice(), &vector);
+                let notes = noted(resynced, Some(NumberNote::Drew(n)));
+                self.send_challenge(Challenged { sub, vector, keys }, notes, rooms)
+            }
+            NumberNote::Exhausted(word) => {
+                let notes = noted(resynced, Some(NumberNote::Exhausted(word)));
+                self.notify(ServerWhy::Exhausted(word), notes, false, rooms)
+            }
+            NumberNote::Withheld(n, stop) => {
+                let notes = noted(resynced, Some(NumberNote::Withheld(n, stop)));
+                self.notify(ServerWhy::Stopped(n, stop), notes, false, rooms)
+            }
+        }
+    }
+}
+
+impl Server {
+    /// Challenges the subscriber of an identity.
+    pub(crate) fn challenge_first<C: Centre, R: Wait>(
+        &mut self,
+        rt: &R,
+        set: &Setting,
+        centre: &mut C,
+        sub: u32,
+        text: Octets,
+        rooms: Rooms,
+    ) -> Turn<ServerWhy>
+        requires { IsHome set.now.rows (C.subs centre.old) (C.top centre.old) sub }
+
+        ensures step { (self.new, result) ≡ first_challenge set.now self.old text sub result.notes.number }
+        ensures asked { AskedOf C.goes C.kept C.top (record { sub = sub; reported = None }) result.notes centre.old centre.new }
+
+        // A home stays one, also if it is challenged now.
+        ensures held { (homes : List HomeRow) → IsHeld homes self.old.challenged → is_held homes sub ≡ true
+            → IsHeld homes self.new.challenged }
+
+        ensures subs { C.subs centre.new ≡ C.subs centre.old }
+        ensures top { (i : ℕ) → C.top centre.new i ≡ C.top centre.old i }
+        ensures name { C.name centre.new ≡ C.name centre.old }
+    {
+        self.identity = text;
+        self.challenge(rt, set, centre, sub, None, rooms)
+    }
+
+    /// Resynchronises with the SEQ that a USIM reported, and challenges it again unless the number is too far above
+    /// (RFC 4187 §9.6, TS 33.102 §6.3.5).
+    pub(crate) fn resynchronise<C: Centre, R: Wait>(
+        &mut self,
+        rt: &R,
+        set: &Setting,
+        centre: &mut C,
+        sub: u32,
+        seq: u64,
+        rooms: Rooms,
+    ) -> Turn<ServerWhy>
+        requires home { IsHome set.now.rows (C.subs centre.old) (C.top centre.old) sub }
+        requires number { seq ≤ max_seq }
+
+        ensures step { (self.new, result) ≡ resynchronised set.now self.old sub result.notes.resync result.notes.number }
+        ensures asked { AskedOf C.goes C.kept C.top (record { sub = sub; reported = Some seq }) result.notes centre.old centre.new }
+
+        // A home stays one, also if it is challenged now.
+        ensures held { (homes : List HomeRow) → IsHeld homes self.old.challenged → is_held homes sub ≡ true
+            → IsHeld homes self.new.challenged }
+
+        ensures subs { C.subs centre.new ≡ C.subs centre.old }
+        ensures top { (i : ℕ) → C.top centre.new i ≡ C.top centre.old i }
+        ensures name { C.name centre.new ≡ C.name centre.old }
+    {
+        self.synced = true;
+        match report(rt, centre, sub, seq) {
+            ResyncNote::Moved(seen, to) => {
+                self.challenge(
+                    rt,
+                    set,
+                    centre,
+                    sub,
+                    Some(ResyncNote::Moved(seen, to)),
+                    rooms,
+                )
+            }
+            ResyncNote::InRange(seen, at) => {
+                self.challenge(
+                    rt,
+                    set,
+                    centre,
+                    sub,
+                    Some(ResyncNote::InRange(seen, at)),
+                    rooms,
+                )
+            }
+            ResyncNote::Beyond(seen, at) => {
+                let notes = noted(Some(ResyncNote::Beyond(seen, at)), None);
+                self.notify(ServerWhy::Beyond(seen, at), notes, false, rooms)
+            }
+            ResyncNote::BadAuts => unreachable!(),
+        }
+    }
+}

@@ -1,0 +1,15 @@
+//! What holds of every turn of a server.
+
+ghost use Rattle.auc_server.specs.Laws.{EachTurnFits, SuccessNeedsARightMac};
+
+/// A session ends in Success only in a turn in which a response with a right AT_MAC came, under the keys of the last
+/// challenge (RFC 4187 §6.3.4 and §10.15); an EAP-Success that somebody else sent changes nothing.
+pub fn success_needs_a_right_mac()
+    ensures { SuccessNeedsARightMac }
+{}
+
+/// The keys of the last challenge stay those of its vector and of the identity that was received last: once a challenge
+/// is sent, no turn changes the identity (RFC 4187 §7).
+pub fn each_turn_keeps_the_keys_of_its_inputs()
+    ensures { EachTurnFits }
+{}

@@ -1,0 +1,299 @@
+//! The rows of a server's table: which of them received bytes fall into.
+
+ghost use Rattle.std.specs.Prelude.{◌≡◌, ◌<◌, ℕ, length, true, Some, IfSome};
+ghost use Rattle.std.specs.Option.{option_copied};
+ghost use Rattle.auc_packet.specs.Received.{IsReceived, seen_of};
+ghost use Rattle.auc_server.specs.Attributes.{res_of, checkcode_of, first_of};
+ghost use Rattle.auc_server.specs.Rows.{by_auts, differs, held_place, if_held, in_state, is_expected, is_held, is_type, on_auts, on_challenged, on_client_error, on_error_code, on_head, on_message, on_method, on_reading, on_response, on_subscriber, on_sync_failure, server_row, subscriber_in, text_in, type_awaited};
+ghost use Rattle.auc_server.specs.Steps.{IsHeld};
+ghost use Rattle.auc_vector.specs.Auts.{IsNumber};
+ghost use Rattle.auc_server.specs.InnerRows.{IsOwnRow, IsRowOf, IsHeldRow};
+
+use crate::attributes::{auts_in, checkcode_in, error_code_in, res_in};
+use crate::server::{Challenged, Server, ServerState};
+use crate::setting::{HomeRow, Setting};
+use crate::why::ServerWhy;
+use auc_attr::AttrList;
+use auc_edge::Octets;
+use auc_hmac::Method;
+use auc_ident::{permanent_in, username};
+use auc_packet::{
+    Head, Packet, Reading, Received, Subtype, head, is_malformed, is_missing, is_sealed,
+};
+use auc_vector::{Auts, Reason, read_auts};
+
+/// A row of a server's table.
+#[derive(Clone, Copy, Debug, PartialEq, Eq)]
+pub enum Row {
+    /// Nothing is done.
+    Ignore(Reason),
+    /// The identity isn't that of a subscriber that is served (RFC 4187 §6.3.2).
+    UnknownIdentity,
+    /// The subscriber at this place is challenged (RFC 4187 §3).
+    Challenge(u32),
+    /// AT_MAC isn't right (RFC 4187 §6.3.2).
+    WrongMac,
+    /// RES isn't XRES (RFC 4187 §6.3.2).
+    WrongRes,
+    /// The checkcode isn't that of the session (RFC 4187 §10.13).
+    WrongCheckcode,
+    /// The peer is authenticated (RFC 4187 §3).
+    Success,
+    /// A second synchronisation failure came (RFC 4187 §6.3.2).
+    SecondSync,
+    /// MAC-S isn't right (TS 33.102 §6.3.5).
+    BadAuts,
+    /// The subscriber at this place resynchronises with this SEQ (RFC 4187 §9.6, TS 33.102 §6.3.5).
+    Resynchronise(u32, u64),
+    /// The peer rejects the network (RFC 4187 §9.5).
+    Rejected,
+    /// The peer reports this error (RFC 4187 §9.9).
+    ClientError(u16),
+    /// The peer has answered the notification of this failure (RFC 4187 §6.3.3 and §9.11).
+    Notified(ServerWhy),
+}
+
+/// Whether a subscriber is one of the homes.
+fn is_held(homes: &[HomeRow], sub: u32) -> bool
+    ensures { result ≡ is_held homes.now sub }
+{
+    homes.iter().any(|home| home.sub == sub)
+}
+
+/// The held subscriber whose permanent identity a text begins with.
+fn subscriber_in(set: &Setting, homes: &[HomeRow], text: &[u8]) -> Option<u32>
+    ensures value { result ≡ subscriber_in set.now homes.now text.now }
+    ensures held { IfSome result (λ sub. is_held homes.now sub ≡ true) }
+{
+    let imsi = permanent_in(Method::Aka, username(text))?;
+    let sub = set.subs.find(imsi)?;
+    if is_held(homes, sub) { Some(sub) } else { None }
+}
+
+/// The text of an Identity response, or an empty one.
+pub(crate) fn text_in(reading: &Reading) -> &[u8]
+    ensures { result.now ≡ text_in reading.now }
+{
+    match reading {
+        Reading::Read(Packet::Identity { text, .. }) => text.as_slice(),
+        _ => &[],
+    }
+}
+
+/// Whether RES is XRES.
+fn is_expected(xres: &[u8; 8], res: Option<&Octets>) -> bool
+    ensures { result ≡ is_expected xres.now (option_copied res.entry) }
+{
+    match res {
+        None => false,
+        Some(res) => res.as_slice() == xres.as_slice(),
+    }
+}
+
+/// Whether there is a checkcode, and it isn't that of a session without AKA-Identity rounds.
+fn differs(checkcode: Option<&Octets>) -> bool
+    ensures { result ≡ differs (option_copied checkcode.entry) }
+{
+    match checkcode {
+        None => false,
+        Some(value) => is_some_byte(value),
+    }
+}
+
+fn is_some_byte(value: &Octets) -> bool
+    ensures { result ≡ differs (Some value.now) }
+{
+    !value.is_empty()
+}
+
+/// A Challenge response.
+fn on_response(sent: &Challenged, received: &Received, attrs: &AttrList) -> Row
+    requires { IsReceived (seen_of received.now) }
+    ensures row { result ≡ on_response sent.now (seen_of received.now) attrs.now }
+    ensures own { IsOwnRow sent.now.sub result }
+{
+    if is_missing(Subtype::Challenge, false, attrs) {
+        return Row::Ignore(Reason::Missing);
+    }
+    if !is_sealed(received, Method::Aka, &sent.keys.k_aut, &[]) {
+        return Row::WrongMac;
+    }
+    if !is_expected(&sent.vector.xres, res_in(attrs)) {
+        return Row::WrongRes;
+    }
+    if differs(checkcode_in(attrs)) {
+        return Row::WrongCheckcode;
+    }
+    Row::Success
+}
+
+/// AUTS of a subscriber's USIM, by what it says.
+fn by_auts(sub: u32, auts: Auts) -> Row
+    requires { IsNumber auts }
+    ensures row { result ≡ by_auts sub auts }
+    ensures own { IsOwnRow sub result }
+{
+    match auts {
+        Auts::WrongMac => Row::BadAuts,
+        Auts::SeqMs(seq) => Row::Resynchronise(sub, seq),
+    }
+}
+
+/// A Synchronization-Failure.
+fn on_sync_failure(set: &Setting, synced: bool, sent: &Challenged, attrs: &AttrList) -> Row
+    requires { sent.now.sub < length set.now.rows }
+    ensures row { result ≡ on_sync_failure set.now synced sent.now attrs.now }
+    ensures own { IsOwnRow sent.now.sub result }
+{
+    if is_missing(Subtype::SynchronizationFailure, false, attrs) {
+        return Row::Ignore(Reason::Missing);
+    }
+    if synced {
+        return Row::SecondSync;
+    }
+    let Some(auts) = auts_in(attrs) else {
+        return Row::Ignore(Reason::Missing);
+    };
+    let home = set.subs.row(sent.sub);
+    by_auts(sent.sub, read_auts(&home.secret, sent.vector.rand, auts))
+}
+
+/// A Client-Error.
+fn on_client_error(attrs: &AttrList) -> Row
+    ensures row { result ≡ on_client_error attrs.now }
+    ensures own { (own : ℕ) → IsOwnRow own result }
+{
+    if is_missing(Subtype::ClientError, false, attrs) {
+        return Row::Ignore(Reason::Missing);
+    }
+    match error_code_in(attrs) {
+        None => Row::Ignore(Reason::Missing),
+        Some(code) => Row::ClientError(code),
+    }
+}
+
+/// The type that a state expects.
+fn type_awaited(state: &ServerState) -> u8
+    ensures { result ≡ type_awaited state.now }
+{
+    match state {
+        ServerState::AwaitIdentity => 1,
+        _ => 23,
+    }
+}
+
+fn is_type(wanted: u8, kind: Option<u8>) -> bool
+    ensures { result ≡ is_type wanted kind }
+{
+    match kind {
+        None => false,
+        Some(kind) => kind == wanted,
+    }
+}
+
+impl Server {
+    /// The answer to a challenge.
+    fn on_challenged(
+        &self,
+        set: &Setting,
+        sent: &Challenged,
+        received: &Received,
+        subtype: Subtype,
+        attrs: &AttrList,
+    ) -> Row
+        requires received { IsReceived (seen_of received.now) }
+        requires listed { sent.now.sub < length set.now.rows }
+        ensures row { result ≡ on_challenged set.now self.now sent.now (seen_of received.now) subtype attrs.now }
+        ensures own { IsOwnRow sent.now.sub result }
+    {
+        match subtype {
+            Subtype::Challenge => on_response(sent, received, attrs),
+            Subtype::SynchronizationFailure => on_sync_failure(set, self.synced, sent, attrs),
+            Subtype::AuthenticationReject => Row::Rejected,
+            Subtype::ClientError => on_client_error(attrs),
+            _ => Row::Ignore(Reason::Unexpected),
+        }
+    }
+
+    /// A message that isn't malformed.
+    fn on_message(
+        &self,
+        set: &Setting,
+        received: &Received,
+        subtype: Subtype,
+        attrs: &AttrList,
+    ) -> Row
+        requires received { IsReceived (seen_of received.now) }
+        requires listed { IfSome self.now.challenged (λ sent. sent.sub < length set.now.rows) }
+        ensures row { result ≡ on_message set.now self.now self.now.state (seen_of received.now) subtype attrs.now }
+        ensures own { IsRowOf self.now.challenged result }
+    {
+        match self.state {
+            ServerState::AwaitChallenge => match &self.challenged {
+                None => Row::Ignore(Reason::Unexpected),
+                Some(sent) => self.on_challenged(set, sent, received, subtype, attrs),
+            },
+            ServerState::Notifying(why) => match subtype {
+                Subtype::Notification => Row::Notified(why),
+                _ => Row::Ignore(Reason::Unexpected),
+            },
+            _ => Row::Ignore(Reason::Unexpected),
+        }
+    }
+
+    /// A response of EAP-AKA.
+    fn on_method(&self, set: &Setting, received: &Received) -> Row
+        requires received { IsReceived (seen_of received.now) }
+        requires listed { IfSome self.now.challenged (λ sent. sent.sub < length set.now.rows) }
+        ensures row { result ≡ on_method set.now self.now self.now.state (seen_of received.now) received.now.reading }
+        ensures own { IsRowOf self.now.challenged result }
+    {
+        let Reading::Read(Packet::Aka { subtype, attrs, .. }) = &received.reading else {
+            return Row::Ignore(Reason::Malformed);
+        };
+        if is_malformed(*subtype, false, Method::Aka, attrs) {
+            return Row::Ignore(Reason::Malformed);
+        }
+        self.on_message(set, received, *subtype, attrs)
+    }
+
+    /// A response of the type that the state expects.
+    fn on_reading(&self, set: &Setting, homes: &[HomeRow], received: &Received) -> Row
+        requires received { IsReceived (seen_of received.now) }
+        requires listed { IfSome self.now.challenged (λ sent. sent.sub < length set.now.rows) }
+        requires held { IsHeld homes.now self.now.challenged }
+        ensures row { result ≡ on_reading set.now homes.now self.now self.now.state (seen_of received.now) received.now.reading }
+        ensures held { IsHeldRow homes.now result }
+    {
+        if let ServerState::AwaitIdentity = self.state {
+            return match subscriber_in(set, homes, text_in(&received.reading)) {
+                None => Row::UnknownIdentity,
+                Some(sub) => Row::Challenge(sub),
+            };
+        }
+        self.on_method(set, received)
+    }
+
+    /// The row that received bytes fall into.
+    pub(crate) fn row(&self, set: &Setting, homes: &[HomeRow], received: &Received) -> Row
+        requires received { IsReceived (seen_of received.now) }
+        requires listed { IfSome self.now.challenged (λ sent. sent.sub < length set.now.rows) }
+        requires held { IsHeld homes.now self.now.challenged }
+        ensures row { result ≡ server_row set.now homes.now self.now (seen_of received.now) }
+        ensures held { IsHeldRow homes.now result }
+    {
+        if let ServerState::Ended(_) = self.state {
+            return Row::Ignore(Reason::Closed);
+        }
+        let Some(head) = head(received.bytes) else {
+            return Row::Ignore(Reason::NotForMe);
+        };
+        if head.code != 2 || head.id != self.id {
+            return Row::Ignore(Reason::NotForMe);
+        }
+        if !is_type(type_awaited(&self.state), head.kind) {
+            return Row::Ignore(Reason::OtherType);
+        }
+        self.on_reading(set, homes, received)
+    }
+}

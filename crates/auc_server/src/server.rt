@@ -1,0 +1,55 @@
+//! The server of a session.
+
+use crate::why::ServerWhy;
+use auc_edge::Octets;
+use auc_hmac::KeySet;
+use auc_vector::{Outcome, Vector};
+use std::marker::Model;
+
+/// A challenge that a server sent.
+#[derive(Clone, Copy, Debug, PartialEq, Eq)]
+pub struct Challenged {
+    /// The subscriber's place among the rows, from 0.
+    pub sub: u32,
+    /// The vector.
+    pub vector: Vector,
+    /// The keys that it gives (RFC 4187 §7).
+    pub keys: KeySet,
+}
+
+/// What a server waits for.
+#[derive(Clone, Copy, Debug, PartialEq, Eq)]
+pub enum ServerState {
+    /// The peer's identity (RFC 3748 §5.1).
+    AwaitIdentity,
+    /// The answer to a challenge (RFC 4187 §9.4).
+    AwaitChallenge,
+    /// The answer to a notification of this failure (RFC 4187 §9.11).
+    Notifying(ServerWhy),
+    /// Nothing: the session has ended so.
+    Ended(Outcome<ServerWhy>),
+}
+
+/// The server of a session of EAP-AKA. Contracts see its `ServerEnd`.
+#[derive(Drop)]
+pub struct Server {
+    pub(crate) state: ServerState,
+    /// The Identifier of the last request.
+    pub(crate) id: u8,
+    /// The last request.
+    pub(crate) last: Octets,
+    /// The identity that was received last, empty before the first.
+    pub(crate) identity: Octets,
+    /// The last challenge.
+    pub(crate) challenged: Option<Challenged>,
+    /// Whether a synchronisation failure led to a new challenge.
+    pub(crate) synced: bool,
+}
+
+impl Model for Server {
+    ghost use Rattle.auc_server.specs.Server.{ServerEnd};
+
+    ghost Value = { ServerEnd };
+
+    ghost view = { λ s. record { state = s.state; id = s.id; last = s.last; identity = s.identity; challenged = s.challenged; synced = s.synced } };
+}

@@ -1,0 +1,43 @@
+//! What a server is served with.
+
+ghost use Rattle.std.specs.Prelude.{◌≡◌};
+
+use auc_subs::Subscribers;
+use auc_vector::Rands;
+use std::marker::Model;
+
+/// What all sessions of a home network share. Contracts see the key of the random bytes, the subscribers' rows and the
+/// realm.
+#[derive(Drop)]
+pub struct Setting<'a> {
+    /// The subscribers.
+    pub subs: &'a Subscribers,
+    /// The random bytes of their vectors.
+    pub rands: &'a Rands,
+    /// The realm of the home network, at most 255 bytes; empty if there is none.
+    pub realm: &'a [u8],
+}
+
+impl<'a> Model for Setting<'a> {
+    ghost use Rattle.auc_server.specs.Setting as specs;
+
+    ghost Value = { specs.Setting };
+
+    ghost view = { λ set. record { key = set.rands.now; rows = set.subs.now; realm = set.realm.now } };
+}
+
+/// A subscriber that sessions may be held with.
+#[derive(Debug, PartialEq, Eq, Drop)]
+pub struct HomeRow {
+    /// The subscriber's place among the rows, from 0.
+    pub sub: u32,
+}
+
+impl HomeRow {
+    /// An equal row. It takes no memory.
+    pub fn copy(&self) -> HomeRow
+        ensures { result ≡ self.now }
+    {
+        HomeRow { sub: self.sub }
+    }
+}
