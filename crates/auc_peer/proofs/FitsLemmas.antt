@@ -1,0 +1,94 @@
+-- No turn makes a peer's keys others than those of its inputs.
+use Rattle.std.proofs.Common.{◌≡◌, ℕ, Bool, true, false, cond, not, List, [], Option, Some, None, refl}
+use Rattle.auc_hmac.specs.declared.keys.KeySet.{KeySet}
+use Rattle.auc_hmac.specs.declared.method.Method.TheVariants as method
+use Rattle.auc_packet.specs.Received.{Seen, is_sealed}
+use Rattle.auc_milenage.specs.Milenage.{f2}
+use Rattle.auc_usim.specs.Usim.{acceptance, sqn_in}
+use Rattle.auc_peer.specs.Laws.{Fits, keys_of_inputs, EachTurnFits}
+use Rattle.auc_peer.specs.Attributes.{checkcode, differs}
+use Rattle.auc_peer.specs.Subscription.{Subscription}
+use Rattle.auc_peer.specs.Rows.{peer_row}
+use Rattle.auc_peer.specs.Table.{accepted, accepting, again, challenged, client, genuine, opened, peer_does, succeeded, text_or_none}
+use Rattle.auc_peer.specs.declared.peer.Challenge.{Challenge}
+use Rattle.auc_peer.specs.declared.peer.Last.{Last}
+use Rattle.auc_peer.specs.declared.peer.Peer.{Peer}
+use Rattle.auc_peer.specs.declared.peer.PeerState.{PeerState}
+use Rattle.auc_peer.specs.declared.peer.PeerState.TheVariants as state
+use Rattle.auc_peer.specs.declared.rows.Row.{Row}
+use Rattle.auc_peer.specs.declared.rows.Row.TheVariants as row
+use Rattle.auc_peer.specs.declared.why.PeerWhy.{PeerWhy}
+use Rattle.auc_peer.specs.declared.why.PeerWhy.TheVariants as why
+use Rattle.auc_vector.specs.declared.turn.Turn.{Turn}
+use Rattle.auc_vector.specs.declared.notes.UsimNote.{UsimNote}
+use Rattle.auc_vector.specs.declared.notes.UsimNote.TheVariants as note
+
+-- what holds of two turns holds of the one of them that a test picks
+on_cond : (P : Peer × Turn PeerWhy → Type 0) (b : Bool) (x y : Peer × Turn PeerWhy) → P x → P y → P (cond b x y)
+on_cond P true x y f g = f
+on_cond P false x y f g = g
+
+abbrev Fit : Subscription → Peer × Turn PeerWhy → Type 0
+Fit s t = Fits s t.0
+
+refused : (keys : KeySet) (w : PeerWhy) → state.Refusing w ≡ state.Answered keys → ⊥
+refused keys w e = cc
+
+-- a peer that refuses has no keys
+client_fits : (s : Subscription) (p : Peer) (seen : Seen) (w : PeerWhy) (n : Option UsimNote) (checked : Bool) → Fit s (client p seen w n checked)
+client_fits s p seen w n checked = λ keys e. absurd (refused keys w e)
+
+same_keys : (k keys : KeySet) → state.Answered k ≡ state.Answered keys → keys ≡ k
+same_keys k keys e = cc
+
+-- a Challenge whose AT_MAC and AT_CHECKCODE were right
+opened_fits : (s : Subscription) (p : Peer) (seen : Seen) (c : Challenge) (res sqn : List ℕ) (readable : Bool)
+    → Fit s (opened (accepting p c) seen res sqn (keys_of_inputs s c (text_or_none p.identity)) readable)
+opened_fits s p seen c res sqn true = λ keys e. record { challenge = c; was_accepted = refl; same = same_keys (keys_of_inputs s c (text_or_none p.identity)) keys e }
+opened_fits s p seen c res sqn false = client_fits s (accepting p c) seen why.Undecryptable (Some (note.Accepted sqn)) true
+
+-- a Challenge that the USIM accepted
+accepted_fits : (s : Subscription) (p : Peer) (seen : Seen) (c : Challenge) (res sqn : List ℕ) (readable : Bool)
+    → Fit s (accepted p seen c res sqn (keys_of_inputs s c (text_or_none p.identity)) readable)
+accepted_fits s p seen c res sqn readable =
+    let k = keys_of_inputs s c (text_or_none p.identity) in
+    on_cond (Fit s) (not (is_sealed method.Aka k.k_aut [] seen)) (client p seen why.WrongMac (Some (note.Accepted sqn)) false) (genuine (accepting p c) seen res sqn k readable)
+    (client_fits s p seen why.WrongMac (Some (note.Accepted sqn)) false)
+    (on_cond (Fit s) (differs (checkcode seen)) (client (accepting p c) seen why.WrongCheckcode (Some (note.Accepted sqn)) true) (opened (accepting p c) seen res sqn k readable)
+    (client_fits s (accepting p c) seen why.WrongCheckcode (Some (note.Accepted sqn)) true) (opened_fits s p seen c res sqn readable))
+
+-- a Challenge
+challenged_fits : (s : Subscription) (p : Peer) (seen : Seen) (c : Challenge) (n : Option UsimNote) (readable : Bool) → Fits s p → Fit s (challenged s p seen c n readable)
+unfolding acceptance
+challenged_fits s p seen c None readable f = f
+challenged_fits s p seen c (Some note.WrongMac) readable f = λ keys e. absurd cc
+challenged_fits s p seen c (Some (note.Sync sqn)) readable f = λ keys e. absurd cc
+challenged_fits s p seen c (Some (note.Accepted sqn)) readable f =
+    accepted_fits s p seen c (f2 s.secret.k s.secret.opc c.rand) (sqn_in s.secret c.rand c.autn) readable
+
+-- a repetition
+again_fits : (s : Subscription) (p : Peer) (last : Option Last) → Fits s p → Fit s (again p last)
+again_fits s p None f = f
+again_fits s p (Some last) f = f
+
+-- Success
+succeeded_fits : (s : Subscription) (p : Peer) (at' : PeerState) → Fits s p → Fit s (succeeded p at')
+succeeded_fits s p (state.Answered k) f = λ keys e. absurd cc
+succeeded_fits s p state.Waiting f = f
+succeeded_fits s p (state.Refusing cause) f = f
+succeeded_fits s p state.Ended f = f
+
+-- each row
+row_fits : (s : Subscription) (p : Peer) (seen : Seen) (r : Row) (n : Option UsimNote) (readable : Bool) → Fits s p → Fit s (peer_does s p seen r n readable)
+row_fits s p seen (row.Ignore cause) n readable f = f
+row_fits s p seen row.Again n readable f = again_fits s p p.last f
+row_fits s p seen row.First n readable f = λ keys e. absurd cc
+row_fits s p seen (row.Client cause) n readable f = client_fits s p seen cause None false
+row_fits s p seen (row.Notified code) n readable f = λ keys e. absurd cc
+row_fits s p seen (row.Challenged c) n readable f = challenged_fits s p seen c n readable f
+row_fits s p seen row.Success n readable f = succeeded_fits s p p.state f
+row_fits s p seen (row.Failure cause) n readable f = λ keys e. absurd cc
+
+-- each turn
+pub each_turn_fits : EachTurnFits
+each_turn_fits s p seen n readable f = row_fits s p seen (peer_row p seen) n readable f

@@ -1,0 +1,174 @@
+-- Success comes only after a right AT_MAC.
+use Rattle.std.proofs.Common.{◌≡◌, ◌⊎◌, ℕ, Bool, true, false, cond, not, List, [], ◌∷◌, Option, Some, None, refl, subst, inl, inr}
+use Rattle.auc_hmac.specs.declared.keys.KeySet.{KeySet}
+use Rattle.auc_hmac.specs.declared.method.Method.TheVariants as method
+use Rattle.auc_packet.specs.Received.{Seen, is_sealed}
+use Rattle.auc_peer.specs.Asking.{answer_noted}
+use Rattle.auc_peer.specs.Attributes.{checkcode, differs}
+use Rattle.auc_peer.specs.Subscription.{Subscription}
+use Rattle.auc_peer.specs.Laws.{Input, Bytes, GiveUp, after, Came, SuccessNeedsARightMac}
+use Rattle.auc_peer.specs.Rows.{peer_row}
+use Rattle.auc_peer.specs.Table.{accepted, accepting, again, by_answer, challenged, client, gave_up, genuine, keys_for, opened, peer_does, succeeded, text_or_none}
+use Rattle.auc_peer.specs.declared.peer.Challenge.{Challenge}
+use Rattle.auc_peer.specs.declared.peer.Last.{Last}
+use Rattle.auc_peer.specs.declared.peer.Peer.{Peer}
+use Rattle.auc_peer.specs.declared.peer.PeerState.{PeerState}
+use Rattle.auc_peer.specs.declared.peer.PeerState.TheVariants as state
+use Rattle.auc_peer.specs.declared.rows.Row.{Row}
+use Rattle.auc_peer.specs.declared.rows.Row.TheVariants as row
+use Rattle.auc_vector.specs.declared.turn.Outcome.TheVariants as outcome
+use Rattle.auc_peer.specs.declared.why.PeerWhy.{PeerWhy}
+use Rattle.auc_peer.specs.declared.why.PeerWhy.TheVariants as why
+use Rattle.auc_vector.specs.declared.turn.Step.{Step}
+use Rattle.auc_vector.specs.declared.turn.Step.TheVariants as step
+use Rattle.auc_vector.specs.declared.turn.Turn.{Turn}
+use Rattle.auc_vector.specs.declared.notes.UsimNote.{UsimNote}
+use Rattle.auc_vector.specs.declared.notes.UsimNote.TheVariants as note
+use Rattle.auc_usim.specs.declared.answer.Answer.{Answer}
+use Rattle.auc_usim.specs.declared.answer.Answer.TheVariants as answer
+
+-- which of two turns it was
+pick : (P : Peer × Turn PeerWhy → Type 0) (b : Bool) (x y : Peer × Turn PeerWhy) → P (cond b x y) → ((b ≡ true) × P x) ⊎ ((b ≡ false) × P y)
+pick P true x y e = inl (refl, e)
+pick P false x y e = inr (refl, e)
+
+true_if : (b : Bool) → not b ≡ false → b ≡ true
+true_if true e = refl
+true_if false e = absurd cc
+
+abbrev IsAnswered : KeySet → Peer × Turn PeerWhy → Type 0
+IsAnswered keys t = t.0.state ≡ state.Answered keys
+
+-- ---- a turn that ends in Answered
+
+refusing : (keys : KeySet) (w : PeerWhy) → state.Refusing w ≡ state.Answered keys → ⊥
+refusing keys w e = cc
+
+-- the keys that a turn ends with are those that it was given
+opened_keys : (p : Peer) (seen : Seen) (res sqn : List ℕ) (k keys : KeySet) (readable : Bool) → IsAnswered keys (opened p seen res sqn k readable) → k ≡ keys
+opened_keys p seen res sqn k keys true e = cc
+opened_keys p seen res sqn k keys false e = absurd cc
+
+genuine_keys : (p : Peer) (seen : Seen) (res sqn : List ℕ) (k keys : KeySet) (readable : Bool) → IsAnswered keys (genuine p seen res sqn k readable) → k ≡ keys
+genuine_keys p seen res sqn k keys readable e =
+    elim (pick (IsAnswered keys) (differs (checkcode seen)) (client p seen why.WrongCheckcode (Some (note.Accepted sqn)) true) (opened p seen res sqn k readable) e) [
+      | inl h ↦ absurd (refusing keys why.WrongCheckcode h.1)
+      | inr h ↦ opened_keys p seen res sqn k keys readable h.1
+    ]
+
+-- a Challenge that was answered had a right AT_MAC
+accepted_right : (p : Peer) (seen : Seen) (c : Challenge) (res sqn : List ℕ) (k keys : KeySet) (readable : Bool) → IsAnswered keys (accepted p seen c res sqn k readable) → is_sealed method.Aka keys.k_aut [] seen ≡ true
+accepted_right p seen c res sqn k keys readable e =
+    elim (pick (IsAnswered keys) (not (is_sealed method.Aka k.k_aut [] seen)) (client p seen why.WrongMac (Some (note.Accepted sqn)) false) (genuine (accepting p c) seen res sqn k readable) e) [
+      | inl h ↦ absurd (refusing keys why.WrongMac h.1)
+      | inr h ↦
+          subst (λ (x : KeySet). is_sealed method.Aka x.k_aut [] seen ≡ true) (genuine_keys (accepting p c) seen res sqn k keys readable h.1)
+          (true_if (is_sealed method.Aka k.k_aut [] seen) h.0)
+    ]
+
+answer_right : (p : Peer) (seen : Seen) (c : Challenge) (a : Answer) (keys : KeySet) (readable : Bool) → IsAnswered keys (by_answer p seen c a readable) → is_sealed method.Aka keys.k_aut [] seen ≡ true
+answer_right p seen c answer.WrongMac keys readable e = absurd cc
+answer_right p seen c (answer.SyncFailure auts sqn) keys readable e = absurd cc
+answer_right p seen c (answer.Accepted res ck ik ak amf sqn) keys readable e = accepted_right p seen c res sqn (keys_for (text_or_none p.identity) ik ck) keys readable e
+
+abbrev Right : KeySet → Peer → Seen → Type 0
+Right keys p seen = (p.state ≡ state.Answered keys) ⊎ (is_sealed method.Aka keys.k_aut [] seen ≡ true)
+
+challenged_right : (s : Subscription) (p : Peer) (seen : Seen) (c : Challenge) (n : Option UsimNote) (keys : KeySet) (readable : Bool) → IsAnswered keys (challenged s p seen c n readable) → Right keys p seen
+challenged_right s p seen c None keys readable e = inl e
+challenged_right s p seen c (Some n) keys readable e = inr (answer_right p seen c (answer_noted s.secret c n) keys readable e)
+
+again_right : (p : Peer) (seen : Seen) (last : Option Last) (keys : KeySet) → IsAnswered keys (again p last) → Right keys p seen
+again_right p seen None keys e = inl e
+again_right p seen (Some last) keys e = inl e
+
+succeeded_right : (p : Peer) (seen : Seen) (s : PeerState) (keys : KeySet) → IsAnswered keys (succeeded p s) → Right keys p seen
+succeeded_right p seen (state.Answered k) keys e = absurd cc
+succeeded_right p seen state.Waiting keys e = inl e
+succeeded_right p seen (state.Refusing cause) keys e = inl e
+succeeded_right p seen state.Ended keys e = inl e
+
+-- a turn that ends in Answered began there, or had a right AT_MAC
+row_right : (s : Subscription) (p : Peer) (seen : Seen) (r : Row) (n : Option UsimNote) (readable : Bool) (keys : KeySet) → IsAnswered keys (peer_does s p seen r n readable) → Right keys p seen
+row_right s p seen (row.Ignore cause) n readable keys e = inl e
+row_right s p seen row.Again n readable keys e = again_right p seen p.last keys e
+row_right s p seen row.First n readable keys e = absurd cc
+row_right s p seen (row.Client cause) n readable keys e = absurd cc
+row_right s p seen (row.Notified code) n readable keys e = absurd cc
+row_right s p seen (row.Challenged c) n readable keys e = challenged_right s p seen c n keys readable e
+row_right s p seen row.Success n readable keys e = succeeded_right p seen p.state keys e
+row_right s p seen (row.Failure cause) n readable keys e = absurd cc
+
+-- ---- a turn that ends in Success
+
+abbrev IsSuccess : KeySet → List ℕ → Peer × Turn PeerWhy → Type 0
+IsSuccess keys bytes t = t.1.step ≡ step.Ended (outcome.Success keys) bytes
+
+-- no answer ends a session in Success
+opened_none : (p : Peer) (seen : Seen) (res sqn bytes : List ℕ) (k keys : KeySet) (readable : Bool) → IsSuccess keys bytes (opened p seen res sqn k readable) → ⊥
+opened_none p seen res sqn bytes k keys true e = cc
+opened_none p seen res sqn bytes k keys false e = cc
+
+picked_none : (keys : KeySet) (bytes : List ℕ) (b : Bool) (x y : Peer × Turn PeerWhy) → (IsSuccess keys bytes x → ⊥) → (IsSuccess keys bytes y → ⊥) → IsSuccess keys bytes (cond b x y) → ⊥
+picked_none keys bytes true x y f g e = f e
+picked_none keys bytes false x y f g e = g e
+
+sent_none : (keys : KeySet) (bytes sent : List ℕ) → ◌≡◌ {A = Step PeerWhy} (step.Sent sent) (step.Ended (outcome.Success keys) bytes) → ⊥
+sent_none keys bytes sent e = cc
+
+answer_none : (p : Peer) (seen : Seen) (c : Challenge) (a : Answer) (keys : KeySet) (bytes : List ℕ) (readable : Bool) → IsSuccess keys bytes (by_answer p seen c a readable) → ⊥
+answer_none p seen c answer.WrongMac keys bytes readable e = cc
+answer_none p seen c (answer.SyncFailure auts sqn) keys bytes readable e = cc
+answer_none p seen c (answer.Accepted res ck ik ak amf sqn) keys bytes readable e =
+    let k = keys_for (text_or_none p.identity) ik ck in
+    picked_none keys bytes (not (is_sealed method.Aka k.k_aut [] seen)) (client p seen why.WrongMac (Some (note.Accepted sqn)) false) (genuine (accepting p c) seen res sqn k readable)
+    (sent_none keys bytes _)
+    (picked_none keys bytes (differs (checkcode seen)) (client (accepting p c) seen why.WrongCheckcode (Some (note.Accepted sqn)) true) (opened (accepting p c) seen res sqn k readable)
+    (sent_none keys bytes _) (opened_none (accepting p c) seen res sqn bytes k keys readable)) e
+
+success_in : (p : Peer) (s : PeerState) (keys : KeySet) (bytes : List ℕ) → IsSuccess keys bytes (succeeded p s) → s ≡ state.Answered keys
+success_in p (state.Answered k) keys bytes e = cc
+success_in p state.Waiting keys bytes e = absurd cc
+success_in p (state.Refusing cause) keys bytes e = absurd cc
+success_in p state.Ended keys bytes e = absurd cc
+
+again_none : (p : Peer) (last : Option Last) (keys : KeySet) (bytes : List ℕ) → IsSuccess keys bytes (again p last) → ⊥
+again_none p None keys bytes e = cc
+again_none p (Some last) keys bytes e = cc
+
+challenged_none : (s : Subscription) (p : Peer) (seen : Seen) (c : Challenge) (n : Option UsimNote) (keys : KeySet) (bytes : List ℕ) (readable : Bool) → IsSuccess keys bytes (challenged s p seen c n readable) → ⊥
+challenged_none s p seen c None keys bytes readable e = cc
+challenged_none s p seen c (Some n) keys bytes readable e = answer_none p seen c (answer_noted s.secret c n) keys bytes readable e
+
+-- a turn that ends in Success began in Answered
+row_success : (s : Subscription) (p : Peer) (seen : Seen) (r : Row) (n : Option UsimNote) (readable : Bool) (keys : KeySet) (bytes : List ℕ) → IsSuccess keys bytes (peer_does s p seen r n readable) → p.state ≡ state.Answered keys
+row_success s p seen (row.Ignore cause) n readable keys bytes e = absurd cc
+row_success s p seen row.Again n readable keys bytes e = absurd (again_none p p.last keys bytes e)
+row_success s p seen row.First n readable keys bytes e = absurd cc
+row_success s p seen (row.Client cause) n readable keys bytes e = absurd cc
+row_success s p seen (row.Notified code) n readable keys bytes e = absurd cc
+row_success s p seen (row.Challenged c) n readable keys bytes e = absurd (challenged_none s p seen c n keys bytes readable e)
+row_success s p seen row.Success n readable keys bytes e = success_in p p.state keys bytes e
+row_success s p seen (row.Failure cause) n readable keys bytes e = absurd cc
+
+-- ---- over all inputs
+
+gave_none : (p : Peer) (s : PeerState) (keys : KeySet) → p.state ≡ s → (gave_up p s).0.state ≡ state.Answered keys → ⊥
+gave_none p state.Ended keys f e = cc
+gave_none p state.Waiting keys f e = cc
+gave_none p (state.Answered k) keys f e = cc
+gave_none p (state.Refusing cause) keys f e = cc
+
+-- a peer in Answered has received a right AT_MAC
+came : (keys : KeySet) (before : List Input) → (after before).state ≡ state.Answered keys → Came keys before
+came keys [] e = absurd cc
+came keys (Bytes s seen n readable ∷ before) e =
+    elim (row_right s (after before) seen (peer_row (after before) seen) n readable keys e) [
+      | inl h ↦ inr (came keys before h)
+      | inr h ↦ inl h
+    ]
+came keys (GiveUp ∷ before) e = absurd (gave_none (after before) (after before).state keys refl e)
+
+-- Success needs a right AT_MAC
+pub success_needs : SuccessNeedsARightMac
+success_needs before s seen n readable keys bytes e = came keys before (row_success s (after before) seen (peer_row (after before) seen) n readable keys bytes e)

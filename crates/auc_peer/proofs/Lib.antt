@@ -1,0 +1,5 @@
+mod AskingLemmas
+mod MessageLemmas
+mod LawLemmas
+mod FitsLemmas
+mod TurnLemmas

@@ -1,0 +1,36 @@
+-- Inner facts: what only private contracts of this crate cite. Memory for a turn, and messages that fit into it.
+use Rattle.std.specs.Prelude.{◌≡◌, ℕ, ◌+◌, ◌≤◌, List, [], length}
+use Rattle.auc_attr.specs.declared.attr.Attr.{Attr}
+use Rattle.auc_edge.specs.Reserved.{Reserved}
+use Rattle.auc_hmac.specs.Mac.{no_mac}
+use Rattle.auc_packet.specs.Sealed.{with_mac}
+use Rattle.auc_packet.specs.Spelling.{MayBeWritten, packet_text}
+use Rattle.auc_packet.specs.declared.packet.Packet.{Packet}
+use Rattle.auc_packet.specs.declared.sealing.Draft.{Draft}
+use Rattle.auc_peer.specs.declared.rows.Row.{Row}
+use Rattle.auc_peer.specs.declared.rows.Row.TheVariants as row
+
+-- memory for so many bytes, none of which is written
+pub record HasRoom (room : Reserved ℕ) (size : ℕ) : Type 0 where
+  pub empty : room.written ≡ []
+  pub left : room.left ≡ size
+
+-- places for the attributes of a message before AT_MAC
+pub record HasPlaces (places : Reserved Attr) : Type 0 where
+  pub empty : places.written ≡ []
+  pub left : places.left ≡ 2
+
+-- a message may be written, in at most 44 bytes
+pub record IsShort (p : Packet) : Type 0 where
+  pub may : MayBeWritten p
+  pub size : length (packet_text p) ≤ 44
+
+-- a message may be written with AT_MAC, in at most 44 bytes, whatever the value is
+pub record IsShortDraft (draft : Draft) : Type 0 where
+  pub zero : IsShort (with_mac draft no_mac)
+  pub any : (mac : List ℕ) → length mac ≡ 16 → length (packet_text (with_mac draft mac)) ≤ 44
+
+-- for how many bytes a row needs memory, given the size of the first identity
+abbrev pub room_for : Row → ℕ → ℕ
+room_for row.First identity = 5 + identity
+room_for other identity = 44

@@ -1,0 +1,82 @@
+-- What holds of every peer, over all that it receives.
+use Rattle.std.specs.Prelude.{◌≡◌, ◌⊎◌, ℕ, true, Bool, List, [], ◌∷◌, Option, Some}
+use Rattle.auc_hmac.specs.declared.keys.KeySet.{KeySet}
+use Rattle.auc_hmac.specs.declared.method.Method.TheVariants as method
+use Rattle.auc_milenage.specs.Milenage.{f3, f4}
+use Rattle.auc_packet.specs.Received.{Seen, is_sealed}
+use Rattle.auc_peer.specs.Subscription.{Subscription}
+use Rattle.auc_peer.specs.Table.{gave_up, keys_for, new_peer, peer_step, text_or_none}
+use Rattle.auc_peer.specs.Turn.{Steps}
+use Rattle.auc_peer.specs.declared.peer.Challenge.{Challenge}
+use Rattle.auc_peer.specs.declared.peer.Peer.{Peer}
+use Rattle.auc_peer.specs.declared.peer.PeerState.TheVariants as state
+use Rattle.auc_peer.specs.declared.why.PeerWhy.{PeerWhy}
+use Rattle.auc_sqn.specs.Past.{Past, Remembers}
+use Rattle.auc_vector.specs.declared.notes.UsimNote.{UsimNote}
+use Rattle.auc_vector.specs.declared.turn.Outcome.TheVariants as outcome
+use Rattle.auc_vector.specs.declared.turn.Step.TheVariants as step
+use Rattle.auc_vector.specs.declared.turn.Turn.{Turn}
+
+-- ---- Success
+
+-- what befalls a peer: bytes at some subscription, with the USIM's note and whether what is encrypted was readable; or it
+-- gives up
+pub data Input : Type 0 where
+  Bytes : Subscription → Seen → Option UsimNote → Bool → Input
+  GiveUp : Input
+
+abbrev pub happened : Peer → Input → Peer
+happened p (Bytes s seen n readable) = (peer_step s p seen n readable).0
+happened p GiveUp = (gave_up p p.state).0
+
+-- the peer after some inputs, the last of which stands first
+abbrev pub after : List Input → Peer
+after [] = new_peer
+after (input ∷ before) = happened (after before) input
+
+-- bytes with a right AT_MAC under some keys
+abbrev pub IsRightUnder : KeySet → Input → Type 0
+IsRightUnder keys (Bytes s seen n readable) = is_sealed method.Aka keys.k_aut [] seen ≡ true
+IsRightUnder keys GiveUp = ⊥
+
+-- among some inputs are bytes with a right AT_MAC under some keys
+abbrev pub Came : KeySet → List Input → Type 0
+Came keys [] = ⊥
+Came keys (input ∷ before) = IsRightUnder keys input ⊎ Came keys before
+
+-- a peer that ends in Success with some keys has received bytes with a right AT_MAC under them before
+abbrev pub SuccessNeedsARightMac : Type 0
+SuccessNeedsARightMac =
+    (before : List Input) (s : Subscription) (seen : Seen) (n : Option UsimNote) (readable : Bool) (keys : KeySet) (bytes : List ℕ)
+    → (peer_step s (after before) seen n readable).1.step ≡ step.Ended (outcome.Success keys) bytes
+    → Came keys before
+
+-- ---- keys
+
+-- the keys of a challenge under an identity
+abbrev pub keys_of_inputs : Subscription → Challenge → List ℕ → KeySet
+keys_of_inputs s c text = keys_for text (f4 s.secret.k s.secret.opc c.rand) (f3 s.secret.k s.secret.opc c.rand)
+
+-- keys of the challenge that was accepted last, under the identity that was sent last
+pub record AreOfInputs (s : Subscription) (p : Peer) (keys : KeySet) : Type 0 where
+  pub challenge : Challenge
+  pub was_accepted : p.accepted ≡ Some challenge
+  pub same : keys ≡ keys_of_inputs s challenge (text_or_none p.identity)
+
+abbrev pub Fits : Subscription → Peer → Type 0
+Fits s p = (keys : KeySet) → p.state ≡ state.Answered keys → AreOfInputs s p keys
+
+-- no turn makes a peer's keys others than those of its inputs
+abbrev pub EachTurnFits : Type 0
+EachTurnFits =
+    (s : Subscription) (p : Peer) (seen : Seen) (n : Option UsimNote) (readable : Bool) → Fits s p
+    → Fits s (peer_step s p seen n readable).0
+
+-- ---- turns
+
+-- two turns of equal peers at equal bytes, in which a USIM that remembers some past answered alike, are the same
+abbrev pub EqualTurnsAreOne : Type 0
+EqualTurnsAreOne =
+    (s : Subscription) (old new other : Peer) (bytes before left right : List ℕ) (turn another : Turn PeerWhy) (past : Past) → Remembers before past
+    → Steps s old bytes before new turn left → Steps s old bytes before other another right
+    → turn.notes.usim ≡ another.notes.usim → (new ≡ other) × (turn ≡ another)

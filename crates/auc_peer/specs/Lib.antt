@@ -1,0 +1,9 @@
+pub mod Subscription
+pub mod Asking
+pub mod Attributes
+pub mod Rows
+pub mod Messages
+pub mod Table
+pub mod Turn
+pub mod Laws
+pub mod InnerRooms

@@ -1,0 +1,25 @@
+-- What a peer takes from its device beside the USIM's index array. No turn changes it.
+use Rattle.std.specs.Prelude.{ℕ, List, [], ◌∷◌, ◌++◌}
+use Rattle.auc_edge.specs.Identity.{Identity}
+use Rattle.auc_hmac.specs.declared.method.Method.TheVariants as method
+use Rattle.auc_ident.specs.Permanent.{permanent_text}
+use Rattle.auc_milenage.specs.declared.secret.Secret.{Secret}
+use Rattle.auc_peer.specs.declared.device.Device.{Device}
+
+-- the IMSI, the realm, and the secret of the USIM
+pub record Subscription : Type 0 where
+  pub imsi : Identity
+  pub realm : List ℕ
+  pub secret : Secret
+
+abbrev pub subscription_of : Device → Subscription
+subscription_of device = record { imsi = device.imsi; realm = device.realm; secret = device.usim.secret }
+
+-- a username, followed by `@` and the realm if there is one (RFC 4187 §4.1.1.5)
+abbrev pub with_realm : List ℕ → List ℕ → List ℕ
+with_realm text [] = text
+with_realm text (letter ∷ letters) = text ++ 64 ∷ letter ∷ letters
+
+-- the permanent identity (RFC 4187 §4.1.1.6)
+abbrev pub identity_text : Subscription → List ℕ
+identity_text s = with_realm (permanent_text method.Aka s.imsi) s.realm

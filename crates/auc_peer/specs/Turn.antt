@@ -1,0 +1,97 @@
+-- A turn of a peer: what was received, what the USIM was asked, what was decrypted, and that the rest is the table's.
+use Rattle.std.specs.Prelude.{◌≡◌, ℕ, not, Bool, true, false, List, [], Option, Some, None, Ok, Err, if◌then◌else◌}
+use Rattle.auc_attr.specs.declared.attr.Attr.{Attr}
+use Rattle.auc_hmac.specs.declared.keys.KeySet.{KeySet}
+use Rattle.auc_hmac.specs.declared.method.Method.TheVariants as method
+use Rattle.auc_packet.specs.Received.{Seen, IsReceived, is_sealed}
+use Rattle.auc_peer.specs.Asking.{answer_noted}
+use Rattle.auc_peer.specs.Attributes.{attrs_in, checkcode, differs}
+use Rattle.auc_peer.specs.Rows.{peer_row}
+use Rattle.auc_peer.specs.Subscription.{Subscription}
+use Rattle.auc_peer.specs.Table.{keys_for, peer_step, text_or_none}
+use Rattle.auc_peer.specs.declared.peer.Challenge.{Challenge}
+use Rattle.auc_peer.specs.declared.peer.Peer.{Peer}
+use Rattle.auc_peer.specs.declared.peer.PeerState.{PeerState}
+use Rattle.auc_peer.specs.declared.peer.PeerState.TheVariants as state
+use Rattle.auc_peer.specs.declared.rows.Row.{Row}
+use Rattle.auc_peer.specs.declared.rows.Row.TheVariants as row
+use Rattle.auc_peer.specs.declared.why.PeerWhy.{PeerWhy}
+use Rattle.auc_peer.specs.declared.why.PeerWhy.TheVariants as why
+use Rattle.auc_seal.specs.Encrypted.{Opens}
+use Rattle.auc_seal.specs.declared.refusal.SealRefusal.{SealRefusal}
+use Rattle.auc_sqn.specs.Past.{Past, Remembers}
+use Rattle.auc_usim.specs.Usim.{IsAnswer, past_after_answer}
+use Rattle.auc_usim.specs.declared.answer.Answer.{Answer}
+use Rattle.auc_usim.specs.declared.answer.Answer.TheVariants as answer
+use Rattle.auc_vector.specs.declared.notes.UsimNote.{UsimNote}
+use Rattle.auc_vector.specs.declared.turn.Turn.{Turn}
+
+-- ---- the USIM
+
+-- the challenge that a row hands the USIM
+abbrev pub asked : Row → Option Challenge
+asked (row.Challenged c) = Some c
+asked other = None
+
+-- the USIM answered what it was asked by all that it had accepted, as the note tells, and accepted nothing else; it was
+-- asked nothing else
+abbrev pub Asked : Subscription → Option Challenge → Option UsimNote → List ℕ → List ℕ → Type 0
+Asked s None n old new = (n ≡ None) × (new ≡ old)
+Asked s (Some c) None old new = ⊥
+Asked s (Some c) (Some n) old new = (past : Past) → Remembers old past
+    → IsAnswer s.secret past c.rand c.autn (answer_noted s.secret c n)
+    × Remembers new (past_after_answer past (answer_noted s.secret c n))
+
+-- ---- what is encrypted
+
+-- whether what a list has encrypted decrypts to attributes
+abbrev pub IsReadable : List ℕ → List Attr → Bool → Type 0
+IsReadable k_encr list true = (bytes : List ℕ) × Opens k_encr list (Ok bytes)
+IsReadable k_encr list false = (refused : SealRefusal) × Opens k_encr list (Err refused)
+
+-- a decryption: under which key, and of which attributes
+pub record Decryption : Type 0 where
+  pub k_encr : List ℕ
+  pub list : List Attr
+
+-- the decryption that a row makes: of a Challenge that the USIM accepted, with a right AT_MAC and AT_CHECKCODE
+abbrev pub decryption_under : Seen → KeySet → Option Decryption
+decryption_under seen keys =
+    if not (is_sealed method.Aka keys.k_aut [] seen) then None
+    else if differs (checkcode seen) then None
+    else Some (record { k_encr = keys.k_encr; list = attrs_in seen.reading })
+
+abbrev pub decryption_by : Peer → Seen → Answer → Option Decryption
+decryption_by p seen (answer.Accepted res ck ik ak amf sqn) = decryption_under seen (keys_for (text_or_none p.identity) ik ck)
+decryption_by p seen other = None
+
+abbrev pub decryption_noted : Subscription → Peer → Seen → Option Challenge → Option UsimNote → Option Decryption
+decryption_noted s p seen (Some c) (Some n) = decryption_by p seen (answer_noted s.secret c n)
+decryption_noted s p seen c n = None
+
+-- whether a decryption gives attributes; without one nothing is said
+abbrev pub Decrypts : Option Decryption → Bool → Type 0
+Decrypts None readable = Unit {0}
+Decrypts (Some d) readable = IsReadable d.k_encr d.list readable
+
+-- whether what was decrypted was readable: the peer's new state tells it
+abbrev pub is_undecryptable : PeerWhy → Bool
+is_undecryptable why.Undecryptable = true
+is_undecryptable other = false
+
+abbrev pub was_readable : PeerState → Bool
+was_readable (state.Refusing cause) = not (is_undecryptable cause)
+was_readable other = true
+
+-- ---- the turn
+
+-- bytes were received as something; if the USIM remembers some past, the turn is the table's; the USIM was asked what
+-- the row says, and answered as the note tells; and what the row decrypted was as the new state tells
+pub record Steps (s : Subscription) (old : Peer) (bytes before : List ℕ) (new : Peer) (turn : Turn PeerWhy) (after : List ℕ) : Type 0 where
+  pub seen : Seen
+  pub received : IsReceived seen
+  pub of : seen.bytes ≡ bytes
+  pub same : (past : Past) → Remembers before past → (new, turn) ≡ peer_step s old seen turn.notes.usim (was_readable new.state)
+  pub usim : Asked s (asked (peer_row old seen)) turn.notes.usim before after
+  pub decrypts : (past : Past) → Remembers before past
+      → Decrypts (decryption_noted s old seen (asked (peer_row old seen)) turn.notes.usim) (was_readable new.state)

@@ -1,0 +1,218 @@
+//! A Challenge, as the USIM answers it (RFC 4187 §6.3.1 and §9.3).
+
+ghost use Rattle.std.specs.Prelude.{◌≡◌, ◌≤◌, ℕ, [], length, Some};
+ghost use Rattle.auc_packet.specs.Received.{IsReceived, seen_of};
+ghost use Rattle.auc_seal.specs.Encrypted.{ciphertext_of};
+ghost use Rattle.auc_sqn.specs.Past.{Past, Remembers};
+ghost use Rattle.auc_peer.specs.Asking.{note_of as note_by};
+ghost use Rattle.auc_peer.specs.Attributes.{attrs_in};
+ghost use Rattle.auc_peer.specs.Subscription.{subscription_of};
+ghost use Rattle.auc_peer.specs.Table.{accepted, by_answer, challenged, keys_for, opened, text_or_none};
+ghost use Rattle.auc_peer.specs.Turn.{Asked, Decrypts, IsReadable, decryption_by, decryption_noted, decryption_under, was_readable};
+
+use crate::asking::ask;
+use crate::device::Device;
+use crate::messages::{challenge_response, res_in, sync_failure};
+use crate::peer::{Challenge, Peer, PeerState};
+use crate::reading::{differs, has_checkcode, id_of, is_readable};
+use crate::rooms::Rooms;
+use crate::why::PeerWhy;
+use auc_edge::{Octets, Room};
+use auc_hmac::{KeySet, Method};
+use auc_packet::{Received, is_sealed};
+use auc_prf::aka_keys;
+use auc_usim::Answer;
+use auc_vector::{Turn, UsimNote};
+
+/// The keys of an authentication under an identity.
+#[tactic(auto, unfolding(crate::specs::Table::keys_for))]
+fn keys_for(identity: &[u8], ik: [u8; 16], ck: [u8; 16]) -> KeySet
+    ensures { result ≡ keys_for identity.now ik ck }
+{
+    let (keys, _) = aka_keys(identity, ik, ck);
+    keys
+}
+
+/// The identity that was sent last, or the empty text.
+fn text_of(identity: &Option<Octets>) -> &[u8]
+    ensures { result.now ≡ text_or_none identity.now }
+{
+    match identity {
+        None => &[],
+        Some(text) => text.as_slice(),
+    }
+}
+
+impl Peer {
+    /// Hands a Challenge to the USIM, and does what its answer says.
+    pub(crate) fn on_challenge(
+        &mut self,
+        device: &mut Device,
+        received: &Received,
+        request: Octets,
+        inner: Room,
+        challenge: Challenge,
+        rooms: Rooms,
+    ) -> Turn<PeerWhy>
+        requires is { IsReceived (seen_of received.now) }
+        requires request { request ≡ (seen_of received.now).bytes }
+        requires rooms { 44 ≤ rooms }
+        requires empty { inner.written ≡ [] }
+        requires room { length (ciphertext_of (attrs_in received.now.reading)) ≤ inner.left }
+
+        ensures step { (past : Past) → Remembers device.old.usim.array past
+            → (self.new, result) ≡ challenged (subscription_of device.old) self.old (seen_of received.now)
+            challenge result.notes.usim (was_readable self.new.state) }
+        ensures usim { Asked (subscription_of device.old) (Some challenge) result.notes.usim
+            device.old.usim.array device.new.usim.array }
+        ensures decrypts { (past : Past) → Remembers device.old.usim.array past
+            → Decrypts (decryption_noted (subscription_of device.old) self.old (seen_of received.now) (Some challenge)
+            result.notes.usim) (was_readable self.new.state) }
+        ensures subscription { subscription_of device.new ≡ subscription_of device.old }
+    {
+        let answer = ask(&mut device.usim, challenge);
+        self.on_answer(received, request, inner, challenge, answer, rooms)
+    }
+
+    /// Does what the USIM's answer to a Challenge says.
+    fn on_answer(
+        &mut self,
+        received: &Received,
+        request: Octets,
+        inner: Room,
+        challenge: Challenge,
+        answer: Answer,
+        rooms: Rooms,
+    ) -> Turn<PeerWhy>
+        requires is { IsReceived (seen_of received.now) }
+        requires request { request ≡ (seen_of received.now).bytes }
+        requires rooms { 44 ≤ rooms }
+        requires empty { inner.written ≡ [] }
+        requires room { length (ciphertext_of (attrs_in received.now.reading)) ≤ inner.left }
+
+        ensures step { (self.new, result) ≡ by_answer self.old (seen_of received.now) challenge answer
+            (was_readable self.new.state) }
+        ensures note { result.notes.usim ≡ Some (note_by answer) }
+        ensures decrypts { Decrypts (decryption_by self.old (seen_of received.now) answer) (was_readable self.new.state) }
+    {
+        match answer {
+            Answer::WrongMac => self.reject(
+                received,
+                request,
+                PeerWhy::WrongAutn,
+                Some(UsimNote::WrongMac),
+                rooms,
+            ),
+            Answer::SyncFailure { auts, sqn } => {
+                let Rooms {
+                    places,
+                    bytes,
+                    kept,
+                    ..
+                } = rooms;
+                let bytes = sync_failure(id_of(received), auts, places, bytes);
+                let note = Some(UsimNote::Sync(sqn));
+                self.answer(
+                    received,
+                    request,
+                    PeerState::Waiting,
+                    bytes,
+                    kept,
+                    note,
+                    false,
+                )
+            }
+            Answer::Accepted {
+                res,
+                ck,
+                ik,
+                sqn,
+                ..
+            } => {
+                let keys = keys_for(text_of(&self.identity), ik, ck);
+                self.on_accepted(received, request, inner, challenge, res, sqn, keys, rooms)
+            }
+        }
+    }
+
+    /// Takes a Challenge that the USIM accepted. AT_MAC is tested first, before RES is sent.
+    fn on_accepted(
+        &mut self,
+        received: &Received,
+        request: Octets,
+        inner: Room,
+        challenge: Challenge,
+        res: [u8; 8],
+        sqn: [u8; 6],
+        keys: KeySet,
+        rooms: Rooms,
+    ) -> Turn<PeerWhy>
+        requires is { IsReceived (seen_of received.now) }
+        requires request { request ≡ (seen_of received.now).bytes }
+        requires rooms { 44 ≤ rooms }
+        requires empty { inner.written ≡ [] }
+        requires room { length (ciphertext_of (attrs_in received.now.reading)) ≤ inner.left }
+
+        ensures step { (self.new, result) ≡ accepted self.old (seen_of received.now) challenge res sqn keys
+            (was_readable self.new.state) }
+        ensures note { result.notes.usim ≡ Some (UsimNote.Accepted sqn) }
+        ensures decrypts { Decrypts (decryption_under (seen_of received.now) keys) (was_readable self.new.state) }
+    {
+        let note = Some(UsimNote::Accepted(sqn));
+        if !is_sealed(received, Method::Aka, &keys.k_aut, &[]) {
+            return self.client(received, request, PeerWhy::WrongMac, note, false, rooms);
+        }
+        self.accepted = Some(challenge);
+        if differs(&received.reading) {
+            return self.client(
+                received,
+                request,
+                PeerWhy::WrongCheckcode,
+                note,
+                true,
+                rooms,
+            );
+        }
+        self.opened(received, request, inner, res, sqn, keys, rooms)
+    }
+
+    /// Takes a Challenge whose AT_MAC and AT_CHECKCODE are right.
+    fn opened(
+        &mut self,
+        received: &Received,
+        request: Octets,
+        inner: Room,
+        res: [u8; 8],
+        sqn: [u8; 6],
+        keys: KeySet,
+        rooms: Rooms,
+    ) -> Turn<PeerWhy>
+        requires request { request ≡ (seen_of received.now).bytes }
+        requires rooms { 44 ≤ rooms }
+        requires empty { inner.written ≡ [] }
+        requires room { length (ciphertext_of (attrs_in received.now.reading)) ≤ inner.left }
+
+        ensures step { (self.new, result) ≡ opened self.old (seen_of received.now) res sqn keys
+            (was_readable self.new.state) }
+        ensures note { result.notes.usim ≡ Some (UsimNote.Accepted sqn) }
+        ensures decrypts { IsReadable keys.k_encr (attrs_in received.now.reading) (was_readable self.new.state) }
+    {
+        let note = Some(UsimNote::Accepted(sqn));
+        if !is_readable(keys.k_encr, &received.reading, &rooms.no_attrs, inner) {
+            return self.client(received, request, PeerWhy::Undecryptable, note, true, rooms);
+        }
+        let Rooms {
+            places,
+            bytes,
+            kept,
+            res: own,
+            none,
+            ..
+        } = rooms;
+        let has = has_checkcode(&received.reading);
+        let res = res_in(res, own);
+        let bytes = challenge_response(id_of(received), &keys.k_aut, res, has, none, places, bytes);
+        let state = PeerState::Answered(keys);
+        self.answer(received, request, state, bytes, kept, note, true)
+    }
+}

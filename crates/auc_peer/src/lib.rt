@@ -1,0 +1,30 @@
+//! The peer of EAP-AKA (RFC 4187) with permanent identities: the end of a session that has the USIM.
+//!
+//! A [`Peer`] takes the packets that it receives by [`Peer::on_bytes`], at the [`Device`] of its subscriber, and gives
+//! up by [`Peer::give_up`]. Each call answers what the peer sent, or why it ended or ignored the packet.
+//!
+//! Contracts see a `Peer` and a `Device` by their fields. `specs/Rows` says which row of the table of states a packet
+//! falls into, in the order of the tests, and `specs/Table` what each row does; `docs/sessions.md` draws the machine.
+//! `on_bytes` takes all memory that it needs before it changes anything, so a call that finds none leaves peer and
+//! device as they were. Nothing waits.
+#![tactic(auto)]
+
+mod asking;
+mod challenge;
+mod device;
+mod law;
+mod messages;
+mod peer;
+mod reading;
+mod rooms;
+mod rows;
+mod turns;
+mod why;
+
+pub use device::Device;
+pub use law::{
+    each_turn_keeps_the_keys_of_its_inputs, equal_turns_are_one, success_needs_a_right_mac,
+};
+pub use peer::{Challenge, Last, Peer, PeerState};
+pub use rows::Row;
+pub use why::PeerWhy;

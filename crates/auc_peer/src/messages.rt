@@ -1,0 +1,185 @@
+//! The messages of a peer.
+
+ghost use Rattle.std.specs.Prelude.{◌≡◌, ◌≤◌, ◌+◌, [], ◌∷◌, length};
+ghost use Rattle.auc_packet.specs.Sealed.{sealed};
+ghost use Rattle.auc_packet.specs.Spelling.{packet_text, MayBeWritten};
+ghost use Rattle.auc_peer.specs.InnerRooms.{HasPlaces, HasRoom, IsShort, IsShortDraft};
+ghost use Rattle.auc_peer.specs.Messages.{client_error, draft_of, identity_response, notified, reject, response, response_bytes, sync_failure};
+
+use auc_attr::{Attr, AttrList};
+use auc_edge::{Octets, Places, Room};
+use auc_hmac::Method;
+use auc_packet::{Draft, Packet, Subtype, put_packet, put_sealed};
+
+/// The bytes of a packet.
+fn put(packet: &Packet, room: Room) -> Octets
+    requires may { MayBeWritten packet.now }
+    requires empty { room.written ≡ [] }
+    requires left { length (packet_text packet.now) ≤ room.left }
+    ensures { result ≡ packet_text packet.now }
+{
+    let mut room = room;
+    put_packet(packet, &mut room);
+    room.into_octets()
+}
+
+/// A response with these attributes.
+fn response(id: u8, subtype: Subtype, attrs: AttrList, room: Room) -> Octets
+    requires short { IsShort (response id subtype attrs) }
+    requires empty { room.written ≡ [] }
+    requires left { 44 ≤ room.left }
+    ensures bytes { result ≡ packet_text (response id subtype attrs) }
+    ensures size { length result ≤ 44 }
+{
+    let packet = Packet::Aka {
+        request: false,
+        id,
+        method: Method::Aka,
+        subtype,
+        attrs,
+    };
+    put(&packet, room)
+}
+
+/// A list of one attribute.
+fn one(attr: Attr, places: Places<Attr>) -> AttrList
+    requires { HasPlaces places }
+    ensures { result ≡ attr ∷ [] }
+{
+    let mut places = places;
+    places.put(attr);
+    AttrList::from_places(places)
+}
+
+/// A list of none.
+fn none(places: Places<Attr>) -> AttrList
+    requires { HasPlaces places }
+    ensures { result ≡ [] }
+{
+    AttrList::from_places(places)
+}
+
+/// The Identity response (RFC 3748 §5.1).
+#[tactic(auto, using(crate::proofs::MessageLemmas::identity_may, crate::proofs::MessageLemmas::identity_size))]
+pub(crate) fn identity_response(id: u8, text: Octets, room: Room) -> Octets
+    requires short { length text ≤ 272 }
+    requires empty { room.written ≡ [] }
+    requires left { 5 + length text ≤ room.left }
+    ensures bytes { result ≡ packet_text (identity_response id text) }
+    ensures size { length result ≡ 5 + length text }
+{
+    let packet = Packet::Identity {
+        request: false,
+        id,
+        text,
+    };
+    put(&packet, room)
+}
+
+/// Client-Error with code 0, "unable to process packet" (RFC 4187 §9.9 and §10.20).
+pub(crate) fn client_error(id: u8, places: Places<Attr>, room: Room) -> Octets
+    requires places { HasPlaces places }
+    requires empty { room.written ≡ [] }
+    requires left { 44 ≤ room.left }
+    ensures bytes { result ≡ packet_text (client_error id) }
+    ensures size { length result ≤ 44 }
+{
+    let attrs = one(Attr::ClientErrorCode(0), places);
+    response(id, Subtype::ClientError, attrs, room)
+}
+
+/// Authentication-Reject (RFC 4187 §9.5).
+pub(crate) fn reject(id: u8, places: Places<Attr>, room: Room) -> Octets
+    requires places { HasPlaces places }
+    requires empty { room.written ≡ [] }
+    requires left { 44 ≤ room.left }
+    ensures bytes { result ≡ packet_text (reject id) }
+    ensures size { length result ≤ 44 }
+{
+    let attrs = none(places);
+    response(id, Subtype::AuthenticationReject, attrs, room)
+}
+
+/// The Notification response (RFC 4187 §9.11).
+pub(crate) fn notified(id: u8, places: Places<Attr>, room: Room) -> Octets
+    requires places { HasPlaces places }
+    requires empty { room.written ≡ [] }
+    requires left { 44 ≤ room.left }
+    ensures bytes { result ≡ packet_text (notified id) }
+    ensures size { length result ≤ 44 }
+{
+    let attrs = none(places);
+    response(id, Subtype::Notification, attrs, room)
+}
+
+/// Synchronization-Failure (RFC 4187 §9.6).
+pub(crate) fn sync_failure(id: u8, auts: [u8; 14], places: Places<Attr>, room: Room) -> Octets
+    requires places { HasPlaces places }
+    requires empty { room.written ≡ [] }
+    requires left { 44 ≤ room.left }
+    ensures bytes { result ≡ packet_text (sync_failure id auts) }
+    ensures size { length result ≤ 44 }
+{
+    let attrs = one(Attr::Auts(auts), places);
+    response(id, Subtype::SynchronizationFailure, attrs, room)
+}
+
+/// The Challenge response (RFC 4187 §9.4): AT_RES, AT_CHECKCODE of no packet if the request had AT_CHECKCODE, and
+/// AT_MAC.
+#[tactic(auto, unfolding(crate::specs::Messages::response_bytes))]
+pub(crate) fn challenge_response(
+    id: u8,
+    k_aut: &[u8; 32],
+    res: Octets,
+    has: bool,
+    none: Octets,
+    places: Places<Attr>,
+    room: Room,
+) -> Octets
+    requires res { length res ≡ 8 }
+    requires none { none ≡ [] }
+    requires places { HasPlaces places }
+    requires empty { room.written ≡ [] }
+    requires left { 44 ≤ room.left }
+    ensures bytes { result ≡ response_bytes id k_aut.now res has }
+    ensures size { length result ≤ 44 }
+{
+    let mut places = places;
+    places.put(Attr::Res(res));
+    if has {
+        places.put(Attr::Checkcode(none));
+        return sealed_response(id, k_aut, AttrList::from_places(places), room);
+    }
+    sealed_response(id, k_aut, AttrList::from_places(places), room)
+}
+
+/// A Challenge response with these attributes and AT_MAC.
+fn sealed_response(id: u8, k_aut: &[u8; 32], attrs: AttrList, room: Room) -> Octets
+    requires short { IsShortDraft (draft_of id attrs) }
+    requires empty { room.written ≡ [] }
+    requires left { 44 ≤ room.left }
+    ensures bytes { result ≡ sealed k_aut.now [] (draft_of id attrs) }
+    ensures size { length result ≤ 44 }
+{
+    let draft = Draft {
+        method: Method::Aka,
+        request: false,
+        id,
+        subtype: Subtype::Challenge,
+        attrs,
+    };
+    let mut room = room;
+    put_sealed(&draft, k_aut, &[], &mut room);
+    room.into_octets()
+}
+
+/// RES, in memory that was taken before.
+pub(crate) fn res_in(res: [u8; 8], room: Room) -> Octets
+    requires { HasRoom room 8 }
+    ensures bytes { result ≡ res }
+    ensures size { length result ≡ 8 }
+{
+    let mut room = room;
+    room.put(&res);
+    room.into_octets()
+}

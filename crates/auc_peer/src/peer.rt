@@ -1,0 +1,117 @@
+//! The peer of a session.
+
+ghost use Rattle.std.specs.Prelude.{◌≡◌, ◌≤◌, length, IfOk, OnErr};
+ghost use Rattle.auc_peer.specs.Subscription.{subscription_of};
+ghost use Rattle.auc_peer.specs.Table.{gave_up, new_peer};
+ghost use Rattle.auc_peer.specs.Turn.{Steps};
+
+use crate::device::Device;
+use crate::reading::ciphertext_in;
+use crate::rooms::{Copies, Rooms, room_for};
+use crate::why::PeerWhy;
+use auc_edge::{NoMemory, Octets, Room};
+use auc_hmac::KeySet;
+use auc_packet::receive;
+use auc_vector::{Outcome, Reason, Step, Turn};
+use std::alloc::Global;
+
+/// What an AKA-Challenge hands the USIM (RFC 4187 §9.3).
+#[derive(Clone, Copy, Debug, PartialEq, Eq)]
+pub struct Challenge {
+    /// RAND.
+    pub rand: [u8; 16],
+    /// AUTN.
+    pub autn: [u8; 16],
+}
+
+/// Where a peer stands in its session.
+#[derive(Clone, Copy, Debug, PartialEq, Eq)]
+pub enum PeerState {
+    /// It waits for a request.
+    Waiting,
+    /// It has answered a Challenge whose AT_MAC was right, and has these keys.
+    Answered(KeySet),
+    /// It has refused for this cause, and waits for EAP-Failure.
+    Refusing(PeerWhy),
+    /// The session has ended.
+    Ended,
+}
+
+/// The request that a peer answered last.
+#[derive(Drop)]
+pub struct Last {
+    /// The Identifier of the request.
+    pub id: u8,
+    /// All its bytes.
+    pub request: Octets,
+    /// The answer.
+    pub answer: Octets,
+}
+
+/// The peer of a session.
+#[derive(Drop)]
+pub struct Peer {
+    /// Where it stands.
+    pub state: PeerState,
+    /// The request that it answered last, or `None` if it has answered none.
+    pub last: Option<Last>,
+    /// The identity that it sent last, from which keys are derived (RFC 4187 §7), or `None` if it has sent none.
+    pub identity: Option<Octets>,
+    /// The last challenge that the USIM accepted and whose AT_MAC was right.
+    pub accepted: Option<Challenge>,
+}
+
+impl Peer {
+    /// A peer that has received nothing.
+    pub fn new() -> Peer
+        ensures { result ≡ new_peer }
+    {
+        Peer {
+            state: PeerState::Waiting,
+            last: None,
+            identity: None,
+            accepted: None,
+        }
+    }
+
+    /// Takes a packet at the subscriber's device: answers it, ends or ignores it, by the table of `specs/Rows` and
+    /// `specs/Table`. The USIM is asked at most once, and only after all memory is taken: if memory runs out, peer and
+    /// device stay as they were.
+    pub fn on_bytes(
+        &mut self,
+        alloc: Global,
+        device: &mut Device,
+        bytes: &[u8],
+    ) -> Result<Turn<PeerWhy>, NoMemory>
+        requires { length device.old.realm ≤ 255 }
+
+        ensures step { IfOk result (λ turn. Steps (subscription_of device.old) self.old bytes.now
+            device.old.usim.array self.new turn device.new.usim.array) }
+        ensures subscription { subscription_of device.new ≡ subscription_of device.old }
+        ensures peer { OnErr result (self.new ≡ self.old) }
+        ensures device { OnErr result (device.new ≡ device.old) }
+    {
+        let received = receive(alloc, bytes)?;
+        let row = self.row(&received);
+        let identity = device.identity(alloc)?;
+        let rooms = Rooms::new(alloc, room_for(row, identity.len()))?;
+        let copies = Copies {
+            request: Octets::copied_from(alloc, bytes)?,
+            identity,
+            again: self.last_answer(alloc)?,
+            inner: Room::new(alloc, ciphertext_in(&received.reading))?,
+        };
+        Ok(self.on_row(row, device, &received, copies, rooms))
+    }
+
+    /// Ends the session in failure, unless it has ended. It sends nothing.
+    pub fn give_up(&mut self, alloc: Global) -> Step<PeerWhy>
+        ensures { (self.new, result) ≡ gave_up self.old self.old.state }
+    {
+        if let PeerState::Ended = self.state {
+            return Step::Ignored(Reason::Closed);
+        }
+        self.state = PeerState::Ended;
+        Step::Ended(Outcome::Failure(PeerWhy::GivenUp), Octets::new(alloc))
+    }
+}

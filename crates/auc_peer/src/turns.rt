@@ -1,0 +1,274 @@
+//! What each row does without the USIM.
+
+ghost use Rattle.std.specs.Prelude.{◌≡◌, ◌≤◌, ◌+◌, ℕ, [], length};
+ghost use Rattle.auc_packet.specs.Received.{IsReceived, seen_of};
+ghost use Rattle.auc_seal.specs.Encrypted.{ciphertext_of};
+ghost use Rattle.auc_sqn.specs.Past.{Past, Remembers};
+ghost use Rattle.auc_peer.specs.Attributes.{attrs_in};
+ghost use Rattle.auc_peer.specs.InnerRooms.{room_for};
+ghost use Rattle.auc_peer.specs.Rows.{peer_row};
+ghost use Rattle.auc_peer.specs.Subscription.{identity_text, subscription_of};
+ghost use Rattle.auc_peer.specs.Table.{again, answer_or_none, answered, client, ended, first, ignored, noted, notify, peer_step, rejected, succeeded};
+ghost use Rattle.auc_peer.specs.Turn.{Asked, Decrypts, asked, decryption_noted, was_readable};
+
+use crate::device::Device;
+use crate::messages::{client_error, identity_response, notified, reject};
+use crate::peer::{Last, Peer, PeerState};
+use crate::reading::id_of;
+use crate::rooms::{Copies, Rooms};
+use crate::rows::Row;
+use crate::why::PeerWhy;
+use auc_edge::{Octets, Room};
+use auc_packet::Received;
+use auc_vector::{Notes, Outcome, Reason, Step, Turn, UsimNote};
+
+/// The notes of a turn in which the USIM answered so, or wasn't asked.
+fn noted(usim: Option<UsimNote>) -> Notes
+    ensures { result ≡ noted usim }
+{
+    Notes {
+        resync: None,
+        number: None,
+        resumed: None,
+        usim,
+        counter: None,
+    }
+}
+
+impl Peer {
+    /// Does what the row of a received packet says.
+    pub(crate) fn on_row(
+        &mut self,
+        row: Row,
+        device: &mut Device,
+        received: &Received,
+        copies: Copies,
+        rooms: Rooms,
+    ) -> Turn<PeerWhy>
+        requires is { IsReceived (seen_of received.now) }
+        requires row { row ≡ peer_row self.old (seen_of received.now) }
+        requires size { length copies.identity ≤ 272 }
+        requires rooms { room_for row (length copies.identity) ≤ rooms }
+        requires request { copies.request ≡ (seen_of received.now).bytes }
+        requires identity { copies.identity ≡ identity_text (subscription_of device.old) }
+        requires again { copies.again ≡ answer_or_none self.old.last }
+        requires empty { copies.inner.written ≡ [] }
+        requires room { length (ciphertext_of (attrs_in received.now.reading)) ≤ copies.inner.left }
+
+        ensures step { (past : Past) → Remembers device.old.usim.array past
+            → (self.new, result) ≡ peer_step (subscription_of device.old) self.old (seen_of received.now)
+            result.notes.usim (was_readable self.new.state) }
+        ensures usim { Asked (subscription_of device.old) (asked row) result.notes.usim
+            device.old.usim.array device.new.usim.array }
+        ensures decrypts { (past : Past) → Remembers device.old.usim.array past
+            → Decrypts (decryption_noted (subscription_of device.old) self.old (seen_of received.now) (asked row)
+            result.notes.usim) (was_readable self.new.state) }
+        ensures subscription { subscription_of device.new ≡ subscription_of device.old }
+    {
+        let Copies {
+            request,
+            identity,
+            again,
+            inner,
+        } = copies;
+        match row {
+            Row::Ignore(why) => self.ignore(why),
+            Row::Again => self.again(again),
+            Row::First => self.first(received, request, identity, rooms),
+            Row::Client(why) => self.client(received, request, why, None, false, rooms),
+            Row::Notified(code) => self.notify(received, request, code, rooms),
+            Row::Challenged(challenge) => {
+                self.on_challenge(device, received, request, inner, challenge, rooms)
+            }
+            Row::Success => self.succeed(rooms.none),
+            Row::Failure(why) => self.end(Outcome::Failure(why), rooms.none),
+        }
+    }
+
+    /// Ignores what was received.
+    fn ignore(&self, why: Reason) -> Turn<PeerWhy>
+        ensures { (self.now, result) ≡ ignored self.now why }
+    {
+        Turn {
+            notes: noted(None),
+            step: Step::Ignored(why),
+            checked: false,
+        }
+    }
+
+    /// Ends the session.
+    fn end(&mut self, outcome: Outcome<PeerWhy>, none: Octets) -> Turn<PeerWhy>
+        requires { none ≡ [] }
+        ensures { (self.new, result) ≡ ended self.old outcome }
+    {
+        self.state = PeerState::Ended;
+        Turn {
+            notes: noted(None),
+            step: Step::Ended(outcome, none),
+            checked: false,
+        }
+    }
+
+    /// Ends the session in Success.
+    fn succeed(&mut self, none: Octets) -> Turn<PeerWhy>
+        requires { none ≡ [] }
+        ensures { (self.new, result) ≡ succeeded self.old self.old.state }
+    {
+        match self.state {
+            PeerState::Answered(keys) => self.end(Outcome::Success(keys), none),
+            _ => self.ignore(Reason::Unexpected),
+        }
+    }
+
+    /// Answers a request, and keeps request and answer.
+    pub(crate) fn answer(
+        &mut self,
+        received: &Received,
+        request: Octets,
+        state: PeerState,
+        bytes: Octets,
+        kept: Room,
+        usim: Option<UsimNote>,
+        checked: bool,
+    ) -> Turn<PeerWhy>
+        requires request { request ≡ (seen_of received.now).bytes }
+        requires empty { kept.written ≡ [] }
+        requires left { length bytes ≤ kept.left }
+        ensures { (self.new, result) ≡ answered self.old (seen_of received.now) state bytes usim checked }
+    {
+        let mut kept = kept;
+        kept.put(bytes.as_slice());
+        self.state = state;
+        self.last = Some(Last {
+            id: id_of(received),
+            request,
+            answer: kept.into_octets(),
+        });
+        Turn {
+            notes: noted(usim),
+            step: Step::Sent(bytes),
+            checked,
+        }
+    }
+
+    /// Refuses by Client-Error.
+    pub(crate) fn client(
+        &mut self,
+        received: &Received,
+        request: Octets,
+        why: PeerWhy,
+        usim: Option<UsimNote>,
+        checked: bool,
+        rooms: Rooms,
+    ) -> Turn<PeerWhy>
+        requires request { request ≡ (seen_of received.now).bytes }
+        requires rooms { 44 ≤ rooms }
+        ensures { (self.new, result) ≡ client self.old (seen_of received.now) why usim checked }
+    {
+        let Rooms {
+            places,
+            bytes,
+            kept,
+            ..
+        } = rooms;
+        let bytes = client_error(id_of(received), places, bytes);
+        let state = PeerState::Refusing(why);
+        self.answer(received, request, state, bytes, kept, usim, checked)
+    }
+
+    /// Refuses by Authentication-Reject.
+    pub(crate) fn reject(
+        &mut self,
+        received: &Received,
+        request: Octets,
+        why: PeerWhy,
+        usim: Option<UsimNote>,
+        rooms: Rooms,
+    ) -> Turn<PeerWhy>
+        requires request { request ≡ (seen_of received.now).bytes }
+        requires rooms { 44 ≤ rooms }
+        ensures { (self.new, result) ≡ rejected self.old (seen_of received.now) why usim }
+    {
+        let Rooms {
+            places,
+            bytes,
+            kept,
+            ..
+        } = rooms;
+        let bytes = reject(id_of(received), places, bytes);
+        let state = PeerState::Refusing(why);
+        self.answer(received, request, state, bytes, kept, usim, false)
+    }
+
+    /// Answers a notification of failure.
+    fn notify(
+        &mut self,
+        received: &Received,
+        request: Octets,
+        code: u16,
+        rooms: Rooms,
+    ) -> Turn<PeerWhy>
+        requires request { request ≡ (seen_of received.now).bytes }
+        requires rooms { 44 ≤ rooms }
+        ensures { (self.new, result) ≡ notify self.old (seen_of received.now) code }
+    {
+        let Rooms {
+            places,
+            bytes,
+            kept,
+            ..
+        } = rooms;
+        let bytes = notified(id_of(received), places, bytes);
+        let state = PeerState::Refusing(PeerWhy::Notified(code));
+        self.answer(received, request, state, bytes, kept, None, false)
+    }
+
+    /// Sends the last answer again.
+    fn again(&self, bytes: Octets) -> Turn<PeerWhy>
+        requires { bytes ≡ answer_or_none self.now.last }
+        ensures { (self.now, result) ≡ again self.now self.now.last }
+    {
+        match &self.last {
+            None => self.ignore(Reason::Unexpected),
+            Some(_) => Turn {
+                notes: noted(None),
+                step: Step::Sent(bytes),
+                checked: false,
+            },
+        }
+    }
+
+    /// Sends the first identity.
+    fn first(
+        &mut self,
+        received: &Received,
+        request: Octets,
+        text: Octets,
+        rooms: Rooms,
+    ) -> Turn<PeerWhy>
+        requires request { request ≡ (seen_of received.now).bytes }
+        requires size { length text ≤ 272 }
+        requires rooms { 5 + length text ≤ rooms }
+        ensures { (self.new, result) ≡ first self.old (seen_of received.now) text }
+    {
+        let Rooms {
+            plain,
+            bytes,
+            kept,
+            ..
+        } = rooms;
+        let mut own = plain;
+        own.put(text.as_slice());
+        self.identity = Some(own.into_octets());
+        let bytes = identity_response(id_of(received), text, bytes);
+        self.answer(
+            received,
+            request,
+            PeerState::Waiting,
+            bytes,
+            kept,
+            None,
+            false,
+        )
+    }
+}

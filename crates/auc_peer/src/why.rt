@@ -1,0 +1,24 @@
+//! Why a peer fails.
+
+/// Why a session failed at its peer.
+#[derive(Clone, Copy, Debug, PartialEq, Eq)]
+pub enum PeerWhy {
+    /// The request was no message that a server may send, or had an attribute that it may not have (RFC 4187 §6.3.1).
+    Malformed,
+    /// The request had no AT_RAND, AT_AUTN, AT_MAC or AT_NOTIFICATION where it must have one (RFC 4187 §6.3.1).
+    Missing,
+    /// The USIM found the MAC of AUTN wrong (RFC 4187 §6.3.1 and §9.5).
+    WrongAutn,
+    /// The value of AT_MAC was wrong (RFC 4187 §6.3.1).
+    WrongMac,
+    /// AT_CHECKCODE wasn't that of the peer's own AKA-Identity packets (RFC 4187 §10.13).
+    WrongCheckcode,
+    /// AT_ENCR_DATA couldn't be decrypted to attributes (RFC 4187 §10.12).
+    Undecryptable,
+    /// The server notified a failure by this code (RFC 4187 §6.1).
+    Notified(u16),
+    /// The server sent EAP-Failure (RFC 4187 §6.3.3).
+    FailureReceived,
+    /// The peer gave up.
+    GivenUp,
+}
