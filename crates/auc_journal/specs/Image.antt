@@ -1,0 +1,83 @@
+-- What a journal's bytes say: a header, frames of one limit each behind an open gate, and a gate that ends the reading.
+use Rattle.std.specs.Prelude.{ℕ, zero, suc, ◌+◌, ◌^◌, max, ◌==◌, ◌&&◌, nat_le, nat_lt, Bool, if◌then◌else◌, List, [], ◌∷◌, ◌++◌, length, take, drop, slice_index, Result, Ok, Err}
+use Rattle.std.specs.Int.{to_be_bytes, from_be_bytes, w64}
+use Rattle.std.specs.Str.{bytes_eq}
+use Rattle.auc_edge.specs.Identity.{Identity}
+use Rattle.auc_sqn.specs.Number.{max_seq}
+
+-- how many bytes a journal has at most
+abbrev pub most : ℕ
+most = 2 ^ 30
+
+-- the text AUC-SQN-JOURNAL1
+abbrev pub header : List ℕ
+header = 65 ∷ 85 ∷ 67 ∷ 45 ∷ 83 ∷ 81 ∷ 78 ∷ 45 ∷ 74 ∷ 79 ∷ 85 ∷ 82 ∷ 78 ∷ 65 ∷ 76 ∷ 49 ∷ []
+
+-- a frame's content: an identity, and the limit up to which its numbers are reserved
+pub record Frame : Type 0 where
+  pub imsi : Identity
+  pub limit : ℕ
+
+-- the body of a frame: the kind 1, the number of digits, the identity's number in 8 bytes, the limit in 8 bytes
+abbrev pub body_of : Frame → List ℕ
+body_of frame = 1 ∷ frame.imsi.digits ∷ to_be_bytes w64 frame.imsi.number ++ to_be_bytes w64 frame.limit
+
+-- the content that the 18 bytes of a body are
+abbrev pub frame_in : List ℕ → Frame
+frame_in body = record { imsi = record { digits = slice_index body 1; number = from_be_bytes w64 (take 8 (drop 2 body)) }; limit = from_be_bytes w64 (drop 10 body) }
+
+-- whether an identity has so many digits, from 6 to 15, and this number, which has no more digits than that
+abbrev pub is_imsi : ℕ → ℕ → Bool
+is_imsi digits number = nat_le 6 digits && nat_le digits 15 && nat_lt number (10 ^ digits)
+
+-- whether a content is a frame's: an identity, and a limit from 1 to the greatest number
+abbrev pub is_frame : Frame → Bool
+is_frame frame = is_imsi frame.imsi.digits frame.imsi.number && nat_le 1 frame.limit && nat_le frame.limit max_seq
+
+-- whether bytes are a body: 18 bytes of kind 1 whose content is a frame's
+abbrev pub is_body : List ℕ → Bool
+is_body body = (length body == 18) && (slice_index body 0 == 1) && is_frame (frame_in body)
+
+-- the frames in their order, and the place at which their reading ended
+pub record Reading : Type 0 where
+  pub frames : List Frame
+  pub end : ℕ
+
+-- a frame that stands before what is read behind it
+abbrev pub before : Frame → Result Reading ℕ → Result Reading ℕ
+before frame (Ok reading) = Ok (record { frames = frame ∷ reading.frames; end = reading.end })
+before frame (Err place) = Err place
+
+-- the frames from a place on, after so many bytes that belong to the frame before; if an open gate has no body behind it, its place
+abbrev pub read_frames : ℕ → ℕ → List ℕ → Result Reading ℕ
+read_frames inside at [] = Ok (record { frames = []; end = at })
+read_frames (suc inside) at (byte ∷ rest) = read_frames inside at rest
+read_frames zero at (gate ∷ rest) =
+    if gate == 1
+    then (if is_body (take 18 rest) then before (frame_in (take 18 rest)) (read_frames 18 (at + 19) rest) else Err at)
+    else Ok (record { frames = []; end = at })
+
+-- a file of the greatest length whose reading ended at its end has no room for a gate
+abbrev pub with_gate : ℕ → Result Reading ℕ → Result Reading ℕ
+with_gate len (Err place) = Err place
+with_gate len (Ok reading) = if (len == most) && (reading.end == most) then Err most else Ok reading
+
+-- what a journal's bytes are read as, or the place at which they are no journal; no bytes are a journal without frames
+abbrev pub read_image : List ℕ → Result Reading ℕ
+read_image [] = Ok (record { frames = []; end = 16 })
+read_image (byte ∷ bytes) =
+    let file = byte ∷ bytes in
+    if bytes_eq (take 16 file) header
+    then (if nat_lt most (length file) then Err most
+    else if nat_le (length file) 17 then Ok (record { frames = []; end = 16 })
+    else with_gate (length file) (read_frames 0 16 (drop 16 file)))
+    else Err 0
+
+-- whether two identities are one
+abbrev pub same_identity : Identity → Identity → Bool
+same_identity a b = (a.digits == b.digits) && (a.number == b.number)
+
+-- the greatest limit of an identity among some frames, or 0 if it has none
+abbrev pub reserved_in : List Frame → Identity → ℕ
+reserved_in [] imsi = 0
+reserved_in (frame ∷ frames) imsi = if same_identity frame.imsi imsi then max frame.limit (reserved_in frames imsi) else reserved_in frames imsi

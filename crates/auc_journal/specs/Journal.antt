@@ -1,0 +1,28 @@
+-- Journals that are open.
+use Rattle.std.specs.Prelude.{ℕ, Bool, List, slice_index_or}
+use Rattle.auc_edge.specs.Identity.{Identity}
+use Rattle.auc_journal.specs.Image.{Frame, reserved_in}
+
+-- what contracts see of a journal
+pub record JournalState (D : Type 0) : Type 0 where
+  pub disk : D
+  -- the place of the closed gate
+  pub place : ℕ
+  -- the identities of the subscribers, in their order
+  pub imsis : List Identity
+  -- each identity of the file once, with its limit
+  pub limits : List Frame
+  -- whether an append answered StoreFault
+  pub failed : Bool
+
+-- the identity of a subscriber
+abbrev pub imsi_at : List Identity → ℕ → Identity
+imsi_at imsis sub = slice_index_or imsis sub (record { digits = 0; number = 0 })
+
+-- the limit of a subscriber, or 0 if it has none
+abbrev pub reserved_at : {D : Type 0} → JournalState D → ℕ → ℕ
+reserved_at journal sub = reserved_in journal.limits (imsi_at journal.imsis sub)
+
+-- the frame that an append for a subscriber adds
+abbrev pub frame_for : {D : Type 0} → JournalState D → ℕ → ℕ → Frame
+frame_for journal sub limit = record { imsi = imsi_at journal.imsis sub; limit = limit }

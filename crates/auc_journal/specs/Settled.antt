@@ -1,0 +1,26 @@
+-- Journals on a disk: what is read of one at rest, and what a crash may leave of it.
+use Rattle.std.specs.Prelude.{◌≡◌, ◌⊎◌, ℕ, ◌+◌, List, [], ◌∷◌, ◌++◌, ◌≤◌, length, take, drop, Option, Some, Ok}
+use Rattle.auc_disk.specs.Disk.{Only}
+use Rattle.auc_journal.specs.Image.{Frame, read_image}
+
+-- a file is read as these frames, and their reading ends at a closed gate
+pub record AtRest (file : List ℕ) (frames : List Frame) (place : ℕ) : Type 0 where
+  pub read : read_image file ≡ Ok (record { frames = frames; end = place })
+  pub gate : take 1 (drop place file) ≡ 0 ∷ []
+
+-- if the disk reveals its bytes, they are at rest with these frames, and a crash leaves just these bytes
+pub record IsSettled {D : Type 0} (seen : D → Option (List ℕ)) (may_leave : D → List ℕ → Type 0) (disk : D) (frames : List Frame) (place : ℕ) : Type 0 where
+  pub at_rest : (file : List ℕ) → seen disk ≡ Some file → AtRest file frames place
+  pub durable : (file : List ℕ) → seen disk ≡ Some file → Only file (may_leave disk)
+
+-- each image that a crash may have left from the moment of an old disk up to the new one has P
+pub record LeavesOnly {D : Type 0} (moment : D → ℕ) (left_since : D → ℕ → List ℕ → Type 0) (old new : D) (P : List ℕ → Type 0) : Type 0 where
+  pub later : moment old ≤ moment new
+  pub each : (image : List ℕ) → left_since new (moment old) image → P image
+  -- for a stretch of calls that began earlier
+  pub before : (t : ℕ) (image : List ℕ) → t ≤ moment old → left_since new t image → left_since old t image ⊎ P image
+
+-- an image is read as the frames, or as these with one more behind them
+abbrev pub IsBeforeOrAfter : List Frame → ℕ → Frame → List ℕ → Type 0
+IsBeforeOrAfter frames place frame image =
+    (read_image image ≡ Ok (record { frames = frames; end = place })) ⊎ (read_image image ≡ Ok (record { frames = frames ++ frame ∷ []; end = place + 19 }))

@@ -1,0 +1,210 @@
+//! Journals.
+
+ghost use Rattle.std.specs.Prelude.{◌≡◌, ◌≢◌, ◌≤◌, ◌<◌, ◌+◌, ◌^◌, ◌++◌, [], ◌∷◌, ◌↔◌, ℕ, List, Some, Err, false, true, length, ◌==◌, if◌then◌else◌, IfOk, IfErr, OnOk, OnErr, IsErrOf};
+ghost use Rattle.auc_edge.specs.Faults.{Rose};
+ghost use Rattle.auc_sqn.specs.Number.{max_seq};
+ghost use Rattle.auc_journal.specs.Image.{Frame, read_image, reserved_in};
+ghost use Rattle.auc_journal.specs.Journal.{frame_for, reserved_at};
+ghost use Rattle.auc_journal.specs.InnerLookup.{raised_by};
+ghost use Rattle.auc_journal.specs.Limits.{AreLimits, AreSingle};
+ghost use Rattle.auc_journal.specs.Opening.{LeavesOpening, Opens};
+ghost use Rattle.auc_journal.specs.Settled.{IsBeforeOrAfter, IsSettled, LeavesOnly};
+ghost use Rattle.auc_journal.specs.declared.open_why.OpenWhy.TheVariants as why;
+
+use crate::append_refusal::AppendRefusal;
+use crate::limit_list::LimitList;
+use crate::log::Log;
+use crate::open_refused::OpenRefused;
+use crate::open_why::OpenWhy;
+use crate::opening::open_file;
+use auc_disk::Disk;
+use auc_edge::Imsi;
+use std::alloc::Global;
+use std::marker::Model;
+
+/// A journal on a disk, for subscribers that have the places 0, 1 and so on. After an append that answered
+/// `StoreFault` it takes no further one.
+#[derive(Drop)]
+pub struct Journal<D: Disk + Drop> {
+    log: Log<D>,
+    imsis: Vec<Imsi>,
+    limits: LimitList,
+    failed: bool,
+}
+
+impl<D: Disk + Drop> Model for Journal<D> {
+    ghost use Rattle.std.specs.Prelude.{◌≤◌, ◌^◌};
+    ghost use Rattle.auc_journal.specs.InnerLookup.{missing};
+    ghost use Rattle.auc_journal.specs.Journal.{JournalState};
+
+    ghost Value = { JournalState D };
+
+    ghost view = { λ j. record { disk = j.log.disk; place = j.log.place; imsis = j.imsis.items; limits = j.limits.written; failed = j.failed } };
+
+    ghost invariant = { λ j. (j.log.place ≤ 2 ^ 30) × (missing j.imsis.items j.limits.written ≤ j.limits.left) };
+}
+
+impl<D: Disk + Drop> Journal<D> {
+    /// Opens the journal on a disk, for these subscribers. An empty file gets a header and a closed gate;
+    /// otherwise an unclear gate at the end of the frames is closed. A refusal hands the disk back.
+    pub fn open(alloc: Global, disk: D, imsis: &[Imsi]) -> Result<Journal<D>, OpenRefused<D>>
+        ensures opened { IfOk result (λ journal. Opens D.seen D.may_leave disk journal.disk journal.limits journal.place) }
+        ensures subscribers { IfOk result (λ journal. journal.imsis ≡ imsis.now) }
+        ensures ready { IfOk result (λ journal. journal.failed ≡ false) }
+        ensures quiet { IfOk result (λ journal. D.faults journal.disk ≡ D.faults disk) }
+
+        // If the file is no journal, it says where. It answers StoreFault only if the count of faults rose.
+        ensures not_journal { IfErr result (λ refused. (place : ℕ) → refused.why ≡ why.NotJournal place
+            → (file : List ℕ) → D.seen disk ≡ Some file → read_image file ≡ Err place) }
+        ensures fault { IfErr result (λ refused. refused.why ≡ why.StoreFault → Rose (D.faults disk) (D.faults refused.disk)) }
+        ensures stands { IfErr result (λ refused. refused.why ≢ why.StoreFault → D.faults refused.disk ≡ D.faults disk) }
+
+        // A crash at any moment leaves the file, or what the closing of its gate or a first opening may leave.
+        ensures any_moment { IfOk result (λ journal. LeavesOpening D.seen D.may_leave D.moment D.left_since disk journal.disk) }
+        ensures refused_moment { IfErr result (λ refused. LeavesOpening D.seen D.may_leave D.moment D.left_since disk refused.disk) }
+    {
+        let mut disk = disk;
+        match prepare(alloc, &mut disk, imsis) {
+            Ok(opened) => Ok(Journal::of(disk, opened)),
+            Err(why) => Err(OpenRefused { disk, why }),
+        }
+    }
+
+    /// The limit of the subscriber at a place, or 0 if it has none.
+    pub fn reserved(&self, sub: u32) -> u64
+        requires { sub < length self.now.imsis }
+        ensures { result ≡ reserved_at self.now sub }
+    {
+        self.limits.limit_of(self.imsis[sub as usize])
+    }
+
+    /// Each identity of the file with its limit, in the order of their first frames.
+    pub fn listed(&self) -> &LimitList
+        ensures { result.now.written ≡ self.now.limits }
+    {
+        &self.limits
+    }
+
+    /// The disk, as the last call left it.
+    pub fn into_disk(self) -> D
+        ensures { result ≡ self.disk }
+    {
+        let Journal { log, .. } = self;
+        let Log { disk, .. } = log;
+        disk
+    }
+
+    /// Appends a limit for the subscriber at a place, which is to be greater than the limit that it has.
+    /// After `Ok` the new limit is durable. It takes no memory, and makes at most four calls of the disk.
+    pub fn append(&mut self, sub: u32, limit: u64) -> Result<(), AppendRefusal>
+        requires sub { sub < length self.old.imsis }
+        requires limit { (reserved_at self.old sub < limit) × (limit ≤ max_seq) }
+        requires ready { self.old.failed ≡ false }
+
+        ensures limits { OnOk result (AreLimits self.new.limits (self.old.limits ++ frame_for self.old sub limit ∷ [])) }
+        ensures place { OnOk result (self.new.place ≡ self.old.place + 19) }
+        ensures subscribers { self.new.imsis ≡ self.old.imsis }
+        ensures kept { OnErr result ((self.new.limits ≡ self.old.limits) × (self.new.place ≡ self.old.place)) }
+        ensures failed { (self.new.failed ≡ true) ↔ (result ≡ Err AppendRefusal.StoreFault) }
+
+        // After Ok every crash leaves the frames with the new one.
+        ensures durable { OnOk result ((frames : List Frame) → IsSettled D.seen D.may_leave self.old.disk frames self.old.place
+            → IsSettled D.seen D.may_leave self.new.disk (frames ++ frame_for self.old sub limit ∷ []) self.new.place) }
+
+        // A crash at any moment, also of a call that fails, leaves the frames as they were or with the new one.
+        ensures any_moment { (frames : List Frame) → IsSettled D.seen D.may_leave self.old.disk frames self.old.place
+            → (file : List ℕ) → D.seen self.old.disk ≡ Some file
+            → LeavesOnly D.moment D.left_since self.old.disk self.new.disk
+            (IsBeforeOrAfter frames self.old.place (frame_for self.old sub limit)) }
+
+        // It fails only if the count rose, and is full exactly if the file would have more than 2^30 bytes.
+        ensures fault { IsErrOf result AppendRefusal.StoreFault → Rose (D.faults self.old.disk) (D.faults self.new.disk) }
+        ensures quiet { result ≢ Err AppendRefusal.StoreFault → D.faults self.new.disk ≡ D.faults self.old.disk }
+        ensures full { (len : ℕ) → result ≡ Err (AppendRefusal.StoreFull len)
+            → (len ≡ self.old.place + 1) × (2 ^ 30 < len + 19) × (self.new ≡ self.old) }
+        ensures is_full { 2 ^ 30 < self.old.place + 1 + 19 → result ≡ Err (AppendRefusal.StoreFull (self.old.place + 1)) }
+    {
+        let imsi = self.imsis[sub as usize];
+        match self.log.append(imsi, limit) {
+            Ok(()) => {
+                raise(&mut self.limits, imsi, limit);
+                Ok(())
+            }
+            Err(AppendRefusal::StoreFault) => {
+                self.failed = true;
+                Err(AppendRefusal::StoreFault)
+            }
+            Err(AppendRefusal::StoreFull(len)) => Err(AppendRefusal::StoreFull(len)),
+        }
+    }
+
+    // The journal of an opened disk.
+    fn of(disk: D, opened: Opened) -> Journal<D>
+        requires place { opened.place ≤ 2 ^ 30 }
+        requires room { length opened.imsis.items ≤ opened.limits.left }
+        ensures { result ≡ record {
+          disk = disk;
+          place = opened.place;
+          imsis = opened.imsis.items;
+          limits = opened.limits.written;
+          failed = false;
+        } }
+    {
+        let Opened {
+            place,
+            imsis,
+            limits,
+        } = opened;
+        Journal {
+            log: Log { disk, place },
+            imsis,
+            limits,
+            failed: false,
+        }
+    }
+}
+
+// What an opening made besides its disk.
+#[derive(Drop)]
+struct Opened {
+    place: u64,
+    imsis: Vec<Imsi>,
+    limits: LimitList,
+}
+
+// Opens the file of a disk, and makes room for the limits of the subscribers.
+fn prepare<D: Disk>(alloc: Global, disk: &mut D, imsis: &[Imsi]) -> Result<Opened, OpenWhy>
+    ensures opened { IfOk result (λ opened. Opens D.seen D.may_leave disk.old disk.new opened.limits.written opened.place) }
+    ensures subscribers { IfOk result (λ opened. opened.imsis.items ≡ imsis.now) }
+    ensures place { IfOk result (λ opened. opened.place ≤ 2 ^ 30) }
+    ensures room { IfOk result (λ opened. length opened.imsis.items ≤ opened.limits.left) }
+    ensures wrong { (place : ℕ) → result ≡ Err (OpenWhy.NotJournal place)
+        → (file : List ℕ) → D.seen disk.old ≡ Some file → read_image file ≡ Err place }
+    ensures any_moment { LeavesOpening D.seen D.may_leave D.moment D.left_since disk.old disk.new }
+    ensures fault { result ≡ Err OpenWhy.StoreFault → Rose (D.faults disk.old) (D.faults disk.new) }
+    ensures stands { result ≢ Err OpenWhy.StoreFault → D.faults disk.new ≡ D.faults disk.old }
+{
+    let own = imsis.to_vec(alloc)?;
+    let mut limits = LimitList::new(alloc);
+    let place = open_file(alloc, disk, &mut limits)?;
+    limits.reserve(own.len())?;
+    Ok(Opened {
+        place,
+        imsis: own,
+        limits,
+    })
+}
+
+// Raises the limit of an identity, for which there is room.
+fn raise(limits: &mut LimitList, imsi: Imsi, limit: u64)
+    requires least { 1 ≤ limit }
+    requires room { reserved_in limits.old.written imsi ≡ 0 → 1 ≤ limits.old.left }
+    ensures raised { limits.new.written ≡ raised_by limits.old.written (record { imsi = imsi; limit = limit }) }
+    ensures single { AreSingle limits.old.written }
+    ensures room { limits.old.left ≤ limits.new.left + (if reserved_in limits.old.written imsi == 0 then 1 else 0) }
+{
+    match limits.raise(imsi, limit) {
+        Ok(()) => {}
+        Err(_) => unreachable!(),
+    }
+}
