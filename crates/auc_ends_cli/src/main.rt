@@ -1,0 +1,30 @@
+//! Reads what happens to an end of a session of EAP-AKA (RFC 4187), a line each, and prints what the end does.
+//!
+//! | Line | What happens |
+//! |---|---|
+//! | `# TEXT` | nothing; the line is printed |
+//! | `server WORD held`, `server WORD none` | a server begins. The subscriber's last number is WORD, and it is held or not |
+//! | `peer WORD` | a peer begins, whose USIM counts the numbers up to WORD as accepted |
+//! | `bytes HEX` | the end receives these bytes |
+//! | `repeat`, `giveup` | the server repeats its last request; the end gives up |
+//!
+//! The answers have the words of the program's transcripts: notes, then the step with the bytes that are sent. `stdin` and
+//! `stdout` are what `tools/eap_rows.py` makes by an implementation of its own: each kind of message in each state of both
+//! ends.
+#![tactic(auto)]
+
+mod end;
+mod peer_end;
+mod server_end;
+mod text;
+
+use std::io;
+
+fn main(rt: HostRuntime) -> io::Result<()> {
+    let mut end = end::End::Neither;
+    for line in rt.lines(rt.alloc()) {
+        let text = end.answer(&rt, rt.alloc(), line?.as_str())?;
+        println!(rt; "{text}")?;
+    }
+    Ok(())
+}

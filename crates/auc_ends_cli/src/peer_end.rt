@@ -1,0 +1,56 @@
+//! A peer with its device.
+
+ghost use Rattle.std.specs.Prelude.{◌≤◌, length};
+ghost use Rattle.auc_sqn.specs.Number.{max_seq};
+
+use crate::text::{peer_step, peer_turn};
+use auc_edge::{Imsi, Octets};
+use auc_milenage::Secret;
+use auc_peer::{Device, Peer};
+use auc_usim::Usim;
+use std::alloc::{AllocError, Global};
+
+/// A peer with its device.
+#[derive(Drop)]
+pub struct PeerEnd {
+    peer: Peer,
+    device: Device,
+    ghost realm: { length device.realm ≤ 255 },
+}
+
+impl PeerEnd {
+    /// A peer whose USIM counts the numbers up to a word as accepted.
+    pub fn begin(alloc: Global, word: u64) -> Option<PeerEnd>
+        requires { word ≤ max_seq }
+    {
+        let imsi = Imsi::read(b"001010000000001")?;
+        let usim = Usim::new(secret(), word);
+        let realm = Octets::new(alloc);
+        Some(PeerEnd {
+            peer: Peer::new(),
+            device: Device { imsi, usim, realm },
+        })
+    }
+
+    /// What is printed of received bytes.
+    pub fn receive(&mut self, alloc: Global, bytes: &[u8]) -> Result<String, AllocError> {
+        match self.peer.on_bytes(alloc, &mut self.device, bytes) {
+            Ok(turn) => peer_turn(alloc, &turn),
+            Err(_) => Err(AllocError),
+        }
+    }
+
+    /// What is printed if the peer gives up.
+    pub fn give_up(&mut self, alloc: Global) -> Result<String, AllocError> {
+        let step = self.peer.give_up(alloc);
+        peer_step(alloc, &step)
+    }
+}
+
+/// K and OPc of TS 35.208 §4.3, test set 1.
+pub fn secret() -> Secret {
+    Secret {
+        k: 0x465b5ce8b199b49faa5f0a2ee238a6bc_u128.to_be_bytes(),
+        opc: 0xcd63cb71954a9f4e48a5994e37a02baf_u128.to_be_bytes(),
+    }
+}

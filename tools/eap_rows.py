@@ -1,0 +1,727 @@
+#!/usr/bin/env python3
+"""Prints the lines that auc_ends_cli reads, or the lines that it has to answer, by an implementation of its own.
+
+    tools/eap_rows.py stdin|stdout
+
+It has Milenage (TS 35.206), the USIM's array (TS 33.102 Annex C), the messages, keys and both state machines of EAP-AKA
+(RFC 4187) with permanent identities, and shares nothing with the crates. The rows go through each state of a server and
+of a peer: first, in one session, each message that is ignored there; then each other message in a session of its own.
+AES and ChaCha20 are those of Python's `cryptography`; hashes are Python's own.
+"""
+import hashlib
+import hmac
+import struct
+import sys
+from cryptography.hazmat.primitives.ciphers import Cipher, algorithms, modes
+
+MAX_SEQ = 2**43 - 1
+REACH = 2**28
+K = bytes.fromhex("465b5ce8b199b49faa5f0a2ee238a6bc")
+OPC = bytes.fromhex("cd63cb71954a9f4e48a5994e37a02baf")
+AMF = bytes.fromhex("8000")
+RANDOM_KEY = bytes(range(32))
+IDENTITY = b"0001010000000001"
+
+
+# ---- Milenage and the USIM
+
+def aes(block):
+    encryptor = Cipher(algorithms.AES(K), modes.ECB()).encryptor()
+    return encryptor.update(block) + encryptor.finalize()
+
+
+def xor(a, b):
+    return bytes(x ^ y for x, y in zip(a, b, strict=True))
+
+
+def turned(block, bits):
+    return block[bits // 8:] + block[:bits // 8]
+
+
+class Functions:
+    """f1 to f5* of a RAND."""
+
+    def __init__(self, rand):
+        self.temp = aes(xor(rand, OPC))
+        out2, out3, out4, out5 = (self.out(turn, number) for turn, number in ((0, 1), (32, 2), (64, 4), (96, 8)))
+        self.res, self.ak = out2[8:], out2[:6]
+        self.ck, self.ik, self.ak_star = out3, out4, out5[:6]
+
+    def out(self, turn, number):
+        return xor(aes(xor(turned(xor(self.temp, OPC), turn), number.to_bytes(16))), OPC)
+
+    def f1(self, sqn, amf):
+        block = (sqn + amf) * 2
+        out = xor(aes(xor(self.temp, turned(xor(block, OPC), 64))), OPC)
+        return out[:8], out[8:]
+
+
+def rand_of(n):
+    """RAND of the first subscriber and number n: 16 bytes of ChaCha20's stream 0 from word 4 n on."""
+    counter, word = divmod(4 * n, 16)
+    cipher = Cipher(algorithms.ChaCha20(RANDOM_KEY, struct.pack("<QQ", counter, 0)), mode=None).encryptor()
+    return cipher.update(bytes(64))[4 * word:4 * word + 16]
+
+
+def sqn_of(n):
+    return (32 * n + n % 32).to_bytes(6)
+
+
+def autn_of(n, rand):
+    f = Functions(rand)
+    return xor(sqn_of(n), f.ak) + AMF + f.f1(sqn_of(n), AMF)[0]
+
+
+def auts_of(n, rand):
+    """AUTS of a USIM whose greatest entry is SEQ n with the IND of number n."""
+    f = Functions(rand)
+    return xor(sqn_of(n), f.ak_star) + f.f1(sqn_of(n), b"\0\0")[1]
+
+
+class Usim:
+    def __init__(self, opening):
+        self.entries = [max((n for n in range(max(1, opening - 31), opening + 1) if n % 32 == i), default=0)
+                        for i in range(32)]
+
+    def challenge(self, rand, autn):
+        """The note's words; RES, CK and IK if it accepts; AUTS if it doesn't synchronise."""
+        f = Functions(rand)
+        sqn = xor(autn[:6], f.ak)
+        if f.f1(sqn, autn[6:8])[0] != autn[8:]:
+            return "wrongmac", None, None
+        value = int.from_bytes(sqn)
+        seq, ind, greatest = value >> 5, value & 31, max(self.entries)
+        if seq <= self.entries[ind] or seq > greatest + REACH:
+            sqn_ms = (32 * greatest + self.entries.index(greatest)).to_bytes(6)
+            return f"sync {sqn_ms.hex()}", None, xor(sqn_ms, f.ak_star) + f.f1(sqn_ms, b"\0\0")[1]
+        self.entries[ind] = seq
+        return f"accepted {sqn.hex()}", f, None
+
+
+# ---- keys
+
+def rotl(x, n):
+    return (x << n | x >> 32 - n) & 0xFFFFFFFF
+
+
+def g(value):
+    """The compression of SHA-1 of 20 bytes and 44 zero bytes, from its initial value (FIPS 186-2, Appendix 3.3)."""
+    w = list(struct.unpack(">16I", value + bytes(44)))
+    for t in range(16, 80):
+        w.append(rotl(w[t - 3] ^ w[t - 8] ^ w[t - 14] ^ w[t - 16], 1))
+    start = 0x67452301, 0xEFCDAB89, 0x98BADCFE, 0x10325476, 0xC3D2E1F0
+    a, b, c, d, e = start
+    for t in range(80):
+        if t < 20:
+            f, k = b & c | ~b & d, 0x5A827999
+        elif t < 40:
+            f, k = b ^ c ^ d, 0x6ED9EBA1
+        elif t < 60:
+            f, k = b & c | b & d | c & d, 0x8F1BBCDC
+        else:
+            f, k = b ^ c ^ d, 0xCA62C1D6
+        a, b, c, d, e = (rotl(a, 5) + f + e + k + w[t]) & 0xFFFFFFFF, a, rotl(b, 30), c, d
+    return b"".join(((x + y) & 0xFFFFFFFF).to_bytes(4) for x, y in zip(start, (a, b, c, d, e)))
+
+
+class Keys:
+    def __init__(self, identity, f):
+        key = int.from_bytes(hashlib.sha1(identity + f.ik + f.ck).digest())
+        stream = b""
+        for _ in range(8):
+            word = g(key.to_bytes(20))
+            key = (1 + key + int.from_bytes(word)) % 2**160
+            stream += word
+        self.encr, self.aut, self.msk, self.emsk = stream[:16], stream[16:32], stream[32:96], stream[96:160]
+
+    def text(self):
+        return f"keys {self.encr.hex()} {self.aut.hex()}{'0' * 32} {'0' * 64} {self.msk.hex()} {self.emsk.hex()}"
+
+
+# ---- packets
+
+REQUEST, RESPONSE = 1, 2
+NAMES = {1: "challenge", 2: "reject", 4: "sync", 5: "identity", 12: "notification", 13: "reauthentication", 14: "client"}
+# The sizes of the values with a fixed size, and the others' allowed sizes.
+SIZES = {1: {18}, 2: {18}, 4: {14}, 6: {2, 6, 10}, 10: {2}, 11: {18}, 12: {2}, 13: {2}, 17: {2}, 19: {2}, 20: {2}, 21: {18},
+         22: {2}, 24: {2}, 129: {18}, 134: {2, 22, 34}, 135: {2}, 136: {2}}
+TEXTS = 14, 23, 132, 133
+
+
+def attr(kind, value):
+    assert (len(value) + 2) % 4 == 0
+    return bytes([kind, (len(value) + 2) // 4]) + value
+
+
+def text_attr(kind, text):
+    return attr(kind, len(text).to_bytes(2) + text + bytes(-len(text) % 4))
+
+
+def sixteen(kind, value):
+    return attr(kind, b"\0\0" + value)
+
+
+def res_attr(res):
+    return attr(3, (8 * len(res)).to_bytes(2) + res + bytes(-len(res) % 4))
+
+
+def packet(code, identifier, rest):
+    return bytes([code, identifier]) + (4 + len(rest)).to_bytes(2) + rest
+
+
+def aka(code, identifier, subtype, attrs=b"", kind=23):
+    return packet(code, identifier, bytes([kind, subtype, 0, 0]) + attrs)
+
+
+def sealed(key, code, identifier, subtype, attrs):
+    """A message with its AT_MAC last."""
+    front = aka(code, identifier, subtype, attrs + sixteen(11, bytes(16)))
+    return front[:-16] + hmac.digest(key, front, "sha1")[:16]
+
+
+class Fault(Exception):
+    pass
+
+
+def read_attrs(data):
+    """The values by type. A type from 128 on that isn't known is left out."""
+    found, known = {}, set(SIZES) | {3, 130, *TEXTS}
+    while data:
+        if len(data) < 2:
+            raise Fault
+        kind, units = data[0], data[1]
+        if kind < 128 and kind not in known or kind in found and kind != 24 or units == 0 or len(data) < 4 * units:
+            raise Fault
+        value, data = data[2:4 * units], data[4 * units:]
+        if kind in SIZES and len(value) not in SIZES[kind] or kind == 6 and any(value):
+            raise Fault
+        if kind in TEXTS or kind == 3:
+            size = int.from_bytes(value[:2])
+            size, rest = (size, 0) if kind in TEXTS else divmod(size, 8)
+            if rest or not 0 <= -size % 4 + size == len(value) - 2 or kind == 3 and not 4 <= size <= 16:
+                raise Fault
+            value = value[2:2 + size]
+        if kind in known:
+            found[kind] = value
+    return found
+
+
+class Head:
+    """Code, Identifier, Length and what follows; a Fault of bytes that are no packet."""
+
+    def __init__(self, data):
+        if len(data) < 4 or data[0] not in (1, 2, 3, 4):
+            raise Fault
+        self.code, self.identifier, self.length = data[0], data[1], int.from_bytes(data[2:4])
+        least = 5 if self.code <= 2 else 4
+        if self.length > len(data) or self.length < least or self.code > 2 and self.length != 4:
+            raise Fault
+        self.data = data[:self.length]
+        self.kind = self.data[4] if self.code <= 2 else None
+        if self.kind in (23, 50) and self.length < 8:
+            raise Fault
+
+
+# Which attributes below 128 each message may have, by its subtype and whether it is a request.
+MAY = {(1, True): {1, 2, 11}, (1, False): {3, 11}, (2, False): set(), (4, False): {4}, (5, True): {10, 13, 17},
+       (5, False): {14}, (12, True): {12, 11}, (12, False): set(), (13, True): {11}, (13, False): {11}, (14, False): {22}}
+
+
+def read_message(head):
+    """The subtype and the attributes of a message of EAP-AKA that isn't malformed."""
+    subtype, request = head.data[5], head.code == REQUEST
+    if subtype not in NAMES:
+        raise Fault
+    attrs = read_attrs(head.data[8:])
+    if any(it < 128 and it not in MAY.get((subtype, request), set()) for it in attrs):
+        raise Fault
+    # What belongs into AT_ENCR_DATA, and what another message has, doesn't count from 128 on.
+    return subtype, attrs
+
+
+def is_sealed(key, data):
+    """Whether AT_MAC, which has to be there, is right."""
+    at = 8
+    while data[at] != 11:
+        at += 4 * data[at + 1]
+    value = data[at + 4:at + 20]
+    return hmac.digest(key, data[:at + 4] + bytes(16) + data[at + 20:], "sha1")[:16] == value
+
+
+# ---- the server
+
+class Server:
+    def __init__(self, word, is_held):
+        self.word, self.is_held = word, is_held
+        self.state, self.identifier, self.synced = "identity", 1, False
+        self.last = packet(REQUEST, 1, b"\x01")
+        self.answer = f"sent {self.last.hex()}"
+
+    def send(self, state, make):
+        self.identifier += 1
+        self.state, self.last = state, make(self.identifier)
+        return f"sent {self.last.hex()}"
+
+    def notify(self, why):
+        self.why = why
+        return self.send("notifying", lambda it: aka(REQUEST, it, 12, attr(12, (16384).to_bytes(2))))
+
+    def end(self, code, text):
+        self.state = "ended"
+        return f"ended {text} {packet(code, self.identifier, b'').hex()}"
+
+    def challenge(self):
+        if self.word >= MAX_SEQ:
+            return f"exhausted {self.word} {self.notify(f'exhausted {self.word}')}"
+        self.word += 1
+        self.n, self.rand = self.word, rand_of(self.word)
+        self.f = Functions(self.rand)
+        self.keys = Keys(self.identity, self.f)
+        attrs = sixteen(1, self.rand) + sixteen(2, autn_of(self.n, self.rand)) + attr(134, b"\0\0")
+        return f"drew {self.n} " + self.send("challenge", lambda it: sealed(self.keys.aut, REQUEST, it, 1, attrs))
+
+    def deliver(self, data):
+        if self.state == "ended":
+            return "ignored closed"
+        try:
+            head = Head(data)
+        except Fault:
+            return "ignored notforme"
+        if head.code != RESPONSE or head.identifier != self.identifier:
+            return "ignored notforme"
+        if head.kind != (1 if self.state == "identity" else 23):
+            return "ignored othertype"
+        if self.state == "identity":
+            self.identity = head.data[5:]
+            known = self.is_held and self.identity.partition(b"@")[0] == IDENTITY
+            return self.challenge() if known else self.notify("unknownidentity")
+        try:
+            subtype, attrs = read_message(head)
+        except Fault:
+            return "ignored malformed"
+        return self.message(NAMES[subtype], attrs, head.data)
+
+    def message(self, name, attrs, data):
+        if self.state == "notifying":
+            return self.end(4, f"failure {self.why}") if name == "notification" else "ignored unexpected"
+        rows = {"challenge": ({3, 11}, self.judge), "sync": ({4}, self.sync), "reject": (set(), self.reject),
+                "client": ({22}, self.client)}
+        if name not in rows:
+            return "ignored unexpected"
+        needed, row = rows[name]
+        return row(attrs, data) if needed <= set(attrs) else "ignored missing"
+
+    def judge(self, attrs, data):
+        if not is_sealed(self.keys.aut, data):
+            return self.notify("wrongmac")
+        if attrs[3] != self.f.res:
+            return self.notify("wrongres")
+        if len(attrs.get(134, b"\0\0")) > 2:
+            return self.notify("wrongcheckcode")
+        return self.end(3, "success") + " " + self.keys.text()
+
+    def client(self, attrs, data):
+        return self.end(4, f"failure clienterror {int.from_bytes(attrs[22])}")
+
+    def reject(self, attrs, data):
+        return self.end(4, "failure rejected")
+
+    def sync(self, attrs, data):
+        if self.synced:
+            return self.notify("secondsync")
+        self.synced = True
+        auts = attrs[4]
+        sqn = xor(auts[:6], self.f.ak_star)
+        if self.f.f1(sqn, b"\0\0")[1] != auts[6:]:
+            return f"badauts {self.notify('badauts')}"
+        seq, seen = int.from_bytes(sqn) >> 5, self.word
+        if seen < seq:
+            self.word = seq
+            return f"moved {seen} {seq} {self.challenge()}"
+        if seen + 1 - seq > REACH:
+            return f"beyond {seen} {seq} {self.notify(f'beyond {seen} {seq}')}"
+        return f"inrange {seen} {seq} {self.challenge()}"
+
+    def repeat(self):
+        return "ignored closed" if self.state == "ended" else f"sent {self.last.hex()}"
+
+    def give_up(self):
+        if self.state == "ended":
+            return "ignored closed"
+        self.state = "ended"
+        return "ended failure givenup"
+
+
+# ---- the peer
+
+class Peer:
+    def __init__(self, opening):
+        self.usim, self.state, self.identifier = Usim(opening), "waiting", None
+        self.asked = self.answered = None
+        self.sent_identity = b""
+
+    def send(self, head, data, answer, state="waiting"):
+        self.state, self.identifier, self.asked, self.answered = state, head.identifier, data, answer
+        return f"sent {answer.hex()}"
+
+    def client(self, head, data, why):
+        self.why = why
+        return self.send(head, data, aka(RESPONSE, head.identifier, 14, attr(22, b"\0\0")), "refusing")
+
+    def reject(self, head, data, why):
+        self.why = why
+        return self.send(head, data, aka(RESPONSE, head.identifier, 2), "refusing")
+
+    def deliver(self, data):
+        if self.state == "ended":
+            return "ignored closed"
+        try:
+            head = Head(data)
+        except Fault:
+            return "ignored notforme"
+        if head.code == RESPONSE:
+            return "ignored notforme"
+        if data == self.asked:
+            return f"sent {self.answered.hex()}"
+        if head.code > RESPONSE:
+            return self.outcome(head)
+        if head.kind not in (1, 23):
+            return "ignored othertype"
+        if self.state == "waiting":
+            return self.waiting(head, data)
+        return self.notified(head, data) if self.state == "answered" else "ignored unexpected"
+
+    def outcome(self, head):
+        if head.identifier != self.identifier:
+            return "ignored unexpected"
+        if head.code == 3:
+            if self.state != "answered":
+                return "ignored unexpected"
+            self.state = "ended"
+            return "ended success " + self.keys.text()
+        why = self.why if self.state == "refusing" else "failurereceived"
+        self.state = "ended"
+        return f"ended failure {why}"
+
+    def waiting(self, head, data):
+        if head.kind == 1:
+            self.sent_identity = IDENTITY
+            return self.send(head, data, packet(RESPONSE, head.identifier, b"\x01" + IDENTITY))
+        try:
+            subtype, attrs = read_message(head)
+            if subtype in (2, 4, 14):
+                raise Fault
+        except Fault:
+            return self.client(head, data, "malformed")
+        if subtype == 1:
+            return self.challenge(head, data, attrs)
+        if subtype == 12:
+            return self.notification(head, data, attrs)
+        return "ignored unexpected" if subtype == 5 else "ignored nocontext"
+
+    def notified(self, head, data):
+        try:
+            subtype, attrs = read_message(head) if head.kind == 23 else (None, {})
+        except Fault:
+            return "ignored unexpected"
+        return self.notification(head, data, attrs) if subtype == 12 and 12 in attrs else "ignored unexpected"
+
+    def notification(self, head, data, attrs):
+        if 12 not in attrs:
+            return self.client(head, data, "missing")
+        code = int.from_bytes(attrs[12])
+        if not code & 0x4000 or code & 0x8000:
+            return "ignored unexpected"
+        self.why = f"notified {code}"
+        return self.send(head, data, aka(RESPONSE, head.identifier, 12), "refusing")
+
+    def challenge(self, head, data, attrs):
+        if not {1, 2, 11} <= set(attrs):
+            return self.client(head, data, "missing")
+        note, f, auts = self.usim.challenge(attrs[1][2:], attrs[2][2:])
+        if auts:
+            return f"{note} {self.send(head, data, aka(RESPONSE, head.identifier, 4, attr(4, auts)))}"
+        if f is None:
+            return f"{note} {self.reject(head, data, 'wrongautn')}"
+        return f"{note} {self.accepted(head, data, attrs, f)}"
+
+    def accepted(self, head, data, attrs, f):
+        self.keys = Keys(self.sent_identity, f)
+        if not is_sealed(self.keys.aut, head.data):
+            return self.client(head, data, "wrongmac")
+        if len(attrs.get(134, b"\0\0")) > 2:
+            return self.client(head, data, "wrongcheckcode")
+        if 130 in attrs:
+            return self.client(head, data, "undecryptable")
+        answer = res_attr(f.res) + (attr(134, b"\0\0") if 134 in attrs else b"")
+        return self.send(head, data, sealed(self.keys.aut, RESPONSE, head.identifier, 1, answer), "answered")
+
+    def give_up(self):
+        if self.state == "ended":
+            return "ignored closed"
+        self.state = "ended"
+        return "ended failure givenup"
+
+
+# ---- the rows
+
+class Session:
+    """An end and the lines that were said to it, with its answers."""
+
+    def __init__(self, line, end):
+        self.end, self.rows = end, [(line, end.answer if hasattr(end, "answer") else "peer")]
+
+    def say(self, line):
+        word, _, rest = line.partition(" ")
+        if word == "bytes":
+            answer = self.end.deliver(bytes.fromhex(rest))
+        else:
+            answer = self.end.repeat() if word == "repeat" else self.end.give_up()
+        self.rows.append((line, answer))
+        return answer
+
+    def bytes(self, data):
+        return self.say(f"bytes {data.hex()}")
+
+
+def server(word=0, held="held", *before):
+    session = Session(f"server {word} {held}", Server(word, held == "held"))
+    for make in before:
+        session.bytes(make(session.end))
+    return session
+
+
+def peer(opening=0, *before):
+    session = Session(f"peer {opening}", Peer(opening))
+    for make in before:
+        session.bytes(make(session.end))
+    return session
+
+
+def through(title, make_session, messages, more=()):
+    """All messages in one state: those that are ignored in one session, which is then said a few lines more; each other
+    one in a session of its own, with the message that ends it where that tells a cause or keys."""
+    yield f"# {title}", f"# {title}"
+    quiet = make_session()
+    loud = []
+    for name, message in messages:
+        trial = make_session()
+        answer = trial.bytes(message(trial.end))
+        if answer.startswith("ignored"):
+            quiet.bytes(message(quiet.end))
+        else:
+            loud.append((name, message))
+    for line in more:
+        quiet.say(line)
+    yield from quiet.rows
+    for name, message in loud:
+        session = make_session()
+        session.bytes(message(session.end))
+        last = {"notifying": response(12), "refusing": plain(4), "answered": plain(3)}.get(session.end.state)
+        if last:
+            session.bytes(last(session.end))
+        yield f"# {title}: {name}", f"# {title}: {name}"
+        yield from session.rows
+
+
+# Messages for a server. A state without keys gets codes of zero bytes.
+
+def key_of(end):
+    return end.keys.aut if hasattr(end, "keys") else bytes(16)
+
+
+def res_of(end):
+    return end.f.res if hasattr(end, "f") else bytes(8)
+
+
+def response(subtype, attrs=b"", kind=23):
+    return lambda end: aka(RESPONSE, end.identifier, subtype, attrs, kind)
+
+
+def right_response(end, res=None, more=b"", key=None, add=0):
+    attrs = res_attr(res_of(end) if res is None else res) + more
+    return sealed(key_of(end) if key is None else key, RESPONSE, (end.identifier + add) % 256, 1, attrs)
+
+
+def identity(text):
+    return lambda end: packet(RESPONSE, end.identifier, b"\x01" + text)
+
+
+def sync(seq, wrong=False):
+    def make(end):
+        auts = auts_of(seq, end.rand) if hasattr(end, "rand") else bytes(14)
+        return aka(RESPONSE, end.identifier, 4, attr(4, auts[:-1] + bytes([auts[-1] ^ wrong])))
+    return make
+
+
+MAC = sixteen(11, bytes(16))
+EMPTY_CHECKCODE = attr(134, b"\0\0")
+CHECKCODE = attr(134, b"\0\0" + bytes(range(20)))
+UNKNOWN = attr(200, b"\x01\x02")
+NO_PACKETS = [
+    ("three bytes", lambda end: b"\x02\x01\0"),
+    ("code 5", lambda end: b"\x05\x01\0\x05\x01"),
+    ("a Length above the bytes", lambda end: packet(RESPONSE, end.identifier or 1, b"\x01")[:-1]),
+    ("a message of six bytes", lambda end: b"\x02" + bytes([end.identifier or 1]) + b"\0\x06\x17\x01"),
+]
+TO_SERVER = NO_PACKETS + [
+    ("a request", lambda end: packet(REQUEST, end.identifier, b"\x01")),
+    ("a Success", lambda end: packet(3, end.identifier, b"")),
+    ("another Identifier", lambda end: right_response(end, add=1)),
+    ("the Identifier before", lambda end: packet(RESPONSE, end.identifier - 1, b"\x01" + IDENTITY)),
+    ("type 3", lambda end: packet(RESPONSE, end.identifier, b"\x03\x17")),
+    ("type 50", response(1, MAC, 50)),
+    ("subtype 9", response(9)),
+    ("an attribute of length 0", response(1, b"\x03\0\0\0")),
+    ("an attribute past the end", response(1, b"\x0b\x05\0\0")),
+    ("attribute 127", response(1, attr(127, b"\0\0"))),
+    ("AT_MAC twice", response(1, MAC + MAC)),
+    ("an attribute of another message", response(1, attr(4, bytes(14)))),
+    ("an attribute of another message in a rejection", response(2, MAC)),
+    ("subtype Identity", response(5, text_attr(14, IDENTITY))),
+    ("subtype Reauthentication", response(13, MAC)),
+    ("no AT_RES", response(1, MAC)),
+    ("no AT_MAC", lambda end: aka(RESPONSE, end.identifier, 1, res_attr(res_of(end)))),
+    ("no AT_AUTS", response(4)),
+    ("no AT_CLIENT_ERROR_CODE", response(14)),
+    ("the permanent identity", identity(IDENTITY)),
+    ("the permanent identity with a realm", identity(IDENTITY + b"@home@there")),
+    ("the empty identity", identity(b"")),
+    ("the identity of EAP-AKA'", identity(b"6" + IDENTITY[1:])),
+    ("an identity of one digit less", identity(IDENTITY[:-1])),
+    ("the identity of another subscriber", identity(b"0001010000000009")),
+    ("a Notification", response(12)),
+    ("an Authentication-Reject", response(2)),
+    ("a Client-Error", response(14, attr(22, b"\x01\x02"))),
+    ("an AUTS above the number", sync(500)),
+    ("an AUTS at the number", sync(1)),
+    ("an AUTS with a wrong MAC-S", sync(500, True)),
+    ("the right answer", right_response),
+    ("the right answer, an empty checkcode, an unknown attribute and bytes past Length",
+     lambda end: right_response(end, more=UNKNOWN + EMPTY_CHECKCODE + UNKNOWN) + b"past"),
+    ("a wrong AT_MAC", lambda end: right_response(end, key=b"k" * 16)),
+    ("a wrong AT_RES", lambda end: right_response(end, res=b"r" * 8)),
+    ("the first half of AT_RES", lambda end: right_response(end, res=res_of(end)[:4])),
+    ("both wrong", lambda end: right_response(end, res=b"r" * 8, key=b"k" * 16)),
+    ("a checkcode", lambda end: right_response(end, more=CHECKCODE)),
+    ("a checkcode and a wrong AT_RES", lambda end: right_response(end, res=b"r" * 8, more=CHECKCODE)),
+]
+
+
+def server_rows():
+    known, unknown, error = identity(IDENTITY), identity(b"somebody"), response(2)
+    ends = ["repeat", "giveup", "repeat", "giveup"]
+    yield from through("server, awaiting the identity", server, TO_SERVER, ends)
+    yield from through("server, the subscriber isn't held", lambda: server(0, "none"), [("its identity", known)])
+    yield from through("server, awaiting the challenge", lambda: server(0, "held", known), TO_SERVER, ends)
+    yield from through("server, challenged again", lambda: server(0, "held", known, sync(500)), TO_SERVER, ends)
+    yield from through("server, notifying", lambda: server(0, "held", unknown), TO_SERVER, ends)
+    yield from through("server, ended", lambda: server(0, "held", known, error), TO_SERVER, ends)
+    yield from through("server, the last number", lambda: server(MAX_SEQ - 1), [("its identity", known)])
+    yield from through("server, no number left", lambda: server(MAX_SEQ), [("its identity", known)])
+    far = REACH + 500
+    for name, seq in ("in range", 501), ("beyond", 500):
+        yield from through("server, far ahead", lambda: server(far - 1, "held", known), [(f"an AUTS {name}", sync(seq))])
+    yield from through("server, no number left after the AUTS", lambda: server(5, "held", known), [("", sync(MAX_SEQ))])
+
+
+# Messages for a peer. The challenge is that of number `n`, for the identity last sent.
+
+def next_id(end):
+    return ((end.identifier or 0) + 1) % 256
+
+
+def challenge(n=1, more=EMPTY_CHECKCODE, key=None, autn=None, identity=None):
+    def make(end):
+        rand = rand_of(n)
+        right = Keys(end.sent_identity if identity is None else identity, Functions(rand)).aut
+        attrs = sixteen(1, rand) + sixteen(2, autn_of(n, rand) if autn is None else autn) + more
+        return sealed(right if key is None else key, REQUEST, next_id(end), 1, attrs)
+    return make
+
+
+def request(subtype, attrs=b"", kind=23):
+    return lambda end: aka(REQUEST, next_id(end), subtype, attrs, kind)
+
+
+def notification(code, more=b""):
+    return request(12, attr(12, code.to_bytes(2)) + more)
+
+
+def plain(code, add=0):
+    return lambda end: packet(code, ((end.identifier or 0) + add) % 256, b"")
+
+
+def again(end):
+    return end.asked or b""
+
+
+ASK = lambda end: packet(REQUEST, next_id(end), b"\x01")
+RAND_AND_AUTN = sixteen(1, rand_of(1)) + sixteen(2, autn_of(1, rand_of(1)))
+TO_PEER = NO_PACKETS + [
+    ("a response", lambda end: packet(RESPONSE, next_id(end), b"\x01")),
+    ("a Success", plain(3)),
+    ("a Success with another Identifier", plain(3, 1)),
+    ("a Failure", plain(4)),
+    ("a Failure with another Identifier", plain(4, 1)),
+    ("the last request again", again),
+    ("the last request and a byte past Length", lambda end: again(end) + b"\0"),
+    ("type 3", lambda end: packet(REQUEST, next_id(end), b"\x03\x17")),
+    ("type 50", request(1, RAND_AND_AUTN + MAC, 50)),
+    ("an Identity request", ASK),
+    ("subtype 9", request(9)),
+    ("an Authentication-Reject", request(2)),
+    ("a Synchronization-Failure", request(4, attr(4, bytes(14)))),
+    ("a Client-Error", request(14, attr(22, b"\0\0"))),
+    ("an attribute of length 0", request(1, b"\x01\0\0\0")),
+    ("attribute 127", request(1, attr(127, b"\0\0"))),
+    ("AT_RAND twice", request(1, sixteen(1, bytes(16)) * 2)),
+    ("an attribute of another message", request(1, RAND_AND_AUTN + attr(4, bytes(14)) + MAC)),
+    ("subtype Identity", request(5, attr(10, b"\0\0"))),
+    ("subtype Reauthentication", request(13, MAC)),
+    ("no AT_RAND", request(1, sixteen(2, bytes(16)) + MAC)),
+    ("no AT_AUTN", request(1, sixteen(1, bytes(16)) + MAC)),
+    ("no AT_MAC", request(1, RAND_AND_AUTN)),
+    ("a Notification of failure", notification(16384)),
+    ("a Notification of failure with AT_MAC", notification(0x7001, MAC)),
+    ("a Notification of success", notification(32768)),
+    ("a Notification after the challenge", notification(1026)),
+    ("a Notification without a code", request(12)),
+    ("a Notification with a foreign attribute", notification(16384, attr(22, b"\0\0"))),
+    ("the right challenge", challenge()),
+    ("the right challenge, no checkcode, an unknown attribute, bytes past Length",
+     lambda end: challenge(more=UNKNOWN)(end) + b"past"),
+    ("a challenge under another identity", challenge(identity=b"0001010000000009")),
+    ("a wrong AT_MAC", challenge(key=b"k" * 16)),
+    ("a wrong MAC in AUTN", challenge(autn=autn_of(1, rand_of(1))[:-1] + b"\0")),
+    ("AUTN of another number", challenge(autn=autn_of(2, rand_of(2)))),
+    ("an SQN that is too far", challenge(REACH + 1)),
+    ("the farthest SQN", challenge(REACH)),
+    ("a checkcode", challenge(more=CHECKCODE)),
+    ("encrypted attributes without AT_IV", challenge(more=attr(130, b"\0\0" + bytes(16)))),
+    ("encrypted attributes that are none", challenge(more=sixteen(129, bytes(16)) + attr(130, b"\0\0" + bytes(16)))),
+]
+
+
+def peer_rows():
+    ends = ["giveup", "giveup"]
+    yield from through("peer, waiting for its first request", peer, TO_PEER, ends)
+    yield from through("peer, asked for its identity", lambda: peer(0, ASK), TO_PEER, ends)
+    yield from through("peer, after a synchronisation failure", lambda: peer(500, ASK, challenge()),
+                       TO_PEER + [("the number after its greatest", challenge(501))], ends)
+    yield from through("peer, answered", lambda: peer(0, ASK, challenge()), TO_PEER, ends)
+    yield from through("peer, refusing", lambda: peer(0, ASK, request(9)), TO_PEER, ends)
+    yield from through("peer, ended", lambda: peer(0, ASK, request(9), plain(4)), TO_PEER, ends)
+
+
+def main():
+    if sys.argv[1:] not in (["stdin"], ["stdout"]):
+        sys.exit(__doc__)
+    place = sys.argv[1] == "stdout"
+    for rows in server_rows(), peer_rows():
+        for row in rows:
+            print(row[place])
+
+
+if __name__ == "__main__":
+    main()
