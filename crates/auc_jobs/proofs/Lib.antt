@@ -11,5 +11,10 @@ mod SettleLemmas
 mod PieceLemmas
 mod PutLemmas
 mod WorkerLemmas
+mod SharingLemmas
 mod StateLemmas
+mod TurnLemmas
+mod OrderLemmas
+mod CrewLemmas
+mod CollectLemmas
 mod RoundLemmas

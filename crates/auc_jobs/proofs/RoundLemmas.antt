@@ -1,16 +1,15 @@
 -- For a round: what its pieces make of its record, and of the state after it.
 use Rattle.std.proofs.Common.{◌≡◌, ℕ, zero, suc, ◌+◌, ◌-◌, ◌<◌, ◌≤◌, min, Bool, true, false, List, [], ◌∷◌, ◌++◌, length, get_or, refl, sym, ◌∙◌, ap, subst, arith, append-nil}
-use Rattle.std.specs.Prelude.{All, AllPairs, Option, Some, None, slice_get, slice_index, if◌then◌else◌, ◌==◌}
-use Rattle.std.proofs.lemmas.Bool.Decides.{nat_tests}
+use Rattle.std.specs.Prelude.{All, AllPairs, Some, None, slice_get, slice_index, if◌then◌else◌, ◌==◌}
 use Rattle.std.proofs.lemmas.List.{length-append, length-map}
 use Rattle.std.proofs.lemmas.Grind.{flat_map-append}
 use Rattle.std.proofs.lemmas.List.Sums.{sum_by-append, sum_by-cons}
 use Rattle.std.proofs.lemmas.Option.{slice_get_within}
 use Rattle.auc_history.specs.declared.entry.Entry.{Entry}
 use Rattle.auc_history.specs.declared.entry.Entry.TheVariants.{Drawn, Moved as moved, Look}
-use Rattle.auc_history.specs.History.{drawn, drawn_by, skipped, skipped_by, IsLegal}
+use Rattle.auc_history.specs.History.{drawn, drawn_by, skipped, skipped_by}
 use Rattle.auc_history.specs.Split.{all_entries, Splits}
-use Rattle.auc_history.proofs.Facts.{cut_history_is_a_split, split_counts_its_numbers}
+use Rattle.auc_history.proofs.Facts.{split_counts_its_numbers}
 use Rattle.auc_lines.specs.declared.part.Line.{Line}
 use Rattle.auc_lines.specs.Part.{AreApart}
 use Rattle.auc_sqn.specs.Number.{max_seq}
@@ -20,8 +19,6 @@ use Rattle.auc_world.specs.Setting.{Setting}
 use Rattle.auc_world.proofs.Facts.{jobs_give_after_all_lines, pieces_split_the_round}
 use Rattle.auc_world.specs.Lines.{numbers_of, released_by, withheld_of, all_lines}
 use Rattle.auc_world.specs.Round.{closing_of, closings_from, IsLawfulRound}
-use Rattle.auc_usim.specs.Usim.{Memory}
-use Rattle.auc_vector.specs.Stretch.{IsStretch, kept_at}
 use Rattle.auc_world.specs.declared.record.Closing.{Closing}
 use Rattle.auc_world.specs.declared.record.LineRecord.{LineRecord}
 use Rattle.auc_world.specs.declared.record.LineRecord.TheVariants.{Vector, Withheld, Exhausted, Sync, Give}
@@ -29,14 +26,10 @@ use Rattle.auc_world.specs.declared.record.SyncVerdict.{SyncVerdict}
 use Rattle.auc_world.specs.declared.record.SyncVerdict.TheVariants as verdict
 use Rattle.auc_jobs.specs.declared.counting.Count.{Count}
 use Rattle.auc_jobs.specs.InnerClosings.{passed, passed_by, passed_in, capped, counted_in, AreCounted, counted_closing, counted_closings}
-use Rattle.auc_jobs.specs.Numbers.{Released, AreReleased}
 use Rattle.auc_jobs.specs.Usims.{AreBehind}
-use Rattle.auc_jobs.specs.InnerRound.{pieces_after, RoundBegins, ServesJobs, ArePieces, AreServed, IsAdvanced}
-use Rattle.auc_jobs.specs.InnerServing.{IsTold}
+use Rattle.auc_jobs.specs.InnerRound.{ArePieces, AreServed, IsAdvanced}
 use Rattle.auc_jobs.specs.InnerUsims.{OwnUsims}
-use Rattle.auc_jobs.specs.InnerWorker.{WorkerState, WorkerServesJobs}
 use Rattle.auc_jobs.specs.State.{Standing, StandsAt}
-use Rattle.auc_jobs.proofs.PieceLemmas.{lines_after, entries_after, reports_after}
 use Rattle.auc_jobs.proofs.PutLemmas.{ArePlaced, placed_jobs}
 use Rattle.auc_jobs.proofs.LineLemmas.{entries_of_lines-append}
 
@@ -188,70 +181,30 @@ closings_counted sub (opening ∷ openings) (word ∷ words) (count ∷ counts) 
 
 -- ---- the round
 
--- at its beginning nothing was told of a word
-told_first : (sub word : ℕ) → word ≤ max_seq → IsTold sub (kept_at word) []
-told_first sub word within =
-    let open_is : kept_at word ≡ None = grind (arith, nat_tests) in
-    let told : IsTold sub None [] = λ w. refl in
-    subst (λ (kept : Option ℕ). IsTold sub kept []) (sym open_is) told
-
+-- a word is within the bound of all
 below_at : (words : List ℕ) (sub bound : ℕ) → All (λ word. word ≤ bound) words → slice_index words sub ≤ bound
 below_at [] sub bound within = omega arith
 below_at (word ∷ words) zero bound within = within 0 0 (omega arith)
 below_at (word ∷ words) (suc sub) bound within = below_at words sub bound (λ k d lt. within (suc k) d (omega arith))
 
--- what stands before a worker's first job
-pub round_begins : (set : Setting) (early : List LineRecord) (state : Standing) (w : WorkerState (List ℕ)) (usims : List Memory) → w.set ≡ set → w.centre ≡ state.words → w.released ≡ state.released
-    → usims ≡ state.usims → StandsAt set early state → RoundBegins w.set.rows early (λ sub. kept_at (slice_index w.centre sub)) w.released usims
-round_begins set early state w usims same words released are stands = record {
-  told = λ sub. told_first sub (slice_index w.centre sub) (below_at w.centre sub max_seq (subst (λ (ws : List ℕ). All (λ word. word ≤ max_seq) ws) (sym words) stands.subscribers.numbers));
-  earlier = subst (λ (rs : Released). AreReleased rs early) (sym released) stands.earlier;
-  pasts = subst (λ (s : Setting). AreBehind s.rows early (slice_get usims)) (sym same) (subst (λ (us : List Memory). AreBehind set.rows early (slice_get us)) (sym are) stands.pasts);
-}
-
--- one worker with a centre over the pure core serves all jobs of a round
-pub served_by_one : (set : Setting) (early : List LineRecord) (state : Standing) (begun ended : WorkerState (List ℕ)) (usims : List Memory) (jobs : List (List Line)) (records : List (List LineRecord))
-    (own : List OwnUsims) (words : List ℕ) → begun.set ≡ set → begun.centre ≡ state.words → begun.released ≡ state.released → usims ≡ state.usims → words ≡ ended.centre
-    → length words ≡ length state.words → StandsAt set early state
-    → WorkerServesJobs (λ ws sub. kept_at (slice_index ws sub)) IsStretch begun ended usims jobs records own → AreServed set early state jobs records own words
-served_by_one set early state begun ended usims jobs records own words same centre released are ends size stands serves = record {
-  pieces = record {
-    pieces = pieces_after [] records;
-    lines = sym (lines_after [] records);
-    give = given.given;
-    reports = λ sub. reports_after sub [] records;
-    split = λ sub. subst (Splits max_seq (slice_index state.words sub) (slice_index words sub)) (sym (entries_after sub [] records))
-        (cut_history_is_a_split max_seq (slice_index state.words sub) (slice_index words sub) (entries_of_jobs sub [] records)
-        (subst (IsLegal max_seq (slice_index state.words sub) (slice_index words sub)) (sym (all_entries-of_jobs sub [] records)) ((given.made sub).0)));
-    released = λ sub. (given.made sub).1;
-  };
-  settled = given.settled;
-  size = size;
-}
-  where
-    given : ServesJobs (λ i es ws. IsStretch state.words i es ws words) set early jobs records own
-    given = subst (λ (ws : List ℕ). ServesJobs (λ i es vs. IsStretch state.words i es vs ws) set early jobs records own) (sym ends)
-        (subst (λ (ws : List ℕ). ServesJobs (λ i es vs. IsStretch ws i es vs ended.centre) set early jobs records own) centre
-        (subst (λ (s : Setting). ServesJobs (λ i es vs. IsStretch begun.centre i es vs ended.centre) s early jobs records own) same
-        (serves early (round_begins set early state begun usims same centre released are stands))))
-
 -- the pieces of a round split each subscriber's history by its jobs
 pub pieces_make : (set : Setting) (early : List LineRecord) (openings words : List ℕ) (jobs : List (List Line)) (records : List (List LineRecord)) (sub : ℕ)
-    → ArePieces set early openings jobs records words → All (λ word. word ≤ max_seq + 64) words → Makes sub (slice_index openings sub) (slice_index words sub) records
-pieces_make set early openings words jobs records sub p bound = record {
+    → ArePieces set early openings jobs records words → All (λ word. word ≤ max_seq + 64) words → sub < length openings → Makes sub (slice_index openings sub) (slice_index words sub) records
+pieces_make set early openings words jobs records sub p bound known = record {
   split = subst (λ (rs : List (List LineRecord)). Splits max_seq (slice_index openings sub) (slice_index words sub) (entries_of_jobs sub [] rs)) (sym p.lines)
-      (pieces_split_the_round max_seq (slice_index openings sub) (slice_index words sub) sub p.pieces (p.reports sub) (p.split sub));
+      (pieces_split_the_round max_seq (slice_index openings sub) (slice_index words sub) sub p.pieces (p.reports sub) (p.split sub known));
   bound = below_at words sub (max_seq + 64) bound;
   released_all = p.released sub;
 }
 
 -- no closing is below the opening and what was passed over
 pub closes_above : (set : Setting) (early : List LineRecord) (openings words : List ℕ) (jobs : List (List Line)) (records : List (List LineRecord)) (counts : List Count) (k : ℕ) (count : Count)
-    → ArePieces set early openings jobs records words → All (λ word. word ≤ max_seq + 64) words → AreCounted (all_lines records) counts → slice_get counts k ≡ Some count
+    → length counts ≡ length openings → ArePieces set early openings jobs records words → All (λ word. word ≤ max_seq + 64) words → AreCounted (all_lines records) counts → slice_get counts k ≡ Some count
     → slice_index openings k + count.skipped ≤ slice_index words k
-closes_above set early openings words jobs records counts k count p bound counted there =
-    let c = counts_made k (slice_index openings k) (slice_index words k) records (pieces_make set early openings words jobs records k p bound) in
-    let is : count ≡ counted_in k (all_lines records) = some_is count (counted_in k (all_lines records)) (sym there ∙ counted.each k (slice_get_within counts k count there)) in
+closes_above set early openings words jobs records counts k count sizes p bound counted there =
+    let within : k < length counts = slice_get_within counts k count there in
+    let c = counts_made k (slice_index openings k) (slice_index words k) records (pieces_make set early openings words jobs records k p bound (omega (arith, within, sizes))) in
+    let is : count ≡ counted_in k (all_lines records) = some_is count (counted_in k (all_lines records)) (sym there ∙ counted.each k within) in
     let whole = c.whole in let skips = c.skips in let same = ap (λ (n : Count). n.skipped) is in
     omega (arith, whole, skips, same)
   where
@@ -267,12 +220,12 @@ lawful_round set early openings words jobs records counts number closings apart 
   sizes = size;
   fits = λ sub inside. let below = below_at words sub (max_seq + 64) bound in omega (arith, below);
   given = subst (JobsGive set early [] jobs) (sym p.lines) (jobs_give_after_all_lines set early jobs p.pieces apart p.give);
-  split = λ sub inside. (pieces_make set early openings words jobs records sub p bound).split;
+  split = λ sub inside. (pieces_make set early openings words jobs records sub p bound inside).split;
   closings = is ∙ sym (closings_counted 0 openings words counts records sizes (λ k count inside there.
       let here : k ≡ 0 + k = omega arith in
       let same : counted_in k (all_lines records) ≡ count = some_is (counted_in k (all_lines records)) count (sym (counted.each k (omega arith)) ∙ there) in
       subst (λ (s : ℕ). closing_of s (get_or openings k 0) (get_or words k 0) records ≡ counted_closing s (get_or openings k 0) (get_or words k 0) count) here
-      (closing_counted k (slice_index openings k) (slice_index words k) records (pieces_make set early openings words jobs records k p bound)
+      (closing_counted k (slice_index openings k) (slice_index words k) records (pieces_make set early openings words jobs records k p bound inside)
       ∙ ap (counted_closing k (slice_index openings k) (slice_index words k)) same)));
   withheld = p.released;
 }
@@ -290,7 +243,7 @@ advanced_as a b jobs records others own same words ends new p q r s is =
 
 -- it is the next round's
 pub stands_after : (set : Setting) (early : List LineRecord) (state new : Standing) (jobs : List (List Line)) (records : List (List LineRecord)) (own : List OwnUsims) (words : List ℕ)
-    → AllPairs AreApart jobs → StandsAt set early state → AreServed set early state jobs records own words → IsAdvanced state jobs records own words new
+    → AllPairs AreApart jobs → StandsAt set early state → AreServed set early state.words jobs records own words → IsAdvanced state jobs records own words new
     → StandsAt set (early ++ all_lines records) new
 stands_after set early state new jobs records own words apart stands served advanced = record {
   subscribers = record {

@@ -1,24 +1,20 @@
 -- For workers: what their calls add, and what stands after them.
-use Rattle.std.proofs.Common.{◌≡◌, ℕ, List, [], ◌∷◌, length, sym, subst, ap, ◌∙◌}
-use Rattle.std.specs.Prelude.{All, Option, slice_get}
-use Rattle.std.proofs.lemmas.List.Elements.{All-head}
+use Rattle.std.proofs.Common.{◌≡◌, ℕ, List, [], length, sym, subst, ap, ◌∙◌}
+use Rattle.std.specs.Prelude.{All, Option}
 use Rattle.auc_history.specs.declared.entry.Entry.{Entry}
 use Rattle.auc_lines.specs.declared.part.Line.{Line}
 use Rattle.auc_world.specs.Given.{LineGives}
 use Rattle.auc_world.specs.Setting.{Setting}
 use Rattle.auc_usim.specs.Usim.{Memory}
-use Rattle.auc_world.specs.Lines.{all_lines}
-use Rattle.auc_world.specs.Pieces.{IsQuiet}
-use Rattle.auc_jobs.specs.Numbers.{Released, AreReleased}
+use Rattle.auc_jobs.specs.Numbers.{Released}
 use Rattle.auc_jobs.specs.Serving.{IsKnownLine}
-use Rattle.auc_jobs.specs.Usims.{HaveSecrets, AreOfRows, AreBehind}
+use Rattle.auc_jobs.specs.Usims.{HaveSecrets, AreOfRows}
 use Rattle.auc_jobs.specs.InnerRound.{ServesJob}
 use Rattle.auc_jobs.specs.InnerUsims.{OwnUsims, AreCopies, has_usim, usim_in}
 use Rattle.auc_world.specs.declared.record.LineRecord.{LineRecord}
 use Rattle.auc_jobs.specs.InnerServing.{before_at, IsReleasableLine, Stands, Adds, Serves, ServesLines}
-use Rattle.auc_jobs.specs.InnerWorker.{WorkerState, WorkerStands, WorkerServes, WorkerServesLines, WorkerBegins, WorkerServesJob, WorkerOpens}
+use Rattle.auc_jobs.specs.InnerWorker.{WorkerState, WorkerStands, WorkerServes, WorkerServesLines, WorkerBegins, WorkerServesJob}
 use Rattle.auc_jobs.proofs.JobLemmas.{serves_adds, ServingLines, job_none}
-use Rattle.auc_jobs.proofs.PieceLemmas.{ServingJobs}
 use Rattle.auc_jobs.proofs.SettleLemmas.{begins_stands, job_releasable, job_settles}
 
 module _ {C : Type 0} where
@@ -97,23 +93,3 @@ module _ {C : Type 0} where
       d.rows.sizes d.known d.are keyed secrets begins
       (subst (λ (ls : List LineRecord). ServesLines (λ i es ws. goes old.centre i es ws after.centre) old.set early beside (kept after.centre) old.released (usim_in own) job ls) (sym lines_are)
       (subst (λ (us : OwnUsims). ServesLines (λ i es ws. goes old.centre i es ws after.centre) old.set early beside (kept after.centre) old.released (usim_in us) job after.lines) (sym own_is) s)))
-
-  -- the next job of a round begins
-  pub next_begins : (kept : C → ℕ → Option ℕ) (goes : ℕ → List Entry → List ℕ → Type 0) (early : List LineRecord) (old now : WorkerState C) (usims : List Memory)
-      (left next jobs : List (List Line)) (job item : List Line) (front : List (List LineRecord)) (own : List OwnUsims) → now.set ≡ old.set → now.released ≡ old.released
-      → left ≡ job ∷ next → item ≡ job → WorkerOpens kept early old usims → ServingJobs goes old.set early (kept now.centre) left jobs front own
-      → WorkerBegins kept early (all_lines front) now usims item
-  next_begins kept goes early old now usims left next jobs job item front own set released cut is opens serving = record {
-    told = serving.told;
-    earlier = subst (λ (rs : Released). AreReleased rs early) (sym released) opens.earlier;
-    pasts = subst (λ (s : Setting). AreBehind s.rows early (slice_get usims)) (sym set) opens.pasts;
-    quiet = subst (IsQuiet (all_lines front)) (sym is) (All-head (IsQuiet (all_lines front)) job next (subst (All (IsQuiet (all_lines front))) cut serving.quiet));
-  }
-
-  -- and is served
-  pub next_served : (kept : C → ℕ → Option ℕ) (goes : C → ℕ → List Entry → List ℕ → C → Type 0) (early : List LineRecord) (old now new : WorkerState C) (usims : List Memory)
-      (job item : List Line) (beside lines : List LineRecord) (own : OwnUsims) → now.set ≡ old.set → item ≡ job → WorkerBegins kept early beside now usims item
-      → WorkerServesJob kept goes now new usims item lines own → ServesJob (λ i es ws. goes now.centre i es ws new.centre) old.set early beside (kept new.centre) job lines (usim_in own)
-  next_served kept goes early old now new usims job item beside lines own set is begins serves =
-      subst (λ (s : Setting). ServesJob (λ i es ws. goes now.centre i es ws new.centre) s early beside (kept new.centre) job lines (usim_in own)) set
-      (subst (λ (j : List Line). ServesJob (λ i es ws. goes now.centre i es ws new.centre) now.set early beside (kept new.centre) j lines (usim_in own)) is (serves early beside begins))

@@ -1,6 +1,6 @@
 -- Inner facts: what only private contracts of this crate cite. Here: the jobs of a round, each served after its worker's
 -- earlier lines and with its own USIMs, and what their pieces come to.
-use Rattle.std.specs.Prelude.{◌≡◌, ℕ, ◌≤◌, false, List, [], ◌∷◌, ◌++◌, All, length, Option, slice_get, slice_index}
+use Rattle.std.specs.Prelude.{◌≡◌, ℕ, ◌≤◌, ◌<◌, false, List, [], ◌∷◌, ◌++◌, All, length, Option, slice_get, slice_index}
 use Rattle.auc_history.specs.declared.entry.Entry.{Entry}
 use Rattle.auc_history.specs.Split.{Splits}
 use Rattle.auc_lines.specs.declared.part.Line.{Line}
@@ -56,24 +56,6 @@ AreSettled rows early (job ∷ jobs) [] usims = ⊥
 AreSettled rows early (job ∷ jobs) (lines ∷ records) [] = ⊥
 AreSettled rows early (job ∷ jobs) (lines ∷ records) (own ∷ usims) = IsSettled rows early job lines (usim_in own) × AreSettled rows early jobs records usims
 
--- the pieces of one worker: each job's lines, after those of all its earlier jobs
-abbrev pub pieces_after : List LineRecord → List (List LineRecord) → List Piece
-pieces_after earlier [] = []
-pieces_after earlier (lines ∷ records) = (record { earlier = earlier; lines = lines }) ∷ pieces_after (earlier ++ lines) records
-
--- what stands before the first job of a worker
-pub record RoundBegins (rows : List Row) (early : List LineRecord) (kept : ℕ → Option ℕ) (released : Released) (usims : List Memory) : Type 0 where
-  pub told : AreTold kept []
-  pub earlier : AreReleased released early
-  pub pasts : AreBehind rows early (slice_get usims)
-
--- what the jobs of a worker gave, after earlier rounds
-pub record ServesJobs (goes : ℕ → List Entry → List ℕ → Type 0) (set : Setting) (early : List LineRecord)
-    (jobs : List (List Line)) (records : List (List LineRecord)) (usims : List OwnUsims) : Type 0 where
-  pub given : PiecesGive set early jobs (pieces_after [] records)
-  pub made : (sub : ℕ) → goes sub (entries_of_lines sub [] (all_lines records)) (withheld_of sub (all_lines records))
-  pub settled : AreSettled set.rows early jobs records usims
-
 -- ---- the pieces of a round
 
 -- the records of a round's jobs are pieces, each of some worker. They lead each subscriber from its opening to its word,
@@ -83,14 +65,14 @@ pub record ArePieces (set : Setting) (early : List LineRecord) (openings : List 
   pub lines : records ≡ lines_of_pieces pieces
   pub give : PiecesGive set early jobs pieces
   pub reports : (sub : ℕ) → ReportsAreEarlier sub [] pieces
-  pub split : (sub : ℕ) → Splits max_seq (slice_index openings sub) (slice_index words sub) (entries_of_pieces sub pieces)
+  pub split : (sub : ℕ) → sub < length openings → Splits max_seq (slice_index openings sub) (slice_index words sub) (entries_of_pieces sub pieces)
   pub released : (sub : ℕ) → withheld_of sub (all_lines records) ≡ []
 
--- a round's pieces, and its jobs' USIMs, after the state in which it begins
-pub record AreServed (set : Setting) (early : List LineRecord) (state : Standing) (jobs : List (List Line)) (records : List (List LineRecord)) (usims : List OwnUsims) (words : List ℕ) : Type 0 where
-  pub pieces : ArePieces set early state.words jobs records words
+-- a round's pieces, and its jobs' USIMs, after the words at which it opens
+pub record AreServed (set : Setting) (early : List LineRecord) (openings : List ℕ) (jobs : List (List Line)) (records : List (List LineRecord)) (usims : List OwnUsims) (words : List ℕ) : Type 0 where
+  pub pieces : ArePieces set early openings jobs records words
   pub settled : AreSettled set.rows early jobs records usims
-  pub size : length words ≡ length state.words
+  pub size : length words ≡ length openings
 
 -- the state after a round: where the round's words lead, with the jobs' USIMs put back and the released numbers noted
 pub record IsAdvanced (old : Standing) (jobs : List (List Line)) (records : List (List LineRecord)) (usims : List OwnUsims) (words : List ℕ) (new : Standing) : Type 0 where

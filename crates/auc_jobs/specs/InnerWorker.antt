@@ -10,14 +10,15 @@ use Rattle.auc_usim.specs.Usim.{Memory}
 use Rattle.auc_world.specs.declared.record.LineRecord.{LineRecord}
 use Rattle.auc_jobs.specs.Numbers.{Released}
 use Rattle.auc_jobs.specs.Usims.{HaveSecrets}
-use Rattle.auc_jobs.specs.InnerRound.{JobBegins, ServesJob, RoundBegins, ServesJobs}
+use Rattle.auc_jobs.specs.InnerRound.{JobBegins, ServesJob}
 use Rattle.auc_jobs.specs.InnerServing.{before_at, Stands, Serves, ServesLines}
 use Rattle.auc_jobs.specs.InnerUsims.{OwnUsims, usim_in, has_usim}
 
--- what a worker has while it serves a job: its centre, what the job is served with, the numbers that were released in
+-- what a worker has while it serves a job: its centre, the name of the borrow of it, what the job is served with, the numbers that were released in
 -- earlier rounds, the job's own USIMs, and the job's lines so far
 pub record WorkerState (C : Type 0) : Type 0 where
   pub centre : C
+  pub lent : ℕ
   pub set : Setting
   pub released : Released
   pub usims : OwnUsims
@@ -34,9 +35,11 @@ pub record AreForRows (rows : List Row) (subs : ℕ) (top : ℕ → ℕ) (usims 
   pub secrets : HaveSecrets rows usims
 
 module _ {C : Type 0} where
-  -- a worker goes on with the borrow that its centre holds, by its name, and with its setting and released numbers
+  -- a worker goes on with the same borrow of its centre and with the borrow that the centre holds, by their names, and
+  -- with its setting and released numbers
   pub record IsSameWorker (old_name name : ℕ) (old new : WorkerState C) : Type 0 where
     pub borrow : name ≡ old_name
+    pub lent : new.lent ≡ old.lent
     pub set : new.set ≡ old.set
     pub released : new.released ≡ old.released
 
@@ -70,13 +73,3 @@ module _ {C : Type 0} where
       → List Memory → List Line → List LineRecord → OwnUsims → Type 0
   WorkerServesJob kept goes old new usims job lines own = (early beside : List LineRecord) → WorkerBegins kept early beside old usims job
       → ServesJob (λ i es ws. goes old.centre i es ws new.centre) old.set early beside (kept new.centre) job lines (usim_in own)
-
-  -- what stands before it serves jobs
-  abbrev pub WorkerOpens : (C → ℕ → Option ℕ) → List LineRecord → WorkerState C → List Memory → Type 0
-  WorkerOpens kept early w usims = RoundBegins w.set.rows early (kept w.centre) w.released usims
-
-  -- what it gave for jobs, after earlier rounds
-  abbrev pub WorkerServesJobs : (C → ℕ → Option ℕ) → (C → ℕ → List Entry → List ℕ → C → Type 0) → WorkerState C → WorkerState C
-      → List Memory → List (List Line) → List (List LineRecord) → List OwnUsims → Type 0
-  WorkerServesJobs kept goes old new usims jobs records own = (early : List LineRecord) → WorkerOpens kept early old usims
-      → ServesJobs (λ i es ws. goes old.centre i es ws new.centre) old.set early jobs records own

@@ -8,21 +8,20 @@ ghost use Rattle.auc_jobs.specs.declared.counting.Count.{Count};
 ghost use Rattle.auc_jobs.specs.InnerClosings.{counted_closing, counted_closings};
 
 use crate::counting::Count;
+use auc_draw::Closed;
 use auc_edge::{Items, NoMemory};
 use auc_sqn::MAX_SEQ;
-use auc_vector::CoreCentre;
 use auc_world::Closing;
 use std::alloc::Global;
 
-/// The word of each subscriber of a centre.
-pub(crate) fn words(alloc: Global, centre: &CoreCentre, subs: u32) -> Result<Items<u64>, NoMemory>
-    requires { length centre.now ≡ subs }
-    ensures value { IfOk result (λ words. words ≡ centre.now) }
-    ensures bound { IfOk result (λ words. All (λ word. word ≤ max_seq + 64) words) }
+/// The word of each subscriber of a closed book.
+pub(crate) fn words(alloc: Global, closed: &Closed, subs: u32) -> Result<Items<u64>, NoMemory>
+    requires { length closed.now.words ≡ subs }
+    ensures { IfOk result (λ words. words ≡ closed.now.words) }
 {
     let mut words = Items::new(alloc);
     for sub in 0..subs {
-        words.push(centre.word(sub))?;
+        words.push(closed.word(sub))?;
     }
     Ok(words)
 }

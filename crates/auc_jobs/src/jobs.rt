@@ -1,13 +1,13 @@
-//! Serving the jobs of a round, one after the other, by one worker.
+//! Serving a job, and what the jobs of a round gave.
 
-ghost use Rattle.std.specs.Prelude.{◌≡◌, ◌++◌, ◌∷◌, [], true, ℕ, List, AllPairs, length, map, OnOk, IfOk, if◌then◌else◌};
-ghost use Rattle.auc_lines.specs.Part.{AreApart, gives_to, is_give_to};
+ghost use Rattle.std.specs.Prelude.{◌≡◌, ◌++◌, ◌∷◌, [], true, ℕ, List, length, OnOk, IfOk, if◌then◌else◌};
+ghost use Rattle.auc_lines.specs.Part.{gives_to, is_give_to};
 ghost use Rattle.auc_world.specs.declared.record.LineRecord.{LineRecord};
 ghost use Rattle.auc_world.specs.Given.{LineGives};
 ghost use Rattle.auc_world.specs.Vectors.{vectors_in};
-ghost use Rattle.auc_jobs.specs.Serving.{IsKnownLine, AreKnown, AreAllKnown};
+ghost use Rattle.auc_jobs.specs.Serving.{IsKnownLine, AreKnown};
 ghost use Rattle.auc_jobs.specs.InnerUsims.{has_usim, usim_in};
-ghost use Rattle.auc_jobs.specs.InnerWorker.{IsSameWorker, GoesOnWith, WorkerServes, WorkerServesLines, WorkerBegins, WorkerServesJob, WorkerOpens, WorkerServesJobs};
+ghost use Rattle.auc_jobs.specs.InnerWorker.{IsSameWorker, GoesOnWith, WorkerServes, WorkerServesLines, WorkerBegins, WorkerServesJob};
 ghost use Rattle.auc_jobs.specs.Usims.{AreOfRows};
 
 use crate::bytes::printed_vectors;
@@ -15,7 +15,7 @@ use crate::job_usims::JobUsims;
 use crate::usims::Usims;
 use crate::worker::Worker;
 use auc_edge::{Items, NoMemory};
-use auc_lines::{JobPart, Line};
+use auc_lines::Line;
 use auc_vector::Centre;
 use auc_world::{JobRecord, JobVectors};
 use std::alloc::Global;
@@ -134,33 +134,5 @@ impl<C: Centre> Worker<'_, C> {
             usims,
             vectors,
         })
-    }
-
-    /// Serves the jobs of a round.
-    pub(crate) fn serve_jobs<R: Wait>(
-        &mut self,
-        rt: &R,
-        alloc: Global,
-        usims: &Usims,
-        full: bool,
-        jobs: &[JobPart],
-    ) -> Result<ServedJobs, NoMemory>
-        requires rows { AreOfRows self.old.set.rows usims.now }
-        requires known { AreAllKnown (length self.old.set.rows) jobs.now }
-        requires apart { AllPairs AreApart jobs.now }
-        requires none { self.old.lines ≡ [] }
-        requires opens { (early : List LineRecord) × WorkerOpens C.kept early self.old usims.now }
-
-        ensures served { IfOk result (λ done. WorkerServesJobs C.kept C.goes self.old self.new usims.now jobs.now done.records done.usims) }
-        ensures vectors { IfOk result (λ done. done.vectors ≡ (if full then map (vectors_in self.old.set) done.records else [])) }
-        ensures each { IfOk result (λ done. length done.usims ≡ length jobs.now) }
-        ensures same { IsSameWorker (C.name self.old.centre) (C.name self.new.centre) self.old self.new }
-    {
-        let mut done = ServedJobs::new(alloc);
-        for job in jobs {
-            let served = self.serve_job(rt, alloc, usims, full, job.as_slice())?;
-            done.push(served, full)?;
-        }
-        Ok(done)
     }
 }

@@ -14,6 +14,7 @@
 #![tactic(auto)]
 
 mod bytes;
+mod claiming;
 mod closing;
 mod counting;
 mod drawing;
@@ -23,10 +24,12 @@ mod job_usims;
 mod jobs;
 mod noting;
 mod round;
+mod round_jobs;
 mod state;
 mod syncing;
 mod usims;
 mod worker;
+mod workers;
 
 pub use auc_world::Setting;
 pub use round::{Ran, Served, serve};

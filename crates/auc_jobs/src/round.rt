@@ -1,29 +1,27 @@
 //! One round.
 
-ghost use Rattle.std.specs.Prelude.{◌≡◌, ◌≤◌, ◌<◌, ◌+◌, ◌^◌, ◌++◌, [], ℕ, All, None, List, AllPairs, length, map, IfOk, OnErr, if◌then◌else◌};
+ghost use Rattle.std.specs.Prelude.{◌≡◌, ◌≤◌, ◌++◌, [], ℕ, None, List, AllPairs, length, map, IfOk, OnErr, if◌then◌else◌};
 ghost use Rattle.auc_lines.specs.Part.{AreApart};
-ghost use Rattle.auc_sqn.specs.Number.{max_seq};
 ghost use Rattle.auc_world.specs.Lines.{all_lines};
 ghost use Rattle.auc_world.specs.Round.{IsLawfulRound};
 ghost use Rattle.auc_world.specs.Transcript.{reopened};
 ghost use Rattle.auc_world.specs.Vectors.{vectors_in};
 ghost use Rattle.auc_world.specs.declared.record.LineRecord.{LineRecord};
-ghost use Rattle.auc_jobs.specs.InnerRound.{AreServed};
 ghost use Rattle.auc_jobs.specs.Serving.{AreAllKnown};
 ghost use Rattle.auc_jobs.specs.State.{StandsAt};
 
-use crate::closing::{closings, words};
+use crate::closing::closings;
 use crate::counting::counts;
 use crate::jobs::ServedJobs;
+use crate::round_jobs::RoundJobs;
 use crate::state::State;
-use crate::worker::Worker;
-use auc_core::Core;
-use auc_edge::{Items, NoMemory};
+use crate::workers::serve_pieces;
+use auc_edge::{Gate, Items, NoMemory};
 use auc_lines::JobPart;
-use auc_vector::CoreCentre;
 use auc_world::{JobVectors, RoundRecord, Setting};
 use std::alloc::Global;
 use std::sync::Wait;
+use std::thread::Threads;
 
 /// What a round did: its record, and in a full print the vectors of its jobs' lines.
 #[derive(Drop)]
@@ -43,9 +41,11 @@ pub struct Served {
     pub result: Result<Ran, NoMemory>,
 }
 
-/// Serves a round of this number: opens each subscriber at its word of the state, serves the jobs, each after its worker's
-/// earlier lines and with its own copies of the USIMs to which it gives, closes the subscribers, and puts the USIMs back.
-pub fn serve<R: Wait>(
+/// Serves a round of this number by so many workers, each in a thread of its own: opens each subscriber at its word of the
+/// state, lets the workers claim the jobs and serve them, each after its worker's earlier lines and with its own copies of
+/// the USIMs to which it gives, closes the subscribers, and puts the USIMs back. The gate is told as a worker begins a job
+/// and after the job's last line, by the job's number from 1.
+pub fn serve<G: Gate + Sync, R: Threads + Wait + Sync>(
     rt: &R,
     alloc: Global,
     number: u32,
@@ -53,10 +53,14 @@ pub fn serve<R: Wait>(
     set: &Setting,
     full: bool,
     state: State,
+    workers: u32,
+    gate: &G,
 ) -> Served
     requires state { (early : List LineRecord) × StandsAt set.now early state }
     requires known { AreAllKnown (length set.now.rows) jobs.now }
+    requires few { length jobs.now ≤ 200000 }
     requires apart { AllPairs AreApart jobs.now }
+    requires workers { (1 ≤ workers) × (workers ≤ 64) }
 
     ensures lawful { IfOk result.result (λ ran. (early : List LineRecord)
         → StandsAt set.now early state → (words : List ℕ)
@@ -71,12 +75,14 @@ pub fn serve<R: Wait>(
     ensures kept { OnErr result.result (result.state ≡ state) }
 {
     let mut state = state;
-    let result = run(rt, alloc, number, jobs, set, full, &mut state);
+    let result = run(
+        rt, alloc, number, jobs, set, full, &mut state, workers, gate,
+    );
     Served { state, result }
 }
 
 /// Serves a round, and leads the state to the next one.
-fn run<R: Wait>(
+fn run<G: Gate + Sync, R: Threads + Wait + Sync>(
     rt: &R,
     alloc: Global,
     number: u32,
@@ -84,10 +90,14 @@ fn run<R: Wait>(
     set: &Setting,
     full: bool,
     state: &mut State,
+    workers: u32,
+    gate: &G,
 ) -> Result<Ran, NoMemory>
     requires state { (early : List LineRecord) × StandsAt set.now early state.old }
     requires known { AreAllKnown (length set.now.rows) jobs.now }
+    requires few { length jobs.now ≤ 200000 }
     requires apart { AllPairs AreApart jobs.now }
+    requires workers { (1 ≤ workers) × (workers ≤ 64) }
 
     ensures lawful { IfOk result (λ ran. (early : List LineRecord)
         → StandsAt set.now early state.old → (words : List ℕ)
@@ -101,7 +111,15 @@ fn run<R: Wait>(
         ≡ (if full then map (vectors_in set.now) ran.round.jobs else [])) }
     ensures kept { OnErr result (state.new ≡ state.old) }
 {
-    let (done, words) = serve_pieces(rt, alloc, jobs, set, full, state)?;
+    let _count = set.subs.len();
+    let round = RoundJobs {
+        set,
+        released: &state.released,
+        usims: &state.usims,
+        jobs,
+        full,
+    };
+    let (done, words) = serve_pieces(rt, alloc, &round, state.words.as_slice(), workers, gate)?;
     let ServedJobs {
         records,
         usims,
@@ -124,34 +142,4 @@ fn run<R: Wait>(
         },
         vectors,
     })
-}
-
-/// Serves the jobs of a round by one worker, and answers what they gave, and the subscribers' words after them.
-fn serve_pieces<R: Wait>(
-    rt: &R,
-    alloc: Global,
-    jobs: &[JobPart],
-    set: &Setting,
-    full: bool,
-    state: &State,
-) -> Result<(ServedJobs, Items<u64>), NoMemory>
-    requires state { (early : List LineRecord) × StandsAt set.now early state.now }
-    requires known { AreAllKnown (length set.now.rows) jobs.now }
-    requires apart { AllPairs AreApart jobs.now }
-
-    ensures served { IfOk result (λ served. (early : List LineRecord) → StandsAt set.now early state.now
-        → AreServed set.now early state.now jobs.now served.0.records served.0.usims served.1) }
-    ensures vectors { IfOk result (λ served. served.0.vectors
-        ≡ (if full then map (vectors_in set.now) served.0.records else [])) }
-    ensures each { IfOk result (λ served. length served.0.usims ≡ length jobs.now) }
-    ensures size { IfOk result (λ served. length served.1 ≡ length state.now.words) }
-    ensures few { IfOk result (λ served. length served.1 < 2 ^ 32) }
-    ensures bound { IfOk result (λ served. All (λ word. word ≤ max_seq + 64) served.1) }
-{
-    let count = set.subs.len();
-    let centre = CoreCentre::new(Core::new(alloc, state.words.as_slice())?);
-    let mut worker = Worker::new(alloc, centre, set, &state.released);
-    let done = worker.serve_jobs(rt, alloc, &state.usims, full, jobs)?;
-    let words = words(alloc, &worker.centre, count)?;
-    Ok((done, words))
 }

@@ -14,12 +14,12 @@ use std::alloc::Global;
 use std::marker::Model;
 use std::mem;
 
-/// What one worker has while it serves a job: its centre, what the job is served with, the numbers that were released in
+/// What one worker has while it serves a job: a centre that is lent to it, what the job is served with, the numbers that were released in
 /// earlier rounds, the job's own USIMs, and the job's lines so far. Contracts see all of them. The centre and the USIMs are
 /// those of the setting's subscribers.
 #[derive(Drop)]
 pub(crate) struct Worker<'a, C: Centre> {
-    pub(crate) centre: C,
+    pub(crate) centre: &'a mut C,
     pub(crate) set: &'a Setting<'a>,
     pub(crate) released: &'a Numbers,
     pub(crate) usims: JobUsims,
@@ -33,26 +33,34 @@ impl<'a, C: Centre> Model for Worker<'a, C> {
     ghost Value = { WorkerState C };
 
     ghost view = { λ w. record {
-      centre = w.centre;
+      centre = w.centre.now;
+      lent = w.centre.ghost_name;
       set = w.set.now;
       released = w.released.now;
       usims = w.usims;
       lines = w.lines;
     } };
 
-    ghost invariant = { λ w. AreForRows w.set.now.rows (C.subs w.centre) (C.top w.centre) (usim_in w.usims) };
+    ghost invariant = { λ w. AreForRows w.set.now.rows (C.subs w.centre.now) (C.top w.centre.now) (usim_in w.usims) };
 }
 
 impl<'a, C: Centre> Worker<'a, C> {
     /// A worker that has served no line.
     pub(crate) fn new(
         alloc: Global,
-        centre: C,
+        centre: &'a mut C,
         set: &'a Setting<'a>,
         released: &'a Numbers,
     ) -> Worker<'a, C>
-        requires { IsCentreOf (length set.now.rows) (C.subs centre) (C.top centre) }
-        ensures { result ≡ record { centre = centre; set = set.now; released = released.now; usims = result.usims; lines = [] } }
+        requires { IsCentreOf (length set.now.rows) (C.subs centre.old) (C.top centre.old) }
+        ensures { result ≡ record {
+          centre = centre.old;
+          lent = centre.entry.ghost_name;
+          set = set.now;
+          released = released.now;
+          usims = result.usims;
+          lines = [];
+        } }
     {
         Worker {
             centre,
@@ -81,5 +89,14 @@ impl<'a, C: Centre> Worker<'a, C> {
         let lines = mem::replace(&mut self.lines, JobLines::new(alloc));
         let usims = mem::replace(&mut self.usims, JobUsims::new(alloc));
         (lines.into_lines(), usims)
+    }
+
+    /// Gives the centre back.
+    pub(crate) fn into_centre(self) -> &'a mut C
+        ensures lent { result.ghost_name ≡ self.entry.lent }
+        ensures centre { result.now ≡ self.entry.centre }
+    {
+        let Worker { centre, .. } = self;
+        centre
     }
 }

@@ -10,16 +10,17 @@ use Rattle.auc_jobs.proofs.worker.Worker.draw.Goals as goal
 
 pub loop-init : goal.loop-init
 loop-init g c = record {
-  rows = subst (λ (w : WorkerState g.row.C.Denot). AreForRows w.set.rows (g.C.Centre.subs c.self.inside.centre) (g.C.Centre.top c.self.inside.centre) (usim_in w.usims)) c.self.view_is c.self.invariant;
+  rows = subst (λ (w : WorkerState g.row.C.Denot). AreForRows w.set.rows (g.C.Centre.subs c.self.inside.centre.now) (g.C.Centre.top c.self.inside.centre.now) (usim_in w.usims)) c.self.view_is c.self.invariant;
   set = ap (λ (w : WorkerState g.row.C.Denot). w.set) c.self.view_is;
   released = ap (λ (w : WorkerState g.row.C.Denot). w.released) c.self.view_is;
   usims = ap (λ (w : WorkerState g.row.C.Denot). w.usims) c.self.view_is;
   name = ap (λ (w : WorkerState g.row.C.Denot). g.C.Centre.name w.centre) c.self.view_is;
+  lent = ap (λ (w : WorkerState g.row.C.Denot). w.lent) c.self.view_is;
   adding = λ beside. subst (λ (w : WorkerState g.row.C.Denot). AreTold (g.C.Centre.kept w.centre) (beside ++ w.lines)
-      → Adding (λ i es ws. g.C.Centre.goes w.centre i es ws c.self.inside.centre) (g.C.Centre.kept c.self.inside.centre) w.set c.args.sub (c.args.count - 0) c.args.count
+      → Adding (λ i es ws. g.C.Centre.goes w.centre i es ws c.self.inside.centre.now) (g.C.Centre.kept c.self.inside.centre.now) w.set c.args.sub (c.args.count - 0) c.args.count
       beside w.lines c.self.inside.lines) c.self.view_is
-      (λ told. rw sub-zero (adding_none (λ i es ws. g.C.Centre.goes c.self.inside.centre i es ws c.self.inside.centre) (g.C.Centre.kept c.self.inside.centre) c.self.inside.set.now
-      c.args.sub c.args.count beside c.self.inside.lines (λ i. g.met.C.Centre.stays c.self.inside.centre i) told));
+      (λ told. rw sub-zero (adding_none (λ i es ws. g.C.Centre.goes c.self.inside.centre.now i es ws c.self.inside.centre.now) (g.C.Centre.kept c.self.inside.centre.now) c.self.inside.set.now
+      c.args.sub c.args.count beside c.self.inside.lines (λ i. g.met.C.Centre.stays c.self.inside.centre.now i) told));
 }
 
 pub returns-then-not-goes_on-clause-drawn : goal.returns-then-not-goes_on-clause-drawn
@@ -27,12 +28,12 @@ returns-then-not-goes_on-clause-drawn g c = λ early beside stands.
     let ends : is_vector c.draw_one-line.result ≡ false = cc in
     worker_adds (λ i es ws. g.C.Centre.goes c.args.self.now.centre i es ws c.draw_one-line.new.centre) (g.C.Centre.kept c.args.self.now.centre) (g.C.Centre.kept c.draw_one-line.new.centre)
     early beside c.args.self.now c.loop.self-inside.usims c.push.new.self (DrawGives c.args.self.now.set c.args.sub c.args.count) c.loop.invariant.usims stands
-    (adding_end (λ i es ws. g.C.Centre.goes c.args.self.now.centre i es ws c.loop.self-inside.centre)
-    (λ i es ws. g.C.Centre.goes c.loop.self-inside.centre i es ws c.draw_one-line.new.centre)
-    (λ i es ws. g.C.Centre.goes c.args.self.now.centre i es ws c.draw_one-line.new.centre) (g.C.Centre.kept c.loop.self-inside.centre) (g.C.Centre.kept c.draw_one-line.new.centre)
+    (adding_end (λ i es ws. g.C.Centre.goes c.args.self.now.centre i es ws c.loop.self-inside.centre.now)
+    (λ i es ws. g.C.Centre.goes c.loop.self-inside.centre.now i es ws c.draw_one-line.new.centre)
+    (λ i es ws. g.C.Centre.goes c.args.self.now.centre i es ws c.draw_one-line.new.centre) (g.C.Centre.kept c.loop.self-inside.centre.now) (g.C.Centre.kept c.draw_one-line.new.centre)
     c.args.self.now.set c.args.sub (c.args.count - c.loop.counter) (c.args.count - (c.loop.counter + 1)) c.args.count
     beside c.args.self.now.lines c.loop.self-inside.lines _ c.draw_one-line.result
-    (λ i es fs ws vs. g.met.C.Centre.joins c.args.self.now.centre c.loop.self-inside.centre c.draw_one-line.new.centre i es fs ws vs)
+    (λ i es fs ws vs. g.met.C.Centre.joins c.args.self.now.centre c.loop.self-inside.centre.now c.draw_one-line.new.centre i es fs ws vs)
     (omega arith) c.in_ok-push.ensures (c.draw_one-line.ensures.line c.args.self.now.set c.requires) ends c.draw_one-line.ensures.said
     (c.loop.invariant.adding beside stands.told))
 
@@ -49,21 +50,22 @@ loop-preserved g c = record {
   released = c.loop.invariant.released;
   usims = c.loop.invariant.usims;
   name = c.draw_one-line.ensures.name ∙ c.loop.invariant.name;
+  lent = c.loop.invariant.lent;
   adding = λ beside told.
       let goes_on : is_vector c.draw_one-line.result ≡ true = cc in
-      adding_vector (λ i es ws. g.C.Centre.goes c.args.self.now.centre i es ws c.loop.self-inside.centre)
-      (λ i es ws. g.C.Centre.goes c.loop.self-inside.centre i es ws c.draw_one-line.new.centre)
-      (λ i es ws. g.C.Centre.goes c.args.self.now.centre i es ws c.draw_one-line.new.centre) (g.C.Centre.kept c.loop.self-inside.centre) (g.C.Centre.kept c.draw_one-line.new.centre)
+      adding_vector (λ i es ws. g.C.Centre.goes c.args.self.now.centre i es ws c.loop.self-inside.centre.now)
+      (λ i es ws. g.C.Centre.goes c.loop.self-inside.centre.now i es ws c.draw_one-line.new.centre)
+      (λ i es ws. g.C.Centre.goes c.args.self.now.centre i es ws c.draw_one-line.new.centre) (g.C.Centre.kept c.loop.self-inside.centre.now) (g.C.Centre.kept c.draw_one-line.new.centre)
       c.args.self.now.set c.args.sub (c.args.count - c.loop.counter) (c.args.count - (c.loop.counter + 1)) c.args.count
       beside c.args.self.now.lines c.loop.self-inside.lines _ c.draw_one-line.result
-      (λ i es fs ws vs. g.met.C.Centre.joins c.args.self.now.centre c.loop.self-inside.centre c.draw_one-line.new.centre i es fs ws vs)
+      (λ i es fs ws vs. g.met.C.Centre.joins c.args.self.now.centre c.loop.self-inside.centre.now c.draw_one-line.new.centre i es fs ws vs)
       (omega arith) c.in_ok-push.ensures (c.draw_one-line.ensures.line c.args.self.now.set c.requires) goes_on c.draw_one-line.ensures.said
       (c.loop.invariant.adding beside told);
 }
 
 pub returns-clause-drawn : goal.returns-clause-drawn
 returns-clause-drawn g c = λ early beside stands.
-    worker_adds (λ i es ws. g.C.Centre.goes c.args.self.now.centre i es ws c.loop.self-inside.centre) (g.C.Centre.kept c.args.self.now.centre) (g.C.Centre.kept c.loop.self-inside.centre)
+    worker_adds (λ i es ws. g.C.Centre.goes c.args.self.now.centre i es ws c.loop.self-inside.centre.now) (g.C.Centre.kept c.args.self.now.centre) (g.C.Centre.kept c.loop.self-inside.centre.now)
     early beside c.args.self.now c.loop.self-inside.usims c.loop.self-inside.lines (DrawGives c.args.self.now.set c.args.sub c.args.count) c.loop.invariant.usims stands
-    (adding_all (λ i es ws. g.C.Centre.goes c.args.self.now.centre i es ws c.loop.self-inside.centre) (g.C.Centre.kept c.loop.self-inside.centre) c.args.self.now.set
+    (adding_all (λ i es ws. g.C.Centre.goes c.args.self.now.centre i es ws c.loop.self-inside.centre.now) (g.C.Centre.kept c.loop.self-inside.centre.now) c.args.self.now.set
     c.args.sub (c.args.count - c.loop.counter) c.args.count beside c.args.self.now.lines c.loop.self-inside.lines (omega arith) (c.loop.invariant.adding beside stands.told))

@@ -8,12 +8,13 @@ use Rattle.auc_jobs.proofs.worker.Worker.draw.Given as goal
 
 abbrev pub invariant-loop : goal.invariant-loop
 invariant-loop g l = record {
-  rows : AreForRows l.fn.self.set.rows (g.C.Centre.subs l.self-inside.centre) (g.C.Centre.top l.self-inside.centre) (usim_in l.fn.self.usims);
+  rows : AreForRows l.fn.self.set.rows (g.C.Centre.subs l.self-inside.centre.now) (g.C.Centre.top l.self-inside.centre.now) (usim_in l.fn.self.usims);
   set : l.self-inside.set.now ≡ l.fn.self.set;
   released : l.self-inside.released.now ≡ l.fn.self.released;
   usims : l.self-inside.usims ≡ l.fn.self.usims;
-  name : g.C.Centre.name l.self-inside.centre ≡ g.C.Centre.name l.fn.self.centre;
+  name : g.C.Centre.name l.self-inside.centre.now ≡ g.C.Centre.name l.fn.self.centre;
+  lent : l.self-inside.centre.ghost_name ≡ l.fn.self.lent;
   adding : (beside : List LineRecord) → AreTold (g.C.Centre.kept l.fn.self.centre) (beside ++ l.fn.self.lines)
-      → Adding (λ i es ws. g.C.Centre.goes l.fn.self.centre i es ws l.self-inside.centre) (g.C.Centre.kept l.self-inside.centre) l.fn.self.set l.sub (l.count - l.counter) l.count
+      → Adding (λ i es ws. g.C.Centre.goes l.fn.self.centre i es ws l.self-inside.centre.now) (g.C.Centre.kept l.self-inside.centre.now) l.fn.self.set l.sub (l.count - l.counter) l.count
       beside l.fn.self.lines l.self-inside.lines;
 }

@@ -13,7 +13,8 @@ returns-clause-given g c =
     on_ok_map c.push.result c.push.ensures (λ pushed early beside stands.
     let row = some_at c.args.self.now.set.rows c.args.sub c.requires.known in
     let inside : WorkerState g.row.C.Denot = record {
-      centre = c.self.inside.centre;
+      centre = c.self.inside.centre.now;
+      lent = c.self.inside.centre.ghost_name;
       set = c.self.inside.set.now;
       released = c.self.inside.released.now;
       usims = c.self.inside.usims;

@@ -9,6 +9,7 @@ use Rattle.auc_jobs.proofs.worker.Worker.serve_lines.Goals as goal
 pub loop-line-init : goal.loop-line-init
 loop-line-init g c = record {
   name = refl;
+  lent = refl;
   set = refl;
   released = refl;
   keyed = λ sub. refl;
@@ -23,6 +24,7 @@ serve_line-requires-clause-own g c = λ sub gives.
 pub loop-line-preserved : goal.loop-line-preserved
 loop-line-preserved g c = record {
   name = c.in_ok-serve_line.ensures.same.worker.borrow ∙ c.loop-line.invariant.name;
+  lent = c.in_ok-serve_line.ensures.same.worker.lent ∙ c.loop-line.invariant.lent;
   set = c.in_ok-serve_line.ensures.same.worker.set ∙ c.loop-line.invariant.set;
   released = c.in_ok-serve_line.ensures.same.worker.released ∙ c.loop-line.invariant.released;
   keyed = λ sub. c.in_ok-serve_line.ensures.same.keyed sub ∙ c.loop-line.invariant.keyed sub;

@@ -8,6 +8,7 @@ use Rattle.auc_jobs.proofs.worker.Worker.serve_lines.Given as goal
 abbrev pub invariant-loop-line : goal.invariant-loop-line
 invariant-loop-line g l = record {
   name : g.C.Centre.name l.self.centre ≡ g.C.Centre.name l.fn.self.centre;
+  lent : l.self.lent ≡ l.fn.self.lent;
   set : l.self.set ≡ l.fn.self.set;
   released : l.self.released ≡ l.fn.self.released;
   keyed : (sub : ℕ) → has_usim (usim_in l.self.usims) sub ≡ has_usim (usim_in l.fn.self.usims) sub;

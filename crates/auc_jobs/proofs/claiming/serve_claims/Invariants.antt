@@ -1,0 +1,13 @@
+use Rattle.std.proofs.Common.{◌≡◌, List, None, length}
+use Rattle.auc_world.specs.declared.record.LineRecord.{LineRecord}
+use Rattle.auc_jobs.specs.InnerClaims.{IsBetween}
+use Rattle.auc_jobs.specs.InnerSharing.{Begins}
+use Rattle.auc_jobs.proofs.claiming.serve_claims.Given as goal
+
+abbrev pub invariant-loop-turn : goal.invariant-loop-turn
+invariant-loop-turn g l = record {
+  own : l.pass.id ≡ l.initial.pass.id;
+  claims : l.pass.ended ≡ None;
+  many : length l.done.items ≡ l._turn;
+  stands : (early : List LineRecord) → Begins l.round early → IsBetween l.round early l.pass l.done.items;
+}

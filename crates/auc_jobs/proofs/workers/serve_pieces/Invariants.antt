@@ -1,0 +1,4 @@
+use Rattle.auc_jobs.proofs.workers.serve_pieces.Given as goal
+
+abbrev pub ghosts-work_all : goal.ghosts-work_all
+ghosts-work_all g a = record { table = a.book.now.id }

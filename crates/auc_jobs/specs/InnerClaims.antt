@@ -1,0 +1,108 @@
+-- Inner facts: what only private contracts of this crate cite. Here: the jobs that a worker claims and serves, and those of
+-- all workers of a round.
+use Rattle.std.specs.Prelude.{◌≡◌, ◌⊎◌, ℕ, ◌+◌, ◌<◌, ◌≤◌, Bool, true, false, List, [], ◌∷◌, ◌++◌, length, map, flat_map, All, AllPairs, Any, Option, Some, None, slice_get, if◌then◌else◌}
+use Rattle.atomic_table.specs.Seated.{TableId}
+use Rattle.auc_draw.specs.Deeds.{entries_of, claims_of, kept_of}
+use Rattle.auc_draw.specs.Values.{PassValue}
+use Rattle.auc_history.specs.declared.entry.Entry.{Entry}
+use Rattle.auc_history.specs.History.{IsInOrder}
+use Rattle.auc_lines.specs.declared.part.Line.{Line}
+use Rattle.auc_world.specs.declared.record.LineRecord.{LineRecord}
+use Rattle.auc_world.specs.Entries.{entries_of_lines}
+use Rattle.auc_world.specs.Given.{JobGives}
+use Rattle.auc_world.specs.Lines.{withheld_of}
+use Rattle.auc_world.specs.Vectors.{vectors_in}
+use Rattle.auc_jobs.specs.declared.claiming.ClaimedJob.{ClaimedJob}
+use Rattle.auc_jobs.specs.declared.claiming.WorkerJobs.{WorkerJobs}
+use Rattle.auc_jobs.specs.declared.jobs.ServedJob.{ServedJob}
+use Rattle.auc_jobs.specs.InnerRound.{IsSettled}
+use Rattle.auc_jobs.specs.InnerServing.{before_at, AreTold}
+use Rattle.auc_jobs.specs.InnerSharing.{Shared, Begins}
+use Rattle.auc_jobs.specs.InnerUsims.{usim_in}
+
+-- ---- one worker
+
+-- a job that was served, and the lines of its worker's earlier jobs
+pub record Turn : Type 0 where
+  pub earlier : List LineRecord
+  pub claimed : ClaimedJob
+
+-- the jobs of a worker, each after the earlier ones
+abbrev pub turns : List LineRecord → List ClaimedJob → List Turn
+turns earlier [] = []
+turns earlier (c ∷ done) = (record { earlier = earlier; claimed = c }) ∷ turns (earlier ++ c.served.lines) done
+
+-- the lines of all its jobs
+abbrev pub lines_done : List ClaimedJob → List LineRecord
+lines_done done = flat_map (λ c. c.served.lines) done
+
+-- the entries of a subscriber that its calls for a job made
+abbrev pub entries_of_turn : ℕ → Turn → List Entry
+entries_of_turn sub t = entries_of_lines sub t.earlier t.claimed.served.lines
+
+-- a job's lines are what it gives after its worker's earlier ones
+pub record IsGiven (shared : Shared) (early : List LineRecord) (t : Turn) : Type 0 where
+  pub asked : List Line
+  pub there : slice_get shared.jobs t.claimed.job ≡ Some asked
+  pub given : JobGives shared.set (before_at early t.earlier []) asked t.claimed.served.lines
+
+-- its USIMs after its lines have forgotten who served it
+pub record IsSettledAt (shared : Shared) (early : List LineRecord) (c : ClaimedJob) : Type 0 where
+  pub asked : List Line
+  pub there : slice_get shared.jobs c.job ≡ Some asked
+  pub settled : IsSettled shared.set.rows early asked c.served.lines (usim_in c.served.usims)
+
+-- a full print has the vectors of its lines
+abbrev pub IsPrinted : Shared → ServedJob → Type 0
+IsPrinted shared served = served.vectors ≡ (if shared.full then vectors_in shared.set served.lines else [])
+
+-- the claims are the jobs that were served, and the number that ended them
+abbrev pub ClaimsAre : ℕ → Option ℕ → List ℕ → List ℕ → Type 0
+ClaimsAre jobs None claims served = claims ≡ served
+ClaimsAre jobs (Some n) claims served = (claims ≡ served ++ n ∷ []) × (jobs ≤ n)
+
+-- a worker claimed and served these jobs, after earlier rounds
+pub record HasServed (shared : Shared) (early : List LineRecord) (pass : PassValue) (done : List ClaimedJob) : Type 0 where
+  pub claims : ClaimsAre (length shared.jobs) pass.ended (claims_of pass.deeds) (map (λ c. c.job) done)
+  pub below : All (λ c. c.job < length shared.jobs) done
+  pub rising : AllPairs (λ b c. b.job < c.job) done
+  pub made : (sub : ℕ) → entries_of sub pass.deeds ≡ flat_map (entries_of_turn sub) (turns [] done)
+  pub ordered : (sub : ℕ) → All (λ t. IsInOrder (entries_of_turn sub t)) (turns [] done)
+  pub given : All (IsGiven shared early) (turns [] done)
+  pub released : (sub : ℕ) → All (λ c. withheld_of sub c.served.lines ≡ []) done
+  pub settled : All (IsSettledAt shared early) done
+  pub printed : All (λ c. IsPrinted shared c.served) done
+
+-- a worker between two jobs
+pub record IsBetween (shared : Shared) (early : List LineRecord) (pass : PassValue) (done : List ClaimedJob) : Type 0 where
+  pub served : HasServed shared early pass done
+  pub told : AreTold (kept_of pass.deeds) (lines_done done)
+  pub earlier : Begins shared early
+
+-- a claim took the last job, or a number behind it
+abbrev pub IsLast : ℕ → List ℕ → Type 0
+IsLast jobs claims = (jobs ≡ 0) ⊎ Any (λ n. jobs ≤ n + 1) claims
+
+-- a worker claimed one more job and served it, or there was none
+pub record TakesTurn (shared : Shared) (more : Bool) (old : PassValue) (done : List ClaimedJob) (new : PassValue) (now : List ClaimedJob) : Type 0 where
+  pub stands : (early : List LineRecord) → IsBetween shared early old done → IsBetween shared early new now
+  pub some : more ≡ true → (new.ended ≡ None) × (length now ≡ length done + 1)
+  pub none : more ≡ false → IsLast (length shared.jobs) (claims_of new.deeds)
+
+-- a worker found no further job
+pub record HasFinished (shared : Shared) (pass : PassValue) (done : List ClaimedJob) : Type 0 where
+  pub served : (early : List LineRecord) → Begins shared early → HasServed shared early pass done
+  pub last : IsLast (length shared.jobs) (claims_of pass.deeds)
+
+-- what a worker comes to: its pass is the book's, and it served all jobs that it claimed, if it had the memory
+pub record IsDone (id : TableId) (shared : Shared) (d : WorkerJobs) : Type 0 where
+  pub own : d.pass.id ≡ id
+  pub whole : d.is_whole ≡ true → HasFinished shared d.pass d.jobs.items
+
+-- ---- all workers
+
+-- the passes and the jobs of all workers, each of which had the memory
+pub record AreCollected (all : List WorkerJobs) (passes : List PassValue) (done : List ClaimedJob) : Type 0 where
+  pub passed : passes ≡ map (λ d. d.pass) all
+  pub served : done ≡ flat_map (λ d. d.jobs.items) all
+  pub whole : All (λ d. d.is_whole ≡ true) all
