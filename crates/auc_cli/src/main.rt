@@ -6,7 +6,7 @@
 
 mod words;
 
-use auc_edge::{FileShelf, NoMemory, StdSink};
+use auc_edge::{FileShelf, NoMemory, OpenGate, StdSink};
 use auc_run::{Status, run};
 use std::process::ExitCode;
 use words::read_words;
@@ -16,7 +16,16 @@ fn main(rt: HostRuntime) -> ExitCode {
         Ok(words) => {
             let mut shelf = FileShelf::new(&rt);
             let mut out = StdSink::new(&rt);
-            run(&rt, rt.alloc(), words.as_slice(), &mut shelf, &mut out).status
+            let gate = OpenGate::new();
+            run(
+                &rt,
+                rt.alloc(),
+                words.as_slice(),
+                &mut shelf,
+                &mut out,
+                &gate,
+            )
+            .status
         }
         Err(NoMemory) => Status::NoMemory,
     };

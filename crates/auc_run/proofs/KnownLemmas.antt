@@ -1,9 +1,10 @@
 -- For the top call: a scenario that was read asks only for what can be served.
-use Rattle.std.proofs.Common.{◌^◌, ◌<◌, List, [], ◌∷◌, length, All, arith}
+use Rattle.std.proofs.Common.{◌^◌, ◌<◌, ◌≤◌, List, [], ◌∷◌, length, All, arith}
 use Rattle.std.proofs.lemmas.List.{length-append}
 use Rattle.std.proofs.lemmas.List.Elements.{All-nil, All-cons, All-head, All-tail, All-weaker}
 use Rattle.auc_jobs.specs.Serving.{IsKnownLine, AreKnown}
 use Rattle.auc_script.specs.Limits.{IsLine, IsPart, IsWithin}
+use Rattle.auc_script.specs.Numbers.{most_jobs}
 use Rattle.auc_lines.specs.Part.{jobs_of}
 use Rattle.auc_lines.specs.declared.part.Line.{Line}
 use Rattle.auc_lines.specs.declared.part.Line.TheVariants.{Draw, Sync, Give}
@@ -27,7 +28,7 @@ known_line rows (Sync sub seq bit count) is = (is.0, is.1, is.2)
 known_line rows (Give sub n) is = (is.0, is.1, is.2)
 
 -- parts that have not too many jobs together
-known_parts : (rows : List Row) (parts : List Part) → All (IsPart rows) parts → length (jobs_of parts) < 2 ^ 32 → All (IsKnownPart (length rows)) parts
+known_parts : (rows : List Row) (parts : List Part) → All (IsPart rows) parts → length (jobs_of parts) ≤ most_jobs → All (IsKnownPart (length rows)) parts
 known_parts rows [] each few = All-nil (IsKnownPart (length rows))
 known_parts rows (Restart ∷ parts) each few = absurd (All-head (IsPart rows) Restart parts each)
 known_parts rows (Round jobs ∷ parts) each few =

@@ -6,3 +6,4 @@ mod OutputLemmas
 mod KnownLemmas
 mod OutcomeLemmas
 mod RefusalLemmas
+mod LoadLemmas

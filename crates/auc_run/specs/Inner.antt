@@ -1,13 +1,16 @@
 -- Inner facts: what only private contracts of this crate cite.
-use Rattle.std.specs.Prelude.{◌≡◌, ℕ, ◌+◌, ◌^◌, ◌<◌, ◌⊎◌, AllPairs, Bool, List, length, Option, Some, None, Ok, Err}
+use Rattle.std.specs.Prelude.{◌≡◌, ℕ, ◌+◌, ◌≤◌, ◌⊎◌, AllPairs, Bool, List, length, Option, Some, None, Ok, Err}
 use Rattle.std.specs.Option.{option_copied}
 use Rattle.auc_edge.specs.Shelf.{File, IsLongerFile}
 use Rattle.auc_edge.specs.Sink.{Appends}
 use Rattle.auc_edge.specs.declared.read_refusal.ReadRefusal.{ReadRefusal}
 use Rattle.auc_edge.specs.declared.read_refusal.ReadRefusal.TheVariants as unread
+use Rattle.auc_load.specs.Words.{load_named}
+use Rattle.auc_load.specs.declared.words.LoadWords.{LoadWords}
 use Rattle.auc_jobs.specs.Serving.{AreAllKnown}
 use Rattle.auc_jobs.specs.State.{Standing, StandsAt}
 use Rattle.auc_print.specs.Text.{part_text}
+use Rattle.auc_script.specs.Numbers.{most_jobs}
 use Rattle.auc_script.specs.Reading.{script_of}
 use Rattle.auc_lines.specs.Part.{AreApart}
 use Rattle.auc_lines.specs.declared.part.Line.{Line}
@@ -99,11 +102,16 @@ FilesStop told files refused.WriteFault = AreRight told files
 FilesStop told files refused.NoMemory = Unit {0}
 FilesStop told files refusal = AreWrong told files refusal
 
--- why a run ends early: by its files, by the words alone, or in printing the functions of Milenage
+-- why a load ends early: the words are none of a load, or in serving it or writing its lines
+abbrev pub LoadStops : List (List ℕ) → Refusal → Type 0
+LoadStops words refusal = ((load_named words ≡ None) × (refusal ≡ refused.Usage))
+    ⊎ ((load : LoadWords) × (load_named words ≡ Some load) × OutputStops refusal)
+
+-- why a run ends early: by its files, by the words alone, in printing the functions of Milenage, or in a load
 abbrev pub Stops : List (List ℕ) → Option (List File) → Refusal → Type 0
 Stops words told refusal = ((files : Files) × (files_named words ≡ Some files) × FilesStop told files refusal)
-    ⊎ ((files_named words ≡ None) × (values_named words ≡ None) × (refusal ≡ refused.Usage))
     ⊎ ((values : AlgorithmWords) × (files_named words ≡ None) × (values_named words ≡ Some values) × OutputStops refusal)
+    ⊎ ((files_named words ≡ None) × (values_named words ≡ None) × LoadStops words refusal)
 
 -- nothing was written, unless a refusal is one that may come after rounds were written
 abbrev pub IsSilent : Refusal → Option (List ℕ) → Option (List ℕ) → Type 0
@@ -124,11 +132,11 @@ Tells refusal status old new = ((status ≡ status_of refusal) × Appends old ne
 
 -- ---- the rounds, one after the other
 
--- each line of a round is one of known subscribers, no two of its jobs give to one USIM, and its jobs can be counted
+-- each line of a round is one of known subscribers, no two of its jobs give to one USIM, and it has not too many jobs
 pub record IsKnownRound (count : ℕ) (jobs : List (List Line)) : Type 0 where
   pub known : AreAllKnown count jobs
   pub apart : AllPairs AreApart jobs
-  pub few : length jobs < 2 ^ 32
+  pub few : length jobs ≤ most_jobs
 
 -- a part that can be served: such a round
 abbrev pub IsKnownPart : ℕ → Part → Type 0

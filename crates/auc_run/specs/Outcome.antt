@@ -2,6 +2,9 @@
 use Rattle.std.specs.Prelude.{◌≡◌, ℕ, ◌≤◌, ◌⊎◌, List, [], length, Option, Some, None, Ok, Err}
 use Rattle.auc_edge.specs.Shelf.{File, IsFile, IsLongerFile}
 use Rattle.auc_edge.specs.Sink.{Appends}
+use Rattle.auc_load.specs.Summary.{load_text}
+use Rattle.auc_load.specs.Words.{load_named}
+use Rattle.auc_load.specs.declared.words.LoadWords.{LoadWords}
 use Rattle.auc_script.specs.Reading.{script_of}
 use Rattle.auc_script.specs.declared.refusal.ScriptRefusal.TheVariants.{Line}
 use Rattle.auc_script.specs.declared.script.Script.{Script}
@@ -67,6 +70,10 @@ RunsScenario words told old new = (files : Files) × (files_named words ≡ Some
 abbrev pub PrintsAlgorithm : List (List ℕ) → Option (List ℕ) → Option (List ℕ) → Type 0
 PrintsAlgorithm words old new = (values : AlgorithmWords) × (values_named words ≡ Some values) × Appends old new (algorithm_text values)
 
+-- the words are those of a load, and its five lines were written: they are a function of the words
+abbrev pub RunsLoad : List (List ℕ) → Option (List ℕ) → Option (List ℕ) → Type 0
+RunsLoad words old new = (load : LoadWords) × (load_named words ≡ Some load) × Appends old new (load_text load)
+
 -- ---- what is refused
 
 -- what is wrong with the files, the first of it in the order in which they are read
@@ -80,7 +87,7 @@ AreWrong told files _ = ⊥
 
 -- the cause of a refusal: the words have no form, or what is wrong with the files that they name
 abbrev pub IsCause : List (List ℕ) → Option (List File) → Refusal → Type 0
-IsCause words told refused.Usage = (files_named words ≡ None) × (values_named words ≡ None)
+IsCause words told refused.Usage = (files_named words ≡ None) × (values_named words ≡ None) × (load_named words ≡ None)
 IsCause words told refusal = (files : Files) × (files_named words ≡ Some files) × AreWrong told files refusal
 
 -- a run was refused: the refusal's cause is there, and its line was written
@@ -98,6 +105,6 @@ IsStop status = (status ≡ ReadFault) ⊎ (status ≡ WriteFault) ⊎ (status �
 abbrev pub MayRun : Status → Type 0
 MayRun status = (status ≡ Done) ⊎ IsStop status
 
--- how a run may end whose words give the values of Milenage's functions
+-- how a run may end whose words give the values of Milenage's functions, or are those of a load
 abbrev pub MayPrint : Status → Type 0
 MayPrint status = (status ≡ Done) ⊎ (status ≡ WriteFault) ⊎ (status ≡ NoMemory)

@@ -1,18 +1,20 @@
 //! Runs over files and an output in memory. Further runs stand in `examples/`, and one in the crate `auc_cli`.
 
 use crate::{Ended, MAX_FILE, Status, run};
-use auc_edge::{Items, MemShelf, MemSink, NoMemory, Octets};
+use auc_edge::{Gate, Items, MemShelf, MemSink, NoMemory, Octets, OpenGate};
 use std::alloc::Global;
 use std::process::Abort;
 use std::sync::Wait;
+use std::thread::Threads;
 
-// A run with these words over a shelf.
-fn run_words<R: Wait>(
+// A run with these words over a shelf, with a gate.
+fn run_words<R: Threads + Wait + Sync, G: Gate + Sync>(
     rt: &R,
     alloc: Global,
     all: &[&[u8]],
     shelf: &mut MemShelf,
     out: &mut MemSink,
+    gate: &G,
 ) -> Result<Ended, NoMemory> {
     let mut words = Items::new(alloc);
     for bytes in all {
@@ -20,11 +22,11 @@ fn run_words<R: Wait>(
         word.append(bytes)?;
         words.push(word)?;
     }
-    Ok(run(rt, alloc, words.as_slice(), shelf, out))
+    Ok(run(rt, alloc, words.as_slice(), shelf, out, gate))
 }
 
 // Checks the status and the output of `run scenario`, if the file has this text.
-fn check<R: Abort + Wait>(
+fn check<R: Abort + Threads + Wait + Sync>(
     rt: &R,
     alloc: Global,
     text: &[u8],
@@ -35,14 +37,21 @@ fn check<R: Abort + Wait>(
     shelf.add(b"scenario", text)?;
     let mut out = MemSink::new(alloc);
     let words = [b"run".as_slice(), b"scenario".as_slice()];
-    let ended = run_words(rt, alloc, words.as_slice(), &mut shelf, &mut out)?;
+    let ended = run_words(
+        rt,
+        alloc,
+        words.as_slice(),
+        &mut shelf,
+        &mut out,
+        &OpenGate::new(),
+    )?;
     assert_eq!(rt; out.as_slice(), output);
     assert_eq!(rt; ended.status, status);
     Ok(())
 }
 
 // Checks the same of `run scenario subscribers`.
-fn check_both<R: Abort + Wait>(
+fn check_both<R: Abort + Threads + Wait + Sync>(
     rt: &R,
     alloc: Global,
     shelf: &mut MemShelf,
@@ -55,7 +64,14 @@ fn check_both<R: Abort + Wait>(
         b"scenario".as_slice(),
         b"subscribers".as_slice(),
     ];
-    let ended = run_words(rt, alloc, words.as_slice(), shelf, &mut out)?;
+    let ended = run_words(
+        rt,
+        alloc,
+        words.as_slice(),
+        shelf,
+        &mut out,
+        &OpenGate::new(),
+    )?;
     assert_eq!(rt; out.as_slice(), output);
     assert_eq!(rt; ended.status, status);
     Ok(())
@@ -263,7 +279,7 @@ fn words_of_no_form_are_answered_by_usage(rt: HostRuntime) -> Result<(), NoMemor
     for words in cases {
         let mut shelf = MemShelf::new(alloc);
         let mut out = MemSink::new(alloc);
-        let ended = run_words(&rt, alloc, words, &mut shelf, &mut out)?;
+        let ended = run_words(&rt, alloc, words, &mut shelf, &mut out, &OpenGate::new())?;
         assert_eq!(rt; ended.status.number(), 1);
         assert_eq!(rt; out.as_slice(), b"usage\n".as_slice());
     }
@@ -284,11 +300,48 @@ fn vector_prints_the_functions_of_milenage(rt: HostRuntime) -> Result<(), NoMemo
     ];
     let mut shelf = MemShelf::new(alloc);
     let mut out = MemSink::new(alloc);
-    let ended = run_words(&rt, alloc, words.as_slice(), &mut shelf, &mut out)?;
+    let ended = run_words(
+        &rt,
+        alloc,
+        words.as_slice(),
+        &mut shelf,
+        &mut out,
+        &OpenGate::new(),
+    )?;
     assert_eq!(rt; ended.status, Status::Done);
     assert_eq!(rt;
         out.as_slice(),
         b"f1 4a9ffac354dfafb3\nf1* 01cfaf9ec4e871e9\nf2 a54211d5e3ba50bf\nf3 b40ba9a3c58b2a05bbf0d987b21bf8cb\nf4 f769bcd751044604127672711c6d3441\nf5 aa689c648370\nf5* 451e8beca43b\n".as_slice()
+    );
+    Ok(())
+}
+
+// Bytes from Python, as above, and SHA-256 of its `hashlib`: the vectors 1 to 10 of subscriber 0 and 1 to 5 of the
+// subscribers 1 and 2.
+#[test]
+fn load_digests_all_vectors(rt: HostRuntime) -> Result<(), NoMemory> {
+    let alloc = rt.alloc();
+    let words = [
+        b"load".as_slice(),
+        b"7".as_slice(),
+        b"3".as_slice(),
+        b"4".as_slice(),
+        b"02".as_slice(),
+    ];
+    let mut shelf = MemShelf::new(alloc);
+    let mut out = MemSink::new(alloc);
+    let ended = run_words(
+        &rt,
+        alloc,
+        words.as_slice(),
+        &mut shelf,
+        &mut out,
+        &OpenGate::new(),
+    )?;
+    assert_eq!(rt; ended.status, Status::Done);
+    assert_eq!(rt;
+        out.as_slice(),
+        b"subscribers 3\njobs 4\nworkers 2\nvectors 20\nsha256 3536caba342a6eede95980f70df943f059a8a6667310e7df091d1fd69b34680f\n".as_slice()
     );
     Ok(())
 }
@@ -331,7 +384,14 @@ fn round_whose_write_fails_is_the_last(rt: HostRuntime) -> Result<(), NoMemory> 
     let mut out = MemSink::new(alloc);
     out.fail(2)?;
     let words = [b"run".as_slice(), b"scenario".as_slice()];
-    let ended = run_words(&rt, alloc, words.as_slice(), &mut shelf, &mut out)?;
+    let ended = run_words(
+        &rt,
+        alloc,
+        words.as_slice(),
+        &mut shelf,
+        &mut out,
+        &OpenGate::new(),
+    )?;
     assert_eq!(rt; ended.status, Status::WriteFault);
     assert_eq!(rt; out.as_slice(), b"round 1\n".as_slice());
     Ok(())

@@ -9,7 +9,7 @@ use Rattle.auc_run.proofs.PrintableLemmas.{round_prints}
 use Rattle.auc_run.proofs.rounds.serve_and_write.Goals as goal
 
 pub serve-state-requires-clause-apart : goal.serve-state-requires-clause-apart
-serve-state-requires-clause-apart g c = subst (λ (jobs : List (List Line)). AllPairs AreApart jobs) (sym c.as_slice.ensures) c.requires.known.apart
+serve-state-requires-clause-apart g c = λ κs within. subst (λ (jobs : List (List Line)). AllPairs AreApart jobs) (sym c.as_slice.ensures) c.requires.known.apart
 
 pub write_round-requires-clause-named : goal.write_round-requires-clause-named
 write_round-requires-clause-named g c =

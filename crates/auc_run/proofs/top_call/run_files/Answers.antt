@@ -8,7 +8,7 @@ use Rattle.auc_run.proofs.OutcomeLemmas.{OnOk-weaker, files_run}
 use Rattle.auc_run.proofs.top_call.run_files.Goals as goal
 
 pub serve_parts-requires-clause-known : goal.serve_parts-requires-clause-known
-serve_parts-requires-clause-known g c = (known c.read_script.new.subs c.in_ok-script.script c.in_ok-script.ensures.within).parts
+serve_parts-requires-clause-known g c = λ κs within. (known c.read_script.new.subs c.in_ok-script.script c.in_ok-script.ensures.within).parts
 
 pub returns-clause-done : goal.returns-clause-done
 returns-clause-done g c =

@@ -1,0 +1,454 @@
+-- For a load: the numbers at which its round closes the subscribers.
+use Rattle.std.proofs.Common.{◌≡◌, ℕ, zero, suc, ◌+◌, ◌*◌, ◌%◌, ◌<◌, ◌≤◌, Bool, true, false, cond, List, [], ◌∷◌, ◌++◌, length, get_or, map, All, AllPairs, None, refl, sym, ◌∙◌, ap, subst, append-nil, arith}
+use Rattle.std.specs.Prelude.{◌==◌, if◌then◌else◌, count_by, flat_map}
+use Rattle.std.specs.List.{range_with_len}
+use Rattle.std.proofs.lemmas.Bool.Decides.{nat_tests}
+use Rattle.std.proofs.lemmas.Grind.{flat_map-append}
+use Rattle.std.proofs.lemmas.List.{length-append, length-map}
+use Rattle.std.proofs.lemmas.List.Concat.{length-flat_map}
+use Rattle.std.proofs.lemmas.List.Elements.{All-nil, All-cons, All-head, All-tail, All-append, All-same}
+use Rattle.std.proofs.lemmas.List.FromFn.{get_or-map-range_with_len, length-map-range_with_len}
+use Rattle.std.proofs.lemmas.List.Sums.{get_or-le-sum_by, sum_by-append, sum_by-cons}
+use Rattle.std.proofs.lemmas.Simd.{map-map}
+use Rattle.auc_history.specs.History.{drawn, drawn_by, skipped, skipped_by}
+use Rattle.auc_history.specs.Split.{all_entries}
+use Rattle.auc_history.specs.declared.entry.Entry.TheVariants.{Drawn}
+use Rattle.auc_history.proofs.Facts.{split_counts_its_numbers}
+use Rattle.auc_jobs.specs.Serving.{AreAllKnown, AreKnown, IsKnownLine}
+use Rattle.auc_lines.specs.Part.{AreApart, gives_to}
+use Rattle.auc_lines.specs.declared.part.Line.{Line}
+use Rattle.auc_lines.specs.declared.part.Line.TheVariants.{Draw}
+use Rattle.auc_load.specs.Input.{job_at, load_jobs, load_key, load_rows, row_at, vectors_of_a_job}
+use Rattle.auc_load.specs.Summary.{closing_with, drawn_for, load_closings}
+use Rattle.auc_load.specs.Words.{IsLoad}
+use Rattle.auc_load.specs.declared.words.LoadWords.{LoadWords}
+use Rattle.auc_sqn.specs.Number.{max_seq}
+use Rattle.auc_subs.specs.declared.row.Row.{Row}
+use Rattle.auc_world.specs.Entries.{is_reported, entries_of_line, entries_of_lines, entries_of_jobs}
+use Rattle.auc_world.specs.Given.{DrawGives, JobsGive}
+use Rattle.auc_world.specs.Lines.{all_lines, numbers_of, released_by, withheld_by, withheld_of}
+use Rattle.auc_world.specs.Record.{subscriber_of}
+use Rattle.auc_world.specs.Round.{IsLawfulRound, closing_of, closings_from}
+use Rattle.auc_world.specs.Setting.{Setting}
+use Rattle.auc_world.specs.declared.record.Closing.{Closing}
+use Rattle.auc_world.specs.declared.record.LineRecord.{LineRecord}
+use Rattle.auc_world.specs.declared.record.LineRecord.TheVariants.{Vector, Withheld, Exhausted, Sync, Give}
+use Rattle.auc_world.specs.declared.record.RoundRecord.{RoundRecord}
+use Rattle.auc_run.proofs.EntryLemmas.{IsWithin, WordWithin, all_entries-of_jobs, splits_within, lines_within}
+
+-- ---- what jobs give that draw
+
+-- a line of a draw: a word that it tells is that of a spent subscriber
+abbrev pub IsOfDraw : LineRecord → Type 0
+IsOfDraw (Vector s n) = Unit {0}
+IsOfDraw (Withheld s n stop) = Unit {0}
+IsOfDraw (Exhausted s word) = max_seq ≤ word
+IsOfDraw (Sync s answer) = ⊥
+IsOfDraw (Give s n answer) = ⊥
+
+no_lines : (lines : List LineRecord) → lines ≡ [] → All IsOfDraw lines
+no_lines lines none = All-same IsOfDraw lines [] none (All-nil IsOfDraw)
+
+draw_lines : (set : Setting) (sub count : ℕ) (lines : List LineRecord) → DrawGives set sub count lines → All IsOfDraw lines
+draw_lines set sub zero lines gives = no_lines lines gives
+draw_lines set sub (suc count) [] gives = absurd gives
+draw_lines set sub (suc count) (Vector s n ∷ lines) (same, is, more) = All-cons IsOfDraw (Vector s n) lines tt (draw_lines set sub count lines more)
+draw_lines set sub (suc count) (Withheld s n stop ∷ lines) (same, first, last, none) = All-cons IsOfDraw (Withheld s n stop) lines tt (no_lines lines none)
+draw_lines set sub (suc count) (Exhausted s word ∷ lines) (same, spent, none) = All-cons IsOfDraw (Exhausted s word) lines spent (no_lines lines none)
+draw_lines set sub (suc count) (Sync s answer ∷ lines) gives = absurd gives
+draw_lines set sub (suc count) (Give s n answer ∷ lines) gives = absurd gives
+
+-- its lines are of its subscriber
+draw_named : (set : Setting) (total sub count : ℕ) (lines : List LineRecord) → sub < total → DrawGives set sub count lines
+    → All (λ line. subscriber_of line < total) lines
+draw_named set total sub zero lines inside gives = All-same (λ line. subscriber_of line < total) lines [] gives (All-nil (λ line. subscriber_of line < total))
+draw_named set total sub (suc count) [] inside gives = absurd gives
+draw_named set total sub (suc count) (Vector s n ∷ lines) inside (same, is, more) =
+    All-cons (λ line. subscriber_of line < total) (Vector s n) lines (omega (arith, same, inside)) (draw_named set total sub count lines inside more)
+draw_named set total sub (suc count) (Withheld s n stop ∷ lines) inside (same, first, last, none) =
+    All-cons (λ line. subscriber_of line < total) (Withheld s n stop) lines (omega (arith, same, inside))
+    (All-same (λ line. subscriber_of line < total) lines [] none (All-nil (λ line. subscriber_of line < total)))
+draw_named set total sub (suc count) (Exhausted s word ∷ lines) inside (same, spent, none) =
+    All-cons (λ line. subscriber_of line < total) (Exhausted s word) lines (omega (arith, same, inside))
+    (All-same (λ line. subscriber_of line < total) lines [] none (All-nil (λ line. subscriber_of line < total)))
+draw_named set total sub (suc count) (Sync s answer ∷ lines) inside gives = absurd gives
+draw_named set total sub (suc count) (Give s n answer ∷ lines) inside gives = absurd gives
+
+-- there are no more lines than vectors were asked for
+draw_few : (set : Setting) (sub count : ℕ) (lines : List LineRecord) → DrawGives set sub count lines → length lines ≤ count
+draw_few set sub zero lines gives = let none = ap length gives in omega (arith, none)
+draw_few set sub (suc count) [] gives = absurd gives
+draw_few set sub (suc count) (Vector s n ∷ lines) (same, is, more) = let rest = draw_few set sub count lines more in omega (arith, rest)
+draw_few set sub (suc count) (Withheld s n stop ∷ lines) (same, first, last, none) = let rest = ap length none in omega (arith, rest)
+draw_few set sub (suc count) (Exhausted s word ∷ lines) (same, spent, none) = let rest = ap length none in omega (arith, rest)
+draw_few set sub (suc count) (Sync s answer ∷ lines) gives = absurd gives
+draw_few set sub (suc count) (Give s n answer ∷ lines) gives = absurd gives
+
+-- jobs of which each draws so many vectors for the subscriber of its place in a list
+abbrev pub DrawsEach : Setting → ℕ → List ℕ → List (List LineRecord) → Type 0
+DrawsEach set count [] records = records ≡ []
+DrawsEach set count (s ∷ ss) [] = ⊥
+DrawsEach set count (s ∷ ss) (lines ∷ records) = DrawGives set s count lines × DrawsEach set count ss records
+
+pub draws_each : (set : Setting) (early beside : List LineRecord) (count : ℕ) (ss : List ℕ) (records : List (List LineRecord))
+    → JobsGive set early beside (map (λ s. Draw s count ∷ []) ss) records → DrawsEach set count ss records
+draws_each set early beside count [] records gives = gives
+draws_each set early beside count (s ∷ ss) [] gives = absurd gives
+draws_each set early beside count (s ∷ ss) (lines ∷ records) ((front, rest, cut, gives, none), more) = (
+  subst (DrawGives set s count) (sym (cut ∙ ap (λ (r : List LineRecord). front ++ r) none ∙ append-nil front)) gives,
+  draws_each set early (beside ++ lines) count ss records more,
+)
+
+all_of_draw : (set : Setting) (count : ℕ) (ss : List ℕ) (records : List (List LineRecord)) → DrawsEach set count ss records → All IsOfDraw (all_lines records)
+all_of_draw set count [] records gives = no_lines (all_lines records) (ap all_lines gives)
+all_of_draw set count (s ∷ ss) [] gives = absurd gives
+all_of_draw set count (s ∷ ss) (lines ∷ records) (here, more) =
+    All-append IsOfDraw lines (all_lines records) (draw_lines set s count lines here) (all_of_draw set count ss records more)
+
+all_named : (set : Setting) (total count : ℕ) (ss : List ℕ) (records : List (List LineRecord)) → All (λ s. s < total) ss → DrawsEach set count ss records
+    → All (λ line. subscriber_of line < total) (all_lines records)
+all_named set total count [] records inside gives =
+    All-same (λ line. subscriber_of line < total) (all_lines records) [] (ap all_lines gives) (All-nil (λ line. subscriber_of line < total))
+all_named set total count (s ∷ ss) [] inside gives = absurd gives
+all_named set total count (s ∷ ss) (lines ∷ records) inside (here, more) =
+    All-append (λ line. subscriber_of line < total) lines (all_lines records) (draw_named set total s count lines (All-head (λ s. s < total) s ss inside) here)
+    (all_named set total count ss records (All-tail (λ s. s < total) s ss inside) more)
+
+few_lines : (set : Setting) (count : ℕ) (ss : List ℕ) (records : List (List LineRecord)) → DrawsEach set count ss records
+    → length (all_lines records) ≤ count * length ss
+few_lines set count [] records gives = let none = ap (λ (rs : List (List LineRecord)). length (all_lines rs)) gives in omega (arith, none)
+few_lines set count (s ∷ ss) [] gives = absurd gives
+few_lines set count (s ∷ ss) (lines ∷ records) (here, more) =
+    let first = draw_few set s count lines here in
+    let rest = few_lines set count ss records more in
+    let cut = length-append lines (all_lines records) in
+    omega (arith, first, rest, cut)
+
+-- ---- no number is skipped, and few are drawn
+
+line_draws : (sub : ℕ) (before : List LineRecord) (line : LineRecord) → IsOfDraw line → length (drawn (entries_of_line sub before line)) ≤ 1
+line_draws sub before (Vector s n) is = one (s == sub) n
+  where
+    one : (there : Bool) (n : ℕ) → length (drawn (if there then Drawn n ∷ [] else [])) ≤ 1
+    one true n = omega arith
+    one false n = omega arith
+line_draws sub before (Withheld s n stop) is = one (s == sub) n
+  where
+    one : (there : Bool) (n : ℕ) → length (drawn (if there then Drawn n ∷ [] else [])) ≤ 1
+    one true n = omega arith
+    one false n = omega arith
+line_draws sub before (Exhausted s word) is = mark (s == sub) (is_reported sub word before) (word + 1)
+  where
+    mark : (there told : Bool) (n : ℕ) → length (drawn (if there then (if told then [] else Drawn n ∷ []) else [])) ≤ 1
+    mark true true n = omega arith
+    mark true false n = omega arith
+    mark false told n = omega arith
+line_draws sub before (Sync s answer) is = absurd is
+line_draws sub before (Give s n answer) is = absurd is
+
+line_skips : (sub : ℕ) (before : List LineRecord) (line : LineRecord) → IsOfDraw line → skipped (entries_of_line sub before line) ≡ 0
+line_skips sub before (Vector s n) is = one (s == sub) n
+  where
+    one : (there : Bool) (n : ℕ) → skipped (if there then Drawn n ∷ [] else []) ≡ 0
+    one true n = refl
+    one false n = refl
+line_skips sub before (Withheld s n stop) is = one (s == sub) n
+  where
+    one : (there : Bool) (n : ℕ) → skipped (if there then Drawn n ∷ [] else []) ≡ 0
+    one true n = refl
+    one false n = refl
+line_skips sub before (Exhausted s word) is = mark (s == sub) (is_reported sub word before) (word + 1)
+  where
+    mark : (there told : Bool) (n : ℕ) → skipped (if there then (if told then [] else Drawn n ∷ []) else []) ≡ 0
+    mark true true n = refl
+    mark true false n = refl
+    mark false told n = refl
+line_skips sub before (Sync s answer) is = absurd is
+line_skips sub before (Give s n answer) is = absurd is
+
+lines_draw : (sub : ℕ) (before lines : List LineRecord) → All IsOfDraw lines → length (drawn (entries_of_lines sub before lines)) ≤ length lines
+lines_draw sub before [] all = omega arith
+lines_draw sub before (line ∷ lines) all =
+    let first = line_draws sub before line (All-head IsOfDraw line lines all) in
+    let rest = lines_draw sub (before ++ line ∷ []) lines (All-tail IsOfDraw line lines all) in
+    let cut = ap length (flat_map-append drawn_by (entries_of_line sub before line) (entries_of_lines sub (before ++ line ∷ []) lines)) in
+    let both = length-append (drawn (entries_of_line sub before line)) (drawn (entries_of_lines sub (before ++ line ∷ []) lines)) in
+    omega (arith, first, rest, cut, both)
+
+lines_skip : (sub : ℕ) (before lines : List LineRecord) → All IsOfDraw lines → skipped (entries_of_lines sub before lines) ≡ 0
+lines_skip sub before [] all = refl
+lines_skip sub before (line ∷ lines) all =
+    let first = line_skips sub before line (All-head IsOfDraw line lines all) in
+    let rest = lines_skip sub (before ++ line ∷ []) lines (All-tail IsOfDraw line lines all) in
+    let cut = sum_by-append skipped_by (entries_of_line sub before line) (entries_of_lines sub (before ++ line ∷ []) lines) in
+    omega (arith, first, rest, cut)
+
+-- ---- all lines are vectors
+
+-- a line that releases a vector
+abbrev pub IsVector : LineRecord → Type 0
+IsVector (Vector s n) = Unit {0}
+IsVector (Withheld s n stop) = ⊥
+IsVector (Exhausted s word) = ⊥
+IsVector (Sync s answer) = ⊥
+IsVector (Give s n answer) = ⊥
+
+-- a line of a draw that tells no word as high as the greatest number and withholds nothing
+vector_is : (closing : ℕ) (line : LineRecord) → closing < max_seq → IsOfDraw line → WordWithin closing line
+    → withheld_by (subscriber_of line) line ≡ [] → IsVector line
+vector_is closing (Vector s n) small is within none = tt
+vector_is closing (Withheld s n stop) small is within none = absurd (held (s == s) (grind (arith, nat_tests)) none)
+  where
+    held : (same : Bool) → same ≡ true → (if same then n ∷ [] else []) ≡ [] → ⊥
+    held true is none = cc
+    held false is none = cc
+vector_is closing (Exhausted s word) small is within none = absurd (omega (arith, small, is, within))
+vector_is closing (Sync s answer) small is within none = is
+vector_is closing (Give s n answer) small is within none = is
+
+-- what lists joined are empty
+none_at : (sub : ℕ) (lines : List LineRecord) (k : ℕ) (d : LineRecord) → k < length lines → withheld_of sub lines ≡ []
+    → withheld_by sub (get_or lines k d) ≡ []
+none_at sub lines k d inside none =
+    let whole = length-flat_map (withheld_by sub) lines in
+    let part = get_or-le-sum_by (λ (line : LineRecord). length (withheld_by sub line)) lines k d inside in
+    let zero_is = ap length none in
+    empty (withheld_by sub (get_or lines k d)) (omega (arith, whole, part, zero_is))
+  where
+    empty : (numbers : List ℕ) → length numbers ≤ 0 → numbers ≡ []
+    empty [] few = refl
+    empty (n ∷ more) few = absurd (omega (arith, few))
+
+-- ---- a load's round
+
+-- a lawful round of such jobs, which opens each subscriber at 0
+pub record IsLoadRound (set : Setting) (count : ℕ) (ss openings : List ℕ) (round : RoundRecord) (words : List ℕ) : Type 0 where
+  pub lawful : IsLawfulRound set None [] openings (map (λ s. Draw s count ∷ []) ss) round words
+  pub named : All (λ s. s < length openings) ss
+  pub opens : (sub : ℕ) → sub < length openings → get_or openings sub 0 ≡ 0
+  pub few : count * length ss < max_seq
+
+-- the closing word is small
+closes_low : (set : Setting) (count : ℕ) (ss openings : List ℕ) (round : RoundRecord) (words : List ℕ) → IsLoadRound set count ss openings round words
+    → (sub : ℕ) → sub < length openings → get_or words sub 0 < max_seq
+closes_low set count ss openings round words is sub inside =
+    let draws = draws_each set [] [] count ss round.jobs is.lawful.given in
+    let all = all_of_draw set count ss round.jobs draws in
+    let lines = few_lines set count ss round.jobs draws in
+    let whole = split_counts_its_numbers max_seq (get_or openings sub 0) (get_or words sub 0) (entries_of_jobs sub [] round.jobs) (is.lawful.split sub inside) in
+    let entries = all_entries-of_jobs sub [] round.jobs in
+    let draw = lines_draw sub [] (all_lines round.jobs) all in
+    let skip = lines_skip sub [] (all_lines round.jobs) all in
+    let same_draw = ap (λ es. length (drawn es)) entries in
+    let same_skip = ap skipped entries in
+    let opens = is.opens sub inside in
+    let few = is.few in
+    omega (arith, lines, whole, draw, skip, same_draw, same_skip, opens, few)
+
+only_vectors : (set : Setting) (count : ℕ) (ss openings : List ℕ) (round : RoundRecord) (words : List ℕ) → IsLoadRound set count ss openings round words
+    → All IsVector (all_lines round.jobs)
+only_vectors set count ss openings round words is k d inside =
+    let line = get_or (all_lines round.jobs) k d in
+    let draws = draws_each set [] [] count ss round.jobs is.lawful.given in
+    let sub = subscriber_of line in
+    let named : sub < length openings = all_named set (length openings) count ss round.jobs is.named draws k d inside in
+    let closing = get_or words sub 0 in
+    let entries = subst (All (IsWithin closing)) (all_entries-of_jobs sub [] round.jobs)
+    (splits_within max_seq (get_or openings sub 0) closing (entries_of_jobs sub [] round.jobs) (is.lawful.split sub named)) in
+    let words_are = lines_within sub closing [] (all_lines round.jobs) (λ word told. absurd (cc)) entries in
+    let of_draw = all_of_draw set count ss round.jobs draws in
+    vector_is closing line (closes_low set count ss openings round words is sub named) (of_draw k d inside) (words_are k d inside refl)
+    (none_at sub (all_lines round.jobs) k d inside (is.lawful.withheld sub))
+
+-- ---- how many vectors each subscriber gets
+
+left : (xs ys : List LineRecord) → All IsVector (xs ++ ys) → All IsVector xs
+left [] ys all = All-nil IsVector
+left (x ∷ xs) ys all = All-cons IsVector x xs (All-head IsVector x (xs ++ ys) all) (left xs ys (All-tail IsVector x (xs ++ ys) all))
+
+right : (xs ys : List LineRecord) → All IsVector (xs ++ ys) → All IsVector ys
+right [] ys all = all
+right (x ∷ xs) ys all = right xs ys (All-tail IsVector x (xs ++ ys) all)
+
+-- the entries of a job's vectors, and its vectors
+job_draws : (set : Setting) (count s sub : ℕ) (before lines : List LineRecord) → DrawGives set s count lines → All IsVector lines
+    → length (drawn (entries_of_lines sub before lines)) ≡ count * cond (s == sub) 1 0
+job_draws set zero s sub before lines gives all = let none = ap (λ ls. length (drawn (entries_of_lines sub before ls))) gives in omega (arith, none)
+job_draws set (suc count) s sub before [] gives all = absurd gives
+job_draws set (suc count) s sub before (Vector t n ∷ lines) (same, is, more) all =
+    let first = one (t == sub) n in
+    let rest = job_draws set count s sub (before ++ Vector t n ∷ []) lines more (All-tail IsVector (Vector t n) lines all) in
+    let cut = ap length (flat_map-append drawn_by (entries_of_line sub before (Vector t n)) (entries_of_lines sub (before ++ Vector t n ∷ []) lines)) in
+    let both = length-append (drawn (entries_of_line sub before (Vector t n))) (drawn (entries_of_lines sub (before ++ Vector t n ∷ []) lines)) in
+    let of_s = ap {B = ℕ} (λ (k : ℕ). cond (k == sub) 1 0) same in
+    omega (arith, first, rest, cut, both, of_s)
+  where
+    one : (there : Bool) (n : ℕ) → length (drawn (if there then Drawn n ∷ [] else [])) ≡ cond there 1 0
+    one true n = refl
+    one false n = refl
+job_draws set (suc count) s sub before (Withheld t n stop ∷ lines) gives all = absurd (All-head IsVector (Withheld t n stop) lines all)
+job_draws set (suc count) s sub before (Exhausted t word ∷ lines) gives all = absurd (All-head IsVector (Exhausted t word) lines all)
+job_draws set (suc count) s sub before (Sync t answer ∷ lines) gives all = absurd gives
+job_draws set (suc count) s sub before (Give t n answer ∷ lines) gives all = absurd gives
+
+job_releases : (set : Setting) (count s sub : ℕ) (lines : List LineRecord) → DrawGives set s count lines → All IsVector lines
+    → length (numbers_of sub lines) ≡ count * cond (s == sub) 1 0
+job_releases set zero s sub lines gives all = let none = ap (λ ls. length (numbers_of sub ls)) gives in omega (arith, none)
+job_releases set (suc count) s sub [] gives all = absurd gives
+job_releases set (suc count) s sub (Vector t n ∷ lines) (same, is, more) all =
+    let first = one (t == sub) n in
+    let rest = job_releases set count s sub lines more (All-tail IsVector (Vector t n) lines all) in
+    let both = length-append (released_by sub (Vector t n)) (numbers_of sub lines) in
+    let of_s = ap {B = ℕ} (λ (k : ℕ). cond (k == sub) 1 0) same in
+    omega (arith, first, rest, both, of_s)
+  where
+    one : (there : Bool) (n : ℕ) → length (if there then n ∷ [] else []) ≡ cond there 1 0
+    one true n = refl
+    one false n = refl
+job_releases set (suc count) s sub (Withheld t n stop ∷ lines) gives all = absurd (All-head IsVector (Withheld t n stop) lines all)
+job_releases set (suc count) s sub (Exhausted t word ∷ lines) gives all = absurd (All-head IsVector (Exhausted t word) lines all)
+job_releases set (suc count) s sub (Sync t answer ∷ lines) gives all = absurd gives
+job_releases set (suc count) s sub (Give t n answer ∷ lines) gives all = absurd gives
+
+-- those of all jobs
+jobs_draw : (set : Setting) (count sub : ℕ) (before : List LineRecord) (ss : List ℕ) (records : List (List LineRecord)) → DrawsEach set count ss records
+    → All IsVector (all_lines records) → length (drawn (all_entries (entries_of_jobs sub before records))) ≡ count * count_by (λ s. s == sub) ss
+jobs_draw set count sub before [] records gives all =
+    let none = ap (λ rs. length (drawn (all_entries (entries_of_jobs sub before rs)))) gives in omega (arith, none)
+jobs_draw set count sub before (s ∷ ss) [] gives all = absurd gives
+jobs_draw set count sub before (s ∷ ss) (lines ∷ records) (here, more) all =
+    let first = job_draws set count s sub before lines here (left lines (all_lines records) all) in
+    let rest = jobs_draw set count sub (before ++ lines) ss records more (right lines (all_lines records) all) in
+    let cut = ap length (flat_map-append drawn_by (entries_of_lines sub before lines) (all_entries (entries_of_jobs sub (before ++ lines) records))) in
+    let both = length-append (drawn (entries_of_lines sub before lines)) (drawn (all_entries (entries_of_jobs sub (before ++ lines) records))) in
+    let more : count * count_by (λ s. s == sub) (s ∷ ss) ≡ count * (cond (s == sub) 1 0 + count_by (λ s. s == sub) ss) =
+    ap (λ (n : ℕ). count * n) (sum_by-cons (λ (t : ℕ). cond (t == sub) 1 0) s ss) in
+    omega (arith, first, rest, cut, both, more)
+
+jobs_release : (set : Setting) (count sub : ℕ) (ss : List ℕ) (records : List (List LineRecord)) → DrawsEach set count ss records
+    → All IsVector (all_lines records) → length (numbers_of sub (all_lines records)) ≡ count * count_by (λ s. s == sub) ss
+jobs_release set count sub [] records gives all =
+    let none = ap (λ rs. length (numbers_of sub (all_lines rs))) gives in omega (arith, none)
+jobs_release set count sub (s ∷ ss) [] gives all = absurd gives
+jobs_release set count sub (s ∷ ss) (lines ∷ records) (here, more) all =
+    let first = job_releases set count s sub lines here (left lines (all_lines records) all) in
+    let rest = jobs_release set count sub ss records more (right lines (all_lines records) all) in
+    let cut = ap length (flat_map-append (released_by sub) lines (all_lines records)) in
+    let both = length-append (numbers_of sub lines) (numbers_of sub (all_lines records)) in
+    let more : count * count_by (λ s. s == sub) (s ∷ ss) ≡ count * (cond (s == sub) 1 0 + count_by (λ s. s == sub) ss) =
+    ap (λ (n : ℕ). count * n) (sum_by-cons (λ (t : ℕ). cond (t == sub) 1 0) s ss) in
+    omega (arith, first, rest, cut, both, more)
+
+-- ---- the closings
+
+closing_same : (sub opening word draws skips releases withholds n : ℕ) → opening ≡ 0 → word ≡ n → draws ≡ n → skips ≡ 0 → releases ≡ n → withholds ≡ 0
+    → (if opening == word then [] else record { sub = sub; first = opening; last = word; drawn = draws; skipped = skips; released = releases; withheld = withholds } ∷ [])
+    ≡ closing_with sub n
+closing_same sub opening word draws skips releases withholds n eo ew ed es er eh = rw (eo, ew, ed, es, er, eh) refl
+
+closing_is : (set : Setting) (count : ℕ) (ss openings : List ℕ) (round : RoundRecord) (words : List ℕ) → IsLoadRound set count ss openings round words
+    → (sub : ℕ) → sub < length openings
+    → closing_of sub (get_or openings sub 0) (get_or words sub 0) round.jobs ≡ closing_with sub (count * count_by (λ s. s == sub) ss)
+closing_is set count ss openings round words is sub inside =
+    let draws = draws_each set [] [] count ss round.jobs is.lawful.given in
+    let all = only_vectors set count ss openings round words is in
+    let whole = split_counts_its_numbers max_seq (get_or openings sub 0) (get_or words sub 0) (entries_of_jobs sub [] round.jobs) (is.lawful.split sub inside) in
+    let draw = jobs_draw set count sub [] ss round.jobs draws all in
+    let skip = ap skipped (all_entries-of_jobs sub [] round.jobs) ∙ lines_skip sub [] (all_lines round.jobs) (all_of_draw set count ss round.jobs draws) in
+    let opens = is.opens sub inside in
+    closing_same sub (get_or openings sub 0) (get_or words sub 0) (length (drawn (all_entries (entries_of_jobs sub [] round.jobs))))
+    (skipped (all_entries (entries_of_jobs sub [] round.jobs))) (length (numbers_of sub (all_lines round.jobs))) (length (withheld_of sub (all_lines round.jobs)))
+    (count * count_by (λ s. s == sub) ss) opens (omega (arith, whole, draw, skip, opens)) draw skip
+    (jobs_release set count sub ss round.jobs draws all) (ap length (is.lawful.withheld sub))
+
+closings_are : (f : ℕ → List Closing) (k : ℕ) (openings words : List ℕ) (jobs : List (List LineRecord)) → length words ≡ length openings
+    → ((i : ℕ) → i < length openings → closing_of (k + i) (get_or openings i 0) (get_or words i 0) jobs ≡ f (k + i))
+    → closings_from k openings words jobs ≡ flat_map f (range_with_len k (length openings))
+closings_are f k [] words jobs sizes each = refl
+closings_are f k (opening ∷ openings) [] jobs sizes each = absurd (omega (arith, sizes))
+closings_are f k (opening ∷ openings) (word ∷ words) jobs sizes each =
+    let here : k + 0 ≡ k = omega arith in
+    let first = subst (λ (s : ℕ). closing_of s opening word jobs ≡ f s) here (each 0 (omega arith)) in
+    let rest = closings_are f (k + 1) openings words jobs (omega (arith, sizes)) (λ i less.
+    let there : k + suc i ≡ k + 1 + i = omega arith in
+    subst (λ (s : ℕ). closing_of s (get_or openings i 0) (get_or words i 0) jobs ≡ f s) there (each (suc i) (omega arith))) in
+    ap (λ (cs : List Closing). cs ++ closings_from (k + 1) openings words jobs) first ∙ ap (λ (cs : List Closing). f k ++ cs) rest
+
+-- a load's round closes each subscriber after the vectors that its jobs draw
+pub load_closes : (set : Setting) (count : ℕ) (ss openings : List ℕ) (round : RoundRecord) (words : List ℕ) → IsLoadRound set count ss openings round words
+    → round.closings ≡ flat_map (λ sub. closing_with sub (count * count_by (λ s. s == sub) ss)) (range_with_len 0 (length openings))
+load_closes set count ss openings round words is =
+    is.lawful.closings
+    ∙ closings_are (λ sub. closing_with sub (count * count_by (λ s. s == sub) ss)) 0 openings words round.jobs is.lawful.sizes
+    (λ i less. let here : i ≡ 0 + i = omega arith in
+    subst (λ (s : ℕ). closing_of s (get_or openings i 0) (get_or words i 0) round.jobs ≡ closing_with s (count * count_by (λ t. t == s) ss)) here
+    (closing_is set count ss openings round words is i less))
+
+-- ---- what a load asks for
+
+-- the subscribers of its jobs
+abbrev pub subs_of_jobs : LoadWords → List ℕ
+subs_of_jobs load = map (λ j. j % load.subscribers) (range_with_len 0 load.jobs)
+
+jobs_are : (load : LoadWords) → load_jobs load ≡ map (λ s. Draw s vectors_of_a_job ∷ []) (subs_of_jobs load)
+jobs_are load = sym (map-map (λ s. Draw s vectors_of_a_job ∷ []) (λ j. j % load.subscribers) (range_with_len 0 load.jobs))
+
+job_is : (load : LoadWords) (k : ℕ) (d : List Line) → k < length (load_jobs load) → get_or (load_jobs load) k d ≡ job_at load.subscribers k
+job_is load k d inside =
+    let many = length-map-range_with_len (job_at load.subscribers) 0 load.jobs in
+    get_or-map-range_with_len (job_at load.subscribers) 0 load.jobs k k d (omega (arith, many, inside)) (omega arith)
+
+subs_named : (load : LoadWords) → IsLoad load → All (λ s. s < load.subscribers) (subs_of_jobs load)
+subs_named load is k d inside =
+    let many = length-map-range_with_len (λ j. j % load.subscribers) 0 load.jobs in
+    let at = get_or-map-range_with_len (λ j. j % load.subscribers) 0 load.jobs k k d (omega (arith, many, inside)) (omega arith) in
+    let some = is.one_subscriber in
+    let below : k % load.subscribers < load.subscribers = omega (arith, some) in
+    omega (arith, at, below)
+
+-- each of its lines is of a subscriber, and no job gives to a USIM
+pub load_known : (load : LoadWords) → IsLoad load → AreAllKnown load.subscribers (load_jobs load)
+load_known load is k d inside =
+    let some = is.one_subscriber in
+    let below : k % load.subscribers < load.subscribers = omega (arith, some) in
+    subst (AreKnown load.subscribers) (sym (job_is load k d inside))
+    (All-cons (IsKnownLine load.subscribers) (Draw (k % load.subscribers) vectors_of_a_job) [] below (All-nil (IsKnownLine load.subscribers)))
+
+pub load_apart : (load : LoadWords) → AllPairs AreApart (load_jobs load)
+load_apart load i j d less inside = λ sub gives. ap (gives_to sub) (job_is load j d inside)
+
+pub load_few : (load : LoadWords) → IsLoad load → length (load_jobs load) ≤ 200000
+load_few load is =
+    let many = length-map-range_with_len (job_at load.subscribers) 0 load.jobs in
+    let jobs = is.jobs in
+    omega (arith, many, jobs)
+
+-- each subscriber begins at 0
+opens_at : (load : LoadWords) (sub : ℕ) → sub < load.subscribers → get_or (map (λ (row : Row). row.seq) (load_rows load)) sub 0 ≡ 0
+opens_at load sub inside =
+    let key = load_key load.key in
+    ap (λ (openings : List ℕ). get_or openings sub 0) (map-map (λ (row : Row). row.seq) (row_at key) (range_with_len 0 load.subscribers))
+    ∙ get_or-map-range_with_len (λ i. (row_at key i).seq) 0 load.subscribers sub sub 0 inside (omega arith)
+
+-- a lawful round of it closes the subscribers as the summary has to be told
+pub load_round_closes : (load : LoadWords) (set : Setting) (round : RoundRecord) (words : List ℕ) → IsLoad load
+    → IsLawfulRound set None [] (map (λ (row : Row). row.seq) (load_rows load)) (load_jobs load) round words → round.closings ≡ load_closings load
+load_round_closes load set round words is lawful =
+    let openings = map (λ (row : Row). row.seq) (load_rows load) in
+    let rows = length-map (load_rows load) (λ (row : Row). row.seq) in
+    let many = length-map-range_with_len (row_at (load_key load.key)) 0 load.subscribers in
+    let count : length openings ≡ load.subscribers = rows ∙ many in
+    let jobs = length-map-range_with_len (λ j. j % load.subscribers) 0 load.jobs in
+    let bound = is.jobs in
+    let round_is : IsLoadRound set vectors_of_a_job (subs_of_jobs load) openings round words = record {
+      lawful = subst (λ (js : List (List Line)). IsLawfulRound set None [] openings js round words) (jobs_are load) lawful;
+      named = subst (λ (n : ℕ). All (λ s. s < n) (subs_of_jobs load)) (sym count) (subs_named load is);
+      opens = λ sub inside. opens_at load sub (omega (arith, count, inside));
+      few = omega (arith, jobs, bound);
+    } in
+    load_closes set vectors_of_a_job (subs_of_jobs load) openings round words round_is
+    ∙ ap (λ (n : ℕ). flat_map (λ sub. closing_with sub (drawn_for load sub)) (range_with_len 0 n)) count
+
+-- how many subscribers there are
+pub rows_of_load : (load : LoadWords) (rows : List Row) → rows ≡ load_rows load → length rows ≡ load.subscribers
+rows_of_load load rows same = ap length same ∙ length-map-range_with_len (row_at (load_key load.key)) 0 load.subscribers

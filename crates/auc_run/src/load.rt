@@ -1,0 +1,97 @@
+//! The form `load KEY SUBSCRIBERS JOBS WORKERS`: one round of draws, and the digest of its vectors.
+
+ghost use Rattle.std.specs.Prelude.{◌≡◌, ◌≢◌, OnOk, IfOk, IfErr, IsErrOf, Err};
+ghost use Rattle.auc_edge.specs.Faults.{Rose};
+ghost use Rattle.auc_edge.specs.Sink.{Appends};
+ghost use Rattle.auc_load.specs.Input.{load_rows};
+ghost use Rattle.auc_load.specs.Summary.{load_closings, load_text};
+ghost use Rattle.auc_load.specs.Words.{IsLoad};
+ghost use Rattle.auc_run.specs.Inner.{LoadStops, OutputStops};
+ghost use Rattle.auc_run.specs.Outcome.{RunsLoad};
+
+use crate::refusal::Refusal;
+use auc_edge::{Gate, NoMemory, Octets, Sink, write_whole};
+use auc_jobs::{Served, State, serve};
+use auc_load::{LoadWords, jobs, key_of, load_words, subscribers, summary};
+use auc_subs::Subscribers;
+use auc_vector::Rands;
+use auc_world::{RoundRecord, Setting};
+use std::alloc::Global;
+use std::sync::Wait;
+use std::thread::Threads;
+
+/// Serves a load and writes its lines, if the words are those of a load.
+pub(crate) fn run_load<R: Threads + Wait + Sync, K: Sink, G: Gate + Sync>(
+    rt: &R,
+    alloc: Global,
+    words: &[Octets],
+    out: &mut K,
+    gate: &G,
+) -> Result<(), Refusal>
+    ensures done { OnOk result (RunsLoad words.now (K.written out.old) (K.written out.new)) }
+    ensures refused { IfErr result (LoadStops words.now) }
+    ensures silent { result ≡ Err Refusal.Usage → K.written out.new ≡ K.written out.old }
+    ensures fault { IsErrOf result Refusal.WriteFault → Rose (K.faults out.old) (K.faults out.new) }
+    ensures quiet { result ≢ Err Refusal.WriteFault → K.faults out.new ≡ K.faults out.old }
+{
+    match load_words(words) {
+        Some(load) => write_load(rt, alloc, &load, out, gate),
+        None => Err(Refusal::Usage),
+    }
+}
+
+/// Serves a load, and then writes its lines.
+fn write_load<R: Threads + Wait + Sync, K: Sink, G: Gate + Sync>(
+    rt: &R,
+    alloc: Global,
+    load: &LoadWords,
+    out: &mut K,
+    gate: &G,
+) -> Result<(), Refusal>
+    requires { IsLoad load.now }
+    ensures written { OnOk result (Appends (K.written out.old) (K.written out.new) (load_text load.now)) }
+    ensures refused { IfErr result OutputStops }
+    ensures fault { IsErrOf result Refusal.WriteFault → Rose (K.faults out.old) (K.faults out.new) }
+    ensures quiet { result ≢ Err Refusal.WriteFault → K.faults out.new ≡ K.faults out.old }
+{
+    let subs = subscribers(alloc, load)?;
+    let round = serve_load(rt, alloc, load, &subs, gate)?;
+    let text = summary(alloc, load, &subs, round.closings.as_slice())?;
+    write_whole(out, text.as_slice())?;
+    Ok(())
+}
+
+/// Serves the round of a load, which closes each subscriber after the vectors that its jobs draw.
+fn serve_load<R: Threads + Wait + Sync, G: Gate + Sync>(
+    rt: &R,
+    alloc: Global,
+    load: &LoadWords,
+    subs: &Subscribers,
+    gate: &G,
+) -> Result<RoundRecord, NoMemory>
+    requires load { IsLoad load.now }
+    requires subscribers { subs.now ≡ load_rows load.now }
+    ensures { IfOk result (λ round. round.closings ≡ load_closings load.now) }
+{
+    let rands = Rands::new(key_of(load.key));
+    let set = Setting {
+        subs,
+        rands: &rands,
+        realm: b"".as_slice(),
+    };
+    let jobs = jobs(alloc, load)?;
+    let state = State::new(alloc, subs)?;
+    let Served { result, .. } = serve(
+        rt,
+        alloc,
+        1,
+        jobs.as_slice(),
+        &set,
+        false,
+        state,
+        load.workers,
+        gate,
+    );
+    let ran = result?;
+    Ok(ran.round)
+}
