@@ -8,16 +8,16 @@ use Rattle.auc_disk.specs.Disk.{Torn, put}
 use Rattle.auc_disk.proofs.Facts.{put-within}
 use Rattle.auc_journal.specs.Image.{Frame, Reading, header, most, is_body, frame_in, before, read_frames, read_image}
 use Rattle.auc_journal.specs.Settled.{AtRest, IsBeforeOrAfter}
-use Rattle.auc_journal.proofs.Frames.{behind, behind-more, open_gate, pass_over}
-use Rattle.auc_journal.proofs.Parts.{IsFrames, Parts, length-file, parts_of, reads}
+use Rattle.auc_journal.proofs.FrameLemmas.{behind, behind-more, open_gate, pass_over}
+use Rattle.auc_journal.proofs.PartLemmas.{IsFrames, Parts, length-file, parts_of, reads}
 
--- a frame's body is a body, and the frame is what it is read as
+-- bytes are a body, and are read as this frame
 pub record IsBody (body : List ℕ) (frame : Frame) : Type 0 where
   pub size : length body ≡ 18
   pub is : is_body body ≡ true
   pub reads_as : frame_in body ≡ frame
 
--- the octets with one more
+-- one more frame behind the others
 pub one_more : (octets body : List ℕ) (frames : List Frame) (place : ℕ) (frame : Frame) → IsBody body frame → IsFrames octets frames place → IsFrames (octets ++ 1 ∷ body) (frames ++ frame ∷ []) (place + 19)
 one_more octets body frames place frame good are = record {
   size = omega (arith, length-append octets (1 ∷ body), are.size, good.size);
@@ -34,7 +34,7 @@ one_more octets body frames place frame good are = record {
 }
 
 module _ (octets : List ℕ) (frames : List Frame) (place : ℕ) (are : IsFrames octets frames place) where
-  -- a file of these octets, a gate and what stands behind it
+  -- a file of these frames, a gate and what stands behind it
   abbrev pub file_with : ℕ → List ℕ → List ℕ
   file_with gate stale = header ++ (octets ++ gate ∷ stale)
 
@@ -65,7 +65,7 @@ module _ (octets : List ℕ) (frames : List Frame) (place : ℕ) (are : IsFrames
   pub drop_place : (gate : ℕ) (stale : List ℕ) → drop place (file_with gate stale) ≡ gate ∷ stale
   drop_place gate stale = ap (λ (l : List ℕ). drop place l) (split gate stale) ∙ drop_at (header ++ octets) (gate ∷ stale) place front_size
 
-  -- the closed gate stands in whatever is left of a write behind it
+  -- a write behind the closed gate leaves the gate, whatever a crash leaves of the write
   pub torn_behind : (stale : List ℕ) (n : ℕ) (image : List ℕ) → Torn (place + 1) n (file_with 0 stale) image → length (file_with 0 stale) ≤ most → place + 1 + n ≤ most → read_image image ≡ Ok (record { frames = frames; end = place })
   torn_behind stale n image torn fits room =
       let long = length-with 0 stale in
@@ -85,7 +85,7 @@ module _ (octets : List ℕ) (frames : List Frame) (place : ℕ) (are : IsFrames
       ∙ append_assoc ((header ++ octets) ++ 0 ∷ []) bytes (drop (length bytes) stale)
       ∙ sym (split_behind 0 (bytes ++ drop (length bytes) stale))
 
-  -- what is left of a write of the gate is the file with some gate
+  -- what a crash leaves of a write of the gate is the file with some gate
   pub torn_gate : (gate : ℕ) (stale image : List ℕ) → Torn place 1 (file_with gate stale) image → (other : ℕ) × (image ≡ file_with other stale)
   torn_gate gate stale image torn =
       let long = length-with gate stale in
@@ -107,7 +107,7 @@ module _ (octets : List ℕ) (frames : List Frame) (place : ℕ) (are : IsFrames
 is_shut : (gate : ℕ) → gate ≢ 1 → (gate == 1) ≡ false
 is_shut gate shut = grind (arith, nat_tests)
 
--- a file of octets and a closed gate is at rest
+-- a file of frames and a closed gate is at rest
 pub at_rest_of : (octets stale : List ℕ) (frames : List Frame) (place : ℕ) → IsFrames octets frames place → length (header ++ (octets ++ 0 ∷ stale)) ≤ most → AtRest (header ++ (octets ++ 0 ∷ stale)) frames place
 at_rest_of octets stale frames place are fits = record {
   read = reads frames place 0 stale refl octets are fits;
@@ -122,7 +122,7 @@ module _ (file : List ℕ) (frames : List Frame) (place : ℕ) (frame : Frame) (
   abbrev pub after : List ℕ
   after = body ++ 0 ∷ drop 19 parts.stale
 
-  -- the file with the body behind its gate, by which gate stands there
+  -- the file with the body behind a gate
   abbrev pub staged : ℕ → List ℕ
   staged gate = file_with parts.octets frames place parts.are gate after
 

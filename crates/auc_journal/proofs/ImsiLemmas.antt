@@ -1,5 +1,5 @@
 -- The identity with so many digits and a number is read back from its text: for `imsi_of`.
-use Rattle.std.proofs.Common.{◌≡◌, ℕ, ◌≤◌, ◌<◌, suc, List, Option, Some, sym, ◌∙◌, ap, refl, arith, length, take}
+use Rattle.std.proofs.Common.{◌≡◌, ℕ, ◌≤◌, ◌<◌, List, Option, Some, ◌∙◌, ap, refl, arith, length, take}
 use Rattle.std.specs.Prelude.{true, ◌^◌, nat_le, nat_lt, IfSome}
 use Rattle.std.specs.Option.{is_some}
 use Rattle.std.proofs.lemmas.Bool.{and_parts}

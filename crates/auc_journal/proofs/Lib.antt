@@ -1,18 +1,18 @@
 pub mod Facts
+mod AppendCalls
 mod AppendLemmas
-mod Appending
-mod Body
+mod BodyLemmas
 mod FillLemmas
-mod Frames
+mod FrameLemmas
 mod ImageExamples
 mod ImsiLemmas
 mod LimitLemmas
 mod LookupLemmas
-mod Moments
+mod MomentLemmas
+mod OpenCalls
 mod OpenFileLemmas
 mod OpenLemmas
-mod OpenCalls
-mod Parts
+mod PartLemmas
 mod QuietLemmas
 mod RoomLemmas
 mod ScanLemmas

@@ -11,7 +11,7 @@ use Rattle.auc_journal.specs.Limits.{AreLimits}
 use Rattle.auc_journal.specs.declared.open_why.OpenWhy.{OpenWhy}
 use Rattle.auc_journal.specs.declared.open_why.OpenWhy.TheVariants.{NotJournal}
 use Rattle.auc_journal.proofs.LimitLemmas.{more_limits, no_limits}
-use Rattle.auc_journal.proofs.Frames.{behind, behind-end, behind-more, body_long, open_gate, pass_over, shut_gate}
+use Rattle.auc_journal.proofs.FrameLemmas.{behind, behind-end, behind-more, body_long, open_gate, pass_over, shut_gate}
 
 module _ (bytes : List ℕ) (at : ℕ) (inside : at < length bytes) where
   abbrev rest : List ℕ
@@ -50,11 +50,6 @@ module _ (bytes : List ℕ) (at : ℕ) (inside : at < length bytes) where
 pub scan_end : (bytes : List ℕ) (at : ℕ) → length bytes ≤ at → read_frames 0 at (drop at bytes) ≡ Ok (record { frames = []; end = at })
 scan_end bytes at past = ap (λ (l : List ℕ). read_frames 0 at l) (drop_all at bytes past)
 
--- frames that were read, with the next one
-pub scan_step : (frames : List Frame) (frame next : Frame) (here later whole : Result Reading ℕ) → behind frames here ≡ whole → here ≡ before frame later → next ≡ frame → behind (frames ++ next ∷ []) later ≡ whole
-scan_step frames frame next here later whole so_far is same =
-    ap (λ (r : Frame). behind (frames ++ r ∷ []) later) same ∙ sym (behind-more frames frame later) ∙ ap (behind frames) (sym is) ∙ so_far
-
 pub behind-wrong : (frames : List Frame) (place : ℕ) → behind frames (Err place) ≡ Err place
 behind-wrong [] place = refl
 behind-wrong (frame ∷ frames) place = ap (before frame) (behind-wrong frames place)
@@ -68,7 +63,7 @@ no_reading place = Err place
 pub err_from : (at place : ℕ) → refused (NotJournal at) ≡ refused (NotJournal place) → no_reading at ≡ no_reading place
 err_from at place is = cc
 
--- the first n bytes, or all where there are fewer
+-- the first n bytes, or all if there are fewer
 pub take_min : (n m : ℕ) (bytes : List ℕ) → m ≡ min (length bytes) n → take m bytes ≡ take n bytes
 take_min n m bytes is = elim (leb_tells n (length bytes)) [
   | inl enough ↦ let same : m ≡ n = omega (arith, is, enough.1) in ap (λ (k : ℕ). take k bytes) same

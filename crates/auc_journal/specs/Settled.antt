@@ -1,5 +1,5 @@
 -- Journals on a disk: what is read of one at rest, and what a crash may leave of it.
-use Rattle.std.specs.Prelude.{◌≡◌, ◌⊎◌, ℕ, ◌+◌, List, [], ◌∷◌, ◌++◌, ◌≤◌, length, take, drop, Option, Some, Ok}
+use Rattle.std.specs.Prelude.{◌≡◌, ◌⊎◌, ℕ, ◌+◌, List, [], ◌∷◌, ◌++◌, ◌≤◌, take, drop, Option, Some, Ok}
 use Rattle.auc_disk.specs.Disk.{Only}
 use Rattle.auc_journal.specs.Image.{Frame, read_image}
 

@@ -2,7 +2,7 @@ use Rattle.std.proofs.Common.{◌≡◌, ◌+◌, ◌<◌, length, take, drop, t
 use Rattle.std.proofs.lemmas.Bool.Decides.{nat_tests}
 use Rattle.auc_journal.specs.Image.{Frame, before, frame_in, is_body, read_frames}
 use Rattle.auc_journal.specs.InnerLookup.{raised_by}
-use Rattle.auc_journal.proofs.Frames.{behind, body_long}
+use Rattle.auc_journal.proofs.FrameLemmas.{behind, body_long}
 use Rattle.auc_journal.proofs.ScanLemmas.{behind-wrong, ended, err_from, least_limit, more_part, no_part, scan_end, scan_frame, scan_gate, scan_wrong}
 use Rattle.auc_journal.proofs.reading.read_frames.Goals as goal
 

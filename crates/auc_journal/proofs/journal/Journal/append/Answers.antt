@@ -1,8 +1,8 @@
-use Rattle.std.proofs.Common.{◌≡◌, ℕ, ◌+◌, ◌≤◌, ◌<◌, List, ◌++◌, ◌∷◌, [], length, sym, ◌∙◌, ap, subst, arith}
+use Rattle.std.proofs.Common.{◌≡◌, ◌≤◌, ◌<◌, List, ◌++◌, ◌∷◌, [], length, sym, ◌∙◌, ap, subst, arith}
 use Rattle.auc_edge.specs.Identity.{Identity}
 use Rattle.auc_journal.specs.Image.{Frame, reserved_in}
 use Rattle.auc_journal.specs.InnerLookup.{missing}
-use Rattle.auc_journal.specs.Journal.{frame_for, imsi_at}
+use Rattle.auc_journal.specs.Journal.{imsi_at}
 use Rattle.auc_journal.specs.Limits.{AreLimits}
 use Rattle.auc_journal.proofs.LimitLemmas.{raised_limits}
 use Rattle.auc_journal.proofs.RoomLemmas.{at_place, missing_here, room_after}

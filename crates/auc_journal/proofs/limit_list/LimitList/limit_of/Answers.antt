@@ -1,4 +1,4 @@
-use Rattle.std.proofs.Common.{◌≡◌, ℕ, sym, ◌∙◌, ap}
+use Rattle.std.proofs.Common.{sym, ◌∙◌, ap}
 use Rattle.auc_edge.specs.Reserved.{Reserved}
 use Rattle.auc_journal.specs.Image.{Frame, reserved_in}
 use Rattle.auc_journal.proofs.LookupLemmas.{limit_found, limit_none}

@@ -1,5 +1,5 @@
-use Rattle.std.proofs.Common.{◌≡◌, ℕ, ◌+◌, ◌≤◌, ◌<◌, ◌==◌, List, sym, ◌∙◌, ap, subst, arith}
-use Rattle.std.specs.Prelude.{Bool, true, ◌^◌, ◌-◌, min, if◌then◌else◌}
+use Rattle.std.proofs.Common.{◌≡◌, sym, ◌∙◌, ap, subst, arith}
+use Rattle.std.specs.Prelude.{◌^◌, ◌-◌, min}
 use Rattle.indexmap.specs.IndexMap.{index_map_len, spare}
 use Rattle.auc_edge.specs.Reserved.{Reserved}
 use Rattle.auc_journal.specs.Image.{Frame, reserved_in}

@@ -1,7 +1,7 @@
 use Rattle.std.proofs.Common.{arith}
 use Rattle.auc_journal.specs.Image.{Frame, body_of}
-use Rattle.auc_journal.proofs.Appending.{after_body, after_gate, after_sync, at_end, no_call, settled_by, settles}
-use Rattle.auc_journal.proofs.Body.{body_good}
+use Rattle.auc_journal.proofs.AppendCalls.{after_body, after_gate, after_sync, at_end, no_call, settled_by, settles}
+use Rattle.auc_journal.proofs.BodyLemmas.{body_good}
 use Rattle.auc_journal.proofs.log.Log.append.Goals as goal
 
 pub returns-then-self-clause-any_moment : goal.returns-then-self-clause-any_moment

@@ -1,4 +1,4 @@
--- How octets are read: the octets in front are read the same whatever stands behind them.
+-- How frames are read: those in front are read the same, whatever stands behind them.
 use Rattle.std.proofs.Common.{◌≡◌, ℕ, zero, suc, ◌+◌, ◌≤◌, List, [], ◌∷◌, ◌++◌, length, take, refl, sym, ◌∙◌, ap, subst, arith}
 use Rattle.std.specs.Prelude.{Bool, true, false, ◌==◌, ◌&&◌, slice_index, if◌then◌else◌, Result, Ok, Err}
 use Rattle.std.proofs.lemmas.Bool.{and_parts}
@@ -38,7 +38,7 @@ read_as reading = Ok reading
 pub ok_is : {a b : Reading} → read_as a ≡ read_as b → a ≡ b
 ok_is same = cc
 
--- bytes whose octets are read to an end: the octets, and what stands behind them
+-- bytes whose frames are read to an end: the frames' bytes, and what stands behind them
 pub record Front (inside at : ℕ) (bytes : List ℕ) (reading : Reading) : Type 0 where
   pub octets : List ℕ
   pub rest : List ℕ
@@ -86,7 +86,7 @@ body_long rest is =
     let whole = (and_parts (length body == 18) (slice_index body 0 == 1) (and_parts ((length body == 18) && (slice_index body 0 == 1)) (is_frame (frame_in body)) is).0).0 in
     omega (arith, (Decides-eqb (length body) 18).0 whole, length-take 18 rest)
 
--- octets that are read to an end have a front
+-- bytes whose frames are read to an end have such parts
 pub front_of : (inside at : ℕ) (bytes : List ℕ) (reading : Reading) → inside ≤ length bytes → read_frames inside at bytes ≡ Ok reading → Front inside at bytes reading
 front_of zero at [] reading long is =
     subst (Front 0 at []) (ok_is is) (record { octets = []; rest = []; whole = refl; later = omega arith; size = omega arith; again = λ tail. refl })

@@ -1,4 +1,4 @@
--- The device calls of an append, one after the other: what a crash leaves so far.
+-- The calls of an append, one after the other: what a crash may have left so far.
 use Rattle.std.proofs.Common.{◌≡◌, ◌⊎◌, inl, inr, ⊎_elim, ℕ, ◌+◌, ◌≤◌, List, [], ◌∷◌, ◌++◌, length, Option, Some, None, refl, sym, ◌∙◌, ap, subst, arith, length-append}
 use Rattle.auc_disk.specs.Disk.{Elapses, Follows, Only, OnlyTold, Puts, Torn, put}
 use Rattle.auc_journal.specs.Settled.{LeavesOnly}
@@ -6,7 +6,7 @@ use Rattle.auc_disk.proofs.Facts.{some_is}
 use Rattle.auc_journal.specs.Image.{Frame, most, read_image}
 use Rattle.auc_journal.specs.Settled.{AtRest, IsBeforeOrAfter, IsSettled}
 use Rattle.auc_journal.proofs.AppendLemmas.{IsBody, put_staged, staged, write_behind, write_gate, written}
-use Rattle.auc_journal.proofs.Moments.{goes_on, started}
+use Rattle.auc_journal.proofs.MomentLemmas.{goes_on, started}
 
 pub told_or_not : (told : Option (List ℕ)) → (told ≡ None) ⊎ ((file : List ℕ) × (told ≡ Some file))
 told_or_not None = inl refl
@@ -24,18 +24,18 @@ module _ {D : Type 0} (seen : D → Option (List ℕ)) (may_leave : D → List �
   abbrev pub Keeps : D → D → Type 0
   Keeps old new = (image : List ℕ) → may_leave new image → may_leave old image
 
-  -- where there is no call at all
+  -- if there is no call at all
   pub no_call : ((disk : D) (image : List ℕ) → left_since disk (moment disk) image → may_leave disk image)
       → (old : D) (frames : List Frame) (place : ℕ) (frame : Frame) → IsSettled seen may_leave old frames place → (file : List ℕ) → seen old ≡ Some file
       → LeavesOnly moment left_since old old (IsBeforeOrAfter frames place frame)
   no_call only_now old frames place frame settled file told =
       started moment left_since old (IsBeforeOrAfter frames place frame) (λ image left. inl (ap read_image (settled.durable file told image (only_now old image left)) ∙ (settled.at_rest file told).read))
 
-  -- a disk that tells nothing tells nothing after it was written
+  -- a disk that reveals nothing reveals nothing after a write
   none_put : (old new : D) (at : ℕ) (bytes : List ℕ) → Puts (seen old) at bytes (seen new) → seen old ≡ None → seen new ≡ None
   none_put old new at bytes puts none = subst (λ (o : Option (List ℕ)). Puts o at bytes (seen new)) none puts
 
-  -- what is known where the disk told its bytes is known
+  -- what holds if the disk revealed its bytes holds of every disk
   pub settled_by : (old wrote synced opened ended : D) (at to : ℕ) (bytes gate : List ℕ) (frames : List Frame) (place : ℕ)
       → Puts (seen old) at bytes (seen wrote) → seen synced ≡ seen wrote → Puts (seen synced) to gate (seen opened) → seen ended ≡ seen opened
       → ((file : List ℕ) → seen old ≡ Some file → (last : List ℕ) → seen ended ≡ Some last → AtRest last frames place × Only last (may_leave ended)) → IsSettled seen may_leave ended frames place

@@ -1,4 +1,4 @@
--- A file that is read: its header, its octets, and what stands behind them.
+-- A file that is read: its header, the bytes of its frames, and what stands behind them.
 use Rattle.std.proofs.Common.{◌≡◌, ℕ, ◌+◌, ◌≤◌, ◌<◌, List, [], ◌∷◌, ◌++◌, length, take, drop, refl, sym, ◌∙◌, ap, subst, arith, append_assoc, length-append, length-drop, take-append-drop}
 use Rattle.std.specs.Prelude.{Bool, true, false, ◌==◌, ◌&&◌, nat_lt, nat_le, if◌then◌else◌, Result, Ok, Err}
 use Rattle.std.specs.Str.{bytes_eq}
@@ -7,9 +7,9 @@ use Rattle.std.proofs.lemmas.Slice.Eq.{bytes_eq-Decides}
 use Rattle.std.proofs.lemmas.List.{length-take, drop_at}
 use Rattle.auc_journal.specs.Image.{Frame, Reading, header, most, read_frames, read_image, with_gate}
 use Rattle.auc_journal.specs.Settled.{AtRest}
-use Rattle.auc_journal.proofs.Frames.{Front, behind, behind-end, front_of, ok_is, shut_gate}
+use Rattle.auc_journal.proofs.FrameLemmas.{Front, behind, behind-end, front_of, ok_is, shut_gate}
 
--- octets of these frames up to a place
+-- bytes that are these frames, up to a place
 pub record IsFrames (octets : List ℕ) (frames : List Frame) (place : ℕ) : Type 0 where
   pub size : 16 + length octets ≡ place
   pub again : (tail : List ℕ) → read_frames 0 16 (octets ++ tail) ≡ behind frames (read_frames 0 place tail)
@@ -20,9 +20,6 @@ read_rest tail =
     if nat_lt most (length (header ++ tail)) then Err most
     else if nat_le (length (header ++ tail)) 17 then Ok (record { frames = []; end = 16 })
     else with_gate (length (header ++ tail)) (read_frames 0 16 tail)
-
-pub read_header : (tail : List ℕ) → read_image (header ++ tail) ≡ read_rest tail
-read_header tail = refl
 
 pub length-file : (tail : List ℕ) → length (header ++ tail) ≡ 16 + length tail
 length-file tail = length-append header tail
@@ -50,7 +47,7 @@ le_from len short = grind (arith, nat_tests)
 fits_from : (len : ℕ) → nat_lt most len ≡ false → len ≤ most
 fits_from len small = grind (arith, nat_tests)
 
--- a gate that isn't open ends the reading of the octets before it
+-- a gate that isn't open ends the reading
 module _ (frames : List Frame) (place gate : ℕ) (stale : List ℕ) (shut : (gate == 1) ≡ false) where
   ends : (octets : List ℕ) → IsFrames octets frames place → read_frames 0 16 (octets ++ gate ∷ stale) ≡ Ok (record { frames = frames; end = place })
   ends octets are = are.again (gate ∷ stale) ∙ ap (behind frames) (shut_gate place gate stale shut) ∙ behind-end frames place
@@ -70,7 +67,7 @@ module _ (frames : List Frame) (place gate : ℕ) (stale : List ℕ) (shut : (ga
   pub reads : (octets : List ℕ) → IsFrames octets frames place → length (header ++ (octets ++ gate ∷ stale)) ≤ most → read_image (header ++ (octets ++ gate ∷ stale)) ≡ Ok (record { frames = frames; end = place })
   reads octets are fits = by_length octets are fits (nat_le (length (header ++ (octets ++ gate ∷ stale))) 17) refl
 
--- a file that is read: its octets, what stands behind them, and room for a gate
+-- the parts of a file that is read: its frames, what stands behind them, and room for a gate
 pub record Read (file : List ℕ) (frames : List Frame) (place : ℕ) : Type 0 where
   pub octets : List ℕ
   pub rest : List ℕ
