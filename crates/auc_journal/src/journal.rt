@@ -48,7 +48,8 @@ impl<D: Disk + Drop> Journal<D> {
     /// Opens the journal on a disk, for these subscribers. An empty file gets a header and a closed gate;
     /// otherwise an unclear gate at the end of the frames is closed. A refusal hands the disk back.
     pub fn open(alloc: Global, disk: D, imsis: &[Imsi]) -> Result<Journal<D>, OpenRefused<D>>
-        ensures opened { IfOk result (λ journal. Opens D.seen D.may_leave disk journal.disk journal.limits journal.place) }
+        ensures opened { IfOk result (λ journal.
+            Opens D.seen D.may_leave disk journal.disk journal.limits journal.place) }
         ensures subscribers { IfOk result (λ journal. journal.imsis ≡ imsis.now) }
         ensures ready { IfOk result (λ journal. journal.failed ≡ false) }
         ensures quiet { IfOk result (λ journal. D.faults journal.disk ≡ D.faults disk) }
@@ -56,12 +57,16 @@ impl<D: Disk + Drop> Journal<D> {
         // If the file is no journal, it says where. It answers StoreFault only if the count of faults rose.
         ensures not_journal { IfErr result (λ refused. (place : ℕ) → refused.why ≡ why.NotJournal place
             → (file : List ℕ) → D.seen disk ≡ Some file → read_image file ≡ Err place) }
-        ensures fault { IfErr result (λ refused. refused.why ≡ why.StoreFault → Rose (D.faults disk) (D.faults refused.disk)) }
-        ensures stands { IfErr result (λ refused. refused.why ≢ why.StoreFault → D.faults refused.disk ≡ D.faults disk) }
+        ensures fault { IfErr result (λ refused. refused.why ≡ why.StoreFault
+            → Rose (D.faults disk) (D.faults refused.disk)) }
+        ensures stands { IfErr result (λ refused. refused.why ≢ why.StoreFault
+            → D.faults refused.disk ≡ D.faults disk) }
 
         // A crash at any moment leaves the file, or what the closing of its gate or a first opening may leave.
-        ensures any_moment { IfOk result (λ journal. LeavesOpening D.seen D.may_leave D.moment D.left_since disk journal.disk) }
-        ensures refused_moment { IfErr result (λ refused. LeavesOpening D.seen D.may_leave D.moment D.left_since disk refused.disk) }
+        ensures any_moment { IfOk result (λ journal.
+            LeavesOpening D.seen D.may_leave D.moment D.left_since disk journal.disk) }
+        ensures refused_moment { IfErr result (λ refused.
+            LeavesOpening D.seen D.may_leave D.moment D.left_since disk refused.disk) }
     {
         let mut disk = disk;
         match prepare(alloc, &mut disk, imsis) {
@@ -101,28 +106,35 @@ impl<D: Disk + Drop> Journal<D> {
         requires limit { (reserved_at self.old sub < limit) × (limit ≤ max_seq) }
         requires ready { self.old.failed ≡ false }
 
-        ensures limits { OnOk result (AreLimits self.new.limits (self.old.limits ++ frame_for self.old sub limit ∷ [])) }
+        ensures limits { OnOk result
+            (AreLimits self.new.limits (self.old.limits ++ frame_for self.old sub limit ∷ [])) }
         ensures place { OnOk result (self.new.place ≡ self.old.place + 19) }
         ensures subscribers { self.new.imsis ≡ self.old.imsis }
-        ensures kept { OnErr result ((self.new.limits ≡ self.old.limits) × (self.new.place ≡ self.old.place)) }
+        ensures kept { OnErr result
+            ((self.new.limits ≡ self.old.limits) × (self.new.place ≡ self.old.place)) }
         ensures failed { (self.new.failed ≡ true) ↔ (result ≡ Err AppendRefusal.StoreFault) }
 
         // After Ok every crash leaves the frames with the new one.
-        ensures durable { OnOk result ((frames : List Frame) → IsSettled D.seen D.may_leave self.old.disk frames self.old.place
+        ensures durable { OnOk result ((frames : List Frame)
+            → IsSettled D.seen D.may_leave self.old.disk frames self.old.place
             → IsSettled D.seen D.may_leave self.new.disk (frames ++ frame_for self.old sub limit ∷ []) self.new.place) }
 
         // A crash at any moment, also of a call that fails, leaves the frames as they were or with the new one.
-        ensures any_moment { (frames : List Frame) → IsSettled D.seen D.may_leave self.old.disk frames self.old.place
+        ensures any_moment { (frames : List Frame)
+            → IsSettled D.seen D.may_leave self.old.disk frames self.old.place
             → (file : List ℕ) → D.seen self.old.disk ≡ Some file
             → LeavesOnly D.moment D.left_since self.old.disk self.new.disk
             (IsBeforeOrAfter frames self.old.place (frame_for self.old sub limit)) }
 
         // It fails only if the count rose, and is full exactly if the file would have more than 2^30 bytes.
-        ensures fault { IsErrOf result AppendRefusal.StoreFault → Rose (D.faults self.old.disk) (D.faults self.new.disk) }
-        ensures quiet { result ≢ Err AppendRefusal.StoreFault → D.faults self.new.disk ≡ D.faults self.old.disk }
+        ensures fault { IsErrOf result AppendRefusal.StoreFault
+            → Rose (D.faults self.old.disk) (D.faults self.new.disk) }
+        ensures quiet { result ≢ Err AppendRefusal.StoreFault
+            → D.faults self.new.disk ≡ D.faults self.old.disk }
         ensures full { (len : ℕ) → result ≡ Err (AppendRefusal.StoreFull len)
             → (len ≡ self.old.place + 1) × (2 ^ 30 < len + 19) × (self.new ≡ self.old) }
-        ensures is_full { 2 ^ 30 < self.old.place + 1 + 19 → result ≡ Err (AppendRefusal.StoreFull (self.old.place + 1)) }
+        ensures is_full { 2 ^ 30 < self.old.place + 1 + 19
+            → result ≡ Err (AppendRefusal.StoreFull (self.old.place + 1)) }
     {
         let imsi = self.imsis[sub as usize];
         match self.log.append(imsi, limit) {
@@ -174,7 +186,8 @@ struct Opened {
 
 // Opens the file of a disk, and makes room for the limits of the subscribers.
 fn prepare<D: Disk>(alloc: Global, disk: &mut D, imsis: &[Imsi]) -> Result<Opened, OpenWhy>
-    ensures opened { IfOk result (λ opened. Opens D.seen D.may_leave disk.old disk.new opened.limits.written opened.place) }
+    ensures opened { IfOk result (λ opened.
+        Opens D.seen D.may_leave disk.old disk.new opened.limits.written opened.place) }
     ensures subscribers { IfOk result (λ opened. opened.imsis.items ≡ imsis.now) }
     ensures place { IfOk result (λ opened. opened.place ≤ 2 ^ 30) }
     ensures room { IfOk result (λ opened. length opened.imsis.items ≤ opened.limits.left) }
@@ -199,9 +212,11 @@ fn prepare<D: Disk>(alloc: Global, disk: &mut D, imsis: &[Imsi]) -> Result<Opene
 fn raise(limits: &mut LimitList, imsi: Imsi, limit: u64)
     requires least { 1 ≤ limit }
     requires room { reserved_in limits.old.written imsi ≡ 0 → 1 ≤ limits.old.left }
-    ensures raised { limits.new.written ≡ raised_by limits.old.written (record { imsi = imsi; limit = limit }) }
+    ensures raised { limits.new.written ≡ raised_by limits.old.written
+        (record { imsi = imsi; limit = limit }) }
     ensures single { AreSingle limits.old.written }
-    ensures room { limits.old.left ≤ limits.new.left + (if reserved_in limits.old.written imsi == 0 then 1 else 0) }
+    ensures room { limits.old.left ≤ limits.new.left +
+        (if reserved_in limits.old.written imsi == 0 then 1 else 0) }
 {
     match limits.raise(imsi, limit) {
         Ok(()) => {}

@@ -104,9 +104,11 @@ impl LimitList {
     pub(crate) fn raise(&mut self, imsi: Imsi, limit: u64) -> Result<(), NoMemory>
         requires { 1 ≤ limit }
 
-        ensures raised { OnOk result (self.new.written ≡ raised_by self.old.written (record { imsi = imsi; limit = limit })) }
+        ensures raised { OnOk result (self.new.written ≡ raised_by self.old.written
+            (record { imsi = imsi; limit = limit })) }
         ensures single { AreSingle self.old.written }
-        ensures room { OnOk result (self.old.left ≤ self.new.left + (if reserved_in self.old.written imsi == 0 then 1 else 0)) }
+        ensures room { OnOk result (self.old.left ≤ self.new.left +
+            (if reserved_in self.old.written imsi == 0 then 1 else 0)) }
         ensures kept { OnErr result (self.new.written ≡ self.old.written) }
         ensures full { OnErr result ((self.old.left ≡ 0) × (reserved_in self.old.written imsi ≡ 0)) }
     {
@@ -123,7 +125,8 @@ impl LimitList {
     fn add(&mut self, imsi: Imsi, limit: u64) -> Result<(), NoMemory>
         requires { (1 ≤ limit) × (reserved_in self.old.written imsi ≡ 0) }
 
-        ensures raised { OnOk result (self.new.written ≡ raised_by self.old.written (record { imsi = imsi; limit = limit })) }
+        ensures raised { OnOk result (self.new.written ≡ raised_by self.old.written
+            (record { imsi = imsi; limit = limit })) }
         ensures room { OnOk result (self.old.left ≤ self.new.left + 1) }
         ensures kept { OnErr result (self.new.written ≡ self.old.written) }
         ensures full { OnErr result (self.old.left ≡ 0) }

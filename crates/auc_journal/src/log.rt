@@ -29,22 +29,27 @@ impl<D: Disk> Log<D> {
         ensures kept { OnErr result (self.new.place ≡ self.old.place) }
 
         // After Ok every crash leaves the frames with the new one.
-        ensures durable { OnOk result ((frames : List Frame) → IsSettled D.seen D.may_leave self.old.disk frames self.old.place
+        ensures durable { OnOk result ((frames : List Frame)
+            → IsSettled D.seen D.may_leave self.old.disk frames self.old.place
             → IsSettled D.seen D.may_leave self.new.disk (frames ++ record { imsi = imsi; limit = limit } ∷ []) self.new.place) }
 
         // A crash at any moment of the call leaves the frames from before it, or these with the new one.
-        ensures any_moment { (frames : List Frame) → IsSettled D.seen D.may_leave self.old.disk frames self.old.place
+        ensures any_moment { (frames : List Frame)
+            → IsSettled D.seen D.may_leave self.old.disk frames self.old.place
             → (file : List ℕ) → D.seen self.old.disk ≡ Some file
             → LeavesOnly D.moment D.left_since self.old.disk self.new.disk
             (IsBeforeOrAfter frames self.old.place (record { imsi = imsi; limit = limit })) }
 
         // It fails only if the count rose, and is full exactly if the next gate would stand past 2^30 bytes.
-        ensures fault { IsErrOf result AppendRefusal.StoreFault → Rose (D.faults self.old.disk) (D.faults self.new.disk) }
-        ensures quiet { result ≢ Err AppendRefusal.StoreFault → D.faults self.new.disk ≡ D.faults self.old.disk }
+        ensures fault { IsErrOf result AppendRefusal.StoreFault
+            → Rose (D.faults self.old.disk) (D.faults self.new.disk) }
+        ensures quiet { result ≢ Err AppendRefusal.StoreFault
+            → D.faults self.new.disk ≡ D.faults self.old.disk }
         ensures later { D.faults self.old.disk ≤ D.faults self.new.disk }
         ensures full { (len : ℕ) → result ≡ Err (AppendRefusal.StoreFull len)
             → (len ≡ self.old.place + 1) × (2 ^ 30 < len + 19) × (self.new ≡ self.old) }
-        ensures is_full { 2 ^ 30 < self.old.place + 1 + 19 → result ≡ Err (AppendRefusal.StoreFull (self.old.place + 1)) }
+        ensures is_full { 2 ^ 30 < self.old.place + 1 + 19
+            → result ≡ Err (AppendRefusal.StoreFull (self.old.place + 1)) }
     {
         if self.place > MOST - 20 {
             return Err(AppendRefusal::StoreFull(self.place + 1));

@@ -24,7 +24,8 @@ pub(crate) fn open_file<D: Disk>(
 ) -> Result<u64, OpenWhy>
     requires fresh { limits.old.written ≡ [] }
 
-    ensures opened { IfOk result (λ place. Opens D.seen D.may_leave disk.old disk.new limits.new.written place) }
+    ensures opened { IfOk result (λ place.
+        Opens D.seen D.may_leave disk.old disk.new limits.new.written place) }
     ensures place { IfOk result (λ place. place + 1 ≤ 2 ^ 30) }
     ensures wrong { (place : ℕ) → result ≡ Err (OpenWhy.NotJournal place)
         → (file : List ℕ) → D.seen disk.old ≡ Some file → read_image file ≡ Err place }
@@ -54,7 +55,8 @@ fn open_written<D: Disk>(
     requires told { IsLength (D.seen disk.old) len × (len ≤ D.last_len disk.old) }
     requires size { (1 ≤ len) × (len ≤ 2 ^ 30) }
 
-    ensures opened { IfOk result (λ place. Opens D.seen D.may_leave disk.old disk.new limits.new.written place) }
+    ensures opened { IfOk result (λ place.
+        Opens D.seen D.may_leave disk.old disk.new limits.new.written place) }
     ensures place { IfOk result (λ place. place + 1 ≤ 2 ^ 30) }
     ensures wrong { (place : ℕ) → result ≡ Err (OpenWhy.NotJournal place)
         → (file : List ℕ) → D.seen disk.old ≡ Some file → read_image file ≡ Err place }

@@ -62,7 +62,8 @@ fn read_frames(bytes: &[u8], limits: &mut LimitList) -> Result<usize, OpenWhy>
 
     ensures read { IfOk result (λ end. HasLimits limits.new.written end (read_frames 0 16 (drop 16 bytes.now))) }
     ensures within { IfOk result (λ end. end ≤ length bytes.now) }
-    ensures wrong { (place : ℕ) → result ≡ Err (OpenWhy.NotJournal place) → read_frames 0 16 (drop 16 bytes.now) ≡ Err place }
+    ensures wrong { (place : ℕ) → result ≡ Err (OpenWhy.NotJournal place)
+        → read_frames 0 16 (drop 16 bytes.now) ≡ Err place }
     ensures fault { result ≢ Err OpenWhy.StoreFault }
 {
     let mut at = 16;
