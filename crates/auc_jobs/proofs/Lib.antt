@@ -6,7 +6,6 @@ mod UsimLemmas
 mod JobLemmas
 mod SyncLemmas
 mod CountLemmas
-mod CopyLemmas
 mod SettleLemmas
 mod PieceLemmas
 mod PutLemmas

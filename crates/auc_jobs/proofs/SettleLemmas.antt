@@ -23,7 +23,7 @@ use Rattle.auc_jobs.specs.Usims.{HaveSecrets, AreOfRows}
 use Rattle.auc_jobs.specs.InnerRound.{JobBegins, ServesJob}
 use Rattle.auc_jobs.specs.InnerServing.{before_at, IsReleasableLine, Stands, ServesLines}
 use Rattle.auc_jobs.specs.InnerUsims.{has_usim, AreCopies}
-use Rattle.auc_jobs.proofs.CopyLemmas.{copies_found, copies_keyed}
+use Rattle.auc_cards.proofs.Facts.{copies_found, copies_keyed}
 
 -- ---- before the job
 

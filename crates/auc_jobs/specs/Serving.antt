@@ -1,19 +1,8 @@
 -- The lines of a job that may be served.
-use Rattle.std.specs.Prelude.{ℕ, ◌≤◌, ◌<◌, List, All}
+use Rattle.std.specs.Prelude.{ℕ, List, All}
 use Rattle.auc_lines.specs.declared.part.Line.{Line}
-use Rattle.auc_lines.specs.declared.part.Line.TheVariants as line
-use Rattle.auc_sqn.specs.Number.{max_seq}
 pub use Rattle.auc_lines.specs.Part.{IsBit}
-
--- the subscriber of a line is one of so many, and its numbers are within their ranges
-abbrev pub IsKnownLine : ℕ → Line → Type 0
-IsKnownLine subs (line.Draw sub count) = sub < subs
-IsKnownLine subs (line.Sync sub seq bit count) = (sub < subs) × (seq ≤ max_seq) × IsBit bit
-IsKnownLine subs (line.Give sub n) = (sub < subs) × (1 ≤ n) × (n ≤ max_seq)
-
--- the lines of a job
-abbrev pub AreKnown : ℕ → List Line → Type 0
-AreKnown subs job = All (IsKnownLine subs) job
+pub use Rattle.auc_cards.specs.Known.{IsKnownLine, AreKnown}
 
 -- the jobs of a round
 abbrev pub AreAllKnown : ℕ → List (List Line) → Type 0

@@ -44,7 +44,6 @@ fn serve_next<L: Naming, G: Gate, R: Wait>(
     requires own { pass.old.id ≡ L.table }
     requires claims { pass.old.ended ≡ None }
     requires stands { (early : List LineRecord) × IsBetween round.now early pass.old done.old.items }
-
     ensures own { pass.new.id ≡ L.table }
     ensures turn { IfOk result (λ more. TakesTurn round.now more pass.old done.old.items pass.new done.new.items) }
 {
@@ -72,7 +71,6 @@ fn serve_claims<L: Naming, G: Gate, R: Wait>(
     requires book { IsBookOf L.table (length round.now.set.rows) book.now }
     requires new { IsNew L.table pass.old }
     requires none { done.old.items ≡ [] }
-
     ensures own { pass.new.id ≡ L.table }
     ensures finished { OnOk result (HasFinished round.now pass.new done.new.items) }
 {

@@ -13,8 +13,8 @@ ghost use Rattle.auc_jobs.specs.Usims.{AreBehind, HaveSecrets};
 
 use crate::bytes::vector_at;
 use crate::job_lines::JobLines;
-use crate::job_usims::JobUsims;
 use crate::worker::Worker;
+use auc_cards::JobUsims;
 use auc_edge::NoMemory;
 use auc_released::Numbers;
 use auc_usim::Answer;

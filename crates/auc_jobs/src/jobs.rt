@@ -11,9 +11,8 @@ ghost use Rattle.auc_jobs.specs.InnerWorker.{IsSameWorker, GoesOnWith, WorkerSer
 ghost use Rattle.auc_jobs.specs.Usims.{AreOfRows};
 
 use crate::bytes::printed_vectors;
-use crate::job_usims::JobUsims;
-use crate::usims::Usims;
 use crate::worker::Worker;
+use auc_cards::{JobUsims, Usims};
 use auc_edge::{Items, NoMemory};
 use auc_lines::Line;
 use auc_vector::Centre;
@@ -55,15 +54,10 @@ impl ServedJobs {
         ensures usims { OnOk result (self.new.usims ≡ self.old.usims ++ job.usims ∷ []) }
         ensures vectors { OnOk result (self.new.vectors ≡ (if full then self.old.vectors ++ job.vectors ∷ [] else self.old.vectors)) }
     {
-        let ServedJob {
-            lines,
-            usims,
-            vectors,
-        } = job;
-        self.records.push(lines)?;
-        self.usims.push(usims)?;
+        self.records.push(job.lines)?;
+        self.usims.push(job.usims)?;
         if full {
-            self.vectors.push(vectors)?;
+            self.vectors.push(job.vectors)?;
         }
         Ok(())
     }

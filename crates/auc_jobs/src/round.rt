@@ -41,10 +41,9 @@ pub struct Served {
     pub result: Result<Ran, NoMemory>,
 }
 
-/// Serves a round of this number by so many workers, each in a thread of its own: opens each subscriber at its word of the
-/// state, lets the workers claim the jobs and serve them, each after its worker's earlier lines and with its own copies of
-/// the USIMs to which it gives, closes the subscribers, and puts the USIMs back. The gate is told as a worker begins a job
-/// and after the job's last line, by the job's number from 1.
+/// Serves a round of this number by 1 to 64 workers, each in a thread of its own: opens each subscriber at its word of the
+/// state, has the workers claim the jobs and serve them, each with its own copies of the USIMs to which it gives, closes
+/// the subscribers, and puts the USIMs back. The gate is told before a job and after its last line, by its number from 1.
 pub fn serve<G: Gate + Sync, R: Threads + Wait + Sync>(
     rt: &R,
     alloc: Global,
@@ -52,7 +51,7 @@ pub fn serve<G: Gate + Sync, R: Threads + Wait + Sync>(
     jobs: &[JobPart],
     set: &Setting,
     full: bool,
-    state: State,
+    mut state: State,
     workers: u32,
     gate: &G,
 ) -> Served
@@ -61,7 +60,6 @@ pub fn serve<G: Gate + Sync, R: Threads + Wait + Sync>(
     requires few { length jobs.now ≤ 200000 }
     requires apart { AllPairs AreApart jobs.now }
     requires workers { (1 ≤ workers) × (workers ≤ 64) }
-
     ensures lawful { IfOk result.result (λ ran. (early : List LineRecord)
         → StandsAt set.now early state → (words : List ℕ)
         × IsLawfulRound set.now None early state.words jobs.now ran.round words
@@ -74,7 +72,6 @@ pub fn serve<G: Gate + Sync, R: Threads + Wait + Sync>(
         ≡ (if full then map (vectors_in set.now) ran.round.jobs else [])) }
     ensures kept { OnErr result.result (result.state ≡ state) }
 {
-    let mut state = state;
     let result = run(
         rt, alloc, number, jobs, set, full, &mut state, workers, gate,
     );
@@ -98,7 +95,6 @@ fn run<G: Gate + Sync, R: Threads + Wait + Sync>(
     requires few { length jobs.now ≤ 200000 }
     requires apart { AllPairs AreApart jobs.now }
     requires workers { (1 ≤ workers) × (workers ≤ 64) }
-
     ensures lawful { IfOk result (λ ran. (early : List LineRecord)
         → StandsAt set.now early state.old → (words : List ℕ)
         × IsLawfulRound set.now None early state.old.words jobs.now ran.round words

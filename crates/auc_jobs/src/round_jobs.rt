@@ -8,8 +8,8 @@ ghost use Rattle.auc_jobs.specs.InnerSharing.{BeginsAt, IsBookOf, IsServable, Se
 ghost use Rattle.auc_jobs.specs.InnerWorker.{IsCentreOf};
 
 use crate::jobs::ServedJob;
-use crate::usims::Usims;
 use crate::worker::Worker;
+use auc_cards::Usims;
 use auc_centre::{Desk, Naming};
 use auc_draw::{Book, Pass};
 use auc_edge::NoMemory;
@@ -70,7 +70,6 @@ impl RoundJobs<'_> {
         requires job { job < length self.now.jobs }
         requires begins { (early : List LineRecord) × (beside : List LineRecord)
             × BeginsAt self.now early beside (C.kept centre.old) job }
-
         ensures name { C.name centre.new ≡ C.name centre.old }
         ensures served { IfOk result (λ served. ServesAt (λ i es ws. C.goes centre.old i es ws centre.new)
             (C.kept centre.old) (C.kept centre.new) self.now job served) }
@@ -97,7 +96,6 @@ impl RoundJobs<'_> {
         requires job { job < length self.now.jobs }
         requires begins { (early : List LineRecord) × (beside : List LineRecord)
             × BeginsAt self.now early beside (kept_of pass.old.deeds) job }
-
         ensures own { pass.new.id ≡ L.table }
         ensures served { IfOk result (λ served. ServesAt (λ i es ws. Adds pass.old i es ws pass.new)
             (kept_of pass.old.deeds) (kept_of pass.new.deeds) self.now job served) }

@@ -7,9 +7,8 @@ ghost use Rattle.auc_jobs.specs.InnerRound.{IsAdvanced};
 ghost use Rattle.auc_jobs.specs.State.{StandsAt};
 
 use crate::closing::reopened;
-use crate::job_usims::JobUsims;
 use crate::noting::note_all;
-use crate::usims::Usims;
+use auc_cards::{JobUsims, Usims};
 use auc_edge::{Items, NoMemory};
 use auc_lines::JobPart;
 use auc_released::Numbers;

@@ -6,7 +6,7 @@ ghost use Rattle.auc_jobs.specs.InnerWorker.{WorkerState, AreForRows, IsCentreOf
 ghost use Rattle.auc_jobs.specs.Usims.{HaveSecrets};
 
 use crate::job_lines::JobLines;
-use crate::job_usims::JobUsims;
+use auc_cards::JobUsims;
 use auc_released::Numbers;
 use auc_vector::Centre;
 use auc_world::{JobRecord, Setting};

@@ -102,7 +102,6 @@ pub(crate) fn serve_pieces<G: Gate + Sync, R: Threads + Wait + Sync>(
     requires openings { (length openings.now ≡ length round.now.set.rows) × (length openings.now ≤ 65536)
         × All (λ number. number ≤ max_seq) openings.now }
     requires workers { (1 ≤ workers) × (workers ≤ 64) }
-
     ensures served { IfOk result (λ both. (early : List LineRecord) → Begins round.now early
         → AreServed round.now.set early openings.now round.now.jobs both.0.records both.0.usims both.1) }
     ensures vectors { IfOk result (λ both. both.0.vectors

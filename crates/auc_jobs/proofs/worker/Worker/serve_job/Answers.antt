@@ -3,7 +3,7 @@ use Rattle.auc_world.specs.Setting.{Setting}
 use Rattle.auc_jobs.specs.InnerUsims.{has_usim, usim_in}
 use Rattle.auc_jobs.specs.InnerWorker.{WorkerState}
 use Rattle.auc_jobs.specs.Usims.{HaveSecrets}
-use Rattle.auc_jobs.proofs.CopyLemmas.{copies_keyed}
+use Rattle.auc_cards.proofs.Facts.{copies_keyed}
 use Rattle.auc_jobs.proofs.WorkerLemmas.{does_job, does_releasable}
 use Rattle.auc_jobs.proofs.worker.Worker.serve_job.Goals as goal
 

@@ -1,7 +1,7 @@
 use Rattle.std.proofs.Common.{◌∙◌, refl}
 use Rattle.std.proofs.lemmas.List.{drop_more, drop_all}
 use Rattle.auc_jobs.specs.InnerUsims.{usim_in}
-use Rattle.auc_jobs.proofs.CopyLemmas.{gives_in_drop}
+use Rattle.auc_cards.proofs.Facts.{gives_in_drop}
 use Rattle.auc_jobs.proofs.JobLemmas.{job_line, job_all}
 use Rattle.auc_jobs.proofs.WorkerLemmas.{job_begins, same_line}
 use Rattle.auc_jobs.proofs.worker.Worker.serve_lines.Goals as goal

@@ -2,8 +2,8 @@
 
 ghost use Rattle.std.specs.Prelude.{◌≡◌, true, ℕ, None, length, slice_get, IfOk, OnOk};
 ghost use Rattle.std.specs.Option.{option_copied};
-ghost use Rattle.auc_jobs.specs.InnerUsims.{AreCopies, Challenges, Copies, has_usim, usim_in};
-ghost use Rattle.auc_jobs.specs.Serving.{AreKnown, IsKnownLine};
+ghost use Rattle.auc_cards.specs.JobUsims.{AreCopies, Challenges, Copies, has_usim, usim_in};
+ghost use Rattle.auc_cards.specs.Known.{AreKnown, IsKnownLine};
 
 use crate::usims::Usims;
 use auc_edge::NoMemory;
@@ -16,12 +16,12 @@ use std::marker::Model;
 /// A job's own copies of the USIMs to which its lines give. Contracts see the list of pairs of a subscriber and what
 /// its USIM keeps.
 #[derive(Drop)]
-pub(crate) struct JobUsims {
+pub struct JobUsims {
     usims: IndexMap<u32, Usim>,
 }
 
 impl Model for JobUsims {
-    ghost use Rattle.auc_jobs.specs.InnerUsims.{OwnUsims};
+    ghost use Rattle.auc_cards.specs.JobUsims.{OwnUsims};
 
     ghost Value = { OwnUsims };
 
@@ -30,7 +30,7 @@ impl Model for JobUsims {
 
 impl JobUsims {
     /// No USIMs. It takes no memory yet.
-    pub(crate) fn new(alloc: Global) -> JobUsims
+    pub fn new(alloc: Global) -> JobUsims
         ensures { (sub : ℕ) → usim_in result sub ≡ None }
     {
         JobUsims {
@@ -39,7 +39,7 @@ impl JobUsims {
     }
 
     /// Copies of the USIMs to which a job's lines give.
-    pub(crate) fn of_job(alloc: Global, usims: &Usims, job: &[Line]) -> Result<JobUsims, NoMemory>
+    pub fn of_job(alloc: Global, usims: &Usims, job: &[Line]) -> Result<JobUsims, NoMemory>
         requires { AreKnown (length usims.now) job.now }
         ensures { IfOk result (λ own. AreCopies usims.now job.now (usim_in own)) }
     {
@@ -62,14 +62,14 @@ impl JobUsims {
     }
 
     /// The USIM of a subscriber, if it is among them.
-    pub(crate) fn get(&self, sub: u32) -> Option<&Usim>
+    pub fn get(&self, sub: u32) -> Option<&Usim>
         ensures { option_copied result ≡ usim_in self.now sub }
     {
         self.usims.get(&sub)
     }
 
     /// Challenges the USIM of a subscriber.
-    pub(crate) fn challenge(&mut self, sub: u32, rand: [u8; 16], autn: [u8; 16]) -> Answer
+    pub fn challenge(&mut self, sub: u32, rand: [u8; 16], autn: [u8; 16]) -> Answer
         requires { has_usim (usim_in self.old) sub ≡ true }
         ensures { Challenges (usim_in self.old) sub rand autn result (usim_in self.new) }
     {

@@ -10,10 +10,30 @@ use Rattle.auc_lines.specs.declared.part.Line.{Line}
 use Rattle.auc_lines.specs.declared.part.Line.TheVariants as line
 use Rattle.auc_lines.specs.Part.{is_give_to, gives_to}
 use Rattle.auc_usim.specs.Usim.{Memory}
-use Rattle.auc_jobs.specs.Serving.{IsKnownLine}
-use Rattle.auc_jobs.specs.InnerUsims.{has_usim, Copies, AreCopies, put_at, ArePut}
-use Rattle.auc_jobs.proofs.CountLemmas.{get-set_same, get-set_other}
-use Rattle.auc_jobs.proofs.LineLemmas.{some_at}
+use Rattle.auc_cards.specs.Known.{IsKnownLine}
+use Rattle.auc_cards.specs.JobUsims.{has_usim, Copies, AreCopies}
+use Rattle.auc_cards.specs.Usims.{put_at, ArePut}
+
+-- ---- places of a list
+
+-- there is an element at each place
+some_at : {X : Type 0} (xs : List X) (i : ℕ) → i < length xs → (x : X) × (slice_get xs i ≡ Some x)
+some_at [] i lt = absurd (omega arith)
+some_at (x ∷ xs) zero lt = (x, refl)
+some_at (x ∷ xs) (suc i) lt = some_at xs i (omega arith)
+
+-- what a place has after an element was set
+get-set_same : {X : Type 0} (xs : List X) (i : ℕ) (x : X) → i < length xs → slice_get (slice_set xs i x) i ≡ Some x
+get-set_same [] i x lt = absurd (omega arith)
+get-set_same (y ∷ xs) zero x lt = refl
+get-set_same (y ∷ xs) (suc i) x lt = get-set_same xs i x (omega arith)
+
+get-set_other : {X : Type 0} (xs : List X) (i k : ℕ) (x : X) → i ≢ k → slice_get (slice_set xs i x) k ≡ slice_get xs k
+get-set_other [] i k x other = refl
+get-set_other (y ∷ xs) zero zero x other = absurd (other refl)
+get-set_other (y ∷ xs) zero (suc k) x other = refl
+get-set_other (y ∷ xs) (suc i) zero x other = refl
+get-set_other (y ∷ xs) (suc i) (suc k) x other = get-set_other xs i k x (λ e. other (omega arith))
 
 -- ---- to which USIMs a job gives
 

@@ -1,8 +1,8 @@
 //! The USIMs of the subscribers.
 
 ghost use Rattle.std.specs.Prelude.{◌≡◌, ◌<◌, Some, [], ◌∷◌, length, slice_get, IfOk};
-ghost use Rattle.auc_jobs.specs.InnerUsims.{ArePut, ArePutBack, usim_in};
-ghost use Rattle.auc_jobs.specs.Usims.{AreOfRows, AreBehind};
+ghost use Rattle.auc_cards.specs.JobUsims.{usim_in};
+ghost use Rattle.auc_cards.specs.Usims.{AreFresh, AreOfRows, ArePut, ArePutBack};
 
 use crate::job_usims::JobUsims;
 use auc_edge::NoMemory;
@@ -14,7 +14,7 @@ use std::marker::Model;
 
 /// The USIMs of the subscribers, in the subscribers' order. Contracts see the list of what each keeps.
 #[derive(Drop)]
-pub(crate) struct Usims {
+pub struct Usims {
     all: Vec<Usim>,
 }
 
@@ -29,9 +29,9 @@ impl Model for Usims {
 
 impl Usims {
     /// The USIM of each subscriber, with its row's secret, for which the numbers up to the row's `usim` count as accepted.
-    pub(crate) fn new(alloc: Global, subs: &Subscribers) -> Result<Usims, NoMemory>
+    pub fn new(alloc: Global, subs: &Subscribers) -> Result<Usims, NoMemory>
         ensures rows { IfOk result (AreOfRows subs.now) }
-        ensures fresh { IfOk result (λ usims. AreBehind subs.now [] (slice_get usims)) }
+        ensures fresh { IfOk result (AreFresh subs.now) }
     {
         let mut all = Vec::new(alloc);
         for sub in 0..subs.len() {
@@ -42,7 +42,7 @@ impl Usims {
     }
 
     /// The USIM of a subscriber.
-    pub(crate) fn of(&self, sub: u32) -> Usim
+    pub fn of(&self, sub: u32) -> Usim
         requires { sub < length self.now }
         ensures { slice_get self.now sub ≡ Some result }
     {
@@ -74,7 +74,7 @@ impl Usims {
     }
 
     /// Puts the own USIMs of a round's jobs back in their places.
-    pub(crate) fn put_back(&mut self, jobs: &[JobPart], own: &[JobUsims])
+    pub fn put_back(&mut self, jobs: &[JobPart], own: &[JobUsims])
         requires { length own.now ≡ length jobs.now }
         ensures { ArePutBack self.old jobs.now own.now self.new }
     {

@@ -1,0 +1,3 @@
+mod CopyLemmas
+mod RowLemmas
+pub mod Facts

@@ -1,0 +1,3 @@
+pub mod JobUsims
+pub mod Usims
+pub mod Known
