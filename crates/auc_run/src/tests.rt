@@ -1,7 +1,7 @@
 //! Runs over files and an output in memory. Further runs stand in `examples/`, and one in the crate `auc_cli`.
 
 use crate::{Ended, MAX_FILE, Status, run};
-use auc_edge::{Gate, Items, MemShelf, MemSink, NoMemory, Octets, OpenGate};
+use auc_edge::{Gate, Items, MemShelf, MemSink, NoMemory, Octets, OpenGate, TurnGate};
 use std::alloc::Global;
 use std::process::Abort;
 use std::sync::Wait;
@@ -343,6 +343,43 @@ fn load_digests_all_vectors(rt: HostRuntime) -> Result<(), NoMemory> {
         out.as_slice(),
         b"subscribers 3\njobs 4\nworkers 2\nvectors 20\nsha256 3536caba342a6eede95980f70df943f059a8a6667310e7df091d1fd69b34680f\n".as_slice()
     );
+    Ok(())
+}
+
+// Python, as above: ChaCha20, Milenage and SHA-256 of the vectors 1 to 5 of two subscribers. Each of the two jobs waits at
+// the gate until the other one ends, too.
+#[test]
+fn jobs_run_beside_each_other(rt: HostRuntime) -> Result<(), NoMemory> {
+    let alloc = rt.alloc();
+    let mut shelf = MemShelf::new(alloc);
+    shelf.add(
+        b"scenario",
+        b"workers 2\nsubscriber 001010000000001 465b5ce8b199b49faa5f0a2ee238a6bc opc cd63cb71954a9f4e48a5994e37a02baf 8000 0 0\nsubscriber 001010000000002 465b5ce8b199b49faa5f0a2ee238a6bc opc cd63cb71954a9f4e48a5994e37a02baf 8000 0 0\nround\njob\ndraw 001010000000001 1\njob\ndraw 001010000000002 1\n",
+    )?;
+    let cases: [(&[&[u8]], &[u8]); 2] = [
+        (
+            &[b"run".as_slice(), b"scenario".as_slice()],
+            b"round 1\njob 1\nvector 001010000000001 1\njob 2\nvector 001010000000002 1\nclosed 001010000000001 0 1 1 0 1 0\nclosed 001010000000002 0 1 1 0 1 0\n".as_slice(),
+        ),
+        (
+            &[
+                b"load".as_slice(),
+                b"7".as_slice(),
+                b"2".as_slice(),
+                b"2".as_slice(),
+                b"2".as_slice(),
+            ],
+            b"subscribers 2\njobs 2\nworkers 2\nvectors 10\nsha256 c2a8f10291c1e5ebf840e4d1cdf1df3c16b06254abab51dec2a680189ba4154d\n".as_slice(),
+        ),
+    ];
+    for (words, output) in cases {
+        let gate = TurnGate::new(1000000);
+        let mut out = MemSink::new(alloc);
+        let ended = run_words(&rt, alloc, words, &mut shelf, &mut out, &gate)?;
+        assert_eq!(rt; ended.status, Status::Done);
+        assert_eq!(rt; out.as_slice(), output);
+        assert_eq!(rt; (gate.left(), gate.expired()), (2, false));
+    }
     Ok(())
 }
 
