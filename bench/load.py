@@ -5,7 +5,8 @@
 
 Each time is the least of three runs, on the clock, from the program's beginning to its end. It has the making of the
 subscribers and of the digest, which one thread does, so the ratios say less than the workers' part alone. The lines of
-the runs with the same numbers must be the same for each number of workers, except the line `workers`.
+the runs with the same numbers must be the same for each number of workers, except the line `workers`. On a busy machine
+with four processors the ratios were 1.09 and 1.22 over 4 subscribers, and 0.90 and 0.93 over 4,096.
 """
 import subprocess
 import sys
