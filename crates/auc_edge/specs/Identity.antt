@@ -1,5 +1,5 @@
 -- Identities of subscribers: the IMSI (TS 23.003 §2.2), as how many digits it has and their value.
-use Rattle.std.specs.Prelude.{◌≡◌, ℕ, zero, suc, ◌+◌, ◌-◌, ◌*◌, ◌/◌, ◌%◌, ◌^◌, ◌<◌, ◌≤◌, ◌&&◌, nat_le, Bool, List, [], ◌∷◌, ◌++◌, length, Option, Some, None, if◌then◌else◌}
+use Rattle.std.specs.Prelude.{◌≡◌, ℕ, zero, suc, ◌+◌, ◌-◌, ◌*◌, ◌/◌, ◌%◌, ◌^◌, ◌<◌, ◌≤◌, ◌&&◌, nat_le, nat_lt, Bool, List, [], ◌∷◌, ◌++◌, length, Option, Some, None, if◌then◌else◌}
 use Rattle.std.specs.List.{list_all}
 use Rattle.std.specs.Char.{is_ascii_digit}
 
@@ -13,6 +13,10 @@ pub record IsIdentity (digits number : ℕ) : Type 0 where
   pub least : 6 ≤ digits
   pub most : digits ≤ 15
   pub fits : number < 10 ^ digits
+
+-- whether an identity has so many digits, from 6 to 15, and this number, which has no more digits than that
+abbrev pub is_imsi : ℕ → ℕ → Bool
+is_imsi digits number = nat_le 6 digits && nat_le digits 15 && nat_lt number (10 ^ digits)
 
 -- whether a text is 6 to 15 decimal digits
 abbrev pub is_identity : List ℕ → Bool

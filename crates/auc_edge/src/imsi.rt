@@ -1,9 +1,10 @@
 //! Identities of subscribers.
 
-ghost use Rattle.std.specs.Prelude.{◌≡◌, ◌≤◌, ◌<◌, ◌^◌, ◌++◌, length, IsTrue, OnOk, OnErr};
+ghost use Rattle.std.specs.Prelude.{◌≡◌, ◌≤◌, ◌<◌, ◌^◌, ◌++◌, length, IsTrue, IfSome, OnOk, OnErr};
 ghost use Rattle.std.specs.List.{list_all};
+ghost use Rattle.std.specs.Option.{is_some};
 ghost use Rattle.std.specs.Char.{is_ascii_digit};
-ghost use Rattle.auc_edge.specs.Identity.{identity_of, is_identity, number_of, digits_of, last_digits};
+ghost use Rattle.auc_edge.specs.Identity.{identity_of, is_identity, is_imsi, number_of, digits_of, last_digits};
 
 use crate::no_memory::NoMemory;
 use crate::octets::Octets;
@@ -33,6 +34,17 @@ impl Model for Imsi {
 }
 
 impl Imsi {
+    /// The identity that has so many digits and this number, or `None` if there is none.
+    pub fn of(digits: u8, number: u64) -> Option<Imsi>
+        ensures value { IfSome result (λ imsi. imsi ≡ record { digits = digits; number = number }) }
+        ensures exact { is_some result ≡ is_imsi digits number }
+    {
+        if !is_imsi(digits, number) {
+            return None;
+        }
+        Some(Imsi { digits, number })
+    }
+
     /// How many digits it has, from 6 to 15.
     pub fn digits(&self) -> u8
         ensures { result ≡ self.now.digits }
@@ -70,6 +82,13 @@ impl Imsi {
         write_digits(text, self.number);
         out.append(text)
     }
+}
+
+// Whether an identity has so many digits and this number.
+fn is_imsi(digits: u8, number: u64) -> bool
+    ensures { result ≡ is_imsi digits number }
+{
+    6 <= digits && usize::from(digits) <= MAX_DIGITS && number < 10u64.pow(u32::from(digits))
 }
 
 // Whether a text is 6 to 15 decimal digits.

@@ -114,6 +114,7 @@ fn identities_are_read_and_written(rt: HostRuntime) -> Result<(), Fail> {
             None => assert_eq!(rt; identity, None),
             Some(imsi) => {
                 assert_eq!(rt; identity, Some((imsi.digits(), imsi.number())));
+                assert_eq!(rt; Imsi::of(imsi.digits(), imsi.number()), Some(imsi));
                 let mut out = Octets::new(rt.alloc());
                 imsi.write_to(&mut out)?;
                 assert_eq!(rt; out.as_slice(), text);

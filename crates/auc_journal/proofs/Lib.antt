@@ -5,7 +5,6 @@ mod BodyLemmas
 mod FillLemmas
 mod FrameLemmas
 mod ImageExamples
-mod ImsiLemmas
 mod LimitLemmas
 mod LookupLemmas
 mod MomentLemmas

@@ -2,7 +2,7 @@
 use Rattle.std.specs.Prelude.{ℕ, zero, suc, ◌+◌, ◌^◌, max, ◌==◌, ◌&&◌, nat_le, nat_lt, Bool, if◌then◌else◌, List, [], ◌∷◌, ◌++◌, length, take, drop, slice_index, Result, Ok, Err}
 use Rattle.std.specs.Int.{to_be_bytes, from_be_bytes, w64}
 use Rattle.std.specs.Str.{bytes_eq}
-use Rattle.auc_edge.specs.Identity.{Identity}
+use Rattle.auc_edge.specs.Identity.{Identity, is_imsi}
 use Rattle.auc_sqn.specs.Number.{max_seq}
 
 -- how many bytes a journal has at most
@@ -25,10 +25,6 @@ body_of frame = 1 ∷ frame.imsi.digits ∷ to_be_bytes w64 frame.imsi.number ++
 -- the content that the 18 bytes of a body are
 abbrev pub frame_in : List ℕ → Frame
 frame_in body = record { imsi = record { digits = slice_index body 1; number = from_be_bytes w64 (take 8 (drop 2 body)) }; limit = from_be_bytes w64 (drop 10 body) }
-
--- whether an identity has so many digits, from 6 to 15, and this number, which has no more digits than that
-abbrev pub is_imsi : ℕ → ℕ → Bool
-is_imsi digits number = nat_le 6 digits && nat_le digits 15 && nat_lt number (10 ^ digits)
 
 -- whether a content is a frame's: an identity, and a limit from 1 to the greatest number
 abbrev pub is_frame : Frame → Bool

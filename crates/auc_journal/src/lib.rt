@@ -16,7 +16,6 @@
 
 mod append_refusal;
 mod filling;
-mod identity;
 mod journal;
 mod limit;
 mod limit_list;

@@ -6,10 +6,10 @@ ghost use Rattle.std.specs.Str.{bytes_eq};
 ghost use Rattle.auc_journal.specs.Image.{frame_in, header, is_body, read_frames, read_image};
 ghost use Rattle.auc_journal.specs.InnerOpening.{HasLimits};
 
-use crate::identity::imsi_of;
 use crate::limit::Limit;
 use crate::limit_list::LimitList;
 use crate::open_why::OpenWhy;
+use auc_edge::Imsi;
 use auc_sqn::MAX_SEQ;
 
 // How many bytes a journal has at most.
@@ -100,6 +100,6 @@ fn frame_of(body: &[u8]) -> Option<Limit>
     if *kind != 1 || limit < 1 || limit > MAX_SEQ {
         return None;
     }
-    let imsi = imsi_of(*digits, number)?;
+    let imsi = Imsi::of(*digits, number)?;
     Some(Limit { imsi, limit })
 }

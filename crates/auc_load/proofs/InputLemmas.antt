@@ -4,7 +4,6 @@ use Rattle.std.specs.List.{position, range_with_len}
 use Rattle.std.proofs.lemmas.Bool.Decides.{nat_tests}
 use Rattle.std.proofs.lemmas.List.FromFn.{get_or-map-range_with_len, length-map-range_with_len}
 use Rattle.std.proofs.lemmas.List.Quantifiers.{position-Some}
-use Rattle.auc_edge.specs.Identity.{EachIdentityIsReadBack, identity_of, last_digits}
 use Rattle.auc_load.specs.Input.{row_at}
 use Rattle.auc_subs.specs.declared.row.Row.{Row}
 use Rattle.auc_subs.specs.Subscriber.{place_of, same_identity}
@@ -16,11 +15,6 @@ range_suc a (suc n) j e = ap (λ ks. a ∷ ks) (range_suc (a + 1) n j (omega (ar
 
 pub range_more : (a n j : ℕ) → a + n ≡ j → range_with_len a (n + 1) ≡ range_with_len a n ++ j ∷ []
 range_more a n j e = rw add-one (range_suc a n j e)
-
--- an identity of 15 digits is read back from its digits
-pub reads_back : EachIdentityIsReadBack → (number : ℕ) → number < 10 ^ 15
-    → identity_of (last_digits 15 number) ≡ Some (record { digits = 15; number = number })
-reads_back law number fits = law (record { digits = 15; number = number }) (record { least = omega arith; most = omega arith; fits = fits })
 
 -- no earlier subscriber has the identity of the next one
 is_other : (key : List ℕ) (i n : ℕ) → same_identity (row_at key i).imsi (row_at key n).imsi ≡ true → i ≡ n

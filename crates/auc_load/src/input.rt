@@ -1,13 +1,12 @@
 //! The input of the round.
 
 ghost use Rattle.std.specs.Prelude.{◌≡◌, ◌<◌, ◌+◌, ◌*◌, ◌^◌, ◌++◌, ◌∷◌, [], None, length, IfOk, OnOk};
-ghost use Rattle.auc_edge.specs.Identity.{last_digits};
 ghost use Rattle.auc_subs.specs.Subscriber.{IsRow, most_subscribers, place_of};
 ghost use Rattle.auc_load.specs.Input.{job_at, load_jobs, load_key, load_rows, row_at};
 ghost use Rattle.auc_load.specs.Words.{IsLoad};
 
 use crate::words::LoadWords;
-use auc_edge::{Imsi, Items, NoMemory, each_identity_is_read_back};
+use auc_edge::{Imsi, Items, NoMemory};
 use auc_lines::{JobPart, Line};
 use auc_milenage::Secret;
 use auc_subs::{AddRefusal, Row, Subscribers};
@@ -81,25 +80,9 @@ fn imsi(number: u64) -> Imsi
     requires { number < 10 ^ 15 }
     ensures { result ≡ record { digits = 15; number = number } }
 {
-    let mut text = [0; 15];
-    write_digits(&mut text, number);
-    each_identity_is_read_back();
-    match Imsi::read(&text) {
+    match Imsi::of(15, number) {
         Some(imsi) => imsi,
         None => unreachable!(),
-    }
-}
-
-/// Fills a text with the last digits of a number.
-fn write_digits(text: &mut [u8], number: u64)
-    ensures { text.new ≡ last_digits (length text.old) number }
-{
-    let mut left = text.len();
-    let mut rest = number;
-    while left > 0 {
-        left -= 1;
-        text[left] = b'0' + (rest % 10) as u8;
-        rest /= 10;
     }
 }
 
