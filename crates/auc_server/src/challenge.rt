@@ -2,7 +2,7 @@
 
 ghost use Rattle.std.specs.Prelude.{◌≡◌, ◌≢◌, ◌≤◌, ◌<◌, ℕ, true, List, [], length, None, Some};
 ghost use Rattle.auc_sqn.specs.Number.{max_seq};
-ghost use Rattle.auc_vector.specs.Notes.{AnswersNumber, AskedOf, entries_noted, withheld_noted};
+ghost use Rattle.auc_vector.specs.Notes.{AnswersNumber, AskedOf, entries_noted, kept_noted, withheld_noted};
 ghost use Rattle.auc_server.specs.Rows.{is_held};
 ghost use Rattle.auc_server.specs.Steps.{IsHeld, IsHome};
 ghost use Rattle.auc_server.specs.declared.setting.HomeRow.{HomeRow};
@@ -65,6 +65,9 @@ impl Server {
         ensures goes { C.goes centre.old sub (entries_noted (C.kept centre.old sub) result.notes.number)
             (withheld_noted result.notes.number) centre.new }
         ensures others { (i : ℕ) → i ≢ sub → C.goes centre.old i [] [] centre.new }
+
+        ensures kept { C.kept centre.new sub ≡ kept_noted (C.kept centre.old sub) result.notes.number }
+        ensures still { (i : ℕ) → i ≢ sub → C.kept centre.new i ≡ C.kept centre.old i }
 
         // A home stays one, also if it is challenged now.
         ensures held { (homes : List HomeRow) → IsHeld homes self.old.challenged → is_held homes sub ≡ true

@@ -38,6 +38,8 @@ impl Server {
         ensures step { IfOk result (λ turn. Steps C.goes C.kept C.top set.now homes.old self.old bytes.now centre.old self.new turn centre.new) }
         ensures served { IsServed set.now.rows (C.subs centre.new) (C.top centre.new) homes.new self.new }
         ensures homes { homes.new ≡ homes.old }
+        ensures subs { C.subs centre.new ≡ C.subs centre.old }
+        ensures top { (i : ℕ) → C.top centre.new i ≡ C.top centre.old i }
         ensures name { C.name centre.new ≡ C.name centre.old }
 
         ensures server { OnErr result (self.new ≡ self.old) }
@@ -67,6 +69,8 @@ impl Server {
         ensures step { (self.new, result) ≡ server_step set.now homes.now self.old (seen_of received.now) result.notes }
         ensures asked { Asked C.goes C.kept C.top (asking (server_row set.now homes.now self.old (seen_of received.now))) result.notes centre.old centre.new }
         ensures served { IsServed set.now.rows (C.subs centre.new) (C.top centre.new) homes.now self.new }
+        ensures subs { C.subs centre.new ≡ C.subs centre.old }
+        ensures top { (i : ℕ) → C.top centre.new i ≡ C.top centre.old i }
         ensures name { C.name centre.new ≡ C.name centre.old }
     {
         let row = self.row(set, homes, received);
@@ -90,6 +94,8 @@ impl Server {
         ensures step { (self.new, result) ≡ server_does set.now self.old text row result.notes }
         ensures asked { Asked C.goes C.kept C.top (asking row) result.notes centre.old centre.new }
         ensures served { IsServed set.now.rows (C.subs centre.new) (C.top centre.new) homes.now self.new }
+        ensures subs { C.subs centre.new ≡ C.subs centre.old }
+        ensures top { (i : ℕ) → C.top centre.new i ≡ C.top centre.old i }
         ensures name { C.name centre.new ≡ C.name centre.old }
     {
         match row {

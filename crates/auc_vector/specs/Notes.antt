@@ -1,6 +1,6 @@
--- What the notes of a turn say of the centre: which of its answers they stand for, and which entries of the
--- subscriber's history it made.
-use Rattle.std.specs.Prelude.{◌≢◌, ℕ, List, [], ◌++◌, Option, Some, None, Result, Ok, Err}
+-- What the notes of a turn say of the centre: which of its answers they stand for, which entries of the subscriber's
+-- history it made, and which word is kept after it.
+use Rattle.std.specs.Prelude.{◌≡◌, ◌≢◌, ℕ, List, [], ◌++◌, Option, Some, None, Result, Ok, Err}
 use Rattle.auc_history.specs.declared.entry.Entry.{Entry}
 use Rattle.auc_vector.specs.declared.centre.Resynced.TheVariants as resynced
 use Rattle.auc_vector.specs.declared.centre.CentreRefusal.{CentreRefusal}
@@ -10,7 +10,7 @@ use Rattle.auc_vector.specs.declared.notes.NumberNote.{NumberNote}
 use Rattle.auc_vector.specs.declared.notes.NumberNote.TheVariants as number
 use Rattle.auc_vector.specs.declared.notes.ResyncNote.{ResyncNote}
 use Rattle.auc_vector.specs.declared.notes.ResyncNote.TheVariants as resync
-use Rattle.auc_vector.specs.Centre.{AnswersNext, AnswersResync, entries_of_next, withheld_of_next, entries_of_resync}
+use Rattle.auc_vector.specs.Centre.{AnswersNext, AnswersResync, entries_of_next, withheld_of_next, kept_after_next, entries_of_resync}
 
 -- ---- a number that was asked for
 
@@ -38,6 +38,11 @@ entries_noted kept (Some note) = entries_of_next kept (answer_noted note)
 abbrev pub withheld_noted : Option NumberNote → List ℕ
 withheld_noted None = []
 withheld_noted (Some note) = withheld_of_next (answer_noted note)
+
+-- the word that is kept afterwards; without a note the one before
+abbrev pub kept_noted : Option ℕ → Option NumberNote → Option ℕ
+kept_noted kept None = kept
+kept_noted kept (Some note) = kept_after_next kept (answer_noted note)
 
 -- ---- a SEQ that was reported
 
@@ -69,14 +74,17 @@ pub record Asking : Type 0 where
   pub reported : Option ℕ
 
 -- the centre answered what a turn asked for, as its notes say; its entries, for this subscriber alone, are those of
--- the resynchronisation and then those of the number. `goes`, `kept` and `top` are those of the centre
+-- the resynchronisation and then those of the number, and a draw that it refused is kept. `goes`, `kept` and `top` are
+-- those of the centre
 pub record AskedOf {S : Type 0} (goes : S → ℕ → List Entry → List ℕ → S → Type 0) (kept : S → ℕ → Option ℕ) (top : S → ℕ → ℕ) (asking : Asking) (notes : Notes) (old new : S) : Type 0 where
   pub own : goes old asking.sub (entries_resynced (kept old asking.sub) notes.resync ++ entries_noted (kept old asking.sub) notes.number) (withheld_noted notes.number) new
   pub others : (i : ℕ) → i ≢ asking.sub → goes old i [] [] new
   pub resynced : AnswersReport (kept old asking.sub) asking.reported notes.resync
   pub number : AnswersNumber (top old asking.sub) (kept old asking.sub) notes.number
+  pub keeps : kept new asking.sub ≡ kept_noted (kept old asking.sub) notes.number
+  pub still : (i : ℕ) → i ≢ asking.sub → kept new i ≡ kept old i
 
--- a turn that asks for nothing leaves no entry
+-- a turn that asks for nothing leaves no entry, and each word as it was
 abbrev pub Asked : {S : Type 0} → (S → ℕ → List Entry → List ℕ → S → Type 0) → (S → ℕ → Option ℕ) → (S → ℕ → ℕ) → Option Asking → Notes → S → S → Type 0
-Asked goes kept top None notes old new = (i : ℕ) → goes old i [] [] new
+Asked goes kept top None notes old new = ((i : ℕ) → goes old i [] [] new) × ((i : ℕ) → kept new i ≡ kept old i)
 Asked goes kept top (Some asking) notes old new = AskedOf goes kept top asking notes old new
