@@ -32,6 +32,7 @@ impl<L: Naming> Centre for Desk<'_, L> {
     ghost use Rattle.std.specs.Prelude.{ℕ, List, ◌++◌, length};
     ghost use Rattle.std.proofs.Common.{refl, sym, ap, ◌∙◌};
     ghost use Rattle.std.proofs.lemmas.List.{append-nil, append_assoc};
+    ghost use Rattle.auc_edge.specs.declared.stop.Stop.{Stop};
     ghost use Rattle.auc_history.specs.declared.entry.Entry.{Entry};
     ghost use Rattle.auc_sqn.specs.Number.{max_seq};
     ghost use Rattle.auc_draw.specs.Deeds.{entries_of, kept_of};
@@ -64,7 +65,7 @@ impl<L: Naming> Centre for Desk<'_, L> {
           first.made first.ordered second.ordered second.after;
       after = after_both (entries_of i a.pass.now.deeds) (entries_of i b.pass.now.deeds) es fs
           first.made first.after second.after;
-      released = ap (λ (xs : List ℕ). xs ++ vs) first.released ∙ second.released;
+      released = ap (λ (xs : List (ℕ × Stop)). xs ++ vs) first.released ∙ second.released;
       claims = second.claims ∙ first.claims;
       ended = second.ended ∙ first.ended;
     } };

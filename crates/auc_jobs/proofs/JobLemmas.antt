@@ -3,6 +3,7 @@ use Rattle.std.proofs.Common.{◌≡◌, ℕ, Bool, true, false, List, [], ◌�
 use Rattle.std.specs.Prelude.{Option, Some, slice_get, ◌||◌}
 use Rattle.std.proofs.lemmas.Bool.Decides.{eqb_tells}
 use Rattle.std.proofs.lemmas.Grind.{flat_map-append}
+use Rattle.auc_edge.specs.declared.stop.Stop.{Stop}
 use Rattle.auc_history.specs.declared.entry.Entry.{Entry}
 use Rattle.auc_lines.specs.declared.part.Line.{Line}
 use Rattle.auc_sqn.specs.Past.{Remembers}
@@ -10,7 +11,7 @@ use Rattle.auc_subs.specs.declared.row.Row.{Row}
 use Rattle.auc_world.specs.Entries.{entries_of_lines}
 use Rattle.auc_world.specs.Given.{is_in, is_released, past_of, GiveGives, LineGives, JobGives}
 use Rattle.auc_world.specs.Setting.{Setting}
-use Rattle.auc_world.specs.Lines.{numbers_of, withheld_of, accepted_by, accepted, all_lines}
+use Rattle.auc_world.specs.Lines.{numbers_of, held_of, accepted_by, accepted, all_lines}
 use Rattle.auc_usim.specs.Usim.{Memory}
 use Rattle.auc_world.specs.declared.record.GiveVerdict.{GiveVerdict}
 use Rattle.auc_world.specs.declared.record.GiveVerdict.TheVariants as given
@@ -20,7 +21,7 @@ use Rattle.auc_jobs.specs.Numbers.{Released, has, AreReleased}
 use Rattle.auc_jobs.specs.InnerUsims.{Presents}
 use Rattle.auc_jobs.specs.Usims.{AreBehind}
 use Rattle.auc_jobs.specs.InnerServing.{AreTold, IsTold, Stands, Adds, Serves, ServesLines, IsAnswered, AddsGive, before_at}
-use Rattle.auc_jobs.proofs.LineLemmas.{withheld_of-append, entries_of_lines-append}
+use Rattle.auc_jobs.proofs.LineLemmas.{held_of-append, entries_of_lines-append}
 use Rattle.auc_world.proofs.Facts.{accepted-append}
 use Rattle.auc_jobs.proofs.SayingLemmas.{told_quiet}
 
@@ -80,7 +81,7 @@ give_added set early beside own new sub n answer usims row at added is = record 
 -- ---- a line of a job
 
 -- lines that were drawn, after a resynchronisation too
-pub serves_adds : (goes : ℕ → List Entry → List ℕ → Type 0) (rows : List Row) (early beside own new : List LineRecord) (old kept : ℕ → Option ℕ)
+pub serves_adds : (goes : ℕ → List Entry → List (ℕ × Stop) → Type 0) (rows : List Row) (early beside own new : List LineRecord) (old kept : ℕ → Option ℕ)
     (released : Released) (usims : ℕ → Option Memory) (Gives : List LineRecord → Type 0)
     → Stands rows (before_at early beside own) old released usims → Adds goes kept beside own new Gives
     → Serves goes rows (before_at early beside own) kept released usims Gives new
@@ -99,9 +100,9 @@ serves_adds goes rows early beside own new old kept released usims Gives s a = r
 }
 
 -- lines of one request and of another that comes after it
-pub serves_more : (goes more whole : ℕ → List Entry → List ℕ → Type 0) (rows : List Row) (early beside own between new : List LineRecord) (mid kept : ℕ → Option ℕ)
+pub serves_more : (goes more whole : ℕ → List Entry → List (ℕ × Stop) → Type 0) (rows : List Row) (early beside own between new : List LineRecord) (mid kept : ℕ → Option ℕ)
     (released : Released) (first_usims usims : ℕ → Option Memory) (First Second Whole : List LineRecord → Type 0)
-    → ((i : ℕ) (es fs : List Entry) (ws vs : List ℕ) → goes i es ws → more i fs vs → whole i (es ++ fs) (ws ++ vs))
+    → ((i : ℕ) (es fs : List Entry) (ws vs : List (ℕ × Stop)) → goes i es ws → more i fs vs → whole i (es ++ fs) (ws ++ vs))
     → Serves goes rows (before_at early beside own) mid released first_usims First between
     → (Stands rows (before_at early beside between) mid released first_usims → Serves more rows (before_at early beside between) kept released usims Second new)
     → ((front rest : List LineRecord) → First front → Second rest → Whole (front ++ rest))
@@ -110,9 +111,9 @@ serves_more goes more whole rows early beside own between new mid kept released 
   lines = first.lines ++ second.lines;
   added = second.added ∙ ap (λ (lines : List LineRecord). lines ++ second.lines) first.added ∙ append_assoc own first.lines second.lines;
   given = both first.lines second.lines first.given second.given;
-  made = λ i. rw (entries_of_lines-append i (beside ++ own) first.lines second.lines, withheld_of-append i first.lines second.lines)
-      (joins i (entries_of_lines i (beside ++ own) first.lines) (entries_of_lines i ((beside ++ own) ++ first.lines) second.lines) (withheld_of i first.lines) (withheld_of i second.lines)
-      (first.made i) (subst (λ (lines : List LineRecord). more i (entries_of_lines i lines second.lines) (withheld_of i second.lines)) here (second.made i)));
+  made = λ i. rw (entries_of_lines-append i (beside ++ own) first.lines second.lines, held_of-append i first.lines second.lines)
+      (joins i (entries_of_lines i (beside ++ own) first.lines) (entries_of_lines i ((beside ++ own) ++ first.lines) second.lines) (held_of i first.lines) (held_of i second.lines)
+      (first.made i) (subst (λ (lines : List LineRecord). more i (entries_of_lines i lines second.lines) (held_of i second.lines)) here (second.made i)));
   stands = second.stands;
 }
   where
@@ -123,7 +124,7 @@ serves_more goes more whole rows early beside own between new mid kept released 
     here = ap (λ (lines : List LineRecord). beside ++ lines) first.added ∙ sym (append_assoc beside own first.lines)
 
 -- a presented vector
-pub serves_give : (goes : ℕ → List Entry → List ℕ → Type 0) (set : Setting) (early beside own new : List LineRecord) (kept : ℕ → Option ℕ)
+pub serves_give : (goes : ℕ → List Entry → List (ℕ × Stop) → Type 0) (set : Setting) (early beside own new : List LineRecord) (kept : ℕ → Option ℕ)
     (released : Released) (old usims : ℕ → Option Memory) (sub n : ℕ) → ((i : ℕ) → goes i [] [])
     → Stands set.rows (before_at early beside own) kept released old → AddsGive set (before_at early beside own) sub n usims new
     → Serves goes set.rows (before_at early beside own) kept released usims (GiveGives set (before_at early beside own) sub n) new
@@ -149,13 +150,13 @@ JobGoesOn set early beside left job front =
     (rest : List LineRecord) → JobGives set (before_at early beside front) left rest → JobGives set (before_at early beside []) job (front ++ rest)
 
 -- what a job has given so far
-pub record ServingLines (goes : ℕ → List Entry → List ℕ → Type 0) (set : Setting) (early beside : List LineRecord) (kept : ℕ → Option ℕ) (released : Released) (usims : ℕ → Option Memory)
+pub record ServingLines (goes : ℕ → List Entry → List (ℕ × Stop) → Type 0) (set : Setting) (early beside : List LineRecord) (kept : ℕ → Option ℕ) (released : Released) (usims : ℕ → Option Memory)
     (left job : List Line) (lines : List LineRecord) : Type 0 where
   pub goes_on : JobGoesOn set early beside left job lines
-  pub made : (sub : ℕ) → goes sub (entries_of_lines sub beside lines) (withheld_of sub lines)
+  pub made : (sub : ℕ) → goes sub (entries_of_lines sub beside lines) (held_of sub lines)
   pub stands : Stands set.rows (before_at early beside lines) kept released usims
 
-pub job_none : (goes : ℕ → List Entry → List ℕ → Type 0) (set : Setting) (early beside : List LineRecord) (kept : ℕ → Option ℕ) (released : Released) (usims : ℕ → Option Memory)
+pub job_none : (goes : ℕ → List Entry → List (ℕ × Stop) → Type 0) (set : Setting) (early beside : List LineRecord) (kept : ℕ → Option ℕ) (released : Released) (usims : ℕ → Option Memory)
     (left job : List Line) → left ≡ job → ((i : ℕ) → goes i [] []) → Stands set.rows (before_at early beside []) kept released usims
     → ServingLines goes set early beside kept released usims left job []
 job_none goes set early beside kept released usims left job is stays s = record {
@@ -164,9 +165,9 @@ job_none goes set early beside kept released usims left job is stays s = record 
   stands = s;
 }
 
-pub job_line : (goes more whole : ℕ → List Entry → List ℕ → Type 0) (set : Setting) (early beside : List LineRecord) (mid kept : ℕ → Option ℕ) (released : Released) (old usims : ℕ → Option Memory)
+pub job_line : (goes more whole : ℕ → List Entry → List (ℕ × Stop) → Type 0) (set : Setting) (early beside : List LineRecord) (mid kept : ℕ → Option ℕ) (released : Released) (old usims : ℕ → Option Memory)
     (line : Line) (left next job : List Line) (front after : List LineRecord)
-    → ((i : ℕ) (es fs : List Entry) (ws vs : List ℕ) → goes i es ws → more i fs vs → whole i (es ++ fs) (ws ++ vs))
+    → ((i : ℕ) (es fs : List Entry) (ws vs : List (ℕ × Stop)) → goes i es ws → more i fs vs → whole i (es ++ fs) (ws ++ vs))
     → left ≡ line ∷ next → ServingLines goes set early beside mid released old left job front
     → (Stands set.rows (before_at early beside front) mid released old
     → Serves more set.rows (before_at early beside front) kept released usims (LineGives set (before_at early beside front) line) after)
@@ -179,15 +180,15 @@ job_line goes more whole set early beside mid kept released old usims line left 
       let joined : JobGives set (before_at early beside []) job (front ++ (line_is.lines ++ rest)) =
       serving.goes_on (line_is.lines ++ rest) (subst (λ (lines : List Line). JobGives set (before_at early beside front) lines (line_is.lines ++ rest)) (sym cut) both) in
       rw line_is.added (rw append_assoc joined);
-  made = λ i. rw line_is.added (rw (entries_of_lines-append i beside front line_is.lines, withheld_of-append i front line_is.lines)
-      (joins i (entries_of_lines i beside front) (entries_of_lines i (beside ++ front) line_is.lines) (withheld_of i front) (withheld_of i line_is.lines) (serving.made i) (line_is.made i)));
+  made = λ i. rw line_is.added (rw (entries_of_lines-append i beside front line_is.lines, held_of-append i front line_is.lines)
+      (joins i (entries_of_lines i beside front) (entries_of_lines i (beside ++ front) line_is.lines) (held_of i front) (held_of i line_is.lines) (serving.made i) (line_is.made i)));
   stands = line_is.stands;
 }
   where
     line_is : Serves more set.rows (before_at early beside front) kept released usims (LineGives set (before_at early beside front) line) after
     line_is = serves serving.stands
 
-pub job_all : (goes : ℕ → List Entry → List ℕ → Type 0) (set : Setting) (early beside : List LineRecord) (kept : ℕ → Option ℕ) (released : Released) (usims : ℕ → Option Memory)
+pub job_all : (goes : ℕ → List Entry → List (ℕ × Stop) → Type 0) (set : Setting) (early beside : List LineRecord) (kept : ℕ → Option ℕ) (released : Released) (usims : ℕ → Option Memory)
     (left job : List Line) (lines : List LineRecord) → left ≡ [] → ServingLines goes set early beside kept released usims left job lines
     → ServesLines goes set early beside kept released usims job lines
 job_all goes set early beside kept released usims left job lines none serving = record {

@@ -2,6 +2,7 @@
 use Rattle.std.proofs.Common.{◌≡◌, ℕ, zero, suc, true, List, [], ◌∷◌, ◌++◌, length, refl, sym, ◌∙◌, ap, subst, append-nil, arith}
 use Rattle.std.specs.Prelude.{Option, Some, All}
 use Rattle.std.proofs.lemmas.List.Elements.{All-append}
+use Rattle.auc_edge.specs.declared.stop.Stop.{Stop}
 use Rattle.auc_history.specs.declared.entry.Entry.{Entry}
 use Rattle.auc_lines.specs.declared.part.Line.{Line}
 use Rattle.auc_lines.specs.declared.part.Line.TheVariants as line
@@ -63,7 +64,7 @@ given_there : (job : List Line) (own : ℕ → Option Memory) (sub : ℕ) (usim 
 given_there job own sub usim keyed there = sym keyed ∙ rw there refl
 
 -- the job's lines and its own USIMs
-pub job_settles : (goes : ℕ → List Entry → List ℕ → Type 0) (set : Setting) (early beside : List LineRecord) (old kept : ℕ → Option ℕ) (released : Released) (usims : List Memory)
+pub job_settles : (goes : ℕ → List Entry → List (ℕ × Stop) → Type 0) (set : Setting) (early beside : List LineRecord) (old kept : ℕ → Option ℕ) (released : Released) (usims : List Memory)
     (job : List Line) (lines : List LineRecord) (copies own : ℕ → Option Memory) → length usims ≡ length set.rows → All (IsKnownLine (length set.rows)) job → AreCopies usims job copies
     → ((sub : ℕ) → has_usim own sub ≡ has_usim copies sub) → HaveSecrets set.rows own → JobBegins set.rows early beside old released usims job
     → ServesLines goes set early beside kept released own job lines → ServesJob goes set early beside kept job lines own

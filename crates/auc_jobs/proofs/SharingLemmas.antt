@@ -3,6 +3,7 @@ use Rattle.std.proofs.Common.{◌≡◌, ℕ, ◌<◌, List, [], length, get_or,
 use Rattle.std.specs.Prelude.{Option, Result, Ok, Err, IfOk, if◌then◌else◌}
 use Rattle.std.proofs.lemmas.Option.{slice_get_read}
 use Rattle.auc_edge.specs.declared.no_memory.NoMemory.{NoMemory}
+use Rattle.auc_edge.specs.declared.stop.Stop.{Stop}
 use Rattle.auc_history.specs.declared.entry.Entry.{Entry}
 use Rattle.auc_lines.specs.declared.part.Line.{Line}
 use Rattle.auc_world.specs.declared.record.LineRecord.{LineRecord}
@@ -32,7 +33,7 @@ job_begins_at inside shared early beside kept now job set released asked is same
     (subst (λ (k : ℕ → Option ℕ). JobBegins inside.set.rows early beside k inside.released inside.usims asked) (sym same_kept) (at.begins asked there)))
 
 -- and is served
-module _ {C : Type 0} (kept : C → ℕ → Option ℕ) (goes : C → ℕ → List Entry → List ℕ → C → Type 0) where
+module _ {C : Type 0} (kept : C → ℕ → Option ℕ) (goes : C → ℕ → List Entry → List (ℕ × Stop) → C → Type 0) where
   served_one : (inside : Shared) (old new : WorkerState C) (job : ℕ) (asked : List Line) (served : ServedJob) → old.set ≡ inside.set → old.released ≡ inside.released → slice_get inside.jobs job ≡ Some asked
       → WorkerServesJob kept goes old new inside.usims asked served.lines served.usims → served.vectors ≡ (if inside.full then vectors_in old.set served.lines else [])
       → ServesAt (λ i es ws. goes old.centre i es ws new.centre) (kept old.centre) (kept new.centre) inside job served

@@ -19,7 +19,7 @@ use Rattle.auc_lines.specs.declared.part.Line.{Line}
 use Rattle.auc_lines.specs.Part.{AreApart, gives_to}
 use Rattle.auc_world.specs.declared.record.LineRecord.{LineRecord}
 use Rattle.auc_world.specs.Lines.{withheld_of, accepted}
-use Rattle.auc_world.proofs.Facts.{accepted-append, job_quiet}
+use Rattle.auc_world.proofs.Facts.{accepted-append, job_quiet, none_held}
 use Rattle.auc_jobs.specs.declared.claiming.ClaimedJob.{ClaimedJob}
 use Rattle.auc_jobs.specs.InnerClaims.{Turn, turns, lines_done, entries_of_turn, IsGiven, IsSettledAt, IsPrinted, ClaimsAre, HasServed, IsBetween, IsLast, TakesTurn, HasFinished}
 use Rattle.auc_jobs.specs.InnerRound.{ServesJob}
@@ -174,7 +174,7 @@ between_more shared early old mid new done c s between = record {
         (All-push (λ (t : Turn). IsInOrder (entries_of_turn sub t)) (turns [] done) turn (was.ordered sub) (served.made sub).ordered);
     given = subst (λ (ts : List Turn). All (IsGiven shared early) ts) (sym pushed)
         (All-push (IsGiven shared early) (turns [] done) turn was.given (record { asked = s.serves.asked; there = s.serves.there; given = served.given }));
-    released = λ sub. All-push (λ (b : ClaimedJob). withheld_of sub b.served.lines ≡ []) done c (was.released sub) (served.made sub).released;
+    released = λ sub. All-push (λ (b : ClaimedJob). withheld_of sub b.served.lines ≡ []) done c (was.released sub) (none_held sub c.served.lines (served.made sub).released);
     settled = All-push (IsSettledAt shared early) done c was.settled (record { asked = s.serves.asked; there = s.serves.there; settled = served.settled });
     printed = All-push (λ (b : ClaimedJob). IsPrinted shared b.served) done c was.printed s.serves.vectors;
   };

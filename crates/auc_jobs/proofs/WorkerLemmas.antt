@@ -1,6 +1,7 @@
 -- For workers: what their calls add, and what stands after them.
 use Rattle.std.proofs.Common.{◌≡◌, ℕ, List, [], length, sym, subst, ap, ◌∙◌}
 use Rattle.std.specs.Prelude.{All, Option}
+use Rattle.auc_edge.specs.declared.stop.Stop.{Stop}
 use Rattle.auc_history.specs.declared.entry.Entry.{Entry}
 use Rattle.auc_lines.specs.declared.part.Line.{Line}
 use Rattle.auc_world.specs.Given.{LineGives}
@@ -19,7 +20,7 @@ use Rattle.auc_jobs.proofs.SettleLemmas.{begins_stands, job_releasable, job_sett
 
 module _ {C : Type 0} where
   -- lines that were drawn add what a worker's request gives, if the USIMs stay
-  pub worker_adds : (goes : ℕ → List Entry → List ℕ → Type 0) (old_kept kept : ℕ → Option ℕ) (early beside : List LineRecord) (old : WorkerState C) (usims : OwnUsims)
+  pub worker_adds : (goes : ℕ → List Entry → List (ℕ × Stop) → Type 0) (old_kept kept : ℕ → Option ℕ) (early beside : List LineRecord) (old : WorkerState C) (usims : OwnUsims)
       (new : List LineRecord) (Gives : List LineRecord → Type 0) → usims ≡ old.usims
       → Stands old.set.rows (before_at early beside old.lines) old_kept old.released (usim_in old.usims) → Adds goes kept beside old.lines new Gives
       → Serves goes old.set.rows (before_at early beside old.lines) kept old.released (usim_in usims) Gives new
@@ -28,7 +29,7 @@ module _ {C : Type 0} where
       (serves_adds goes old.set.rows early beside old.lines new old_kept kept old.released (usim_in old.usims) Gives stands adds)
 
   -- what a worker serves is served with the setting and the released numbers that it began with
-  pub same_line : (kept : C → ℕ → Option ℕ) (goes : C → ℕ → List Entry → List ℕ → C → Type 0) (old new : WorkerState C) (line : Line)
+  pub same_line : (kept : C → ℕ → Option ℕ) (goes : C → ℕ → List Entry → List (ℕ × Stop) → C → Type 0) (old new : WorkerState C) (line : Line)
       (set : Setting) (released : Released) → old.set ≡ set → old.released ≡ released → WorkerServes kept goes old new (λ before. LineGives old.set before line) → (early beside : List LineRecord)
       → Stands set.rows (before_at early beside old.lines) (kept old.centre) released (usim_in old.usims)
       → Serves (λ i es ws. goes old.centre i es ws new.centre) set.rows (before_at early beside old.lines) (kept new.centre) released (usim_in new.usims)
@@ -42,7 +43,7 @@ module _ {C : Type 0} where
       (LineGives old.set (before_at early beside old.lines) line) new.lines) same_released (serves early beside))
 
   -- a job begins
-  pub job_begins : (kept : C → ℕ → Option ℕ) (goes : C → ℕ → List Entry → List ℕ → C → Type 0) (w : WorkerState C) (left job : List Line) → w.lines ≡ [] → left ≡ job
+  pub job_begins : (kept : C → ℕ → Option ℕ) (goes : C → ℕ → List Entry → List (ℕ × Stop) → C → Type 0) (w : WorkerState C) (left job : List Line) → w.lines ≡ [] → left ≡ job
       → ((i : ℕ) → goes w.centre i [] [] w.centre) → (early beside : List LineRecord) → WorkerStands kept early beside w
       → ServingLines (λ i es ws. goes w.centre i es ws w.centre) w.set early beside (kept w.centre) w.released (usim_in w.usims) left job w.lines
   job_begins kept goes w left job none is stays early beside stands =
@@ -51,7 +52,7 @@ module _ {C : Type 0} where
       (subst (λ (own : List LineRecord). Stands w.set.rows (before_at early beside own) (kept w.centre) w.released (usim_in w.usims)) none stands))
 
   -- what a worker did for a job: it took up copies of the USIMs, served the lines, and ended the job
-  pub record Does (kept : C → ℕ → Option ℕ) (goes : C → ℕ → List Entry → List ℕ → C → Type 0) (old begun after : WorkerState C) (usims : List Memory) (job : List Line) (copies : OwnUsims) : Type 0 where
+  pub record Does (kept : C → ℕ → Option ℕ) (goes : C → ℕ → List Entry → List (ℕ × Stop) → C → Type 0) (old begun after : WorkerState C) (usims : List Memory) (job : List Line) (copies : OwnUsims) : Type 0 where
     pub rows : AreOfRows old.set.rows usims
     pub known : All (IsKnownLine (length old.set.rows)) job
     pub none : old.lines ≡ []
@@ -61,7 +62,7 @@ module _ {C : Type 0} where
     pub keyed : (sub : ℕ) → has_usim (usim_in after.usims) sub ≡ has_usim (usim_in begun.usims) sub
 
   -- the lines that it served
-  does_lines : (kept : C → ℕ → Option ℕ) (goes : C → ℕ → List Entry → List ℕ → C → Type 0) (old begun after : WorkerState C) (usims : List Memory) (job : List Line) (copies : OwnUsims)
+  does_lines : (kept : C → ℕ → Option ℕ) (goes : C → ℕ → List Entry → List (ℕ × Stop) → C → Type 0) (old begun after : WorkerState C) (usims : List Memory) (job : List Line) (copies : OwnUsims)
       (early beside : List LineRecord) → Does kept goes old begun after usims job copies → WorkerBegins kept early beside old usims job
       → ServesLines (λ i es ws. goes old.centre i es ws after.centre) old.set early beside (kept after.centre) old.released (usim_in after.usims) job after.lines
   does_lines kept goes old begun after usims job copies early beside d begins =
@@ -72,7 +73,7 @@ module _ {C : Type 0} where
       (begins_stands old.set.rows early beside (kept old.centre) old.released usims job (usim_in copies) d.are begins))
 
   -- they release vectors that can be made
-  pub does_releasable : (kept : C → ℕ → Option ℕ) (goes : C → ℕ → List Entry → List ℕ → C → Type 0) (old begun after : WorkerState C) (usims : List Memory) (job : List Line) (copies : OwnUsims)
+  pub does_releasable : (kept : C → ℕ → Option ℕ) (goes : C → ℕ → List Entry → List (ℕ × Stop) → C → Type 0) (old begun after : WorkerState C) (usims : List Memory) (job : List Line) (copies : OwnUsims)
       (set : Setting) (lines : List LineRecord) → set ≡ old.set → lines ≡ after.lines → Does kept goes old begun after usims job copies
       → (early : List LineRecord) × (beside : List LineRecord) × WorkerBegins kept early beside old usims job → All (IsReleasableLine set) lines
   does_releasable kept goes old begun after usims job copies set lines same is d (early, beside, begins) =
@@ -81,7 +82,7 @@ module _ {C : Type 0} where
       (subst (λ (x : Setting). All (IsReleasableLine x) after.lines) (sym same) (job_releasable old.set (before_at early beside []) job after.lines s.given))
 
   -- the job is served
-  pub does_job : (kept : C → ℕ → Option ℕ) (goes : C → ℕ → List Entry → List ℕ → C → Type 0) (old begun after new : WorkerState C) (usims : List Memory) (job : List Line) (copies own : OwnUsims)
+  pub does_job : (kept : C → ℕ → Option ℕ) (goes : C → ℕ → List Entry → List (ℕ × Stop) → C → Type 0) (old begun after new : WorkerState C) (usims : List Memory) (job : List Line) (copies own : OwnUsims)
       (lines : List LineRecord) → Does kept goes old begun after usims job copies → new.centre ≡ after.centre → lines ≡ after.lines → own ≡ after.usims → HaveSecrets old.set.rows (usim_in own)
       → WorkerServesJob kept goes old new usims job lines own
   does_job kept goes old begun after new usims job copies own lines d centre lines_are own_is secrets early beside begins =

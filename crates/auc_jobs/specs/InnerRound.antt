@@ -1,6 +1,7 @@
 -- Inner facts: what only private contracts of this crate cite. Here: the jobs of a round, each served after its worker's
 -- earlier lines and with its own USIMs, and what their pieces come to.
 use Rattle.std.specs.Prelude.{◌≡◌, ℕ, ◌≤◌, ◌<◌, false, List, [], ◌∷◌, ◌++◌, All, length, Option, slice_get, slice_index}
+use Rattle.auc_edge.specs.declared.stop.Stop.{Stop}
 use Rattle.auc_history.specs.declared.entry.Entry.{Entry}
 use Rattle.auc_history.specs.Split.{Splits}
 use Rattle.auc_lines.specs.declared.part.Line.{Line}
@@ -11,7 +12,7 @@ use Rattle.auc_usim.specs.Usim.{Memory}
 use Rattle.auc_world.specs.declared.record.LineRecord.{LineRecord}
 use Rattle.auc_world.specs.Entries.{entries_of_lines}
 use Rattle.auc_world.specs.Given.{JobGives}
-use Rattle.auc_world.specs.Lines.{accepted, withheld_of, all_lines}
+use Rattle.auc_world.specs.Lines.{accepted, held_of, withheld_of, all_lines}
 use Rattle.auc_world.specs.Pieces.{Piece, lines_of_pieces, entries_of_pieces, ReportsAreEarlier, IsQuiet, PiecesGive}
 use Rattle.auc_world.specs.Setting.{Setting}
 use Rattle.auc_world.specs.Transcript.{reopened}
@@ -40,10 +41,10 @@ pub record IsSettled (rows : List Row) (early : List LineRecord) (job : List Lin
   pub quiet : (sub : ℕ) → gives_to sub job ≡ false → accepted sub lines ≡ []
 
 -- what a job gave, after earlier rounds and its worker's earlier lines
-pub record ServesJob (goes : ℕ → List Entry → List ℕ → Type 0) (set : Setting) (early beside : List LineRecord) (kept : ℕ → Option ℕ)
+pub record ServesJob (goes : ℕ → List Entry → List (ℕ × Stop) → Type 0) (set : Setting) (early beside : List LineRecord) (kept : ℕ → Option ℕ)
     (job : List Line) (lines : List LineRecord) (own : ℕ → Option Memory) : Type 0 where
   pub given : JobGives set (before_at early beside []) job lines
-  pub made : (sub : ℕ) → goes sub (entries_of_lines sub beside lines) (withheld_of sub lines)
+  pub made : (sub : ℕ) → goes sub (entries_of_lines sub beside lines) (held_of sub lines)
   pub told : AreTold kept (beside ++ lines)
   pub settled : IsSettled set.rows early job lines own
 

@@ -1,5 +1,6 @@
 -- Inner facts: what only private contracts of this crate cite. Here: what the lines of a round add, and what stands after them.
 use Rattle.std.specs.Prelude.{◌≡◌, ℕ, ◌≤◌, Bool, true, false, List, [], ◌∷◌, ◌++◌, Option, Some, None, slice_get}
+use Rattle.auc_edge.specs.declared.stop.Stop.{Stop}
 use Rattle.auc_history.specs.declared.entry.Entry.{Entry}
 use Rattle.auc_lines.specs.declared.part.Line.{Line}
 use Rattle.auc_sqn.specs.Number.{max_seq}
@@ -15,7 +16,7 @@ use Rattle.auc_vector.specs.declared.parts.Vector.{Vector as AuthVector}
 use Rattle.auc_world.specs.Entries.{is_reported, entries_of_line, entries_of_lines}
 use Rattle.auc_world.specs.Given.{Before, IsReleasable, IsGiven, is_released, past_before, GiveGives, JobGives, auts_for}
 use Rattle.auc_world.specs.Setting.{Setting}
-use Rattle.auc_world.specs.Lines.{withheld_by, withheld_of, accepted}
+use Rattle.auc_world.specs.Lines.{held_by, held_of, accepted}
 use Rattle.auc_usim.specs.Usim.{Memory}
 use Rattle.auc_world.specs.declared.record.GiveVerdict.{GiveVerdict}
 use Rattle.auc_world.specs.declared.record.LineRecord.{LineRecord}
@@ -58,14 +59,14 @@ AreTold kept lines = (sub : ℕ) → IsTold sub (kept sub) lines
 
 -- the calls after some lines made the entries that a further line stands for, and the word that the centre keeps then is
 -- reported.
--- `goes` says which entries the calls made of a subscriber, and which of its numbers they withheld
-pub record Says (goes : ℕ → List Entry → List ℕ → Type 0) (kept : ℕ → Option ℕ) (before : List LineRecord) (line : LineRecord) : Type 0 where
-  pub made : (sub : ℕ) → goes sub (entries_of_line sub before line) (withheld_by sub line)
+-- `goes` says which entries the calls made of a subscriber, and its withheld numbers, each with its cause
+pub record Says (goes : ℕ → List Entry → List (ℕ × Stop) → Type 0) (kept : ℕ → Option ℕ) (before : List LineRecord) (line : LineRecord) : Type 0 where
+  pub made : (sub : ℕ) → goes sub (entries_of_line sub before line) (held_by sub line)
   pub told : AreTold kept (before ++ line ∷ [])
 
 -- the same of further lines
-pub record Say (goes : ℕ → List Entry → List ℕ → Type 0) (kept : ℕ → Option ℕ) (before lines : List LineRecord) : Type 0 where
-  pub made : (sub : ℕ) → goes sub (entries_of_lines sub before lines) (withheld_of sub lines)
+pub record Say (goes : ℕ → List Entry → List (ℕ × Stop) → Type 0) (kept : ℕ → Option ℕ) (before lines : List LineRecord) : Type 0 where
+  pub made : (sub : ℕ) → goes sub (entries_of_lines sub before lines) (held_of sub lines)
   pub told : AreTold kept (before ++ lines)
 
 -- ---- a drawn line
@@ -111,7 +112,7 @@ pub record Stands (rows : List Row) (before : Before) (kept : ℕ → Option ℕ
   pub pasts : AreBehind rows (before.early ++ before.beside ++ before.own) usims
 
 -- a request added lines that it gives to those of a job
-pub record Adds (goes : ℕ → List Entry → List ℕ → Type 0) (kept : ℕ → Option ℕ) (beside old new : List LineRecord) (Gives : List LineRecord → Type 0) : Type 0 where
+pub record Adds (goes : ℕ → List Entry → List (ℕ × Stop) → Type 0) (kept : ℕ → Option ℕ) (beside old new : List LineRecord) (Gives : List LineRecord → Type 0) : Type 0 where
   pub lines : List LineRecord
   pub added : new ≡ old ++ lines
   pub given : Gives lines
@@ -123,19 +124,19 @@ abbrev pub before_at : List LineRecord → List LineRecord → List LineRecord �
 before_at early beside own = record { early = early; beside = beside; own = own }
 
 -- what a line of a job added, and what holds after it
-pub record Serves (goes : ℕ → List Entry → List ℕ → Type 0) (rows : List Row) (before : Before) (kept : ℕ → Option ℕ) (released : Released) (usims : ℕ → Option Memory)
+pub record Serves (goes : ℕ → List Entry → List (ℕ × Stop) → Type 0) (rows : List Row) (before : Before) (kept : ℕ → Option ℕ) (released : Released) (usims : ℕ → Option Memory)
     (Gives : List LineRecord → Type 0) (new : List LineRecord) : Type 0 where
   pub lines : List LineRecord
   pub added : new ≡ before.own ++ lines
   pub given : Gives lines
-  pub made : (sub : ℕ) → goes sub (entries_of_lines sub (before.beside ++ before.own) lines) (withheld_of sub lines)
+  pub made : (sub : ℕ) → goes sub (entries_of_lines sub (before.beside ++ before.own) lines) (held_of sub lines)
   pub stands : Stands rows (before_at before.early before.beside new) kept released usims
 
 -- what the lines of a job gave, after earlier rounds and the worker's earlier lines
-pub record ServesLines (goes : ℕ → List Entry → List ℕ → Type 0) (set : Setting) (early beside : List LineRecord) (kept : ℕ → Option ℕ) (released : Released) (usims : ℕ → Option Memory)
+pub record ServesLines (goes : ℕ → List Entry → List (ℕ × Stop) → Type 0) (set : Setting) (early beside : List LineRecord) (kept : ℕ → Option ℕ) (released : Released) (usims : ℕ → Option Memory)
     (job : List Line) (lines : List LineRecord) : Type 0 where
   pub given : JobGives set (before_at early beside []) job lines
-  pub made : (sub : ℕ) → goes sub (entries_of_lines sub beside lines) (withheld_of sub lines)
+  pub made : (sub : ℕ) → goes sub (entries_of_lines sub beside lines) (held_of sub lines)
   pub stands : Stands set.rows (before_at early beside lines) kept released usims
 
 -- ---- a presented vector

@@ -3,6 +3,7 @@
 use Rattle.std.specs.Prelude.{◌≡◌, ℕ, ◌≤◌, Bool, List, [], AllPairs, length, Option, Some, slice_get, if◌then◌else◌}
 use Rattle.atomic_table.specs.Seated.{TableId}
 use Rattle.auc_draw.specs.Values.{BookValue}
+use Rattle.auc_edge.specs.declared.stop.Stop.{Stop}
 use Rattle.auc_history.specs.declared.entry.Entry.{Entry}
 use Rattle.auc_lines.specs.declared.part.Line.{Line}
 use Rattle.auc_lines.specs.Part.{AreApart}
@@ -49,7 +50,7 @@ pub record BeginsAt (shared : Shared) (early beside : List LineRecord) (kept : �
   pub begins : (asked : List Line) → slice_get shared.jobs job ≡ Some asked → JobBegins shared.set.rows early beside kept shared.released shared.usims asked
 
 -- what the job of a place gave, with the vectors that a full print wants
-pub record ServesAt (goes : ℕ → List Entry → List ℕ → Type 0) (old kept : ℕ → Option ℕ) (shared : Shared) (job : ℕ) (served : ServedJob) : Type 0 where
+pub record ServesAt (goes : ℕ → List Entry → List (ℕ × Stop) → Type 0) (old kept : ℕ → Option ℕ) (shared : Shared) (job : ℕ) (served : ServedJob) : Type 0 where
   pub asked : List Line
   pub there : slice_get shared.jobs job ≡ Some asked
   pub serves : (early beside : List LineRecord) → JobBegins shared.set.rows early beside old shared.released shared.usims asked

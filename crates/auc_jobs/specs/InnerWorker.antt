@@ -1,5 +1,6 @@
 -- Inner facts: what only private contracts of this crate cite. Here: a worker, and what its calls add to a job.
 use Rattle.std.specs.Prelude.{◌≡◌, ℕ, List, length, Option}
+use Rattle.auc_edge.specs.declared.stop.Stop.{Stop}
 use Rattle.auc_history.specs.declared.entry.Entry.{Entry}
 use Rattle.auc_lines.specs.declared.part.Line.{Line}
 use Rattle.auc_sqn.specs.Number.{max_seq}
@@ -53,14 +54,14 @@ module _ {C : Type 0} where
   WorkerStands kept early beside w = Stands w.set.rows (before_at early beside w.lines) (kept w.centre) w.released (usim_in w.usims)
 
   -- what a worker added for a request, by the lines before it, and what stands then
-  abbrev pub WorkerServes : (C → ℕ → Option ℕ) → (C → ℕ → List Entry → List ℕ → C → Type 0) → WorkerState C → WorkerState C
+  abbrev pub WorkerServes : (C → ℕ → Option ℕ) → (C → ℕ → List Entry → List (ℕ × Stop) → C → Type 0) → WorkerState C → WorkerState C
       → (Before → List LineRecord → Type 0) → Type 0
   WorkerServes kept goes old new Gives = (early beside : List LineRecord) → WorkerStands kept early beside old
       → Serves (λ i es ws. goes old.centre i es ws new.centre) old.set.rows (before_at early beside old.lines)
       (kept new.centre) old.released (usim_in new.usims) (Gives (before_at early beside old.lines)) new.lines
 
   -- what it gave for the lines of a job, which had none
-  abbrev pub WorkerServesLines : (C → ℕ → Option ℕ) → (C → ℕ → List Entry → List ℕ → C → Type 0) → WorkerState C → WorkerState C → List Line → Type 0
+  abbrev pub WorkerServesLines : (C → ℕ → Option ℕ) → (C → ℕ → List Entry → List (ℕ × Stop) → C → Type 0) → WorkerState C → WorkerState C → List Line → Type 0
   WorkerServesLines kept goes old new job = (early beside : List LineRecord) → WorkerStands kept early beside old
       → ServesLines (λ i es ws. goes old.centre i es ws new.centre) old.set early beside (kept new.centre) old.released (usim_in new.usims) job new.lines
 
@@ -69,7 +70,7 @@ module _ {C : Type 0} where
   WorkerBegins kept early beside w usims job = JobBegins w.set.rows early beside (kept w.centre) w.released usims job
 
   -- what it gave for a job, after earlier rounds and its earlier jobs
-  abbrev pub WorkerServesJob : (C → ℕ → Option ℕ) → (C → ℕ → List Entry → List ℕ → C → Type 0) → WorkerState C → WorkerState C
+  abbrev pub WorkerServesJob : (C → ℕ → Option ℕ) → (C → ℕ → List Entry → List (ℕ × Stop) → C → Type 0) → WorkerState C → WorkerState C
       → List Memory → List Line → List LineRecord → OwnUsims → Type 0
   WorkerServesJob kept goes old new usims job lines own = (early beside : List LineRecord) → WorkerBegins kept early beside old usims job
       → ServesJob (λ i es ws. goes old.centre i es ws new.centre) old.set early beside (kept new.centre) job lines (usim_in own)

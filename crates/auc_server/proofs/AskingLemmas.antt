@@ -1,12 +1,13 @@
 -- A resynchronisation and then a number, as what one turn asked a centre.
 use Rattle.std.proofs.Common.{◌≡◌, ◌≢◌, ℕ, List, [], ◌++◌, Option, Some, sym, ◌∙◌, subst}
+use Rattle.auc_edge.specs.declared.stop.Stop.{Stop}
 use Rattle.auc_history.specs.declared.entry.Entry.{Entry}
 use Rattle.auc_vector.specs.Notes.{AnswersNumber, AnswersReport, AskedOf, entries_noted, entries_resynced, kept_noted, withheld_noted}
 use Rattle.auc_vector.specs.declared.notes.Notes.{Notes}
 use Rattle.auc_vector.specs.declared.notes.ResyncNote.{ResyncNote}
 
-module _ {S : Type 0} (goes : S → ℕ → List Entry → List ℕ → S → Type 0) (kept : S → ℕ → Option ℕ) (top : S → ℕ → ℕ)
-    (joins : (a b c : S) (i : ℕ) (es fs : List Entry) (ws vs : List ℕ) → goes a i es ws b → goes b i fs vs c → goes a i (es ++ fs) (ws ++ vs) c) where
+module _ {S : Type 0} (goes : S → ℕ → List Entry → List (ℕ × Stop) → S → Type 0) (kept : S → ℕ → Option ℕ) (top : S → ℕ → ℕ)
+    (joins : (a b c : S) (i : ℕ) (es fs : List Entry) (ws vs : List (ℕ × Stop)) → goes a i es ws b → goes b i fs vs c → goes a i (es ++ fs) (ws ++ vs) c) where
   pub asked_twice : (a b c : S) (sub seq : ℕ) (notes : Notes) (r : ResyncNote) → notes.resync ≡ Some r
       → ((i : ℕ) → kept b i ≡ kept a i) → ((i : ℕ) → top b i ≡ top a i) → AnswersReport (kept a sub) (Some seq) (Some r)
       → goes a sub (entries_resynced (kept a sub) (Some r)) [] b → ((i : ℕ) → i ≢ sub → goes a i [] [] b)

@@ -1,5 +1,6 @@
 -- A turn of a server: what it needs, and what it comes to.
 use Rattle.std.specs.Prelude.{◌≡◌, ℕ, ◌<◌, true, List, length, Option, Some, None, All}
+use Rattle.auc_edge.specs.declared.stop.Stop.{Stop}
 use Rattle.auc_history.specs.declared.entry.Entry.{Entry}
 use Rattle.auc_packet.specs.Received.{Seen, IsReceived}
 use Rattle.auc_sqn.specs.Number.{max_seq}
@@ -40,7 +41,7 @@ asking other = None
 
 -- bytes are received as something, new state and turn are those of the table, and the centre answered what the row
 -- asked, as the notes say
-pub record Steps {S : Type 0} (goes : S → ℕ → List Entry → List ℕ → S → Type 0) (kept : S → ℕ → Option ℕ) (top : S → ℕ → ℕ) (set : Setting) (homes : List HomeRow) (old : ServerEnd) (bytes : List ℕ) (before : S) (new : ServerEnd) (turn : Turn ServerWhy) (after : S) : Type 0 where
+pub record Steps {S : Type 0} (goes : S → ℕ → List Entry → List (ℕ × Stop) → S → Type 0) (kept : S → ℕ → Option ℕ) (top : S → ℕ → ℕ) (set : Setting) (homes : List HomeRow) (old : ServerEnd) (bytes : List ℕ) (before : S) (new : ServerEnd) (turn : Turn ServerWhy) (after : S) : Type 0 where
   pub seen : Seen
   pub received : IsReceived seen
   pub of : seen.bytes ≡ bytes

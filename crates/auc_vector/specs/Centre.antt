@@ -2,6 +2,7 @@
 -- §6.3.2 and §6.3.5). `top` is the subscriber's greatest number. `kept` is the word of the first draw that was refused:
 -- once it is kept, it stays, and the subscriber is spent.
 use Rattle.std.specs.Prelude.{◌≡◌, ℕ, ◌+◌, ◌≤◌, List, [], ◌∷◌, Option, Some, None, Result, Ok, Err}
+use Rattle.auc_edge.specs.declared.stop.Stop.{Stop}
 use Rattle.auc_history.specs.declared.entry.Entry.{Entry}
 use Rattle.auc_history.specs.declared.entry.Entry.TheVariants.{Drawn, Moved as moved, Look}
 use Rattle.auc_history.specs.Resynchronise.{resynchronise_of, Moved as moved_to, InRange as in_range, Beyond as beyond}
@@ -37,11 +38,11 @@ entries_of_next kept (Err (Exhausted w)) = unless_spent kept (Drawn (w + 1) ∷ 
 entries_of_next kept (Err (Withheld n stop)) = Drawn n ∷ []
 entries_of_next kept (Err (Beyond seen seq_ms)) = []
 
--- the number that a draw took and withheld
-abbrev pub withheld_of_next : Result ℕ CentreRefusal → List ℕ
+-- the number that a draw took and withheld, with its cause
+abbrev pub withheld_of_next : Result ℕ CentreRefusal → List (ℕ × Stop)
 withheld_of_next (Ok n) = []
 withheld_of_next (Err (Exhausted w)) = []
-withheld_of_next (Err (Withheld n stop)) = n ∷ []
+withheld_of_next (Err (Withheld n stop)) = (n, stop) ∷ []
 withheld_of_next (Err (Beyond seen seq_ms)) = []
 
 -- the word that is kept after a draw

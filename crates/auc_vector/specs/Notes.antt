@@ -1,6 +1,7 @@
 -- What the notes of a turn say of the centre: which of its answers they stand for, which entries of the subscriber's
 -- history it made, and which word is kept after it.
 use Rattle.std.specs.Prelude.{◌≡◌, ◌≢◌, ℕ, List, [], ◌++◌, Option, Some, None, Result, Ok, Err}
+use Rattle.auc_edge.specs.declared.stop.Stop.{Stop}
 use Rattle.auc_history.specs.declared.entry.Entry.{Entry}
 use Rattle.auc_vector.specs.declared.centre.Resynced.TheVariants as resynced
 use Rattle.auc_vector.specs.declared.centre.CentreRefusal.{CentreRefusal}
@@ -34,8 +35,8 @@ abbrev pub entries_noted : Option ℕ → Option NumberNote → List Entry
 entries_noted kept None = []
 entries_noted kept (Some note) = entries_of_next kept (answer_noted note)
 
--- the number that was withheld
-abbrev pub withheld_noted : Option NumberNote → List ℕ
+-- the number that was withheld, with its cause
+abbrev pub withheld_noted : Option NumberNote → List (ℕ × Stop)
 withheld_noted None = []
 withheld_noted (Some note) = withheld_of_next (answer_noted note)
 
@@ -76,7 +77,7 @@ pub record Asking : Type 0 where
 -- the centre answered what a turn asked for, as its notes say; its entries, for this subscriber alone, are those of
 -- the resynchronisation and then those of the number, and a draw that it refused is kept. `goes`, `kept` and `top` are
 -- those of the centre
-pub record AskedOf {S : Type 0} (goes : S → ℕ → List Entry → List ℕ → S → Type 0) (kept : S → ℕ → Option ℕ) (top : S → ℕ → ℕ) (asking : Asking) (notes : Notes) (old new : S) : Type 0 where
+pub record AskedOf {S : Type 0} (goes : S → ℕ → List Entry → List (ℕ × Stop) → S → Type 0) (kept : S → ℕ → Option ℕ) (top : S → ℕ → ℕ) (asking : Asking) (notes : Notes) (old new : S) : Type 0 where
   pub own : goes old asking.sub (entries_resynced (kept old asking.sub) notes.resync ++ entries_noted (kept old asking.sub) notes.number) (withheld_noted notes.number) new
   pub others : (i : ℕ) → i ≢ asking.sub → goes old i [] [] new
   pub resynced : AnswersReport (kept old asking.sub) asking.reported notes.resync
@@ -85,6 +86,6 @@ pub record AskedOf {S : Type 0} (goes : S → ℕ → List Entry → List ℕ �
   pub still : (i : ℕ) → i ≢ asking.sub → kept new i ≡ kept old i
 
 -- a turn that asks for nothing leaves no entry, and each word as it was
-abbrev pub Asked : {S : Type 0} → (S → ℕ → List Entry → List ℕ → S → Type 0) → (S → ℕ → Option ℕ) → (S → ℕ → ℕ) → Option Asking → Notes → S → S → Type 0
+abbrev pub Asked : {S : Type 0} → (S → ℕ → List Entry → List (ℕ × Stop) → S → Type 0) → (S → ℕ → Option ℕ) → (S → ℕ → ℕ) → Option Asking → Notes → S → S → Type 0
 Asked goes kept top None notes old new = ((i : ℕ) → goes old i [] [] new) × ((i : ℕ) → kept new i ≡ kept old i)
 Asked goes kept top (Some asking) notes old new = AskedOf goes kept top asking notes old new

@@ -1,6 +1,7 @@
 //! The authentication centre, as the layers above call it.
 
 ghost use Rattle.std.specs.Prelude.{◌≡◌, ◌≢◌, ◌<◌, ◌≤◌, ◌++◌, ℕ, List, [], Option};
+ghost use Rattle.auc_edge.specs.declared.stop.Stop.{Stop};
 ghost use Rattle.auc_history.specs.declared.entry.Entry.{Entry};
 ghost use Rattle.auc_history.specs.History.{IsInOrder};
 ghost use Rattle.auc_vector.specs.Centre.{AnswersNext, entries_of_next, withheld_of_next, kept_after_next, AnswersResync, entries_of_resync};
@@ -45,9 +46,9 @@ pub trait Centre {
     /// The name of the borrow that the centre holds, or 0 if it owns what it works on.
     ghost name: { Self → ℕ };
 
-    /// The centre before some calls; a subscriber; the entries that these calls made of its history, in order; which of
-    /// its drawn numbers were withheld; and the centre after them.
-    ghost goes: { Self → ℕ → List Entry → List ℕ → Self → Type 0 };
+    /// The centre before some calls; a subscriber; the entries that these calls made of its history, in order; its
+    /// withheld numbers, each with its cause, in order; and the centre after them.
+    ghost goes: { Self → ℕ → List Entry → List (ℕ × Stop) → Self → Type 0 };
 
     /// Draws the subscriber's next number. It never answers Beyond.
     fn next<R: Wait>(&mut self, rt: &R, sub: u32) -> Result<u64, CentreRefusal>
@@ -91,10 +92,10 @@ pub trait Centre {
 
     /// Two stretches of calls, one after the other, are one stretch with both lists.
     ghost joins: { (a : Self) (b : Self) (c : Self) (i : ℕ)
-        (es : List Entry) (fs : List Entry) (ws : List ℕ) (vs : List ℕ)
+        (es : List Entry) (fs : List Entry) (ws : List (ℕ × Stop)) (vs : List (ℕ × Stop))
         → goes a i es ws b → goes b i fs vs c → goes a i (es ++ fs) (ws ++ vs) c };
 
     /// In a stretch of calls each entry continues those before it, so that the covered numbers rise.
-    ghost rises: { (a : Self) (b : Self) (i : ℕ) (es : List Entry) (ws : List ℕ)
+    ghost rises: { (a : Self) (b : Self) (i : ℕ) (es : List Entry) (ws : List (ℕ × Stop))
         → goes a i es ws b → IsInOrder es };
 }

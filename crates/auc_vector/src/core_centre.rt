@@ -44,6 +44,7 @@ impl CoreCentre {
 impl Centre for CoreCentre {
     ghost use Rattle.std.specs.Prelude.{ℕ, List, ◌++◌, length, slice_index};
     ghost use Rattle.std.proofs.Common.{refl, ap, ◌∙◌};
+    ghost use Rattle.auc_edge.specs.declared.stop.Stop.{Stop};
     ghost use Rattle.auc_sqn.specs.Number.{max_seq};
     ghost use Rattle.auc_history.proofs.Facts.{IsLegal-append, IsLegal-nil};
     ghost use Rattle.auc_vector.specs.Stretch.{kept_at, IsStretch};
@@ -62,7 +63,7 @@ impl Centre for CoreCentre {
 
     ghost joins = { λ a b c i es fs ws vs first second. (
       IsLegal-append max_seq (slice_index a i) (slice_index b i) (slice_index c i) es fs first.0 second.0,
-      ap (λ (xs : List ℕ). xs ++ vs) first.1 ∙ second.1,
+      ap (λ (xs : List (ℕ × Stop)). xs ++ vs) first.1 ∙ second.1,
     ) };
 
     ghost rises = { λ a b i es ws stretch. stretch.0.ordered };

@@ -1,6 +1,7 @@
 pub mod Facts
 mod ApartLemmas
 mod BitLemmas
+mod HeldLemmas
 mod PieceLemmas
 mod LimitLemmas
 mod PastLemmas

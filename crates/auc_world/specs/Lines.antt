@@ -1,5 +1,6 @@
 -- What the lines of jobs say of a subscriber, in the order of the lines.
 use Rattle.std.specs.Prelude.{ℕ, ◌==◌, List, [], ◌∷◌, flat_map, if◌then◌else◌}
+use Rattle.auc_edge.specs.declared.stop.Stop.{Stop}
 use Rattle.auc_sqn.specs.Number.{sqn_bytes}
 use Rattle.auc_world.specs.declared.record.LineRecord.{LineRecord}
 use Rattle.auc_world.specs.declared.record.LineRecord.TheVariants.{Vector, Withheld, Exhausted, Sync, Give}
@@ -29,6 +30,18 @@ withheld_by sub (Give s n verdict) = []
 -- the numbers that were withheld from a subscriber
 abbrev pub withheld_of : ℕ → List LineRecord → List ℕ
 withheld_of sub lines = flat_map (withheld_by sub) lines
+
+-- that number with the cause
+abbrev pub held_by : ℕ → LineRecord → List (ℕ × Stop)
+held_by sub (Vector s n) = []
+held_by sub (Withheld s n stop) = if s == sub then (n, stop) ∷ [] else []
+held_by sub (Exhausted s word) = []
+held_by sub (Sync s verdict) = []
+held_by sub (Give s n verdict) = []
+
+-- the numbers that were withheld from a subscriber, each with its cause
+abbrev pub held_of : ℕ → List LineRecord → List (ℕ × Stop)
+held_of sub lines = flat_map (held_by sub) lines
 
 -- the SQN of a presented number, if it was accepted
 abbrev pub taken : ℕ → GiveVerdict → List (List ℕ)
