@@ -17,7 +17,7 @@ use Rattle.auc_world.specs.declared.record.GiveVerdict.{GiveVerdict}
 use Rattle.auc_world.specs.declared.record.GiveVerdict.TheVariants as given
 use Rattle.auc_world.specs.declared.record.LineRecord.{LineRecord}
 use Rattle.auc_world.specs.declared.record.LineRecord.TheVariants.{Give}
-use Rattle.auc_jobs.specs.Numbers.{Released, has, AreReleased}
+use Rattle.auc_world.specs.Released.{Released, has, AreReleased}
 use Rattle.auc_jobs.specs.InnerUsims.{Presents}
 use Rattle.auc_jobs.specs.Usims.{AreBehind}
 use Rattle.auc_jobs.specs.InnerServing.{AreTold, IsTold, Stands, Adds, Serves, ServesLines, IsAnswered, AddsGive, before_at}

@@ -1,4 +1,3 @@
-mod NumbersLemmas
 mod LineLemmas
 mod SayingLemmas
 mod DrawingLemmas

@@ -18,7 +18,7 @@ use Rattle.auc_world.specs.Given.{Before, behind, past_of, DrawGives, VectorsFol
 use Rattle.auc_world.specs.Lines.{accepted}
 use Rattle.auc_world.specs.Setting.{Setting}
 use Rattle.auc_world.proofs.Facts.{accepted-append, job_quiet}
-use Rattle.auc_jobs.specs.Numbers.{Released}
+use Rattle.auc_world.specs.Released.{Released}
 use Rattle.auc_jobs.specs.Serving.{IsKnownLine}
 use Rattle.auc_jobs.specs.Usims.{HaveSecrets, AreOfRows}
 use Rattle.auc_jobs.specs.InnerRound.{JobBegins, ServesJob}

@@ -10,7 +10,7 @@ use Rattle.auc_world.specs.declared.record.LineRecord.{LineRecord}
 use Rattle.auc_world.specs.Setting.{Setting}
 use Rattle.auc_world.specs.Vectors.{vectors_in}
 use Rattle.auc_jobs.specs.declared.jobs.ServedJob.{ServedJob}
-use Rattle.auc_jobs.specs.Numbers.{Released}
+use Rattle.auc_world.specs.Released.{Released}
 use Rattle.auc_jobs.specs.InnerRound.{JobBegins, ServesJob}
 use Rattle.auc_jobs.specs.InnerSharing.{Shared, BeginsAt, ServesAt}
 use Rattle.auc_jobs.specs.InnerUsims.{usim_in}

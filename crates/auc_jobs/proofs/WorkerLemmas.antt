@@ -7,7 +7,7 @@ use Rattle.auc_lines.specs.declared.part.Line.{Line}
 use Rattle.auc_world.specs.Given.{LineGives}
 use Rattle.auc_world.specs.Setting.{Setting}
 use Rattle.auc_usim.specs.Usim.{Memory}
-use Rattle.auc_jobs.specs.Numbers.{Released}
+use Rattle.auc_world.specs.Released.{Released}
 use Rattle.auc_jobs.specs.Serving.{IsKnownLine}
 use Rattle.auc_jobs.specs.Usims.{HaveSecrets, AreOfRows}
 use Rattle.auc_jobs.specs.InnerRound.{ServesJob}

@@ -16,7 +16,7 @@ use Rattle.auc_world.specs.Lines.{accepted, held_of, withheld_of, all_lines}
 use Rattle.auc_world.specs.Pieces.{Piece, lines_of_pieces, entries_of_pieces, ReportsAreEarlier, IsQuiet, PiecesGive}
 use Rattle.auc_world.specs.Setting.{Setting}
 use Rattle.auc_world.specs.Transcript.{reopened}
-use Rattle.auc_jobs.specs.Numbers.{Released, AreReleased}
+use Rattle.auc_world.specs.Released.{Released, AreReleased}
 use Rattle.auc_jobs.specs.State.{Standing}
 use Rattle.auc_jobs.specs.Usims.{HaveSecrets, AreBehind}
 use Rattle.auc_jobs.specs.InnerServing.{before_at, AreTold}

@@ -12,7 +12,7 @@ use Rattle.auc_world.specs.declared.record.LineRecord.{LineRecord}
 use Rattle.auc_world.specs.Setting.{Setting}
 use Rattle.auc_world.specs.Vectors.{vectors_in}
 use Rattle.auc_jobs.specs.declared.jobs.ServedJob.{ServedJob}
-use Rattle.auc_jobs.specs.Numbers.{Released, AreReleased}
+use Rattle.auc_world.specs.Released.{Released, AreReleased}
 use Rattle.auc_jobs.specs.Serving.{AreAllKnown}
 use Rattle.auc_jobs.specs.Usims.{AreOfRows, AreBehind}
 use Rattle.auc_jobs.specs.InnerRound.{JobBegins, ServesJob}

@@ -9,7 +9,7 @@ use Rattle.auc_world.specs.Given.{Before}
 use Rattle.auc_world.specs.Setting.{Setting}
 use Rattle.auc_usim.specs.Usim.{Memory}
 use Rattle.auc_world.specs.declared.record.LineRecord.{LineRecord}
-use Rattle.auc_jobs.specs.Numbers.{Released}
+use Rattle.auc_world.specs.Released.{Released}
 use Rattle.auc_jobs.specs.Usims.{HaveSecrets}
 use Rattle.auc_jobs.specs.InnerRound.{JobBegins, ServesJob}
 use Rattle.auc_jobs.specs.InnerServing.{before_at, Stands, Serves, ServesLines}

@@ -5,7 +5,7 @@ use Rattle.auc_subs.specs.declared.row.Row.{Row}
 use Rattle.auc_world.specs.Setting.{Setting}
 use Rattle.auc_usim.specs.Usim.{Memory}
 use Rattle.auc_world.specs.declared.record.LineRecord.{LineRecord}
-use Rattle.auc_jobs.specs.Numbers.{Released, AreReleased}
+use Rattle.auc_world.specs.Released.{Released, AreReleased}
 use Rattle.auc_jobs.specs.Usims.{AreOfRows, AreBehind}
 
 -- the words at which the next round opens the subscribers, the subscribers' USIMs, and the numbers whose

@@ -5,7 +5,7 @@ ghost use Rattle.auc_sqn.specs.Number.{max_seq};
 ghost use Rattle.auc_world.specs.declared.record.LineRecord.{LineRecord};
 ghost use Rattle.auc_world.specs.Given.{is_in, GiveGives};
 ghost use Rattle.auc_world.specs.Lines.{numbers_of};
-ghost use Rattle.auc_jobs.specs.Numbers.{has, AreReleased};
+ghost use Rattle.auc_world.specs.Released.{has, AreReleased};
 ghost use Rattle.auc_jobs.specs.InnerServing.{before_at, IsAnswered};
 ghost use Rattle.auc_jobs.specs.InnerUsims.{Presents, has_usim, usim_in};
 ghost use Rattle.auc_jobs.specs.InnerWorker.{GoesOnWith, WorkerServes};

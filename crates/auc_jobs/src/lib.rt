@@ -19,7 +19,6 @@ mod drawing;
 mod giving;
 mod job_lines;
 mod jobs;
-mod noting;
 mod round;
 mod round_jobs;
 mod state;

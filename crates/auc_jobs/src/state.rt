@@ -7,13 +7,12 @@ ghost use Rattle.auc_jobs.specs.InnerRound.{IsAdvanced};
 ghost use Rattle.auc_jobs.specs.State.{StandsAt};
 
 use crate::closing::reopened;
-use crate::noting::note_all;
 use auc_cards::{JobUsims, Usims};
 use auc_edge::{Items, NoMemory};
 use auc_lines::JobPart;
 use auc_released::Numbers;
 use auc_subs::Subscribers;
-use auc_world::JobRecord;
+use auc_world::{JobRecord, note_all};
 use std::alloc::Global;
 use std::marker::Model;
 
@@ -61,7 +60,7 @@ impl State {
         ensures kept { OnErr result (self.new ≡ self.old) }
     {
         let words = reopened(alloc, words)?;
-        note_all(alloc, &mut self.released, records)?;
+        note_all(&mut self.released, records)?;
         self.usims.put_back(jobs, usims);
         self.words = words;
         Ok(())

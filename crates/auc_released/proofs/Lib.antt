@@ -1,1 +1,2 @@
-mod BlockLemmas
+pub mod Facts
+mod RoomLemmas

@@ -1,9 +1,7 @@
 -- Sets of subscribers' numbers, in blocks of 64 consecutive numbers.
 use Rattle.std.specs.Prelude.{ℕ, ◌/◌, ◌%◌, ◌==◌, ◌&&◌, Bool, false, List, Option, None, Some}
 use Rattle.std.specs.Int.{bit_at}
-use Rattle.std.specs.List.{list_any}
 use Rattle.std.specs.Map.{lookup}
-use Rattle.auc_released.specs.declared.numbers.Number.{Number}
 
 -- for a subscriber and a block, the word of 64 bits that says which numbers of the block stand in the set
 abbrev pub Released : Type 0
@@ -21,7 +19,3 @@ is_marked (Some word) place = bit_at word place == 1
 -- whether a subscriber's number n stands in the set: in the word of block n / 64, bit n % 64 is set
 abbrev pub has : Released → ℕ → ℕ → Bool
 has released sub n = is_marked (lookup (is_same_block (sub, n / 64)) released) (n % 64)
-
--- whether a subscriber's number n is one of some numbers
-abbrev pub is_among : ℕ → ℕ → List Number → Bool
-is_among sub n numbers = list_any (λ number. sub == number.sub && n == number.n) numbers

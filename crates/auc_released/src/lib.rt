@@ -4,8 +4,10 @@
 //! each block of 64 consecutive numbers of which it has one.
 //!
 //! Contracts see the list of these words, each after its subscriber and the number of its block, and speak of it by
-//! whether a subscriber's number stands in it (`specs/Numbers`). What adds numbers takes memory. If memory runs out, the
-//! set is as it was; that is the only refusal. Nothing here waits.
+//! whether a subscriber's number stands in it (`specs/Numbers`). [`Numbers::add`] takes memory. If memory runs out, the
+//! set is as it was; that is the only refusal. A caller that adds all of some numbers or none makes room for each of them
+//! first, notes them after that, which takes no memory, and drops the room if memory runs out (`specs/Room`). Nothing
+//! here waits.
 #![tactic(auto)]
 
 mod numbers;

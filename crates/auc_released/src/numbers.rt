@@ -1,9 +1,9 @@
 //! Sets of subscribers' numbers, in blocks of 64 consecutive numbers.
 
-ghost use Rattle.std.specs.Prelude.{◌≡◌, ◌==◌, ◌&&◌, ◌||◌, ◌/◌, ℕ, [], Some, None, slice_get, OnOk, OnErr, IfSome, IfNone};
+ghost use Rattle.std.specs.Prelude.{◌≡◌, ◌==◌, ◌&&◌, ◌||◌, ◌/◌, ℕ, [], Some, None, length, take, slice_get, OnOk, OnErr, IfSome, IfNone};
 ghost use Rattle.std.specs.Map.{keys_of, lookup};
-ghost use Rattle.auc_released.specs.Numbers.{has, is_among, is_same_block};
-ghost use Rattle.auc_released.specs.InnerBlocks.{HasBlock, HasBlocksOf, HasBlocksFor, IsRoomier};
+ghost use Rattle.auc_released.specs.Numbers.{has, is_same_block};
+ghost use Rattle.auc_released.specs.Room.{HasRoom, KeepsRoom, IsRoomier};
 
 use auc_edge::NoMemory;
 use indexmap::IndexMap;
@@ -63,87 +63,66 @@ impl Numbers {
             → has self.new s m ≡ (has self.old s m || (s == number.sub && m == number.n))) }
         ensures kept { OnErr result (self.new ≡ self.old) }
     {
-        self.add_block(number.sub, number.n)?;
-        self.mark(number.sub, number.n);
+        self.make_room(number)?;
+        self.note(number);
         Ok(())
     }
 
-    /// Adds some numbers. If memory runs out, the set is as it was, and none is added.
-    pub fn add_all(&mut self, numbers: &[Number]) -> Result<(), NoMemory>
-        ensures added { OnOk result ((s : ℕ) (m : ℕ)
-            → has self.new s m ≡ (has self.old s m || is_among s m numbers.now)) }
-        ensures kept { OnErr result (self.new ≡ self.old) }
-    {
-        let len = self.words.len();
-        if let Err(error) = self.make_room(numbers) {
-            self.words.truncate(len);
-            return Err(error);
-        }
-        self.mark_all(numbers);
-        Ok(())
-    }
-
-    /// The index of a number's block, if it is there. The block that was added to last is found without a look-up.
-    fn place_of(&self, sub: u32, n: u64) -> Option<usize>
-        ensures found { IfSome result (λ i. slice_get (keys_of self.now) i ≡ Some (sub, n / 64)) }
-        ensures absent { IfNone result (lookup (is_same_block (sub, n / 64)) self.now ≡ None) }
-    {
-        let block = (sub, n / 64);
-        match self.words.get_index(self.last) {
-            Some((last, _)) if *last == block => Some(self.last),
-            _ => self.words.get_index_of(&block),
-        }
-    }
-
-    /// Adds the block of a number, with no number in it, unless it is there.
-    fn add_block(&mut self, sub: u32, n: u64) -> Result<(), NoMemory>
+    /// Makes room for a number, and adds none. If memory runs out, the set is as it was.
+    pub fn make_room(&mut self, number: Number) -> Result<(), NoMemory>
         ensures roomier { IsRoomier self.old self.new }
-        ensures there { OnOk result (HasBlock self.new sub n) }
+        ensures there { OnOk result (HasRoom self.new number) }
         ensures kept { OnErr result (self.new ≡ self.old) }
     {
-        match self.place_of(sub, n) {
+        match self.place_of(number) {
             Some(place) => self.last = place,
             None => {
                 self.last = self.words.len();
-                self.words.insert((sub, n / 64), 0)?;
+                self.words.insert((number.sub, number.n / 64), 0)?;
             }
         }
         Ok(())
     }
 
-    /// Adds the blocks of some numbers. If memory runs out, some may be there.
-    fn make_room(&mut self, numbers: &[Number]) -> Result<(), NoMemory>
-        ensures roomier { IsRoomier self.old self.new }
-        ensures there { OnOk result (HasBlocksFor self.new numbers.now) }
-    {
-        for number in numbers {
-            self.add_block(number.sub, number.n)?;
-        }
-        Ok(())
-    }
-
-    /// Adds a number whose block is there.
-    fn mark(&mut self, sub: u32, n: u64)
-        requires { HasBlock self.old sub n }
+    /// Adds a number for which there is room. It takes no memory.
+    pub fn note(&mut self, number: Number)
+        requires { HasRoom self.old number }
         ensures added { (s : ℕ) (m : ℕ)
-            → has self.new s m ≡ (has self.old s m || (s == sub && m == n)) }
-        ensures blocks { HasBlocksOf self.old self.new }
+            → has self.new s m ≡ (has self.old s m || (s == number.sub && m == number.n)) }
+        ensures room { KeepsRoom self.old self.new }
     {
-        if let Some(place) = self.place_of(sub, n) {
+        if let Some(place) = self.place_of(number) {
             self.last = place;
             let (_, word) = self.words.pair_mut(place);
-            *word |= 1 << (n % 64);
+            *word |= 1 << (number.n % 64);
         }
     }
 
-    /// Adds some numbers whose blocks are there.
-    fn mark_all(&mut self, numbers: &[Number])
-        requires { HasBlocksFor self.old numbers.now }
-        ensures added { (s : ℕ) (m : ℕ)
-            → has self.new s m ≡ (has self.old s m || is_among s m numbers.now) }
+    /// How many blocks it has.
+    pub fn blocks(&self) -> usize
+        ensures { result ≡ length self.now }
     {
-        for number in numbers {
-            self.mark(number.sub, number.n);
+        self.words.len()
+    }
+
+    /// Drops all blocks but the first ones, such as those that room was made with.
+    pub fn truncate(&mut self, blocks: usize)
+        ensures { self.new ≡ take blocks self.old }
+    {
+        self.words.truncate(blocks);
+    }
+
+    /// The index of a number's block, if it is there. The block that was added to last is found without a look-up.
+    fn place_of(&self, number: Number) -> Option<usize>
+        ensures found { IfSome result (λ i.
+            slice_get (keys_of self.now) i ≡ Some (number.sub, number.n / 64)) }
+        ensures absent { IfNone result
+            (lookup (is_same_block (number.sub, number.n / 64)) self.now ≡ None) }
+    {
+        let block = (number.sub, number.n / 64);
+        match self.words.get_index(self.last) {
+            Some((last, _)) if *last == block => Some(self.last),
+            _ => self.words.get_index_of(&block),
         }
     }
 }

@@ -8,7 +8,8 @@ use std::test::Fail;
 fn numbers_are_told_apart(rt: HostRuntime) -> Result<(), Fail> {
     let mut numbers = Numbers::new(rt.alloc());
     numbers.add(Number { sub: 0, n: 64 })?;
-    numbers.add_all(&[Number { sub: 1, n: 1 }, Number { sub: 0, n: 63 }])?;
+    numbers.add(Number { sub: 1, n: 1 })?;
+    numbers.add(Number { sub: 0, n: 63 })?;
     let cases = [
         (0, 63, true),
         (0, 64, true),

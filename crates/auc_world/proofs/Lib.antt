@@ -4,4 +4,5 @@ mod BitLemmas
 mod HeldLemmas
 mod PieceLemmas
 mod LimitLemmas
+mod NotingLemmas
 mod PastLemmas

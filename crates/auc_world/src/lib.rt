@@ -11,11 +11,13 @@
 //! say that a restart opens no subscriber below a released number, and that a USIM remembers what it accepted.
 //!
 //! The record of a released vector has its subscriber and its number. They determine the vector's bytes
-//! (`specs/Vectors`), so a transcript has no bytes of vectors.
+//! (`specs/Vectors`), so a transcript has no bytes of vectors. [`note`] and [`note_all`] keep a set of the numbers that
+//! lines release (`specs/Released`). They take memory, and leave the set as it was if memory runs out.
 #![tactic(auto)]
 
 mod auts;
 mod law;
+mod noting;
 mod record;
 mod setting;
 
@@ -24,6 +26,7 @@ pub use law::{
     jobs_give_after_all_lines, past_has_each_accepted_sqn, pieces_split_the_round,
     restart_opens_above_released_numbers,
 };
+pub use noting::{note, note_all};
 pub use record::{
     Closing, GiveVerdict, JobRecord, JobVectors, LineRecord, PartRecord, RoundRecord, SyncVerdict,
 };

@@ -2,7 +2,7 @@ use Rattle.std.proofs.Common.{◌++◌, List, subst}
 use Rattle.auc_world.specs.Lines.{all_lines}
 use Rattle.auc_world.specs.declared.record.LineRecord.{LineRecord}
 use Rattle.auc_jobs.specs.InnerUsims.{ArePutBack}
-use Rattle.auc_jobs.specs.Numbers.{AreReleased}
+use Rattle.auc_world.specs.Released.{AreReleased}
 use Rattle.auc_jobs.specs.State.{Standing}
 use Rattle.auc_jobs.proofs.state.State.advance.Goals as goal
 

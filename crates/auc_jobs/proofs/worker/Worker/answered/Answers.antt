@@ -2,7 +2,7 @@ use Rattle.auc_jobs.specs.InnerUsims.{usim_in}
 use Rattle.std.proofs.Common.{◌++◌, sym, subst, ◌∙◌}
 use Rattle.auc_jobs.specs.InnerServing.{before_at, IsAnswered}
 use Rattle.auc_jobs.specs.InnerWorker.{WorkerState}
-use Rattle.auc_jobs.specs.Numbers.{AreReleased}
+use Rattle.auc_world.specs.Released.{AreReleased}
 use Rattle.auc_jobs.specs.Usims.{AreBehind}
 use Rattle.auc_jobs.proofs.JobLemmas.{answered_present, answered_absent}
 use Rattle.auc_world.specs.declared.record.GiveVerdict.TheVariants as given

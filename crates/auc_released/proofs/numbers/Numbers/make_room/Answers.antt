@@ -1,16 +1,19 @@
-use Rattle.std.proofs.Common.{subst}
-use Rattle.std.proofs.lemmas.List.{take_all, take_more}
-use Rattle.auc_released.specs.InnerBlocks.{HasBlocksFor}
-use Rattle.auc_released.proofs.BlockLemmas.{blocks_take, roomier_blocks, roomier_twice}
+use Rattle.std.proofs.Common.{◌≡◌, ◌/◌, ◌∙◌, None, Some, slice_get, subst, sym}
+use Rattle.std.specs.Map.{keys_of, lookup}
+use Rattle.indexmap.proofs.CallerLemmas.{insert_entry-new}
+use Rattle.auc_released.specs.Numbers.{Released, is_same_block}
+use Rattle.auc_released.specs.Room.{IsRoomier}
+use Rattle.auc_released.proofs.RoomLemmas.{has_room, roomier_one}
 use Rattle.auc_released.proofs.numbers.Numbers.make_room.Goals as goal
 
-pub loop-number-preserved : goal.loop-number-preserved
-loop-number-preserved c = record {
-  roomier = roomier_twice c.args.self.now c.loop-number.self c.add_block.new.self c.loop-number.invariant.roomier c.in_ok-add_block.ensures.roomier;
-  there =
-      blocks_take c.loop-number.self c.add_block.new.self c.args.numbers.now c.loop-number.number-index _ (roomier_blocks c.loop-number.self c.add_block.new.self c.in_ok-add_block.ensures.roomier)
-      (take_more _ _ _ c.loop-number-test.true) c.loop-number.invariant.there c.in_ok-add_block.ensures.there;
-}
+pub returns-in-Some-clause-there : goal.returns-in-Some-clause-there
+returns-in-Some-clause-there c =
+    has_room c.self.inside.words.entries c.in-Some.place c.args.number.sub c.args.number.n
+    (subst (λ (es : Released). slice_get (keys_of es) c.in-Some.place ≡ Some (c.args.number.sub, c.args.number.n / 64)) (sym c.self.view_is) c.in-Some.ensures.found)
 
-pub returns-clause-there : goal.returns-clause-there
-returns-clause-there c = subst (HasBlocksFor c.loop-number.self) (take_all c.loop-number.number-index c.args.numbers.now c.loop-number-test.false) c.loop-number.invariant.there
+pub returns-in_ok-insert-in-None-clause-roomier : goal.returns-in_ok-insert-in-None-clause-roomier
+returns-in_ok-insert-in-None-clause-roomier c =
+    subst (λ (es : Released). IsRoomier es c.insert.new.self.entries) c.self.view_is
+    (roomier_one c.self.inside.words.entries c.insert.new.self.entries (c.args.number.sub, c.args.number.n / 64)
+    (c.in_ok-insert-in-None.ensures.entries ∙ insert_entry-new is_same_block c.self.inside.words (c.args.number.sub, c.args.number.n / 64) 0
+    (subst (λ (es : Released). lookup (is_same_block (c.args.number.sub, c.args.number.n / 64)) es ≡ None) (sym c.self.view_is) c.in-None.ensures.absent)))

@@ -1,9 +1,9 @@
--- The numbers whose vectors were released.
+-- The set of the numbers whose vectors were released.
 use Rattle.std.specs.Prelude.{◌≡◌, ℕ, List}
 use Rattle.auc_world.specs.Given.{is_in}
 use Rattle.auc_world.specs.Lines.{numbers_of}
 use Rattle.auc_world.specs.declared.record.LineRecord.{LineRecord}
-pub use Rattle.auc_released.specs.Numbers.{Released, has, is_among}
+pub use Rattle.auc_released.specs.Numbers.{Released, has}
 
 -- the set has the numbers of the vectors that some lines release, and no other
 abbrev pub AreReleased : Released → List LineRecord → Type 0

@@ -1,5 +1,5 @@
--- For sets of numbers: their blocks, the blocks' bits, and the numbers that were added.
-use Rattle.std.proofs.Common.{◌≡◌, ℕ, ◌+◌, ◌*◌, ◌/◌, ◌%◌, ◌^◌, ◌<◌, Bool, true, false, cond, ◌&&◌, ◌||◌, List, [], ◌∷◌, ◌++◌, take, get_or, Option, Some, None, slice_get, position, refl, sym, ap, ◌∙◌, subst, inl, inr, arith, append_assoc, append-nil, true≢false}
+-- For sets of numbers: room, the blocks' bits, and the numbers that were added.
+use Rattle.std.proofs.Common.{◌≡◌, ℕ, ◌*◌, ◌/◌, ◌%◌, ◌^◌, ◌<◌, Bool, true, false, cond, ◌&&◌, ◌||◌, List, [], ◌∷◌, ◌++◌, take, length, get_or, Option, Some, None, slice_get, position, refl, sym, ap, ◌∙◌, subst, inl, inr, arith, append_assoc, append-nil, true≢false}
 use Rattle.std.specs.Prelude.{◌==◌, All, IfSome, is_some}
 use Rattle.std.specs.Cmp.{IsEquivalence}
 use Rattle.std.specs.Int.{bit_at, w64}
@@ -8,8 +8,8 @@ use Rattle.std.specs.List.{list_any}
 use Rattle.std.specs.Map.{keys_of, lookup}
 use Rattle.std.proofs.lemmas.Bool.{and_parts, and_from, and_right, eqb-true, eq-eqb, ne_eqb, cases_eq, or_left, or_right, false_from_ne_true}
 use Rattle.std.proofs.lemmas.Cmp.{and_equiv, on_equiv, nat_eq_equiv}
-use Rattle.std.proofs.lemmas.List.{map-append}
-use Rattle.std.proofs.lemmas.List.Elements.{All-append, All-head, All-push, All-tail, All-weaker, All-cons, All-nil}
+use Rattle.std.proofs.lemmas.List.{map-append, take_all, take-append-le}
+use Rattle.std.proofs.lemmas.List.Elements.{All-append, All-head, All-tail, All-cons, All-nil}
 use Rattle.std.proofs.lemmas.List.Folds.{list_any-append}
 use Rattle.std.proofs.lemmas.List.Quantifiers.{position-Some}
 use Rattle.std.proofs.lemmas.Map.Entries.{lookup_from_place}
@@ -21,9 +21,8 @@ use Rattle.std.proofs.lemmas.Option.{same_Some, slice_get-get_or, slice_get-map}
 use Rattle.std.specs.Option.{option_map}
 use Rattle.indexmap.specs.IndexMap.{IndexMap, IsUnique, with_value_at}
 use Rattle.indexmap.proofs.CallerLemmas.{updates-with_value_at}
-use Rattle.auc_released.specs.declared.numbers.Number.{Number}
-use Rattle.auc_released.specs.Numbers.{Released, is_same_block, is_marked, has, is_among}
-use Rattle.auc_released.specs.InnerBlocks.{HasBlock, HasBlocksOf, HasBlocksFor, IsRoomier}
+use Rattle.auc_released.specs.Numbers.{Released, is_same_block, is_marked, has}
+use Rattle.auc_released.specs.Room.{HasRoom, KeepsRoom, IsRoomier}
 
 -- ---- blocks
 
@@ -44,9 +43,9 @@ block_at keys block (Some i) e =
     let at = position-Some (is_same_block block) keys i block (sym e) in
     slice_get-get_or keys i block at.0 ∙ ap Some (sym (same_block block (get_or keys i block) at.1))
 
--- a set has the block that stands among its keys
-pub has_block : (es : Released) (i sub n : ℕ) → slice_get (keys_of es) i ≡ Some (sub, n / 64) → HasBlock es sub n
-has_block es i sub n at = is_some-lookup (is_same_block (sub, n / 64)) es ∙ any_passes_from_place (is_same_block (sub, n / 64)) (keys_of es) i (sub, n / 64) at (block_equiv.refl (sub, n / 64))
+-- a set has room for a number whose block stands among its keys
+pub has_room : (es : Released) (i sub n : ℕ) → slice_get (keys_of es) i ≡ Some (sub, n / 64) → HasRoom es (record { sub = sub; n = n })
+has_room es i sub n at = is_some-lookup (is_same_block (sub, n / 64)) es ∙ any_passes_from_place (is_same_block (sub, n / 64)) (keys_of es) i (sub, n / 64) at (block_equiv.refl (sub, n / 64))
 
 -- the key of the entry at a place
 key_at : (es : Released) (i : ℕ) (key block : ℕ × ℕ) (word : ℕ) → slice_get es i ≡ Some (key, word) → slice_get (keys_of es) i ≡ Some block → key ≡ block
@@ -80,10 +79,10 @@ pub roomier_has : (old new : Released) → IsRoomier old new → (s m : ℕ) →
 roomier_has old new roomier s m =
     ap (λ (es : Released). has es s m) roomier.added ∙ same_marks (is_same_block (s, m / 64)) (m % 64) old roomier.more roomier.empty
 
--- and the blocks that it had
-pub roomier_blocks : (old new : Released) → IsRoomier old new → HasBlocksOf old new
-roomier_blocks old new roomier s m there =
-    let test : ℕ × ℕ → Bool = is_same_block (s, m / 64) in
+-- and the room that it had
+pub roomier_room : (old new : Released) → IsRoomier old new → KeepsRoom old new
+roomier_room old new roomier number there =
+    let test : ℕ × ℕ → Bool = is_same_block (number.sub, number.n / 64) in
     ap (λ (es : Released). is_some (lookup test es)) roomier.added ∙ is_some-lookup test (old ++ roomier.more)
     ∙ ap (list_any test) (map-append (λ (e : (ℕ × ℕ) × ℕ). e.0) old roomier.more) ∙ list_any-append test (keys_of old) (keys_of roomier.more)
     ∙ or_left (list_any test (keys_of old)) (list_any test (keys_of roomier.more)) (sym (is_some-lookup test old) ∙ there)
@@ -104,17 +103,9 @@ roomier_twice old mid new first second = record {
   empty = All-append (λ (x : (ℕ × ℕ) × ℕ). x.1 ≡ 0) first.more second.more first.empty second.empty;
 }
 
--- ---- the blocks of some numbers
-
--- they stay
-pub blocks_stay : (old new : Released) → HasBlocksOf old new → (numbers : List Number) → HasBlocksFor old numbers → HasBlocksFor new numbers
-blocks_stay old new kept numbers there = All-weaker (λ (k : Number). HasBlock old k.sub k.n) (λ (k : Number). HasBlock new k.sub k.n) (λ number. kept number.sub number.n) numbers there
-
--- the blocks of the first of some numbers, and of one more
-pub blocks_take : (old new : Released) (numbers : List Number) (i : ℕ) (number : Number) → HasBlocksOf old new → take (i + 1) numbers ≡ take i numbers ++ number ∷ []
-    → HasBlocksFor old (take i numbers) → HasBlock new number.sub number.n → HasBlocksFor new (take (i + 1) numbers)
-blocks_take old new numbers i number kept cut there here =
-    subst (HasBlocksFor new) (sym cut) (All-push (λ (k : Number). HasBlock new k.sub k.n) (take i numbers) number (blocks_stay old new kept (take i numbers) there) here)
+-- without its further blocks it is the first set again
+pub roomier_front : (old new : Released) → IsRoomier old new → take (length old) new ≡ old
+roomier_front old new roomier = ap (take (length old)) roomier.added ∙ take-append-le (length old) old roomier.more (omega arith) ∙ take_all (length old) old (omega arith)
 
 -- ---- a number more
 
@@ -145,10 +136,10 @@ same_number sub n s m subs blocks =
 abbrev pub IsWordSet : Released → ℕ × ℕ → ℕ → Released → Type 0
 IsWordSet old block word new = (q : ℕ × ℕ) → lookup (is_same_block q) new ≡ cond (is_same_block block q) (Some word) (lookup (is_same_block q) old)
 
--- the blocks stay
-pub word_set_blocks : (old new : Released) (block : ℕ × ℕ) (word : ℕ) → IsWordSet old block word new → HasBlocksOf old new
-word_set_blocks old new block word set s m there =
-    ap is_some (set (s, m / 64)) ∙ by (is_same_block block (s, m / 64)) (lookup (is_same_block (s, m / 64)) old) there
+-- room stays
+pub word_set_room : (old new : Released) (block : ℕ × ℕ) (word : ℕ) → IsWordSet old block word new → KeepsRoom old new
+word_set_room old new block word set number there =
+    ap is_some (set (number.sub, number.n / 64)) ∙ by (is_same_block block (number.sub, number.n / 64)) (lookup (is_same_block (number.sub, number.n / 64)) old) there
   where
     by : (b : Bool) (old_word : Option ℕ) → is_some old_word ≡ true → is_some (cond b (Some word) old_word) ≡ true
     by true old_word h = refl
@@ -189,25 +180,3 @@ word_set_has old new sub n word there set s m = by (is_same_block (sub, n / 64) 
         let again : is_same_block (sub, n / 64) (s, m / 64) ≡ true =
         and_from (sub == s) (n / 64 == m / 64) (eq-eqb sub s (sym (eqb-true s sub parts.0))) (eq-eqb (n / 64) (m / 64) (ap (λ (k : ℕ). k / 64) (sym (eqb-true m n parts.1)))) in
         true≢false (sym again ∙ e)))
-
--- ---- some numbers more
-
--- the first of some numbers were added, and one more
-pub among_take : (first old new : Released) (numbers : List Number) (i : ℕ) (number : Number) → take (i + 1) numbers ≡ take i numbers ++ number ∷ []
-    → ((s m : ℕ) → has old s m ≡ (has first s m || is_among s m (take i numbers))) → ((s m : ℕ) → has new s m ≡ (has old s m || (s == number.sub && m == number.n)))
-    → (s m : ℕ) → has new s m ≡ (has first s m || is_among s m (take (i + 1) numbers))
-among_take first old new numbers i number cut before added s m =
-    let test : Number → Bool = λ k. s == k.sub && m == k.n in
-    let more : is_among s m (take (i + 1) numbers) ≡ (is_among s m (take i numbers) || (test number || false)) = ap (list_any test) cut ∙ list_any-append test (take i numbers) (number ∷ []) in
-    added s m ∙ ap (λ (b : Bool). b || test number) (before s m) ∙ three (has first s m) (is_among s m (take i numbers)) (test number) ∙ ap (λ (b : Bool). has first s m || b) (sym more)
-  where
-    three : (a b c : Bool) → ((a || b) || c) ≡ (a || (b || (c || false)))
-    three true b c = refl
-    three false true c = refl
-    three false false true = refl
-    three false false false = refl
-
--- no number was added yet
-pub among_none : (b : Bool) → b ≡ (b || false)
-among_none true = refl
-among_none false = refl
