@@ -1,7 +1,7 @@
 -- Each step on a limit or on the stop word, and each look of the keeper, keeps the rule.
 use Rattle.std.proofs.Common.{◌≡◌, ◌⊎◌, ℕ, ◌+◌, ◌<◌, ◌≤◌, nat_lt, Bool, true, false, if◌then◌else◌, List, [], ◌∷◌, ◌++◌, length, slice_index, slice_set, All, Contains, flat_map, Option, Some, None, arith, refl, sym, ap, ◌∙◌, subst, max}
 use Rattle.std.proofs.lemmas.Grind.{flat_map-append}
-use Rattle.std.proofs.lemmas.List.{append-nil, length-set, set-get_or, get_or-set_other}
+use Rattle.std.proofs.lemmas.List.{append-nil, length-set, set-get_or, get_or-set_same, get_or-set_other}
 use mathlib.Core.Option.{some, none}
 use lib.ListN.{get_elem?}
 use Rattle.atomic_table.specs.Table.{State, Me, keeps, step, Allows}
@@ -140,7 +140,7 @@ look_ok openings limits slots id sub me first known =
       limits = limits_noted openings limits s v note (slice_set s.words sub word) s.homes rule.limits at (ap (λ (ws : List ℕ). length ws) is)
           (subst (λ (ws : List ℕ). IsTied openings limits ws note) (sym is) (looked_tied openings limits s.words v.note sub known tied)) (λ d tells. look_tells v.note sub word d tells);
     } in
-    (with_note v note, keeps, tt, kept, (refl, (tied.each sub known).looked)))
+    (with_note v note, keeps, tt, kept, (refl, (tied.each sub known).looked, get_or-set_same v.note.seen sub word 0 (omega (arith, known, tied.looks)))))
   where
     look_tells : (note : Note) (sub word : ℕ) (d : Deed) → Tells note d → Tells (looked note sub word) d
     look_tells note sub word (Made s e) tells = tt

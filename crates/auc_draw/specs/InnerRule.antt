@@ -222,7 +222,7 @@ AddsStop found v w = (w ≡ (with_deeds v.0 (stop_read (stop_of found)), v.1)) �
 
 -- a load of a subscriber's number is noted; it is no lower than the one before
 abbrev pub NotesLook : ℕ → ℕ → Me (Unit {0}) View → Me (Unit {0}) View → Type 0
-NotesLook sub found v w = (w ≡ (with_note v.0 (looked v.0.note sub found), v.1)) × (slice_index v.0.note.seen sub ≤ found)
+NotesLook sub found v w = (w ≡ (with_note v.0 (looked v.0.note sub found), v.1)) × (slice_index v.0.note.seen sub ≤ found) × (slice_index w.0.note.seen sub ≡ found)
 
 -- a raised limit is noted
 abbrev pub NotesLimit : ℕ → ℕ → Me (Unit {0}) View → Me (Unit {0}) View → Type 0

@@ -42,6 +42,7 @@ impl KeeperPass {
         requires own { self.old.id ≡ book.now.id }
         requires sub { sub < length book.now.openings }
         ensures looked { self.new ≡ record self.old { seen = slice_set self.old.seen sub result } }
+        ensures found { slice_index self.new.seen sub ≡ result }
         ensures rises { slice_index self.old.seen sub ≤ result }
     {
         read_number(&book.table.shared, &mut self.seat, sub)
