@@ -2,6 +2,7 @@ pub mod Facts
 mod AppendCalls
 mod AppendLemmas
 mod BodyLemmas
+mod DurableLemmas
 mod FillLemmas
 mod FrameLemmas
 mod ImageExamples
@@ -16,3 +17,4 @@ mod PartLemmas
 mod QuietLemmas
 mod RoomLemmas
 mod ScanLemmas
+mod SubscriberLemmas
