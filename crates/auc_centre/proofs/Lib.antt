@@ -1,2 +1,3 @@
 mod DeskLemmas
 mod GainLemmas
+mod StepLemmas

@@ -5,22 +5,27 @@ ghost use Rattle.auc_sqn.specs.Number.{max_seq};
 ghost use Rattle.auc_draw.specs.Deeds.{kept_of};
 ghost use Rattle.auc_centre.specs.Adds.{Adds};
 ghost use Rattle.auc_centre.specs.InnerGains.{Gains};
+ghost use Rattle.auc_centre.specs.InnerRound.{Begins};
+ghost use Rattle.auc_centre.specs.Kept.{subs_of};
 
-use crate::{Desk, Naming};
-use auc_draw::{Book, Pass};
+use crate::{Desk, Kept, Naming};
+use auc_disk::{Disk, DiskCall, FailList, MemDisk};
+use auc_draw::{Book, KeeperPass, Pass};
+use auc_edge::{Imsi, NoMemory, Octets, Stop};
+use auc_journal::Journal;
+use auc_keeper::Keeper;
 use auc_sqn::MAX_SEQ;
 use auc_vector::{Centre, CentreRefusal, Resynced};
-use std::marker::{Brand, PhantomData};
-use std::sync::Wait;
+use std::alloc::Global;
+use std::marker::Brand;
+use std::sync::{Mutex, Wait};
 use std::test::Fail;
 
+// The answers to a draw and to a resynchronisation after it.
+type Answers = (Result<u64, CentreRefusal>, Result<Resynced, CentreRefusal>);
+
 /// Draws a number of a subscriber, and then resynchronises with this SEQ.
-fn draw_and_resync<C: Centre, R: Wait>(
-    rt: &R,
-    centre: &mut C,
-    sub: u32,
-    seq_ms: u64,
-) -> (Result<u64, CentreRefusal>, Result<Resynced, CentreRefusal>)
+fn draw_and_resync<C: Centre, R: Wait>(rt: &R, centre: &mut C, sub: u32, seq_ms: u64) -> Answers
     requires sub { sub < C.subs centre.old }
     requires number { seq_ms ≤ max_seq }
     ensures name { C.name centre.new ≡ C.name centre.old }
@@ -33,81 +38,156 @@ fn draw_and_resync<C: Centre, R: Wait>(
 }
 
 /// Does the same at a desk of this pass.
-fn draw_and_resync_at_desk<L: Naming, R: Wait>(
+fn draw_and_resync_at_desk<L: Naming<D>, D: Disk + Drop, R: Wait>(
     rt: &R,
     book: &Book,
     pass: &mut Pass,
+    keeper: &Mutex<Kept<L, D>>,
     sub: u32,
     seq_ms: u64,
-) -> (Result<u64, CentreRefusal>, Result<Resynced, CentreRefusal>)
+) -> Answers
     requires named { (book.now.id ≡ L.table) × (pass.old.id ≡ L.table) }
+    requires sized { subs_of L.opening ≡ length book.now.openings }
     requires sub { sub < length book.now.openings }
     requires number { seq_ms ≤ max_seq }
     ensures named { pass.new.id ≡ L.table }
     ensures gains { Gains (λ i es ws. Adds pass.old i es ws pass.new) sub
         (kept_of pass.old.deeds sub) result.0 result.1 }
 {
-    let mut desk = Desk::<L> {
-        pass,
-        book,
-        named: PhantomData,
-    };
+    let mut desk = Desk { pass, book, keeper };
     draw_and_resync(rt, &mut desk, sub, seq_ms)
 }
 
-// By hand, with a range of 2^28 = 268435456: subscriber, SEQ, the drawn number, the answer to the SEQ.
-#[test]
-fn desk_draws_and_resynchronises(rt: HostRuntime) -> Result<(), Fail> {
-    let (book, mut passes, _keeper) = Book::open(rt.alloc(), &[10, 268435456, MAX_SEQ - 1], 1)?;
-    let mut pass = passes.pop().expect(&rt, "a pass");
-    let spent = Err(CentreRefusal::Exhausted(MAX_SEQ));
-    let cases = [
-        (0, 20, Ok(11), Ok(Resynced::Moved(11, 20))),
-        (0, 15, Ok(21), Ok(Resynced::InRange(21, 15))),
-        (1, 2, Ok(268435457), Ok(Resynced::InRange(268435457, 2))),
-        (
-            1,
-            2,
-            Ok(268435458),
-            Err(CentreRefusal::Beyond(268435458, 2)),
-        ),
-        (2, 0, Ok(MAX_SEQ), Err(CentreRefusal::Beyond(MAX_SEQ, 0))),
-        (2, MAX_SEQ, spent, Ok(Resynced::InRange(MAX_SEQ, MAX_SEQ))),
-        (2, 5, spent, Err(CentreRefusal::Beyond(MAX_SEQ, 5))),
+/// Does the same three times in a round: with the first pass, with the second, and with the first again. The keeper's
+/// parts are handed back.
+fn draw_three_times<L: Naming<D>, D: Disk + Drop, R: Wait>(
+    rt: &R,
+    book: &Book,
+    first: &mut Pass,
+    second: &mut Pass,
+    journal: Journal<D>,
+    keeper: KeeperPass,
+    seq_ms: u64,
+) -> ([Answers; 3], Journal<D>, KeeperPass)
+    requires begins { Begins L.table L.passes L.opening book.now journal keeper }
+    requires named { (first.old.id ≡ L.table) × (second.old.id ≡ L.table) }
+    requires sub { 0 < length book.now.openings }
+    requires number { seq_ms ≤ max_seq }
+    ensures subscribers { result.1.imsis ≡ journal.imsis }
+    ensures own { result.2.id ≡ L.table }
+{
+    let lock = Mutex::new(Kept::<L, D>::new(Keeper::new(journal, keeper)));
+    let answers = [
+        draw_and_resync_at_desk(rt, book, first, &lock, 0, seq_ms),
+        draw_and_resync_at_desk(rt, book, second, &lock, 0, seq_ms),
+        draw_and_resync_at_desk(rt, book, first, &lock, 0, seq_ms),
     ];
-    for (sub, seq, drawn, resynced) in cases {
+    let (journal, keeper) = lock.into_inner().into_keeper().parts();
+    (answers, journal, keeper)
+}
+
+/// The answers in a round of one subscriber whose number stands at this opening, with a journal on this disk; and the
+/// subscriber's limit after the round.
+fn play<R: Wait>(
+    rt: &R,
+    alloc: Global,
+    disk: MemDisk,
+    opening: u64,
+    seq_ms: u64,
+) -> Result<([Answers; 3], u64), NoMemory>
+    requires { (opening ≤ max_seq) × (seq_ms ≤ max_seq) }
+{
+    let imsi = Imsi::read(b"001010000000001").ok_or(NoMemory)?;
+    let Ok(journal) = Journal::open(alloc, disk, &[imsi]) else {
+        return Err(NoMemory);
+    };
+    let limits = [journal.reserved(0)];
+    let (book, mut passes, keeper) = Book::open(alloc, &[opening], &limits, 2)?;
+    let mut second = passes.pop().ok_or(NoMemory)?;
+    let mut first = passes.pop().ok_or(NoMemory)?;
+    let (answers, journal, _keeper) = draw_three_times::<Brand, MemDisk, R>(
+        rt,
+        &book,
+        &mut first,
+        &mut second,
+        journal,
+        keeper,
+        seq_ms,
+    );
+    Ok((answers, journal.reserved(0)))
+}
+
+/// A new disk of which this write fails.
+fn disk_without_write(alloc: Global, ordinal: u64) -> Result<MemDisk, NoMemory> {
+    let mut fail = FailList::new(alloc);
+    fail.push(DiskCall::WriteAt, ordinal)?;
+    MemDisk::new(alloc, Octets::new(alloc), fail)
+}
+
+// By hand, with a range of 2^28 = 268435456 and 64 numbers a reservation: the opening, the SEQ, the three answers, the
+// limit.
+#[test]
+fn desks_draw_and_resynchronise(rt: HostRuntime) -> Result<(), Fail> {
+    let alloc = rt.alloc();
+    let spent = |word| Err(CentreRefusal::Exhausted(word));
+    let cases = [
+        (
+            10,
+            20,
+            [
+                (Ok(11), Ok(Resynced::Moved(11, 20))),
+                (Ok(21), Ok(Resynced::InRange(21, 20))),
+                (Ok(22), Ok(Resynced::InRange(22, 20))),
+            ],
+            74,
+        ),
+        (
+            268435456,
+            2,
+            [
+                (Ok(268435457), Ok(Resynced::InRange(268435457, 2))),
+                (Ok(268435458), Err(CentreRefusal::Beyond(268435458, 2))),
+                (Ok(268435459), Err(CentreRefusal::Beyond(268435459, 2))),
+            ],
+            268435520,
+        ),
+        // No number is left, and each pass's first refused draw adds one to the word.
+        (
+            MAX_SEQ,
+            MAX_SEQ,
+            [
+                (spent(MAX_SEQ), Ok(Resynced::InRange(MAX_SEQ, MAX_SEQ))),
+                (
+                    spent(MAX_SEQ + 1),
+                    Ok(Resynced::InRange(MAX_SEQ + 1, MAX_SEQ)),
+                ),
+                (spent(MAX_SEQ), Ok(Resynced::InRange(MAX_SEQ, MAX_SEQ))),
+            ],
+            0,
+        ),
+    ];
+    for (opening, seq, answers, limit) in cases {
+        let disk = disk_without_write(alloc, 100)?;
         assert_eq!(rt;
-            draw_and_resync_at_desk::<Brand, _>(&rt, &book, &mut pass, sub, seq),
-            (drawn, resynced),
-            "of {sub} at {seq}"
+            play(&rt, alloc, disk, opening, seq)?,
+            (answers, limit),
+            "from {opening}"
         );
     }
     Ok(())
 }
 
-// By hand: no number is left, and each pass's first draw adds one to the word.
+// By hand: the first write after the opening's fails.
 #[test]
-fn each_pass_keeps_the_word_of_its_own_refused_draw(rt: HostRuntime) -> Result<(), Fail> {
-    let (book, mut passes, _keeper) = Book::open(rt.alloc(), &[MAX_SEQ], 2)?;
-    let mut second = passes.pop().expect(&rt, "a pass");
-    let mut first = passes.pop().expect(&rt, "another pass");
-    let answers = |word| {
-        (
-            Err(CentreRefusal::Exhausted(word)),
-            Ok(Resynced::InRange(word, MAX_SEQ)),
-        )
-    };
-    assert_eq!(rt;
-        draw_and_resync_at_desk::<Brand, _>(&rt, &book, &mut first, 0, MAX_SEQ),
-        answers(MAX_SEQ)
-    );
-    assert_eq!(rt;
-        draw_and_resync_at_desk::<Brand, _>(&rt, &book, &mut second, 0, MAX_SEQ),
-        answers(MAX_SEQ + 1)
-    );
-    assert_eq!(rt;
-        draw_and_resync_at_desk::<Brand, _>(&rt, &book, &mut first, 0, MAX_SEQ),
-        answers(MAX_SEQ)
-    );
+fn draws_are_withheld_after_the_keeper_stopped(rt: HostRuntime) -> Result<(), Fail> {
+    let alloc = rt.alloc();
+    let withheld = |n| Err(CentreRefusal::Withheld(n, Stop::Fault));
+    let answers = [
+        (withheld(11), Ok(Resynced::InRange(11, 5))),
+        (withheld(12), Ok(Resynced::InRange(12, 5))),
+        (withheld(13), Ok(Resynced::InRange(13, 5))),
+    ];
+    let disk = disk_without_write(alloc, 2)?;
+    assert_eq!(rt; play(&rt, alloc, disk, 10, 5)?, (answers, 0));
     Ok(())
 }

@@ -13,15 +13,18 @@
 
 mod book;
 mod closed;
+mod keeper;
 mod law;
 mod pass;
+mod place;
 mod rule;
 mod step;
 #[cfg(test)]
 mod tests;
 
-pub use book::{Book, KeeperPass};
+pub use book::Book;
 pub use closed::Closed;
+pub use keeper::KeeperPass;
 pub use law::each_job_is_claimed_once;
-pub use pass::{Draw, Jump, Pass};
-pub use rule::{Deed, View};
+pub use pass::{Draw, Jump, Pass, Release};
+pub use rule::{Deed, Note, View};

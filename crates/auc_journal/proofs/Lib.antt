@@ -2,6 +2,7 @@ pub mod Facts
 mod AppendCalls
 mod AppendLemmas
 mod BodyLemmas
+mod DurableLemmas
 mod FillLemmas
 mod FrameLemmas
 mod ImageExamples
@@ -15,3 +16,4 @@ mod PartLemmas
 mod QuietLemmas
 mod RoomLemmas
 mod ScanLemmas
+mod SubscriberLemmas

@@ -4,8 +4,9 @@ use Rattle.std.specs.Prelude.{Bool, true, false, ◌==◌, max, if◌then◌else
 use Rattle.std.proofs.lemmas.Bool.{and_parts}
 use Rattle.std.proofs.lemmas.Bool.Decides.{nat_tests, Decides-eqb}
 use Rattle.auc_edge.specs.Identity.{Identity}
+use Rattle.auc_sqn.specs.Number.{max_seq}
 use Rattle.auc_journal.specs.Image.{Frame, reserved_in, same_identity}
-use Rattle.auc_journal.specs.InnerLookup.{missing, raised_by, raised_to}
+use Rattle.auc_journal.specs.InnerLookup.{AreNumbers, missing, raised_by, raised_to}
 use Rattle.auc_journal.specs.Limits.{AreLimits, AreSingle}
 
 -- identities of one number of digits and one number are one
@@ -81,6 +82,24 @@ raised_single (limit ∷ limits) frame single least = by (same_identity limit.im
     by true is rest = (omega (arith, least), single.1, single.2)
     by false is rest = (single.0, other is, rest)
 
+-- raised limits are numbers
+pub raised_numbers : (limits : List Frame) (frame : Frame) → AreNumbers limits → frame.limit ≤ max_seq → AreNumbers (raised_by limits frame)
+raised_numbers [] frame are most = (most, tt)
+raised_numbers (limit ∷ limits) frame are most = by (same_identity limit.imsi frame.imsi) (raised_numbers limits frame are.1 most)
+  where
+    by : (test : Bool) → AreNumbers (raised_by limits frame) → AreNumbers (if test then raised_to limit frame.limit ∷ limits else limit ∷ raised_by limits frame)
+    by true rest = (omega (arith, are.0, most), are.1)
+    by false rest = (are.0, rest)
+
+number_by : (test : Bool) (here rest : ℕ) → here ≤ max_seq → rest ≤ max_seq → (if test then max here rest else rest) ≤ max_seq
+number_by true here rest first other = omega (arith, first, other)
+number_by false here rest first other = other
+
+-- what numbers reserve is a number
+pub reserved_number : (limits : List Frame) (imsi : Identity) → AreNumbers limits → reserved_in limits imsi ≤ max_seq
+reserved_number [] imsi are = omega arith
+reserved_number (limit ∷ limits) imsi are = number_by (same_identity limit.imsi imsi) limit.limit (reserved_in limits imsi) are.0 (reserved_number limits imsi are.1)
+
 -- limits of frames, raised by one more frame
 pub more_limits : (limits frames : List Frame) (frame : Frame) → AreLimits limits frames → 1 ≤ frame.limit → AreLimits (raised_by limits frame) (frames ++ frame ∷ [])
 more_limits limits frames frame are least = record {
@@ -109,7 +128,7 @@ pub no_limits : AreLimits [] []
 no_limits = record { single = tt; same = λ imsi. refl }
 
 -- a raised limit is one, and none falls
-rises_by : (b : Bool) (was to : ℕ) → was ≤ (if b then max was to else was)
+pub rises_by : (b : Bool) (was to : ℕ) → was ≤ (if b then max was to else was)
 rises_by true was to = omega arith
 rises_by false was to = omega arith
 

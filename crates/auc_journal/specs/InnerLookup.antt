@@ -1,6 +1,7 @@
 -- Inner facts: what only private contracts of this crate cite. Limits that are looked up by identity.
-use Rattle.std.specs.Prelude.{◌≡◌, ℕ, ◌+◌, ◌==◌, max, if◌then◌else◌, List, [], ◌∷◌}
+use Rattle.std.specs.Prelude.{◌≡◌, ◌≤◌, ℕ, ◌+◌, ◌==◌, max, if◌then◌else◌, List, [], ◌∷◌}
 use Rattle.auc_edge.specs.Identity.{Identity}
+use Rattle.auc_sqn.specs.Number.{max_seq}
 use Rattle.auc_journal.specs.Image.{Frame, reserved_in, same_identity}
 use Rattle.auc_journal.specs.declared.limit_list.IdentityKey.{IdentityKey}
 
@@ -12,6 +13,11 @@ key_of imsi = record { digits = imsi.digits; number = imsi.number }
 abbrev pub AreKeyed : List (IdentityKey × Frame) → Type 0
 AreKeyed [] = Unit {0}
 AreKeyed (entry ∷ entries) = (entry.0 ≡ key_of entry.1.imsi) × AreKeyed entries
+
+-- each limit is a number
+abbrev pub AreNumbers : List Frame → Type 0
+AreNumbers [] = Unit {0}
+AreNumbers (limit ∷ limits) = (limit.limit ≤ max_seq) × AreNumbers limits
 
 -- a limit after a frame of its identity
 abbrev pub raised_to : Frame → ℕ → Frame

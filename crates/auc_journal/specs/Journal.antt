@@ -1,5 +1,5 @@
 -- Journals that are open.
-use Rattle.std.specs.Prelude.{ℕ, Bool, List, slice_index_or}
+use Rattle.std.specs.Prelude.{ℕ, Bool, List, map, slice_index_or}
 use Rattle.auc_edge.specs.Identity.{Identity}
 use Rattle.auc_journal.specs.Image.{Frame, reserved_in}
 
@@ -22,6 +22,10 @@ imsi_at imsis sub = slice_index_or imsis sub (record { digits = 0; number = 0 })
 -- the limit of a subscriber, or 0 if it has none
 abbrev pub reserved_at : {D : Type 0} → JournalState D → ℕ → ℕ
 reserved_at journal sub = reserved_in journal.limits (imsi_at journal.imsis sub)
+
+-- the limits of the subscribers, in their order
+abbrev pub limits_of : {D : Type 0} → JournalState D → List ℕ
+limits_of journal = map (λ imsi. reserved_in journal.limits imsi) journal.imsis
 
 -- the frame that an append for a subscriber adds
 abbrev pub frame_for : {D : Type 0} → JournalState D → ℕ → ℕ → Frame

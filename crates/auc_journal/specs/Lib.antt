@@ -1,3 +1,4 @@
+pub mod Durable
 pub mod Image
 pub mod InnerLookup
 pub mod InnerOpening

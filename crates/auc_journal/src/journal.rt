@@ -1,10 +1,12 @@
 //! Journals.
 
 ghost use Rattle.std.specs.Prelude.{◌≡◌, ◌≢◌, ◌≤◌, ◌<◌, ◌+◌, ◌^◌, ◌++◌, [], ◌∷◌, ◌↔◌, ℕ, List, Some, Err, false, true, length, ◌==◌, if◌then◌else◌, IfOk, IfErr, OnOk, OnErr, IsErrOf};
+ghost use Rattle.std.specs.Option.{is_some};
 ghost use Rattle.auc_edge.specs.Faults.{Rose};
 ghost use Rattle.auc_sqn.specs.Number.{max_seq};
 ghost use Rattle.auc_journal.specs.Image.{Frame, read_image, reserved_in};
-ghost use Rattle.auc_journal.specs.Journal.{frame_for, reserved_at};
+ghost use Rattle.auc_journal.specs.Durable.{IsDurable};
+ghost use Rattle.auc_journal.specs.Journal.{frame_for, imsi_at, reserved_at};
 ghost use Rattle.auc_journal.specs.InnerLookup.{raised_by};
 ghost use Rattle.auc_journal.specs.Limits.{AreLimits, AreSingle};
 ghost use Rattle.auc_journal.specs.Opening.{LeavesOpening, Opens};
@@ -54,6 +56,10 @@ impl<D: Disk + Drop> Journal<D> {
         ensures ready { IfOk result (λ journal. journal.failed ≡ false) }
         ensures quiet { IfOk result (λ journal. D.faults journal.disk ≡ D.faults disk) }
 
+        // If the disk told its bytes, a crash leaves journals with just these limits.
+        ensures durable { IfOk result (λ journal.
+            IsDurable D.seen D.may_leave disk (λ sub. reserved_at journal sub) journal) }
+
         // If the file is no journal, it says where. It answers StoreFault only if the count of faults rose.
         ensures not_journal { IfErr result (λ refused. (place : ℕ) → refused.why ≡ why.NotJournal place
             → (file : List ℕ) → D.seen disk ≡ Some file → read_image file ≡ Err place) }
@@ -78,7 +84,8 @@ impl<D: Disk + Drop> Journal<D> {
     /// The limit of the subscriber at a place, or 0 if it has none.
     pub fn reserved(&self, sub: u32) -> u64
         requires { sub < length self.now.imsis }
-        ensures { result ≡ reserved_at self.now sub }
+        ensures value { result ≡ reserved_at self.now sub }
+        ensures number { result ≤ max_seq }
     {
         self.limits.limit_of(self.imsis[sub as usize])
     }
@@ -125,6 +132,13 @@ impl<D: Disk + Drop> Journal<D> {
             → (file : List ℕ) → D.seen self.old.disk ≡ Some file
             → LeavesOnly D.moment D.left_since self.old.disk self.new.disk
             (IsBeforeOrAfter frames self.old.place (frame_for self.old sub limit)) }
+
+        // Whatever it answers, a crash leaves journals with the limits at least, and no limit above a bound that
+        // the new one keeps for each subscriber of this identity.
+        ensures bounded { (from : D) (most : ℕ → ℕ)
+            → ((i : ℕ) → i < length self.old.imsis → imsi_at self.old.imsis i ≡ imsi_at self.old.imsis sub → limit ≤ most i)
+            → IsDurable D.seen D.may_leave from most self.old
+            → IsDurable D.seen D.may_leave from most self.new }
 
         // It fails only if the count rose, and is full exactly if the file would have more than 2^30 bytes.
         ensures fault { IsErrOf result AppendRefusal.StoreFault
@@ -191,6 +205,7 @@ fn prepare<D: Disk>(alloc: Global, disk: &mut D, imsis: &[Imsi]) -> Result<Opene
     ensures subscribers { IfOk result (λ opened. opened.imsis.items ≡ imsis.now) }
     ensures place { IfOk result (λ opened. opened.place ≤ 2 ^ 30) }
     ensures room { IfOk result (λ opened. length opened.imsis.items ≤ opened.limits.left) }
+    ensures tells { IfOk result (λ opened. is_some (D.seen disk.new) ≡ is_some (D.seen disk.old)) }
     ensures wrong { (place : ℕ) → result ≡ Err (OpenWhy.NotJournal place)
         → (file : List ℕ) → D.seen disk.old ≡ Some file → read_image file ≡ Err place }
     ensures any_moment { LeavesOpening D.seen D.may_leave D.moment D.left_since disk.old disk.new }
@@ -210,7 +225,7 @@ fn prepare<D: Disk>(alloc: Global, disk: &mut D, imsis: &[Imsi]) -> Result<Opene
 
 // Raises the limit of an identity, for which there is room.
 fn raise(limits: &mut LimitList, imsi: Imsi, limit: u64)
-    requires least { 1 ≤ limit }
+    requires limit { (1 ≤ limit) × (limit ≤ max_seq) }
     requires room { reserved_in limits.old.written imsi ≡ 0 → 1 ≤ limits.old.left }
     ensures raised { limits.new.written ≡ raised_by limits.old.written
         (record { imsi = imsi; limit = limit }) }

@@ -1,6 +1,7 @@
 //! The file of a journal that is open.
 
 ghost use Rattle.std.specs.Prelude.{◌≡◌, ◌≢◌, ◌≤◌, ◌<◌, ◌+◌, ◌^◌, ◌++◌, [], ◌∷◌, ℕ, List, Some, Err, OnOk, OnErr, IsErrOf};
+ghost use Rattle.std.specs.Option.{is_some};
 ghost use Rattle.auc_edge.specs.Faults.{Rose};
 ghost use Rattle.auc_edge.specs.Identity.{IsIdentity};
 ghost use Rattle.auc_sqn.specs.Number.{max_seq};
@@ -32,6 +33,8 @@ impl<D: Disk> Log<D> {
         ensures durable { OnOk result ((frames : List Frame)
             → IsSettled D.seen D.may_leave self.old.disk frames self.old.place
             → IsSettled D.seen D.may_leave self.new.disk (frames ++ record { imsi = imsi; limit = limit } ∷ []) self.new.place) }
+
+        ensures tells { OnOk result (is_some (D.seen self.new.disk) ≡ is_some (D.seen self.old.disk)) }
 
         // A crash at any moment of the call leaves the frames from before it, or these with the new one.
         ensures any_moment { (frames : List Frame)

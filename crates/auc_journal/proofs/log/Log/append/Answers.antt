@@ -1,7 +1,8 @@
-use Rattle.std.proofs.Common.{arith}
+use Rattle.std.proofs.Common.{is_some, ◌∙◌, ap, arith}
 use Rattle.auc_journal.specs.Image.{Frame, body_of}
 use Rattle.auc_journal.proofs.AppendCalls.{after_body, after_gate, after_sync, at_end, no_call, settled_by, settles}
 use Rattle.auc_journal.proofs.BodyLemmas.{body_good}
+use Rattle.auc_journal.proofs.DurableLemmas.{is_some-Puts}
 use Rattle.auc_journal.proofs.log.Log.append.Goals as goal
 
 pub returns-then-self-clause-any_moment : goal.returns-then-self-clause-any_moment
@@ -58,6 +59,13 @@ returns-clause-any_moment g c = λ frames settled file told.
     at_end g.D.Disk.seen g.D.Disk.may_leave g.D.Disk.moment g.D.Disk.left_since g.met.D.Disk.only_now c.args.self.now.disk frames c.args.self.now.place frame (body_of frame) c.body_with_gate.result
     (body_good frame c.body_with_gate.ensures.identity c.requires.limit.0 c.requires.limit.1) c.body_with_gate.ensures.spelled (omega (arith, c.if-self.false)) settled file told
     c.write_at.new.self c.sync.new.self c.write_at-2.new.self c.sync-2.new.self with_gate c.in_ok-write_at.ensures.written c.in_ok-sync.ensures.durable c.write_at-2.ensures.crash c.sync-2.ensures.crash c.sync-2.ensures.time
+
+pub returns-clause-tells : goal.returns-clause-tells
+returns-clause-tells g c =
+    ap is_some c.sync-2.ensures.seen
+    ∙ is_some-Puts (g.D.Disk.seen c.sync.new.self) (g.D.Disk.seen c.write_at-2.new.self) _ _ c.in_ok-write_at-2.ensures.written
+    ∙ ap is_some c.sync.ensures.seen
+    ∙ is_some-Puts (g.D.Disk.seen c.args.self.now.disk) (g.D.Disk.seen c.write_at.new.self) _ _ c.in_ok-write_at.ensures.written
 
 -- the new frame is on the disk, where the disk tells its bytes at the end
 pub returns-clause-durable : goal.returns-clause-durable

@@ -1,0 +1,22 @@
+-- What a lock keeps in a round.
+use Rattle.std.specs.Prelude.{◌≡◌, ℕ, List, length, Option, Some, None}
+use Rattle.atomic_table.specs.Seated.{TableId}
+use Rattle.auc_journal.specs.Journal.{JournalState}
+use Rattle.auc_keeper.specs.Keeper.{KeeperState, Since}
+
+-- how many subscribers the journal of the opening is for
+abbrev pub subs_of : {D : Type 0} → Option (JournalState D) → ℕ
+subs_of None = 0
+subs_of (Some opening) = length opening.imsis
+
+-- what holds of the keeper since its round began, if a round began
+abbrev pub SinceOpening : {D : Type 0} → (D → Option (List ℕ)) → (D → List ℕ → Type 0) → (D → ℕ) → Option (JournalState D) → KeeperState D → Type 0
+SinceOpening seen may_leave faults None k = ⊥
+SinceOpening seen may_leave faults (Some opening) k = Since seen may_leave faults opening k
+
+-- the keeper of a round, whose table this is, which has so many passes and which began with this journal
+pub record IsKept {D : Type 0} (seen : D → Option (List ℕ)) (may_leave : D → List ℕ → Type 0) (faults : D → ℕ) (table : TableId) (passes : ℕ) (opening : Option (JournalState D)) (k : KeeperState D) : Type 0 where
+  -- its pass is of the table, and counts the passes
+  pub own : k.pass.id ≡ table
+  pub all : k.pass.passes ≡ passes
+  pub since : SinceOpening seen may_leave faults opening k

@@ -1,0 +1,63 @@
+//! The keeper of a round, as its lock keeps it.
+
+ghost use Rattle.std.specs.Prelude.{◌≡◌, ◌<◌, ◌≤◌, length};
+ghost use Rattle.auc_sqn.specs.Number.{max_seq};
+ghost use Rattle.auc_centre.specs.Kept.{IsKept, subs_of};
+
+use crate::naming::Naming;
+use auc_disk::Disk;
+use auc_draw::Book;
+use auc_keeper::Keeper;
+use std::marker::{Model, PhantomData};
+
+/// A round's keeper, of which all that holds since the opening is known to whoever takes it out of its lock.
+#[derive(Drop)]
+pub struct Kept<L: Naming<D>, D: Disk + Drop> {
+    keeper: Keeper<D>,
+    named: PhantomData<L>,
+}
+
+impl<L: Naming<D>, D: Disk + Drop> Model for Kept<L, D> {
+    ghost use Rattle.auc_keeper.specs.Keeper.{KeeperState};
+    ghost use Rattle.auc_centre.specs.Kept.{IsKept};
+
+    ghost Value = { KeeperState D };
+
+    ghost view = { λ k. k.keeper };
+
+    ghost invariant = { λ k. IsKept D.seen D.may_leave D.faults L.table L.passes L.opening k.keeper };
+}
+
+impl<L: Naming<D>, D: Disk + Drop> Kept<L, D> {
+    /// Takes the keeper of the round that `L` names.
+    pub fn new(keeper: Keeper<D>) -> Kept<L, D>
+        requires { IsKept D.seen D.may_leave D.faults L.table L.passes L.opening keeper }
+        ensures { result ≡ keeper }
+    {
+        Kept {
+            keeper,
+            named: PhantomData,
+        }
+    }
+
+    /// The keeper.
+    pub fn into_keeper(self) -> Keeper<D>
+        ensures same { result ≡ self }
+        ensures kept { IsKept D.seen D.may_leave D.faults L.table L.passes L.opening result }
+    {
+        self.keeper
+    }
+
+    /// Has the keeper reserve a drawn number of a subscriber. It looks at the subscriber's word first, since it reserves
+    /// no number that it hasn't seen there.
+    pub(crate) fn reserve(&mut self, book: &Book, sub: u32, n: u64)
+        requires shared { book.now.id ≡ L.table }
+        requires sub { sub < length book.now.openings }
+        requires sized { subs_of L.opening ≡ length book.now.openings }
+        requires number { n ≤ max_seq }
+    {
+        if self.keeper.look(book, sub) >= n {
+            self.keeper.ensure(book, sub, n);
+        }
+    }
+}

@@ -1,0 +1,77 @@
+-- Keepers: what a reservation answers and leaves, and what holds of a keeper since its round began.
+use Rattle.std.specs.Prelude.{◌≡◌, ◌≢◌, ◌↔◌, ℕ, ◌+◌, ◌^◌, ◌<◌, ◌≤◌, max, min, List, [], ◌∷◌, ◌++◌, length, slice_index, slice_set, true, false, Option, Some, None}
+use Rattle.auc_edge.specs.Faults.{Rose}
+use Rattle.auc_edge.specs.declared.stop.Stop.{Stop}
+use Rattle.auc_edge.specs.declared.stop.Stop.TheVariants.{Fault, Full}
+use Rattle.auc_sqn.specs.Number.{max_seq}
+use Rattle.auc_draw.specs.Values.{KeeperValue}
+use Rattle.auc_journal.specs.Durable.{IsDurable}
+use Rattle.auc_journal.specs.Journal.{JournalState, frame_for, limits_of, reserved_at}
+use Rattle.auc_journal.specs.Limits.{AreLimits}
+use Rattle.auc_keeper.specs.declared.keeper.Ensured.{Ensured}
+use Rattle.auc_keeper.specs.declared.keeper.Ensured.TheVariants.{Yes, Stopped}
+
+-- what contracts see of a keeper: its journal, and its pass
+pub record KeeperState (D : Type 0) : Type 0 where
+  pub journal : JournalState D
+  pub pass : KeeperValue
+
+-- the limit that is reserved before a number is released: the number and the 63 after it, and no further than the greatest
+abbrev pub limit_for : ℕ → ℕ
+limit_for n = min (n + 63) max_seq
+
+-- a limit was appended to the journal, and after that it was raised in the pass
+pub record Reserves {D : Type 0} (sub limit : ℕ) (old new : KeeperState D) : Type 0 where
+  pub limits : AreLimits new.journal.limits (old.journal.limits ++ frame_for old.journal sub limit ∷ [])
+  pub place : new.journal.place ≡ old.journal.place + 19
+  pub imsis : new.journal.imsis ≡ old.journal.imsis
+  pub ready : new.journal.failed ≡ false
+  pub raised : new.pass ≡ record old.pass { limits = slice_set old.pass.limits sub limit }
+
+-- the append was refused for this cause: the limits stand, and the pass stopped
+pub record Stops {D : Type 0} (stop : Stop) (old new : KeeperState D) : Type 0 where
+  pub limits : new.journal.limits ≡ old.journal.limits
+  pub place : new.journal.place ≡ old.journal.place
+  pub imsis : new.journal.imsis ≡ old.journal.imsis
+  pub failed : (new.journal.failed ≡ true) ↔ (stop ≡ Fault)
+  -- it is full only if the file would have more than 2^30 bytes, and then nothing of it changed
+  pub full : stop ≡ Full → (2 ^ 30 < old.journal.place + 20) × (new.journal ≡ old.journal)
+  pub stopped : new.pass ≡ record old.pass { stop = Some stop }
+
+-- the answer to a number above its limit, and what it leaves
+abbrev pub AnswersAbove : {D : Type 0} → ℕ → ℕ → KeeperState D → Ensured → KeeperState D → Type 0
+AnswersAbove sub n old (Yes limit) new = (limit ≡ limit_for n) × Reserves sub limit old new
+AnswersAbove sub n old (Stopped stop) new = Stops stop old new
+
+-- what is answered for a number of a subscriber, and what that leaves
+pub record Ensures {D : Type 0} (sub n : ℕ) (old : KeeperState D) (result : Ensured) (new : KeeperState D) : Type 0 where
+  -- a keeper that has stopped answers that, whatever the limit is
+  pub stopped : (stop : Stop) → old.pass.stop ≡ Some stop → (result ≡ Stopped stop) × (new ≡ old)
+  -- otherwise a limit that is enough is the answer
+  pub enough : old.pass.stop ≡ None → n ≤ reserved_at old.journal sub → (result ≡ Yes (reserved_at old.journal sub)) × (new ≡ old)
+  -- and if it isn't, a limit is appended, or the append is refused
+  pub above : old.pass.stop ≡ None → reserved_at old.journal sub < n → AnswersAbove sub n old result new
+  -- which it is as full, if the file would have more than 2^30 bytes
+  pub full : old.pass.stop ≡ None → reserved_at old.journal sub < n → 2 ^ 30 < old.journal.place + 20 → result ≡ Stopped Full
+
+-- an answer as its caller uses it: the limit is on the disk and in the pass, or the pass has stopped
+abbrev pub Tells : {D : Type 0} → ℕ → ℕ → Ensured → KeeperState D → Type 0
+Tells sub n (Yes limit) new = (n ≤ limit) × (slice_index new.pass.limits sub ≡ limit) × (reserved_at new.journal sub ≡ limit)
+Tells sub n (Stopped stop) new = new.pass.stop ≡ Some stop
+
+-- what holds of a keeper since its round began with this journal
+pub record Since {D : Type 0} (seen : D → Option (List ℕ)) (may_leave : D → List ℕ → Type 0) (faults : D → ℕ) (opening : JournalState D) (k : KeeperState D) : Type 0 where
+  pub subscribers : k.journal.imsis ≡ opening.imsis
+  -- the limits of the pass are the journal's, and none fell
+  pub limits : k.pass.limits ≡ limits_of k.journal
+  pub rises : (i : ℕ) → i < length opening.imsis → reserved_at opening i ≤ reserved_at k.journal i
+  -- it stopped for a fault exactly if an append failed, and only with a higher count of faults
+  pub failed : (k.journal.failed ≡ true) ↔ (k.pass.stop ≡ Some Fault)
+  pub fault : k.pass.stop ≡ Some Fault → Rose (faults opening.disk) (faults k.journal.disk)
+  pub quiet : k.pass.stop ≢ Some Fault → faults k.journal.disk ≡ faults opening.disk
+  -- and as full only if the file would have more than 2^30 bytes
+  pub full : k.pass.stop ≡ Some Full → 2 ^ 30 < k.journal.place + 20
+  -- a crash leaves journals with these limits at least, and with none above that of the opening and 64 above the
+  -- number that was seen
+  pub durable : (from : D) (most : ℕ → ℕ) → IsDurable seen may_leave from most opening
+      → IsDurable seen may_leave from (λ i. max (most i) (slice_index k.pass.seen i + 64)) k.journal

@@ -1,0 +1,2 @@
+pub mod InnerKeeper
+pub mod Keeper
