@@ -3,7 +3,7 @@ use Rattle.std.proofs.Common.{◌≡◌, ⊎_elim, ℕ, ◌+◌, ◌≤◌, ◌<
 use Rattle.std.specs.Prelude.{Bool, true, false, max, if◌then◌else◌}
 use Rattle.auc_edge.specs.Identity.{Identity}
 use Rattle.auc_disk.specs.Disk.{Puts}
-use Rattle.auc_journal.specs.Durable.{AreBetween, IsBetween, IsDurable, IsReady, IsTold}
+use Rattle.auc_journal.specs.Durable.{Admits, AreBetween, IsBetween, IsDurable, IsReady, IsTold}
 use Rattle.auc_journal.specs.Image.{Frame, read_image, reserved_in, same_identity}
 use Rattle.auc_journal.specs.Journal.{JournalState, imsi_at, reserved_at}
 use Rattle.auc_journal.specs.Limits.{AreLimits}
@@ -66,7 +66,7 @@ module _ {D : Type 0} (seen : D → Option (List ℕ)) (may_leave : D → List �
   })
 
   module _ (from : D) (most : ℕ → ℕ) (old new : JournalState D) (sub : ℕ) (frame : Frame) (own : frame.imsi ≡ imsi_at old.imsis sub) (going : old.failed ≡ false) (imsis : new.imsis ≡ old.imsis)
-      (top : (i : ℕ) → i < length old.imsis → imsi_at old.imsis i ≡ imsi_at old.imsis sub → frame.limit ≤ most i) (was : IsDurable seen may_leave from most old) where
+      (top : Admits old sub frame.limit most) (was : IsDurable seen may_leave from most old) where
     below_after : IsReady seen may_leave most old → (i : ℕ) → i < length old.imsis
         → (if same_identity frame.imsi (imsi_at old.imsis i) then max (reserved_at old i) frame.limit else reserved_at old i) ≤ most i
     below_after ready i inside =

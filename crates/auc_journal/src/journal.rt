@@ -5,8 +5,8 @@ ghost use Rattle.std.specs.Option.{is_some};
 ghost use Rattle.auc_edge.specs.Faults.{Rose};
 ghost use Rattle.auc_sqn.specs.Number.{max_seq};
 ghost use Rattle.auc_journal.specs.Image.{Frame, read_image, reserved_in};
-ghost use Rattle.auc_journal.specs.Durable.{IsDurable};
-ghost use Rattle.auc_journal.specs.Journal.{frame_for, imsi_at, reserved_at};
+ghost use Rattle.auc_journal.specs.Durable.{Admits, IsDurable};
+ghost use Rattle.auc_journal.specs.Journal.{frame_for, reserved_at};
 ghost use Rattle.auc_journal.specs.InnerLookup.{raised_by};
 ghost use Rattle.auc_journal.specs.Limits.{AreLimits, AreSingle};
 ghost use Rattle.auc_journal.specs.Opening.{LeavesOpening, Opens};
@@ -133,10 +133,9 @@ impl<D: Disk + Drop> Journal<D> {
             → LeavesOnly D.moment D.left_since self.old.disk self.new.disk
             (IsBeforeOrAfter frames self.old.place (frame_for self.old sub limit)) }
 
-        // Whatever it answers, a crash leaves journals with the limits at least, and no limit above a bound that
-        // the new one keeps for each subscriber of this identity.
-        ensures bounded { (from : D) (most : ℕ → ℕ)
-            → ((i : ℕ) → i < length self.old.imsis → imsi_at self.old.imsis i ≡ imsi_at self.old.imsis sub → limit ≤ most i)
+        // Whatever it answers, a crash leaves limits that are no lower, and none above a bound that admits the
+        // new one.
+        ensures bounded { (from : D) (most : ℕ → ℕ) → Admits self.old sub limit most
             → IsDurable D.seen D.may_leave from most self.old
             → IsDurable D.seen D.may_leave from most self.new }
 

@@ -2,8 +2,8 @@
 use Rattle.std.proofs.Common.{◌≡◌, ◌≢◌, ℕ, ◌+◌, ◌≤◌, ◌<◌, List, [], ◌∷◌, ◌++◌, length, ◌↔◌, refl, sym, ◌∙◌, ap, arith, true≢false}
 use Rattle.std.specs.Prelude.{AllPairs, Bool, true, false, max, slice_index, slice_set, Option, Some, None, Result, Ok, Err}
 use Rattle.auc_edge.specs.declared.stop.Stop.{Stop}
-use Rattle.auc_journal.specs.Durable.{IsDurable}
-use Rattle.auc_journal.specs.Journal.{JournalState, frame_for, imsi_at}
+use Rattle.auc_journal.specs.Durable.{Admits, IsDurable}
+use Rattle.auc_journal.specs.Journal.{JournalState, frame_for}
 use Rattle.auc_journal.specs.Limits.{AreLimits}
 use Rattle.auc_journal.specs.Journal.{reserved_at}
 use Rattle.auc_journal.proofs.Facts.{limits_raised, one_place, reserved_rises}
@@ -30,7 +30,7 @@ module _ {D : Type 0} (seen : D → Option (List ℕ)) (may_leave : D → List �
       → reserved_at old.journal sub < limit → limit ≤ slice_index old.pass.seen sub + 64
       → journal.imsis ≡ old.journal.imsis → journal.failed ≡ false → faults journal.disk ≡ faults old.journal.disk
       → AreLimits journal.limits (old.journal.limits ++ frame_for old.journal sub limit ∷ [])
-      → ((from : D) (most : ℕ → ℕ) → ((i : ℕ) → i < length old.journal.imsis → imsi_at old.journal.imsis i ≡ imsi_at old.journal.imsis sub → limit ≤ most i)
+      → ((from : D) (most : ℕ → ℕ) → Admits old.journal sub limit most
       → IsDurable seen may_leave from most old.journal → IsDurable seen may_leave from most journal)
       → Since seen may_leave faults opening old → Since seen may_leave faults opening (record { journal = journal; pass = record old.pass { limits = slice_set old.pass.limits sub limit } })
   reserved_since opening old journal sub limit running differ there less near imsis ready quiet are bounded since = record {

@@ -107,6 +107,13 @@ impl<D: Disk + Drop> Keeper<D> {
         self.reserve(book, sub, n)
     }
 
+    /// Why the keeper stopped, if it did.
+    pub fn stop(&self) -> Option<Stop>
+        ensures { result ≡ self.now.pass.stop }
+    {
+        self.stop
+    }
+
     /// The journal and the pass, as the last call left them.
     pub fn parts(self) -> (Journal<D>, KeeperPass)
         ensures { (result.0 ≡ self.journal) × (result.1 ≡ self.pass) }
