@@ -58,7 +58,7 @@ fn draw_and_resync_at_desk<L: Naming, R: Wait>(
 // By hand, with a range of 2^28 = 268435456: subscriber, SEQ, the drawn number, the answer to the SEQ.
 #[test]
 fn desk_draws_and_resynchronises(rt: HostRuntime) -> Result<(), Fail> {
-    let (book, mut passes, _keeper) = Book::open(rt.alloc(), &[10, 268435456, MAX_SEQ - 1], 1)?;
+    let (book, mut passes, _keeper) = Book::open(rt.alloc(), &[10, 268435456, MAX_SEQ - 1], &[MAX_SEQ, MAX_SEQ, MAX_SEQ], 1)?;
     let mut pass = passes.pop().expect(&rt, "a pass");
     let spent = Err(CentreRefusal::Exhausted(MAX_SEQ));
     let cases = [
@@ -88,7 +88,7 @@ fn desk_draws_and_resynchronises(rt: HostRuntime) -> Result<(), Fail> {
 // By hand: no number is left, and each pass's first draw adds one to the word.
 #[test]
 fn each_pass_keeps_the_word_of_its_own_refused_draw(rt: HostRuntime) -> Result<(), Fail> {
-    let (book, mut passes, _keeper) = Book::open(rt.alloc(), &[MAX_SEQ], 2)?;
+    let (book, mut passes, _keeper) = Book::open(rt.alloc(), &[MAX_SEQ], &[MAX_SEQ], 2)?;
     let mut second = passes.pop().expect(&rt, "a pass");
     let mut first = passes.pop().expect(&rt, "another pass");
     let answers = |word| {

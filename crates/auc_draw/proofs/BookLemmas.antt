@@ -12,19 +12,25 @@ use Rattle.auc_sqn.specs.Number.{max_seq}
 use Rattle.auc_draw.specs.declared.rule.Deed.{Deed}
 use Rattle.auc_draw.specs.declared.rule.View.{View}
 use Rattle.auc_draw.specs.Deeds.{entries_of, claims_of}
-use Rattle.auc_draw.specs.Values.{PassValue, ClosedValue}
+use Rattle.atomic_table.specs.Seated.{TableId}
+use Rattle.auc_draw.specs.declared.rule.Key.{Key}
+use Rattle.auc_draw.specs.declared.rule.Note.{Note}
+use Rattle.auc_draw.specs.Values.{PassValue, BookValue, KeeperValue, ClosedValue}
+use Rattle.auc_draw.specs.InnerLimits.{first_note, IsTied, AreTold}
 use Rattle.auc_draw.specs.InnerPass.{noted, Notes}
 use Rattle.auc_draw.specs.Book.{AreTaken, Closes, EachJobIsClaimedOnce}
 use Rattle.auc_draw.specs.InnerRule.{keeper_view, keeper_view_with, new_view, spent_view, after_split, after_join, Keeps}
+use Rattle.auc_draw.proofs.LimitLemmas.{first_at}
+use Rattle.auc_draw.proofs.ToldLemmas.{released_told, held_told, stops_told, drawn_told}
 use Rattle.auc_draw.proofs.SeatLemmas.{splits_ok, joins_ok, Whole, whole_splits, whole_taken, whole_bounded}
 
 -- ---- a split from the keeper's seat
 
 -- a pass may be split from the keeper's seat, from which fewer than 64 were
-pub splits_at : (openings : List ℕ) (id i : ℕ) (me : Me (Unit {0}) View) → id ≡ 0 → me ≡ (keeper_view i, []) → i < 64 → Cuts (Keeps openings) id me.0 (after_split me.0) new_view
-splits_at openings id i me first is room =
-    let P : ℕ → Type 0 = λ k. Cuts (Keeps openings) k me.0 (after_split me.0) new_view in
-    subst P (sym first) (splits_ok openings me.0 (omega (arith, ap (λ (m : Me (Unit {0}) View). m.0.split) is, room)))
+pub splits_at : (openings limits : List ℕ) (id i : ℕ) (note : Note) (me : Me (Unit {0}) View) → id ≡ 0 → me ≡ (keeper_view i note, []) → i < 64 → Cuts (Keeps openings limits) id me.0 (after_split me.0) new_view
+splits_at openings limits id i note me first is room =
+    let P : ℕ → Type 0 = λ k. Cuts (Keeps openings limits) k me.0 (after_split me.0) new_view in
+    subst P (sym first) (splits_ok openings limits me.0 (omega (arith, ap (λ (m : Me (Unit {0}) View). m.0.split) is, room)))
 
 -- a new pass keeps no word
 pub nothing_noted : (kept : List ℕ) (n : ℕ) → kept ≡ replicate n 0 → (deeds : List Deed) → deeds ≡ [] → Notes kept deeds
@@ -37,11 +43,11 @@ nothing_noted kept n is deeds none =
 -- ---- a join into the keeper's seat
 
 -- a pass may be joined into the keeper's seat
-pub joins_at : (openings : List ℕ) (id passes other : ℕ) (lists : List (List Deed)) (me : Me (Unit {0}) View) (w : View) → id ≡ 0 → me ≡ (keeper_view_with passes lists, []) → w.active ≡ 1
-    → Joins (Keeps openings) id me.0 other w (after_join me.0 w) spent_view
-joins_at openings id passes other lists me w first is active =
-    let P : ℕ → Type 0 = λ k. Joins (Keeps openings) k me.0 other w (after_join me.0 w) spent_view in
-    subst P (sym first) (joins_ok openings me.0 w other (ap (λ (m : Me (Unit {0}) View). m.0.own) is) active)
+pub joins_at : (openings limits : List ℕ) (id passes other : ℕ) (note : Note) (lists : List (List Deed)) (me : Me (Unit {0}) View) (w : View) → id ≡ 0 → me ≡ (keeper_view_with passes note lists, []) → w.active ≡ 1
+    → Joins (Keeps openings limits) id me.0 other w (after_join me.0 w) spent_view
+joins_at openings limits id passes other note lists me w first is active =
+    let P : ℕ → Type 0 = λ k. Joins (Keeps openings limits) k me.0 other w (after_join me.0 w) spent_view in
+    subst P (sym first) (joins_ok openings limits me.0 w other (ap (λ (m : Me (Unit {0}) View). m.0.own) is) active)
 
 -- one element goes from the rest to what is done
 pub moved_over : {X : Type 0} (done rest next all : List X) (x : X) → done ++ rest ≡ all → rest ≡ x ∷ next → (done ++ x ∷ []) ++ next ≡ all
@@ -62,12 +68,12 @@ in_rest P done rest next all x is rest_is each =
     middle P (y ∷ done) next x each = middle P done next x (λ k d within. each (suc k) d (omega (arith, within)))
 
 -- the keeper's view after a further join
-pub joined_more : (passes : ℕ) (done : List PassValue) (x : PassValue) (me new : Me (Unit {0}) View) (w : View) → me ≡ (keeper_view_with passes (map (λ p. p.deeds) done), []) → new ≡ (after_join me.0 w, me.1) → w.own ≡ x.deeds
-    → new ≡ (keeper_view_with passes (map (λ p. p.deeds) (done ++ x ∷ [])), [])
-joined_more passes done x me new w is step deeds =
+pub joined_more : (passes : ℕ) (note : Note) (done : List PassValue) (x : PassValue) (me new : Me (Unit {0}) View) (w : View) → me ≡ (keeper_view_with passes note (map (λ p. p.deeds) done), []) → new ≡ (after_join me.0 w, me.1)
+    → w.own ≡ x.deeds → new ≡ (keeper_view_with passes note (map (λ p. p.deeds) (done ++ x ∷ [])), [])
+joined_more passes note done x me new w is step deeds =
     step ∙ ap (λ (m : Me (Unit {0}) View). (after_join m.0 w, m.1)) is
-    ∙ ap (λ (l : List Deed). (keeper_view_with passes (map (λ p. p.deeds) done ++ l ∷ []), [])) deeds
-    ∙ ap (λ (ls : List (List Deed)). (keeper_view_with passes ls, [])) (sym (map-append (λ (p : PassValue). p.deeds) done (x ∷ [])))
+    ∙ ap (λ (l : List Deed). (keeper_view_with passes note (map (λ p. p.deeds) done ++ l ∷ []), [])) deeds
+    ∙ ap (λ (ls : List (List Deed)). (keeper_view_with passes note ls, [])) (sym (map-append (λ (p : PassValue). p.deeds) done (x ∷ [])))
 
 -- ---- the words
 
@@ -92,29 +98,61 @@ elem_index (w ∷ words) (suc k) n at = elem_index words k n at
 
 -- ---- the closing
 
+-- what contracts see of a book with this key, and of a keeper's pass with this note
+abbrev book_of : TableId → List ℕ → List ℕ → BookValue
+book_of id openings limits = record { id = id; openings = openings; limits = limits }
+
+abbrev keeper_of : TableId → ℕ → Note → KeeperValue
+keeper_of id passes note = record { id = id; passes = passes; limits = note.limits; seen = note.seen; stop = note.stop }
+
 -- the words and the lists of a closed table are those of a closed book
-pub closes : (openings words last : List ℕ) (slots : List (Unit {0})) (passes id : ℕ) (lists : List (List Deed)) (v : View) (closed : ClosedValue)
-    → id ≡ 0 → v ≡ keeper_view_with passes lists → length lists ≡ passes → Final (Seen (Keeps openings) id v) words slots
-    → length last ≡ length openings → ((k : ℕ) → k < length openings → get_elem? words k ≡ some (slice_index last k)) → closed ≡ record { words = last; lists = lists } → Closes openings lists closed
-closes openings words last slots passes id lists v closed first is many final sized reads end =
+closes : (of kept : TableId) (openings limits words last : List ℕ) (slots : List (Unit {0})) (passes id : ℕ) (note : Note) (lists : List (List Deed)) (v : View) (closed : ClosedValue)
+    → id ≡ 0 → v ≡ keeper_view_with passes note lists → length lists ≡ passes → Final (Seen (Keeps openings limits) id v) words slots
+    → length last ≡ length openings → ((k : ℕ) → k < length openings → get_elem? words k ≡ some (slice_index last k)) → closed ≡ record { words = last; lists = lists }
+    → Closes (book_of of openings limits) lists (keeper_of kept passes note) closed
+closes of kept openings limits words last slots passes id note lists v closed first is many final sized reads end =
     let s = final.0 in
     let seen = final.1 in
+    let at : get_elem? s.views 0 ≡ some v = subst (λ k. get_elem? s.views k ≡ some v) first seen.1 in
     let whole : Whole openings s v = record {
       rule = seen.0.numbers;
-      first = subst (λ k. get_elem? s.views k ≡ some v) first seen.1;
+      first = at;
       active = ap (λ (x : View). x.active) is;
       all = ap (λ (x : View). length x.joined) is ∙ many ∙ sym (ap (λ (x : View). x.split) is);
     } in
     let held : v.joined ≡ lists = ap (λ (x : View). x.joined) is in
     let word : (k : ℕ) → k < length openings → slice_index s.words k ≡ slice_index last k = λ k known. ap (λ (ws : List ℕ). slice_index ws k) final.2 ∙ elem_index words k (slice_index last k) (reads k known) in
-    subst (λ (e : ClosedValue). Closes openings lists e) (sym end) (record {
+    let noted : first_note s.views ≡ note = first_at s.views v at ∙ ap (λ (x : View). x.note) is in
+    let tied : IsTied openings limits s.words note = subst (λ (n : Note). IsTied openings limits s.words n) noted seen.0.limits.tied in
+    let told : All (AreTold note) lists =
+    subst (λ (ls : List (List Deed)). All (AreTold note) ls) held (subst (λ (n : Note). All (AreTold n) v.joined) noted (seen.0.limits.told 0 v at).joined) in
+    subst (λ (e : ClosedValue). Closes (book_of of openings limits) lists (keeper_of kept passes note) e) (sym end) (record {
       same = refl;
       many = sized;
       splits = λ sub known. subst (λ (n : ℕ). Splits max_seq (slice_index openings sub) n (map (entries_of sub) lists)) (word sub known)
           (subst (λ (ls : List (List Deed)). Splits max_seq (slice_index openings sub) (slice_index s.words sub) (map (entries_of sub) ls)) held (whole_splits openings s v whole sub known));
       bounded = λ sub known. subst (λ (n : ℕ). n ≤ max_seq + 64) (word sub known) (whole_bounded openings s v whole sub known);
       taken = (slice_index s.words (length openings), subst (λ (ls : List (List Deed)). AreTaken (slice_index s.words (length openings)) (flat_map claims_of ls)) held (whole_taken openings s v whole));
+      sized = tied.sized;
+      released = λ sub known k l within. released_told note sub _ (told k l within);
+      withheld = λ sub known k l within. held_told note sub _ (told k l within);
+      drawn = λ sub known k l within. drawn_told note sub _ (told k l within);
+      stopped = λ k l within. stops_told note _ (told k l within);
+      step = λ sub known. (tied.each sub known).step;
+      near = λ sub known. let e = tied.each sub known in omega (arith, e.near, e.looked, word sub known);
+      within = λ sub known. (tied.each sub known).within;
+      looked = λ sub known. let e = tied.each sub known in omega (arith, e.looked, word sub known);
     })
+
+-- the same, with each fact as the code has it
+pub closes_at : (of kept : TableId) (key named : Key) (book : BookValue) (keeper : KeeperValue) (words last : List ℕ) (slots : List (Unit {0})) (passes id : ℕ) (note : Note) (lists : List (List Deed)) (v : View) (closed : ClosedValue)
+    → key ≡ named → book_of of named.openings.items named.limits.items ≡ book → keeper_of kept passes note ≡ keeper → id ≡ 0 → v ≡ keeper_view_with passes note lists → length lists ≡ passes
+    → Final (Seen (Keeps key.openings.items key.limits.items) id v) words slots → length last ≡ length named.openings.items → ((k : ℕ) → k < length named.openings.items → get_elem? words k ≡ some (slice_index last k))
+    → closed ≡ record { words = last; lists = lists } → Closes book lists keeper closed
+closes_at of kept key named book keeper words last slots passes id note lists v closed same book_is keeper_is first is many final sized reads end =
+    subst (λ (b : BookValue). Closes b lists keeper closed) book_is (subst (λ (k : KeeperValue). Closes (book_of of named.openings.items named.limits.items) lists k closed) keeper_is
+    (closes of kept named.openings.items named.limits.items words last slots passes id note lists v closed first is many
+    (subst (λ (k : Key). Final (Seen (Keeps k.openings.items k.limits.items) id v) words slots) same final) sized reads end))
 
 -- ---- the claims
 
@@ -128,21 +166,13 @@ counted top job = grind (arith, nat_tests)
 
 -- if the last job or a higher number was claimed, each job was claimed once
 pub each_job_is_claimed_once : EachJobIsClaimedOnce
-each_job_is_claimed_once openings lists book jobs closed some_claim job below = ⊎_elim
+each_job_is_claimed_once book lists keeper closed jobs closes some_claim job below = ⊎_elim
     (λ (none : jobs ≡ 0). absurd (omega (arith, none, below)))
     (λ (any : Any (λ n. jobs ≤ n + 1) (flat_map claims_of lists)).
     let numbers : List ℕ = flat_map claims_of lists in
-    let top = closed.taken.0 in
-    let once = closed.taken.1.once in
+    let top = closes.taken.0 in
+    let once = closes.taken.1.once in
     let here : 1 ≤ times any.1 numbers = subst (λ (n : ℕ). 1 ≤ times n numbers) any.3 (times_at numbers any.0 any.1 any.2) in
     let low = above_all top any.1 (omega (arith, here, once any.1)) in
     once job ∙ counted top job (omega (arith, below, low, any.4)))
     some_claim
-
--- the same, with each fact as the code has it
-pub closes_at : (key openings named words last : List ℕ) (slots : List (Unit {0})) (passes id : ℕ) (lists : List (List Deed)) (v : View) (closed : ClosedValue)
-    → key ≡ openings → openings ≡ named → id ≡ 0 → v ≡ keeper_view_with passes lists → length lists ≡ passes → Final (Seen (Keeps key) id v) words slots
-    → length last ≡ length openings → ((k : ℕ) → k < length openings → get_elem? words k ≡ some (slice_index last k)) → closed ≡ record { words = last; lists = lists } → Closes named lists closed
-closes_at key openings named words last slots passes id lists v closed same name first is many final sized reads end =
-    subst (λ (os : List ℕ). Closes os lists closed) name
-    (closes openings words last slots passes id lists v closed first is many (subst (λ (os : List ℕ). Final (Seen (Keeps os) id v) words slots) same final) sized reads end)

@@ -1,21 +1,27 @@
 -- What a pass notes.
-use Rattle.std.proofs.Common.{◌≡◌, ◌≢◌, ℕ, zero, suc, ◌+◌, ◌-◌, ◌<◌, ◌≤◌, ◌==◌, nat_lt, Bool, true, false, if◌then◌else◌, List, [], ◌∷◌, ◌++◌, length, slice_index, slice_set, get_or, Option, Some, None, is_some, arith, refl, sym, ap, ◌∙◌, subst, eq-eqb}
+use Rattle.std.proofs.Common.{◌≡◌, ◌≢◌, ℕ, zero, suc, ◌+◌, ◌-◌, ◌<◌, ◌≤◌, ◌==◌, nat_lt, Bool, true, false, if◌then◌else◌, List, [], ◌∷◌, ◌++◌, length, slice_index, slice_set, get_or, Contains, Option, Some, None, is_some, arith, refl, sym, ap, ◌∙◌, subst, eq-eqb}
 use Rattle.std.proofs.lemmas.Bool.Decides.{nat_tests}
 use Rattle.std.proofs.lemmas.Bool.{eqb-true}
-use Rattle.std.proofs.lemmas.List.{append-nil, length-set, get_or-set_same, get_or-set_other}
+use Rattle.std.proofs.lemmas.List.{append-nil, length-append, get_or-append-add, length-set, get_or-set_same, get_or-set_other}
 use Rattle.std.proofs.lemmas.List.Sums.{sum_by-cons, sum_by-append}
 use Rattle.auc_history.specs.declared.entry.Entry.{Entry}
 use Rattle.auc_history.specs.declared.entry.Entry.TheVariants.{Drawn, Moved, Look}
 use Rattle.auc_history.specs.History.{IsInOrder}
 use Rattle.auc_sqn.specs.Number.{max_seq}
 use Rattle.auc_draw.specs.declared.rule.Deed.{Deed}
-use Rattle.auc_draw.specs.declared.rule.Deed.TheVariants.{Made, Claimed}
+use Rattle.auc_draw.specs.declared.rule.Deed.TheVariants.{Made, Claimed, Released as released}
 use Rattle.auc_draw.specs.declared.pass.Draw.TheVariants.{Number, Exhausted}
 use Rattle.auc_draw.specs.declared.pass.Jump.TheVariants.{Moved as moved_from, Stood}
-use Rattle.auc_draw.specs.Deeds.{entries_of, kept_word, kept_of, made, AreInOrder, claims_of}
+use Rattle.auc_draw.specs.Deeds.{entries_of, kept_word, kept_of, kept_stop, stop_read, withholding, made, AreInOrder, claims_of}
 use Rattle.auc_draw.specs.InnerPass.{noted, Notes}
-use Rattle.auc_draw.specs.Pass.{IsWordKept, unless_kept, Draws, Jumps}
-use Rattle.auc_draw.specs.InnerRule.{jump_entry, with_deed, mark_by, marks_in, wide_by, wide_in}
+use Rattle.auc_draw.specs.declared.pass.Release.{Release}
+use Rattle.auc_draw.specs.declared.pass.Release.TheVariants.{Released, Above}
+use Rattle.auc_edge.specs.declared.stop.Stop.{Stop}
+use Rattle.atomic_table.specs.Seated.{TableId}
+use Rattle.auc_draw.specs.Values.{PassValue}
+use Rattle.auc_draw.specs.Pass.{IsWordKept, unless_kept, Draws, Jumps, Releases}
+use Rattle.auc_draw.proofs.StopLemmas.{AreQuiet, entries_quiet, claims_quiet, release_quiet, stopped_quiet}
+use Rattle.auc_draw.specs.InnerRule.{jump_entry, with_deed, with_deeds, mark_by, marks_in, wide_by, wide_in}
 use Rattle.atomic_table.specs.Table.{Me}
 use Rattle.auc_draw.specs.declared.rule.View.{View}
 use Rattle.auc_draw.proofs.StepLemmas.{entries_same, entries_other, entries_claimed, claims_made, claims_more}
@@ -269,3 +275,42 @@ made_narrow deeds sub e new is narrow = ap (λ (ds : List Deed). wide_in (claims
 pub none_left : (o : Option ℕ) (b : Bool) → b ≡ is_some o → b ≡ false → o ≡ None
 none_left None b is off = refl
 none_left (Some n) b is off = let bad : true ≡ false = sym is ∙ off in let none : ⊥ = cc in absurd none
+
+-- ---- a release and a look at the stop
+
+-- deeds that make no entry and claim nothing change no kept word and no entry
+pub quiet_notes : (kept : List ℕ) (deeds new ds : List Deed) → new ≡ deeds ++ ds → AreQuiet ds → Notes kept deeds → Notes kept new
+quiet_notes kept deeds new ds is quiet notes = subst (λ (xs : List Deed). Notes kept xs) (sym is) (record {
+  each = λ i within. ap kept_word (entries_quiet i deeds ds quiet) ∙ notes.each i within;
+  ordered = record { each = λ i. subst IsInOrder (sym (entries_quiet i deeds ds quiet)) (notes.ordered.each i) };
+})
+
+-- and claim nothing
+pub quiet_narrow : (deeds new ds : List Deed) → new ≡ deeds ++ ds → AreQuiet ds → wide_in (claims_of deeds) ≡ 0 → wide_in (claims_of new) ≡ 0
+quiet_narrow deeds new ds is quiet narrow = ap (λ (xs : List Deed). wide_in (claims_of xs)) is ∙ ap wide_in (claims_quiet deeds ds quiet) ∙ narrow
+
+-- what a release adds
+pub record IsQuietly (deeds new : List Deed) : Type 0 where
+  pub added : List Deed
+  pub is : new ≡ deeds ++ added
+  pub quiet : AreQuiet added
+
+-- a release adds such deeds
+pub releases_quietly : (sub n : ℕ) (deeds new : List Deed) (answer : Release) → Releases sub n deeds new answer → IsQuietly deeds new
+releases_quietly sub n deeds new Released told = record { added = released sub n ∷ []; is = told; quiet = release_quiet sub n false None }
+releases_quietly sub n deeds new (Above limit) told = record { added = withholding sub n (kept_stop deeds); is = told.1; quiet = release_quiet sub n true (kept_stop deeds) }
+
+-- a look at the stop too
+pub stopped_quietly : (o : Option Stop) (me new : Me (Unit {0}) View) → new ≡ (with_deeds me.0 (stop_read o), me.1) → IsQuietly me.0.own new.0.own
+stopped_quietly o me new is = record { added = stop_read o; is = ap (λ (m : Me (Unit {0}) View). m.0.own) is; quiet = stopped_quiet o }
+
+-- the number that the caller drew is among the entries of the seat
+pub drawn_here : (id : TableId) (deeds : List Deed) (ended : Option ℕ) (pass : PassValue) (sub n : ℕ) → record { id = id; deeds = deeds; ended = ended } ≡ pass → Contains (entries_of sub pass.deeds) (Drawn n) → Contains (entries_of sub deeds) (Drawn n)
+drawn_here id deeds ended pass sub n is there = subst (λ (ds : List Deed). Contains (entries_of sub ds) (Drawn n)) (sym (ap (λ (p : PassValue). p.deeds) is)) there
+
+-- a number that was just drawn is among the entries
+pub just_drawn : (sub n : ℕ) (old new : List Deed) → Draws sub old new (Number n) → Contains (entries_of sub new) (Drawn n)
+just_drawn sub n old new drew = subst (λ (es : List Entry). Contains es (Drawn n)) (sym (ap (entries_of sub) drew.3 ∙ entries_same sub old (Drawn n))) (last_there (entries_of sub old))
+  where
+    last_there : (es : List Entry) → Contains (es ++ Drawn n ∷ []) (Drawn n)
+    last_there es = (length es, omega (arith, length-append es (Drawn n ∷ [])), ap (λ k. get_or (es ++ Drawn n ∷ []) k (Drawn n)) (omega arith) ∙ get_or-append-add es (Drawn n ∷ []) 0 (Drawn n))

@@ -18,10 +18,13 @@ use Rattle.auc_sqn.specs.Number.{max_seq}
 use Rattle.auc_draw.specs.declared.rule.Deed.{Deed}
 use Rattle.auc_draw.specs.declared.rule.View.{View}
 use Rattle.auc_draw.specs.Deeds.{entries_of, claims_of}
+use Rattle.auc_draw.specs.declared.rule.Note.{Note}
 use Rattle.auc_draw.specs.Book.{AreTaken}
+use Rattle.auc_draw.specs.InnerLimits.{opening_note, first_note, stop_at, limit_at, AreTold, IsTold, KeepsLimits}
 use Rattle.auc_draw.specs.InnerRule.{keeper_view, new_view, spent_view, after_split, after_join, lists_view, view_entries, view_claims, all_view_entries, all_view_claims, passes_in, IsCovered, Fits, FitsJoined, Numbers, FitsClaims, Jobs, KeepsNumbers, Keeps, mark_by, marks_in, wide_by, wide_in}
 use Rattle.auc_draw.proofs.CoverLemmas.{covered_permuted}
 use Rattle.auc_draw.proofs.StepLemmas.{Alike, numbers_still, jobs_still, few_marks}
+use Rattle.auc_draw.proofs.LimitLemmas.{first_same, first_else, still_same, limits_stepped, limits_push, told_none}
 use Rattle.auc_draw.proofs.ViewLemmas.{all_nil, all_cons, total_set, total_first, total_rest, permuted_more, flat_first, times_flat}
 
 -- an empty list has no pairs
@@ -57,19 +60,19 @@ nothing_below : (n : ℕ) → ◌≡◌ {A = ℕ} 0 (if nat_lt n 0 then 1 else 0
 nothing_below n = grind (arith, nat_tests)
 
 -- the words of an opening keep the part on numbers
-opens_numbers : (openings : List ℕ) → All (λ n. n ≤ max_seq) openings → KeepsNumbers openings (opening (openings ++ 0 ∷ []) [] (keeper_view 0))
-opens_numbers openings low = record {
-  room = omega (arith, length-append openings (0 ∷ []));
+opens_numbers : (openings rest : List ℕ) (note : Note) → All (λ n. n ≤ max_seq) openings → KeepsNumbers openings (opening (openings ++ 0 ∷ rest) [] (keeper_view 0 note))
+opens_numbers openings rest note low = record {
+  room = omega (arith, length-append openings (0 ∷ rest));
   numbers = record {
     bounded = λ i known. omega (arith, low i 0 known, word i known);
-    covers = λ i known. nothing_covers (slice_index openings i) (slice_index (openings ++ 0 ∷ []) i) (word i known);
-    fits = λ j v at i known. one (λ u. Fits (slice_index (openings ++ 0 ∷ []) i) u.active (entries_of i u.own)) (nothing_fits (slice_index (openings ++ 0 ∷ []) i) 0) j v at;
+    covers = λ i known. nothing_covers (slice_index openings i) (slice_index words i) (word i known);
+    fits = λ j v at i known. one (λ u. Fits (slice_index words i) u.active (entries_of i u.own)) (nothing_fits (slice_index words i) 0) j v at;
     rests = λ j v at i known. one (λ u. All (FitsJoined i) u.joined) (all_nil (FitsJoined i)) j v at;
   };
   jobs = record {
     bounded = omega (arith, last);
     once = λ n. nothing_below n ∙ ap (λ k. if nat_lt n k then 1 else 0) (sym last);
-    fits = λ j v at. one (λ u. FitsClaims (slice_index (openings ++ 0 ∷ []) (length openings)) u.active (claims_of u.own)) (nothing_claims (slice_index (openings ++ 0 ∷ []) (length openings)) 0) j v at;
+    fits = λ j v at. one (λ u. FitsClaims (slice_index words (length openings)) u.active (claims_of u.own)) (nothing_claims (slice_index words (length openings)) 0) j v at;
     rests = λ j v at. one (λ u. All (λ deeds. wide_in (claims_of deeds) ≤ 1) u.joined) (all_nil (λ deeds. wide_in (claims_of deeds) ≤ 1)) j v at;
   };
   seats = record {
@@ -80,19 +83,61 @@ opens_numbers openings low = record {
   };
 }
   where
-    word : (i : ℕ) → i < length openings → slice_index (openings ++ 0 ∷ []) i ≡ slice_index openings i
-    word i known = get_or_append_left openings (0 ∷ []) 0 i known
+    words : List ℕ
+    words = openings ++ 0 ∷ rest
 
-    last : slice_index (openings ++ 0 ∷ []) (length openings) ≡ 0
-    last = ap (λ k. slice_index (openings ++ 0 ∷ []) k) (omega arith) ∙ get_or-append-add openings (0 ∷ []) 0 0
+    word : (i : ℕ) → i < length openings → slice_index words i ≡ slice_index openings i
+    word i known = get_or_append_left openings (0 ∷ rest) 0 i known
 
-    one : (P : View → Type 0) → P (keeper_view 0) → (j : ℕ) (v : View) → get_elem? (keeper_view 0 ∷ []) j ≡ some v → P v
-    one P here zero v at = subst P (some-injective (keeper_view 0) v at) here
+    last : slice_index words (length openings) ≡ 0
+    last = ap (λ k. slice_index words k) (omega arith) ∙ get_or-append-add openings (0 ∷ rest) 0 0
+
+    one : (P : View → Type 0) → P (keeper_view 0 note) → (j : ℕ) (v : View) → get_elem? (keeper_view 0 note ∷ []) j ≡ some v → P v
+    one P here zero v at = subst P (some-injective (keeper_view 0 note) v at) here
     one P here (suc j) v at = absurd (some-ne-none v (sym at))
 
+-- the words of an opening
+abbrev opened : List ℕ → List ℕ → List ℕ
+opened openings limits = openings ++ 0 ∷ 0 ∷ limits
+
+-- they keep the part on limits
+opens_limits : (openings limits : List ℕ) → length limits ≡ length openings → All (λ n. n ≤ max_seq) limits
+    → KeepsLimits openings limits (opening (opened openings limits) [] (keeper_view 0 (opening_note openings limits)))
+opens_limits openings limits many low = record {
+  sized = omega (arith, many, length-append openings (0 ∷ 0 ∷ limits));
+  tied = record {
+    sized = many;
+    looks = refl;
+    limit = λ i known. word (suc (suc i)) (limit_at (length openings) i) (omega arith);
+    stop = word 1 (stop_at (length openings)) refl;
+    each = λ i known. record {
+      within = low i 0 (omega (arith, known, many));
+      looked = omega (arith, get_or_append_left openings (0 ∷ 0 ∷ limits) 0 i known);
+      step = inl refl;
+      near = omega arith;
+    };
+  };
+  told = λ j v at. one j v at;
+}
+  where
+    word : (k place : ℕ) → place ≡ length openings + k → slice_index (opened openings limits) place ≡ slice_index (0 ∷ 0 ∷ limits) k
+    word k place is = ap (λ p. slice_index (opened openings limits) p) is ∙ get_or-append-add openings (0 ∷ 0 ∷ limits) k 0
+
+    note : Note
+    note = opening_note openings limits
+
+    one : (j : ℕ) (v : View) → get_elem? (keeper_view 0 note ∷ []) j ≡ some v → IsTold note v
+    one zero v at = subst (λ (u : View). IsTold note u) (some-injective (keeper_view 0 note) v at) (record { own = told_none note; joined = all_nil (AreTold note) })
+    one (suc j) v at = absurd (some-ne-none v (sym at))
+
 -- the words of an opening keep the rule
-pub opens_ok : (openings : List ℕ) → All (λ n. n ≤ max_seq) openings → Keeps openings (opening (openings ++ 0 ∷ []) [] (keeper_view 0))
-opens_ok openings low = record { numbers = opens_numbers openings low; limits = record { none = length-append openings (0 ∷ []) } }
+pub opens_ok : (openings limits words : List ℕ) → words ≡ openings ++ 0 ∷ 0 ∷ limits → length limits ≡ length openings → All (λ n. n ≤ max_seq) openings → All (λ n. n ≤ max_seq) limits
+    → Keeps openings limits (opening words [] (keeper_view 0 (opening_note openings limits)))
+opens_ok openings limits words is many low under =
+    subst (λ (ws : List ℕ). Keeps openings limits (opening ws [] (keeper_view 0 (opening_note openings limits)))) (sym is) (record {
+      numbers = opens_numbers openings (0 ∷ limits) (opening_note openings limits) low;
+      limits = opens_limits openings limits many under;
+    })
 
 -- ---- a further view with no deeds
 
@@ -179,9 +224,21 @@ splits_numbers openings v room s rule at = record {
     split : sum_by (λ x. x.split) (set s.views 0 (after_split v)) + v.split ≡ sum_by (λ x. x.split) s.views + (v.split + 1)
     split = total_set (λ x. x.split) s.views 0 v (after_split v) at
 
+-- and the part on limits
+splits_limits : (openings limits : List ℕ) (v : View) → Cuts (KeepsLimits openings limits) 0 v (after_split v) new_view
+splits_limits openings limits v s rule at =
+    let told = rule.told 0 v at in
+    let mid : State (Unit {0}) View = record { words = s.words; homes = s.homes; views = slice_set s.views 0 (after_split v) } in
+    let stepped : KeepsLimits openings limits mid = limits_stepped openings limits s 0 (after_split v) s.words s.homes rule (still_same openings s.words s.words refl) (first_same s.views 0 v (after_split v) at refl) (record { own = told.own; joined = told.joined }) in
+    limits_push openings limits mid 0 (after_split v) new_view stepped (there s.views v at) refl refl
+  where
+    there : (views : List View) (u : View) → get_elem? views 0 ≡ some u → get_elem? (set views 0 (after_split v)) 0 ≡ some (after_split v)
+    there [] u at = absurd (some-ne-none u (sym at))
+    there (x ∷ xs) u at = refl
+
 -- a pass may be split from the keeper's seat
-pub splits_ok : (openings : List ℕ) (v : View) → v.split + 1 ≤ 64 → Cuts (Keeps openings) 0 v (after_split v) new_view
-splits_ok openings v room s rule at = record { numbers = splits_numbers openings v room s rule.numbers at; limits = record { none = rule.limits.none } }
+pub splits_ok : (openings limits : List ℕ) (v : View) → v.split + 1 ≤ 64 → Cuts (Keeps openings limits) 0 v (after_split v) new_view
+splits_ok openings limits v room s rule at = record { numbers = splits_numbers openings v room s rule.numbers at; limits = splits_limits openings limits v s rule.limits at }
 
 -- a view that is put where it stands
 set_same : (views : List View) (j : ℕ) (v : View) → get_elem? views j ≡ some v → set views j v ≡ views
@@ -210,8 +267,12 @@ shows_numbers openings id v s rule at =
     bare = record { own = refl; joined = refl }
 
 -- a seat may be split off that tells a closed book the joined lists
-pub shows_ok : (openings : List ℕ) (id : ℕ) (v : View) → Cuts (Keeps openings) id v v (lists_view v)
-shows_ok openings id v s rule at = record { numbers = shows_numbers openings id v s rule.numbers at; limits = record { none = rule.limits.none } }
+pub shows_ok : (openings limits : List ℕ) (id : ℕ) (v : View) → Cuts (Keeps openings limits) id v v (lists_view v)
+shows_ok openings limits id v s rule at = record {
+  numbers = shows_numbers openings id v s rule.numbers at;
+  limits = subst (λ (views : List View). KeepsLimits openings limits record { words = s.words; homes = s.homes; views = views ++ lists_view v ∷ [] }) (sym (set_same s.views id v at))
+      (limits_push openings limits s id v (lists_view v) rule.limits at refl refl);
+}
 
 -- ---- a join
 
@@ -398,10 +459,25 @@ joins_numbers openings v w other idle active s rule first apart second = record 
     meets : Meets s v w other
     meets = record { first = first; second = there; apart = apart; idle = idle; active = active; plain = (rule.seats.alone other w there apart).1; single = (rule.seats.alone other w there apart).0 }
 
+-- and the part on limits
+joins_limits : (openings limits : List ℕ) (v w : View) (other : ℕ) → Joins (KeepsLimits openings limits) 0 v other w (after_join v w) spent_view
+joins_limits openings limits v w other s rule first apart second =
+    let note = first_note s.views in
+    let there = at_else s.views 0 other (after_join v w) w (λ same. apart (sym same)) second in
+    let mine = rule.told 0 v first in
+    let theirs = rule.told other w there in
+    let mid : State (Unit {0}) View = record { words = s.words; homes = s.homes; views = slice_set s.views 0 (after_join v w) } in
+    let same = still_same openings s.words s.words refl in
+    let stepped : KeepsLimits openings limits mid = limits_stepped openings limits s 0 (after_join v w) s.words s.homes rule same (first_same s.views 0 v (after_join v w) first refl) (record {
+      own = mine.own;
+      joined = All-append (AreTold note) v.joined (w.own ∷ []) mine.joined (all_cons (AreTold note) w.own [] theirs.own (all_nil (AreTold note)));
+    }) in
+    limits_stepped openings limits mid other spent_view s.words s.homes stepped same (first_else mid.views other spent_view apart) (record { own = told_none (first_note mid.views); joined = all_nil (AreTold (first_note mid.views)) })
+
 -- a pass may be joined into the keeper's seat
-pub joins_ok : (openings : List ℕ) (v w : View) (other : ℕ) → v.own ≡ [] → w.active ≡ 1 → Joins (Keeps openings) 0 v other w (after_join v w) spent_view
-joins_ok openings v w other idle active s rule first apart second =
-    record { numbers = joins_numbers openings v w other idle active s rule.numbers first apart second; limits = record { none = rule.limits.none } }
+pub joins_ok : (openings limits : List ℕ) (v w : View) (other : ℕ) → v.own ≡ [] → w.active ≡ 1 → Joins (Keeps openings limits) 0 v other w (after_join v w) spent_view
+joins_ok openings limits v w other idle active s rule first apart second =
+    record { numbers = joins_numbers openings v w other idle active s rule.numbers first apart second; limits = joins_limits openings limits v w other s rule.limits first apart second }
 
 -- ---- the closing
 

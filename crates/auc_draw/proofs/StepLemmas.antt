@@ -10,7 +10,7 @@ use Rattle.std.proofs.lemmas.List.Sums.{sum_by-cons, sum_by-append}
 use Rattle.std.proofs.Math.Nat.{mod-eq_of_lt}
 use mathlib.Core.Option.{some, none}
 use lib.ListN.{get_elem?}
-use Rattle.atomic_table.specs.Table.{State, Me, keeps, step, Allows}
+use Rattle.atomic_table.specs.Table.{State, Me, keeps, step, Allows, carried_after, homes_after}
 use Rattle.atomic_table.proofs.Lists.{at_set}
 use Rattle.auc_history.specs.declared.entry.Entry.{Entry}
 use Rattle.auc_history.specs.declared.entry.Entry.TheVariants.{Drawn, Moved, Look}
@@ -23,6 +23,8 @@ use Rattle.auc_draw.specs.declared.rule.Deed.TheVariants.{Made, Claimed}
 use Rattle.auc_draw.specs.declared.rule.View.{View}
 use Rattle.auc_draw.specs.Deeds.{entries_by, entries_of, claims_by, claims_of}
 use Rattle.auc_draw.specs.InnerRule.{view_entries, view_claims, all_view_entries, passes_in, IsCovered, Fits, FitsJoined, Numbers, FitsClaims, Jobs, Seats, KeepsNumbers, Keeps, AllowsDraw, AllowsJump, AllowsClaim, mark_by, marks_in, wide_by, wide_in, with_deed, draws, jumps, jump_entry, claims}
+use Rattle.auc_draw.specs.InnerLimits.{first_note}
+use Rattle.auc_draw.proofs.LimitLemmas.{first_same, plain_told, made_plain, claimed_plain, IsPlain, still_set, limits_stepped}
 use Rattle.auc_draw.proofs.CoverLemmas.{Leads, draw_leads, move_leads, look_leads, covered_more, covered_permuted}
 use Rattle.auc_draw.proofs.ViewLemmas.{total_set, total_below, permuted_more, flat_set_same, few_in, times_flat, all_cons, all_nil, all_pairs_map}
 
@@ -464,29 +466,50 @@ claims_numbers openings slots id me active narrow s rule homes at fits =
 
 -- ---- the whole rule
 
--- a step that keeps the part on numbers keeps the part on limits too
-keeps_both : (openings : List ℕ) (slots id i : ℕ) (me : Me (Unit {0}) View) (f : ℕ → ℕ) (tells : ℕ → Me (Unit {0}) View → Type 0)
-    → Allows (KeepsNumbers openings) slots id me i f tells → Allows (Keeps openings) slots id me i f tells
-keeps_both openings slots id i me f tells allowed s rule homes at fits =
+-- a draw doesn't wrap
+draw_rises : (openings : List ℕ) (s : State (Unit {0}) View) (sub : ℕ) → KeepsNumbers openings s → sub < length openings → slice_index s.words sub ≤ (slice_index s.words sub + 1) % 2 ^ 64
+draw_rises openings s sub rule known =
+    let small : (slice_index s.words sub + 1) % 2 ^ 64 ≡ slice_index s.words sub + 1 = mod-eq_of_lt (omega (arith, rule.numbers.bounded sub known, few_marks openings s sub rule.numbers rule.seats known)) in
+    omega (arith, small)
+
+-- a step that keeps the part on numbers, and lets no number fall, keeps the part on limits too
+keeps_both : (openings limits : List ℕ) (slots id i : ℕ) (me : Me (Unit {0}) View) (f : ℕ → ℕ) (tells : ℕ → Me (Unit {0}) View → Type 0)
+    → i ≤ length openings → ((s : State (Unit {0}) View) → KeepsNumbers openings s → i < length openings → slice_index s.words i ≤ f (slice_index s.words i))
+    → ((found : ℕ) (w : Me (Unit {0}) View) → tells found w → IsPlain me.0 w.0)
+    → Allows (KeepsNumbers openings) slots id me i f tells → Allows (Keeps openings limits) slots id me i f tells
+keeps_both openings limits slots id i me f tells here rises plain allowed s rule homes at fits =
     let (w, act, valid, kept, told) = allowed s rule.numbers homes at fits in
-    (w, act, valid, record { numbers = kept; limits = record { none = length-set s.words i (f (slice_index s.words i)) ∙ rule.limits.none } }, told)
+    let same = plain (slice_index s.words i) (w, carried_after me.1 act) told in
+    let still = still_set openings s.words i (f (slice_index s.words i)) here (omega (arith, here, rule.limits.sized)) (λ known. rises s rule.numbers known) in (
+      w,
+      act,
+      valid,
+      record {
+        numbers = kept;
+        limits = limits_stepped openings limits s id w (slice_set s.words i (f (slice_index s.words i))) (homes_after s.homes me.1 act) rule.limits still
+            (first_same s.views id me.0 w at same.note) (plain_told (first_note s.views) me.0 w same (rule.limits.told id me.0 at));
+      },
+      told,
+    )
 
 -- a draw, of a pass that keeps no word of the subscriber
-pub draws_ok : (openings : List ℕ) (slots id sub : ℕ) (me : Me (Unit {0}) View) → sub < length openings → me.0.active ≡ 1 → marks_in (entries_of sub me.0.own) ≡ 0
-    → AllowsDraw openings slots id me sub
-draws_ok openings slots id sub me known active unmarked =
-    keeps_both openings slots id sub me (λ n. (n + 1) % 2 ^ 64) (λ found w. draws (step slots sub 1 0 none) me found w) (draws_numbers openings slots id sub me known active unmarked)
+pub draws_ok : (openings limits : List ℕ) (slots id sub : ℕ) (me : Me (Unit {0}) View) → sub < length openings → me.0.active ≡ 1 → marks_in (entries_of sub me.0.own) ≡ 0
+    → AllowsDraw openings limits slots id me sub
+draws_ok openings limits slots id sub me known active unmarked =
+    keeps_both openings limits slots id sub me (λ n. (n + 1) % 2 ^ 64) (λ found w. draws (step slots sub 1 0 none) me found w) (omega (arith, known)) (λ s rule below. draw_rises openings s sub rule below)
+    (λ found w told. made_plain sub (Drawn (found + 1)) me.0 w.0 (ap (λ (m : Me (Unit {0}) View). m.0) told.0)) (draws_numbers openings slots id sub me known active unmarked)
 
 -- a jump to a number, of such a pass
-pub jumps_ok : (openings : List ℕ) (slots id sub to : ℕ) (me : Me (Unit {0}) View) → sub < length openings → to ≤ max_seq → me.0.active ≡ 1 → marks_in (entries_of sub me.0.own) ≡ 0
-    → AllowsJump openings slots id me sub to
-jumps_ok openings slots id sub to me known number active unmarked =
-    keeps_both openings slots id sub me (λ n. max n to) (λ found w. jumps (step slots sub to 0 none) me found w) (jumps_numbers openings slots id sub to me known number active unmarked)
+pub jumps_ok : (openings limits : List ℕ) (slots id sub to : ℕ) (me : Me (Unit {0}) View) → sub < length openings → to ≤ max_seq → me.0.active ≡ 1 → marks_in (entries_of sub me.0.own) ≡ 0
+    → AllowsJump openings limits slots id me sub to
+jumps_ok openings limits slots id sub to me known number active unmarked =
+    keeps_both openings limits slots id sub me (λ n. max n to) (λ found w. jumps (step slots sub to 0 none) me found w) (omega (arith, known)) (λ s rule below. omega arith)
+    (λ found w told. made_plain sub (jump_entry to found) me.0 w.0 (ap (λ (m : Me (Unit {0}) View). m.0) told.0)) (jumps_numbers openings slots id sub to me known number active unmarked)
 
 -- a claim, of a pass whose claims haven't ended
-pub claims_ok : (openings : List ℕ) (slots id place : ℕ) (me : Me (Unit {0}) View) → place ≡ length openings → me.0.active ≡ 1 → wide_in (claims_of me.0.own) ≡ 0
-    → AllowsClaim openings slots id me place
-claims_ok openings slots id place me here active narrow =
-    let P : ℕ → Type 0 = λ k. AllowsClaim openings slots id me k in
-    subst P (sym here) (keeps_both openings slots id (length openings) me (λ n. (n + 1) % 2 ^ 64) (λ found w. claims (step slots (length openings) 1 0 none) me found w)
-    (claims_numbers openings slots id me active narrow))
+pub claims_ok : (openings limits : List ℕ) (slots id place : ℕ) (me : Me (Unit {0}) View) → place ≡ length openings → me.0.active ≡ 1 → wide_in (claims_of me.0.own) ≡ 0
+    → AllowsClaim openings limits slots id me place
+claims_ok openings limits slots id place me here active narrow =
+    let P : ℕ → Type 0 = λ k. AllowsClaim openings limits slots id me k in
+    subst P (sym here) (keeps_both openings limits slots id (length openings) me (λ n. (n + 1) % 2 ^ 64) (λ found w. claims (step slots (length openings) 1 0 none) me found w) (omega arith) (λ s rule below. absurd (omega (arith, below)))
+    (λ found w told. claimed_plain found me.0 w.0 (ap (λ (m : Me (Unit {0}) View). m.0) told.0)) (claims_numbers openings slots id me active narrow))

@@ -1,6 +1,7 @@
 -- Inner facts: the invariant of a pass.
-use Rattle.std.specs.Prelude.{◌≡◌, ℕ, zero, suc, ◌+◌, ◌<◌, List, [], length, slice_index, Option, Some, None}
+use Rattle.std.specs.Prelude.{◌≡◌, ℕ, zero, suc, ◌<◌, List, [], length, slice_index, Option, Some, None}
 use Rattle.auc_draw.specs.Deeds.{AreInOrder, kept_of, claims_of}
+use Rattle.auc_draw.specs.InnerLimits.{limit_at}
 use Rattle.auc_draw.specs.InnerRule.{wide_in}
 use Rattle.auc_draw.specs.declared.rule.Deed.{Deed}
 use Rattle.auc_draw.specs.declared.pass.Pass.TheInside.{Inside}
@@ -17,7 +18,7 @@ pub record Notes (kept : List ℕ) (deeds : List Deed) : Type 0 where
 
 pub record IsPass (p : Inside) : Type 0 where
   -- there is a place for each subscriber's kept word
-  pub sized : length p.kept.items + 1 ≡ p.seat.table_id.words
+  pub sized : limit_at (length p.kept.items) (length p.kept.items) ≡ p.seat.table_id.words
   pub notes : Notes p.kept.items p.seat.me.0.own
   -- the seat is a pass's, and holds no slot
   pub active : p.seat.me.0.active ≡ 1

@@ -1,5 +1,6 @@
 -- Inner facts: the rule of the shared words, which holds between any two steps, and what each step tells its caller.
--- The words are the subscribers' numbers and, after them, the job word, which has the number of the next job.
+-- The words are the subscribers' numbers and, after them, the job word, which has the number of the next job, and those
+-- of the limits (`InnerLimits`).
 use Rattle.std.specs.Prelude.{◌≡◌, ◌≢◌, ℕ, ◌+◌, ◌%◌, ◌^◌, max, ◌<◌, ◌≤◌, nat_lt, nat_le, ◌&&◌, if◌then◌else◌, List, [], ◌∷◌, ◌++◌, length, slice_index, sum_by, All, Any, flat_map, ◌⊎◌, Some}
 use mathlib.Core.Option.{some}
 use lib.ListN.{get_elem?}
@@ -10,43 +11,53 @@ use Rattle.auc_history.specs.History.{IsInOrder, reach_of, covered, last_of, IsM
 use Rattle.auc_history.specs.Split.{times}
 use Rattle.auc_sqn.specs.Number.{max_seq}
 use Rattle.auc_draw.specs.declared.rule.Deed.{Deed}
-use Rattle.auc_draw.specs.declared.rule.Deed.TheVariants.{Made, Claimed}
+use Rattle.auc_draw.specs.declared.rule.Deed.TheVariants.{Made, Claimed, Released}
+use Rattle.auc_draw.specs.declared.rule.Note.{Note}
 use Rattle.auc_draw.specs.declared.rule.View.{View}
-use Rattle.auc_draw.specs.Deeds.{entries_of, claims_of}
+use Rattle.auc_draw.specs.Deeds.{entries_of, claims_of, kept_stop, stop_read, withholding}
+use Rattle.auc_draw.specs.InnerLimits.{stop_of, no_note, looked, raised, ended, KeepsLimits}
 
 -- ---- views
 
--- the keeper's, from which this many passes were split
-abbrev pub keeper_view : ℕ → View
-keeper_view passes = record { own = []; joined = []; active = 0; split = passes; shown = [] }
+-- the keeper's with this note, from which this many passes were split
+abbrev pub keeper_view : ℕ → Note → View
+keeper_view passes note = record { own = []; joined = []; active = 0; split = passes; shown = []; note = note }
 
 -- the keeper's, into which passes with these lists were joined
-abbrev pub keeper_view_with : ℕ → List (List Deed) → View
-keeper_view_with passes lists = record { own = []; joined = lists; active = 0; split = passes; shown = [] }
+abbrev pub keeper_view_with : ℕ → Note → List (List Deed) → View
+keeper_view_with passes note lists = record { own = []; joined = lists; active = 0; split = passes; shown = []; note = note }
 
 -- a new pass's
 abbrev pub new_view : View
-new_view = record { own = []; joined = []; active = 1; split = 0; shown = [] }
+new_view = record { own = []; joined = []; active = 1; split = 0; shown = []; note = no_note }
 
 -- that of a pass that was joined
 abbrev pub spent_view : View
-spent_view = record { own = []; joined = []; active = 0; split = 0; shown = [] }
+spent_view = record { own = []; joined = []; active = 0; split = 0; shown = []; note = no_note }
 
 -- the keeper's, after a pass was split from it
 abbrev pub after_split : View → View
-after_split v = record { own = v.own; joined = v.joined; active = v.active; split = v.split + 1; shown = v.shown }
+after_split v = record { own = v.own; joined = v.joined; active = v.active; split = v.split + 1; shown = v.shown; note = v.note }
 
 -- the keeper's, after a pass was joined into it
 abbrev pub after_join : View → View → View
-after_join v w = record { own = v.own; joined = v.joined ++ w.own ∷ []; active = v.active; split = v.split; shown = v.shown }
+after_join v w = record { own = v.own; joined = v.joined ++ w.own ∷ []; active = v.active; split = v.split; shown = v.shown; note = v.note }
 
 -- that of a seat which only tells a closed book the joined lists
 abbrev pub lists_view : View → View
-lists_view v = record { own = []; joined = []; active = 0; split = 0; shown = v.joined }
+lists_view v = record { own = []; joined = []; active = 0; split = 0; shown = v.joined; note = no_note }
 
--- a view with a further deed
+-- a view with further deeds
+abbrev pub with_deeds : View → List Deed → View
+with_deeds v ds = record { own = v.own ++ ds; joined = v.joined; active = v.active; split = v.split; shown = v.shown; note = v.note }
+
+-- a view with one further deed
 abbrev pub with_deed : View → Deed → View
-with_deed v d = record { own = v.own ++ d ∷ []; joined = v.joined; active = v.active; split = v.split; shown = v.shown }
+with_deed v d = with_deeds v (d ∷ [])
+
+-- a view with another note
+abbrev pub with_note : View → Note → View
+with_note v note = record { own = v.own; joined = v.joined; active = v.active; split = v.split; shown = v.shown; note = note }
 
 -- the entries of a subscriber in a view
 abbrev pub view_entries : ℕ → View → List Entry
@@ -152,15 +163,10 @@ pub record KeepsNumbers (openings : List ℕ) (s : State (Unit {0}) View) : Type
   pub jobs : Jobs (length openings) s
   pub seats : Seats s.views
 
--- the part on limits, up to which numbers may be released: there are no words for them yet, so no word comes after the
--- job word
-pub record KeepsLimits (openings : List ℕ) (s : State (Unit {0}) View) : Type 0 where
-  pub none : length s.words ≡ length openings + 1
-
--- the rule; the openings are the table's key
-pub record Keeps (openings : List ℕ) (s : State (Unit {0}) View) : Type 0 where
+-- the rule; the openings and the limits that were given with them are the table's key
+pub record Keeps (openings given : List ℕ) (s : State (Unit {0}) View) : Type 0 where
   pub numbers : KeepsNumbers openings s
-  pub limits : KeepsLimits openings s
+  pub limits : KeepsLimits openings given s
 
 -- ---- the steps
 
@@ -189,13 +195,67 @@ abbrev pub claims : Step (Unit {0}) → Me (Unit {0}) View → ℕ → Me (Unit 
 claims s v found w = AddsClaim found v w
 
 -- in every state that keeps the rule this seat may draw a number of the subscriber, by adding one to its word
-abbrev pub AllowsDraw : List ℕ → ℕ → ℕ → Me (Unit {0}) View → ℕ → Type 0
-AllowsDraw openings slots id me sub = Allows (Keeps openings) slots id me sub (λ n. (n + 1) % 2 ^ 64) (λ found w. AddsEntry sub (Drawn (found + 1)) me w)
+abbrev pub AllowsDraw : List ℕ → List ℕ → ℕ → ℕ → Me (Unit {0}) View → ℕ → Type 0
+AllowsDraw openings limits slots id me sub = Allows (Keeps openings limits) slots id me sub (λ n. (n + 1) % 2 ^ 64) (λ found w. AddsEntry sub (Drawn (found + 1)) me w)
 
 -- it may move the subscriber's word up to a number
-abbrev pub AllowsJump : List ℕ → ℕ → ℕ → Me (Unit {0}) View → ℕ → ℕ → Type 0
-AllowsJump openings slots id me sub to = Allows (Keeps openings) slots id me sub (λ n. max n to) (λ found w. AddsEntry sub (jump_entry to found) me w)
+abbrev pub AllowsJump : List ℕ → List ℕ → ℕ → ℕ → Me (Unit {0}) View → ℕ → ℕ → Type 0
+AllowsJump openings limits slots id me sub to = Allows (Keeps openings limits) slots id me sub (λ n. max n to) (λ found w. AddsEntry sub (jump_entry to found) me w)
 
 -- it may claim a number, by adding one to the job word at this place
-abbrev pub AllowsClaim : List ℕ → ℕ → ℕ → Me (Unit {0}) View → ℕ → Type 0
-AllowsClaim openings slots id me place = Allows (Keeps openings) slots id me place (λ n. (n + 1) % 2 ^ 64) (λ found w. AddsClaim found me w)
+abbrev pub AllowsClaim : List ℕ → List ℕ → ℕ → ℕ → Me (Unit {0}) View → ℕ → Type 0
+AllowsClaim openings limits slots id me place = Allows (Keeps openings limits) slots id me place (λ n. (n + 1) % 2 ^ 64) (λ found w. AddsClaim found me w)
+
+-- ---- the steps on limits and on the stop
+
+-- a load of the subscriber's limit, for a number that is to be released
+abbrev pub release_deeds : ℕ → ℕ → ℕ → List Deed → List Deed
+release_deeds sub n limit old = if nat_lt limit n then withholding sub n (kept_stop old) else Released sub n ∷ []
+
+-- it adds that the number was released or withheld, if it was
+abbrev pub AddsRelease : ℕ → ℕ → ℕ → Me (Unit {0}) View → Me (Unit {0}) View → Type 0
+AddsRelease sub n limit v w = w ≡ (with_deeds v.0 (release_deeds sub n limit v.0.own), v.1)
+
+-- a load of the stop word adds the stop, if it is set: that is the stop which the seat read first
+abbrev pub AddsStop : ℕ → Me (Unit {0}) View → Me (Unit {0}) View → Type 0
+AddsStop found v w = (w ≡ (with_deeds v.0 (stop_read (stop_of found)), v.1)) × (kept_stop w.0.own ≡ stop_of found)
+
+-- a load of a subscriber's number is noted; it is no lower than the one before
+abbrev pub NotesLook : ℕ → ℕ → Me (Unit {0}) View → Me (Unit {0}) View → Type 0
+NotesLook sub found v w = (w ≡ (with_note v.0 (looked v.0.note sub found), v.1)) × (slice_index v.0.note.seen sub ≤ found) × (slice_index w.0.note.seen sub ≡ found)
+
+-- a raised limit is noted
+abbrev pub NotesLimit : ℕ → ℕ → Me (Unit {0}) View → Me (Unit {0}) View → Type 0
+NotesLimit sub limit v w = w ≡ (with_note v.0 (raised v.0.note sub limit), v.1)
+
+-- a stop is noted
+abbrev pub NotesStop : ℕ → Me (Unit {0}) View → Me (Unit {0}) View → Type 0
+NotesStop word v w = w ≡ (with_note v.0 (ended v.0.note (stop_of word)), v.1)
+
+-- a look that found this word
+abbrev pub looks : Step (Unit {0}) → Me (Unit {0}) View → ℕ → Me (Unit {0}) View → Type 0
+looks s v found w = NotesLook s.word found v w
+
+-- a stop
+abbrev pub stops : Step (Unit {0}) → Me (Unit {0}) View → ℕ → Me (Unit {0}) View → Type 0
+stops s v found w = NotesStop s.first v w
+
+-- the seat may load the subscriber's limit at this place, for a number that is to be released
+abbrev pub AllowsRelease : List ℕ → List ℕ → ℕ → ℕ → Me (Unit {0}) View → ℕ → ℕ → ℕ → Type 0
+AllowsRelease openings limits slots id me place sub n = Allows (Keeps openings limits) slots id me place (λ k. k) (λ found w. AddsRelease sub n found me w)
+
+-- it may load the stop word
+abbrev pub AllowsStopped : List ℕ → List ℕ → ℕ → ℕ → Me (Unit {0}) View → ℕ → Type 0
+AllowsStopped openings limits slots id me place = Allows (Keeps openings limits) slots id me place (λ k. k) (λ found w. AddsStop found me w)
+
+-- it may load the subscriber's number
+abbrev pub AllowsLook : List ℕ → List ℕ → ℕ → ℕ → Me (Unit {0}) View → ℕ → Type 0
+AllowsLook openings limits slots id me sub = Allows (Keeps openings limits) slots id me sub (λ k. k) (λ found w. NotesLook sub found me w)
+
+-- it may raise the subscriber's limit at this place
+abbrev pub AllowsRaise : List ℕ → List ℕ → ℕ → ℕ → Me (Unit {0}) View → ℕ → ℕ → ℕ → Type 0
+AllowsRaise openings limits slots id me place sub limit = Allows (Keeps openings limits) slots id me place (λ k. max k limit) (λ found w. NotesLimit sub limit me w)
+
+-- it may store the stop word
+abbrev pub AllowsStop : List ℕ → List ℕ → ℕ → ℕ → Me (Unit {0}) View → ℕ → ℕ → Type 0
+AllowsStop openings limits slots id me place word = Allows (Keeps openings limits) slots id me place (λ k. word) (λ found w. NotesStop word me w)

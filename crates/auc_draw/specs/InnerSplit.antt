@@ -1,12 +1,12 @@
--- Inner facts: what the private contract of the split cites.
+-- Inner facts: what the private contracts of the opening cite.
 use Rattle.std.specs.Prelude.{◌≡◌, ℕ, List, All, length}
 use Rattle.atomic_table.specs.Seated.{TableId}
 use Rattle.auc_draw.specs.Book.{IsNew}
 use Rattle.auc_draw.specs.Values.{PassValue, KeeperValue}
+use Rattle.auc_draw.specs.declared.rule.Note.{Note}
 
--- passes that were split from the keeper's seat, and the keeper's pass
-pub record AreSplit (id : TableId) (workers : ℕ) (passes : List PassValue) (keeper : KeeperValue) : Type 0 where
+-- passes that were split from the keeper's seat, and the keeper's pass, which has this note
+pub record AreSplit (id : TableId) (workers : ℕ) (note : Note) (passes : List PassValue) (keeper : KeeperValue) : Type 0 where
   pub many : length passes ≡ workers
   pub new : All (IsNew id) passes
-  pub own : keeper.id ≡ id
-  pub all : keeper.passes ≡ workers
+  pub own : keeper ≡ record { id = id; passes = workers; limits = note.limits; seen = note.seen; stop = note.stop }

@@ -1,6 +1,7 @@
 pub mod Book
 pub mod Deeds
 pub mod InnerBook
+pub mod InnerLimits
 pub mod InnerPass
 pub mod InnerRule
 pub mod InnerSplit

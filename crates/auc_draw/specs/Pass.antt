@@ -4,12 +4,14 @@ use Rattle.auc_history.specs.declared.entry.Entry.{Entry}
 use Rattle.auc_history.specs.declared.entry.Entry.TheVariants.{Drawn, Moved as moved, Look}
 use Rattle.auc_sqn.specs.Number.{max_seq}
 use Rattle.auc_draw.specs.declared.rule.Deed.{Deed}
-use Rattle.auc_draw.specs.declared.rule.Deed.TheVariants.{Claimed}
+use Rattle.auc_draw.specs.declared.rule.Deed.TheVariants.{Claimed, Released as released}
 use Rattle.auc_draw.specs.declared.pass.Draw.{Draw}
 use Rattle.auc_draw.specs.declared.pass.Draw.TheVariants.{Number, Exhausted}
 use Rattle.auc_draw.specs.declared.pass.Jump.{Jump}
 use Rattle.auc_draw.specs.declared.pass.Jump.TheVariants.{Moved, Stood}
-use Rattle.auc_draw.specs.Deeds.{kept_of, claims_of, made}
+use Rattle.auc_draw.specs.declared.pass.Release.{Release}
+use Rattle.auc_draw.specs.declared.pass.Release.TheVariants.{Released, Above}
+use Rattle.auc_draw.specs.Deeds.{kept_of, kept_stop, claims_of, made, withholding}
 use Rattle.auc_draw.specs.Values.{PassValue}
 
 -- the word is the kept one, if one is kept
@@ -52,3 +54,9 @@ abbrev pub ClaimsJob : ℕ → PassValue → PassValue → Option ℕ → Type 0
 ClaimsJob jobs old new (Some job) = (old.ended ≡ None) × (job < jobs) × (new.deeds ≡ old.deeds ++ Claimed job ∷ [])
     × (new.ended ≡ None) × All (λ n. n < job) (claims_of old.deeds)
 ClaimsJob jobs old new None = (n : ℕ) × (jobs ≤ n) × (new.ended ≡ Some n) × EndsClaims jobs old.ended old.deeds new.deeds n
+
+-- a number that is to be released: it was, or the limit that was found is below it, and the number is withheld if a stop
+-- was read before
+abbrev pub Releases : ℕ → ℕ → List Deed → List Deed → Release → Type 0
+Releases sub n old new Released = new ≡ old ++ released sub n ∷ []
+Releases sub n old new (Above limit) = (limit < n) × (new ≡ old ++ withholding sub n (kept_stop old))

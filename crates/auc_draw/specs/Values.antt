@@ -1,6 +1,7 @@
 -- What contracts see of a book, of its passes and of a closed book.
 use Rattle.std.specs.Prelude.{ℕ, List, Option}
 use Rattle.atomic_table.specs.Seated.{TableId}
+use Rattle.auc_edge.specs.declared.stop.Stop.{Stop}
 use Rattle.auc_draw.specs.declared.rule.Deed.{Deed}
 
 -- a pass: its book, what its steps did, and the number that ended its claims
@@ -9,15 +10,20 @@ pub record PassValue : Type 0 where
   pub deeds : List Deed
   pub ended : Option ℕ
 
--- a book: which one it is, and the openings
+-- a book: which one it is, the openings, and the limits that were given with them
 pub record BookValue : Type 0 where
   pub id : TableId
   pub openings : List ℕ
+  pub limits : List ℕ
 
--- the keeper's pass: its book, and how many passes were split from it
+-- the keeper's pass: its book, and how many passes were split from it; each subscriber's limit, its number word as it
+-- was last looked at, which is the opening at first, and why reservations ended, if they did
 pub record KeeperValue : Type 0 where
   pub id : TableId
   pub passes : ℕ
+  pub limits : List ℕ
+  pub seen : List ℕ
+  pub stop : Option Stop
 
 -- a closed book: the subscribers' words, and the list of each pass
 pub record ClosedValue : Type 0 where

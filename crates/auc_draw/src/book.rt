@@ -1,28 +1,30 @@
 //! The book of shared words, from its opening to its closing.
 
-ghost use Rattle.std.specs.Prelude.{◌≡◌, ◌<◌, ◌≤◌, ◌+◌, ℕ, [], All, length, map, slice_index, IfOk};
+ghost use Rattle.std.specs.Prelude.{◌≡◌, ◌<◌, ◌≤◌, ◌+◌, ◌++◌, ℕ, [], ◌∷◌, All, length, map, slice_index, IfOk};
 ghost use Rattle.std.specs.Slots.{slots_items, slots_len, IsFull};
 ghost use mathlib.Core.Option.{some};
 ghost use lib.ListN.{get_elem?};
 ghost use Rattle.auc_sqn.specs.Number.{max_seq};
 ghost use Rattle.auc_draw.specs.Book.{IsOf, Opens, Closes};
+ghost use Rattle.auc_draw.specs.InnerLimits.{limit_at};
 ghost use Rattle.auc_draw.specs.InnerRule.{keeper_view, keeper_view_with};
 ghost use Rattle.auc_draw.specs.InnerSplit.{AreSplit};
 
 use crate::closed::Closed;
+use crate::keeper::KeeperPass;
 use crate::pass::Pass;
-use crate::rule::{JoinPass, Rule, SplitLists, SplitPass, View};
+use crate::rule::{JoinPass, Key, Rule, SplitLists, SplitPass, View};
 use atomic_table::{Seat, Shared, Table};
 use auc_edge::NoMemory;
 use std::alloc::Global;
 use std::marker::Model;
 
-/// The shared words: each subscriber's number and, after them, the number of the next job. Contracts see which book it
-/// is, and the openings.
+/// The shared words: each subscriber's number, the number of the next job, why reservations ended, and each subscriber's
+/// limit. Contracts see which book it is, the openings, and the limits that were given with them.
 #[derive(Drop)]
 pub struct Book {
-    pub(crate) table: Table<(), View, Vec<u64>, Rule, Global>,
-    pub(crate) openings: Vec<u64>,
+    pub(crate) table: Table<(), View, Key, Rule, Global>,
+    pub(crate) key: Key,
 }
 
 impl Model for Book {
@@ -31,59 +33,55 @@ impl Model for Book {
 
     ghost Value = { BookValue };
 
-    ghost view = { λ b. record { id = b.table.shared.table_id; openings = b.openings.items } };
+    ghost view = { λ b. record {
+      id = b.table.shared.table_id;
+      openings = b.key.openings.items;
+      limits = b.key.limits.items;
+    } };
 
     ghost invariant = { IsBook };
 }
 
-/// The keeper's pass, from which the passes are split and into which they are joined. Contracts see its book, and how
-/// many passes were split from it.
-#[derive(Drop)]
-pub struct KeeperPass {
-    seat: Seat<(), View>,
-}
-
-impl Model for KeeperPass {
-    ghost use Rattle.auc_draw.specs.Values.{KeeperValue};
-    ghost use Rattle.auc_draw.specs.InnerBook.{IsKeeper};
-
-    ghost Value = { KeeperValue };
-
-    ghost view = { λ k. record { id = k.seat.table_id; passes = k.seat.me.0.split } };
-
-    ghost invariant = { IsKeeper };
-}
-
 impl Book {
-    /// Opens a book whose numbers stand at `openings`, with a pass for each worker. Each pass takes memory for one word
-    /// per subscriber, so that no later call takes any. If memory runs out, there is no book.
+    /// Opens a book whose numbers stand at `openings` and whose limits at `limits`, with a pass for each worker. Each pass
+    /// takes memory for one word per subscriber, so that no later call takes any. If memory runs out, there is no book.
     pub fn open(
         alloc: Global,
         openings: &[u64],
+        limits: &[u64],
         workers: u32,
     ) -> Result<(Book, Vec<Pass>, KeeperPass), NoMemory>
         requires count { length openings.now ≤ 65536 }
-        requires numbers { All (λ number. number ≤ max_seq) openings.now }
+        requires many { length limits.now ≡ length openings.now }
+        requires numbers { All (λ n. n ≤ max_seq) openings.now }
+        requires limits { All (λ n. n ≤ max_seq) limits.now }
         requires workers { (1 ≤ workers) × (workers ≤ 64) }
-        ensures { IfOk result (λ r. Opens openings.now workers r.0 r.1.items r.2) }
+        ensures { IfOk result (λ r. Opens openings.now limits.now workers r.0 r.1.items r.2) }
     {
+        let subs = openings.len();
+        let words = lay_words(alloc, openings, limits)?;
         let openings = openings.to_vec(alloc)?;
-        let mut words = openings.as_slice().to_vec(alloc)?;
-        words.push(0)?;
-        let (table, seat) = Table::of_words(alloc, words.as_slice(), &openings)?;
-        let (passes, keeper) = split(alloc, &table.shared, seat, openings.len(), workers)?;
-        Ok((Book { table, openings }, passes, keeper))
+        let limits = limits.to_vec(alloc)?;
+        let key = Key { openings, limits };
+        let (table, seat) = Table::of_words(alloc, words.as_slice(), &key)?;
+        let (passes, keeper) = split(alloc, &table.shared, seat, subs, workers)?;
+        Ok((Book { table, key }, passes, keeper))
     }
 
     /// Closes the book, of which these are all passes. Their lists split a history of each subscriber from its opening
-    /// to its word, and the claimed numbers are those below some number, each once.
+    /// to its word, the claimed numbers are those below some number, each once, and what was released, withheld and read of
+    /// a stop is so by the keeper's pass.
     pub fn close(self, passes: Vec<Pass>, keeper: KeeperPass) -> Closed
         requires own { All (IsOf self.id) passes.items }
         requires keeper { keeper.id ≡ self.id }
         requires all { length passes.items ≡ keeper.passes }
-        ensures { Closes self.openings (map (λ p. p.deeds) passes.items) result }
+        ensures { Closes self (map (λ p. p.deeds) passes.items) keeper result }
     {
-        let Book { table, openings } = self;
+        let Book { table, key } = self;
+        let Key {
+            openings,
+            limits: _,
+        } = key;
         let KeeperPass { seat } = keeper;
         let mut seat = join(&table.shared, seat, passes);
         let shown = table.shared.split_seat::<SplitLists>(&mut seat);
@@ -94,19 +92,30 @@ impl Book {
     }
 }
 
+/// The words at the opening: the numbers, the job word, the stop word and the limits.
+fn lay_words(alloc: Global, openings: &[u64], limits: &[u64]) -> Result<Vec<u64>, NoMemory>
+    ensures { IfOk result (λ words. words.items ≡ openings.now ++ 0 ∷ 0 ∷ limits.now) }
+{
+    let mut words = openings.to_vec(alloc)?;
+    words.push(0)?;
+    words.push(0)?;
+    words.extend_from_slice(limits)?;
+    Ok(words)
+}
+
 /// Splits a pass for each worker from the keeper's seat.
 fn split(
     alloc: Global,
-    shared: &Shared<(), View, Vec<u64>, Rule>,
+    shared: &Shared<(), View, Key, Rule>,
     mut seat: Seat<(), View>,
     subs: usize,
     workers: u32,
 ) -> Result<(Vec<Pass>, KeeperPass), NoMemory>
     requires own { seat.table_id ≡ shared.now.table_id }
-    requires first { (seat.id ≡ 0) × (seat.me ≡ (keeper_view 0, [])) }
-    requires words { shared.now.table_id.words ≡ subs + 1 }
+    requires first { (seat.id ≡ 0) × (seat.me ≡ (keeper_view 0 seat.me.0.note, [])) }
+    requires words { shared.now.table_id.words ≡ limit_at subs subs }
     requires workers { workers ≤ 64 }
-    ensures { IfOk result (λ r. AreSplit shared.now.table_id workers r.0.items r.1) }
+    ensures { IfOk result (λ r. AreSplit shared.now.table_id workers seat.me.0.note r.0.items r.1) }
 {
     let mut passes = Vec::with_capacity(alloc, workers as usize)?;
     for i in 0..workers {
@@ -123,16 +132,16 @@ fn split(
 
 /// Joins all passes into the keeper's seat.
 fn join(
-    shared: &Shared<(), View, Vec<u64>, Rule>,
+    shared: &Shared<(), View, Key, Rule>,
     mut seat: Seat<(), View>,
     passes: Vec<Pass>,
 ) -> Seat<(), View>
     requires own { seat.table_id ≡ shared.now.table_id }
-    requires first { (seat.id ≡ 0) × (seat.me ≡ (keeper_view seat.me.0.split, [])) }
+    requires first { (seat.id ≡ 0) × (seat.me ≡ (keeper_view seat.me.0.split seat.me.0.note, [])) }
     requires words { 0 < shared.now.table_id.words }
     requires passes { All (IsOf shared.now.table_id) passes.items }
     ensures own { (result.table_id ≡ shared.now.table_id) × (result.id ≡ 0) }
-    ensures view { result.me ≡ (keeper_view_with seat.me.0.split (map (λ p. p.deeds) passes.items), []) }
+    ensures view { result.me ≡ (keeper_view_with seat.me.0.split seat.me.0.note (map (λ p. p.deeds) passes.items), []) }
 {
     for pass in passes {
         let Pass {

@@ -1,16 +1,19 @@
 //! A worker's pass.
 
-ghost use Rattle.std.specs.Prelude.{◌≡◌, ◌<◌, ◌≤◌, length};
+ghost use Rattle.std.specs.Prelude.{◌≡◌, ◌<◌, ◌≤◌, ◌++◌, Contains, length};
+ghost use Rattle.auc_history.specs.declared.entry.Entry.TheVariants.{Drawn};
 ghost use Rattle.auc_sqn.specs.Number.{max_seq};
-ghost use Rattle.auc_draw.specs.Deeds.{AreInOrder};
-ghost use Rattle.auc_draw.specs.Pass.{Draws, Jumps, EndsAbove, ClaimsJob};
+ghost use Rattle.auc_draw.specs.Deeds.{AreInOrder, entries_of, kept_stop, stop_read};
+ghost use Rattle.auc_draw.specs.Pass.{Draws, Jumps, EndsAbove, ClaimsJob, Releases};
 
 use crate::book::Book;
+use crate::place::{stop_at, stop_place};
 use crate::rule::View;
-use crate::step::{add_one, move_up, take_number};
+use crate::step::{add_one, move_up, read_limit, read_stop, take_number};
 use atomic_table::Seat;
+use auc_edge::Stop;
 use auc_sqn::MAX_SEQ;
-use std::marker::Model;
+use std::marker::{Brand, Model};
 
 /// The answer to a draw.
 #[derive(Clone, Copy, Debug, PartialEq, Eq)]
@@ -28,6 +31,15 @@ pub enum Jump {
     Moved(u64),
     /// The number stands: the word that was found.
     Stood(u64),
+}
+
+/// The answer to a release.
+#[derive(Clone, Copy, Debug, PartialEq, Eq)]
+pub enum Release {
+    /// The number was released.
+    Released,
+    /// It wasn't, since it is above the limit, which is this.
+    Above(u64),
 }
 
 /// One worker's seat on the shared words. Contracts see its book, what its steps did, and the number that ended its
@@ -111,11 +123,40 @@ impl Pass {
             return None;
         }
         let shared = &book.table.shared;
-        let found = take_number(shared, &mut self.seat, book.openings.len());
+        let found = take_number(shared, &mut self.seat, book.key.openings.len());
         if found < jobs as u64 {
             return Some(found as u32);
         }
         self.ended = Some(found);
         None
+    }
+    /// Releases a number that this pass drew, in one atomic step, if it isn't above the subscriber's limit. If it is above
+    /// and the pass has read a stop, it is withheld by the same step.
+    pub fn release(&mut self, book: &Book, sub: u32, n: u64) -> Release
+        requires own { self.old.id ≡ book.now.id }
+        requires sub { sub < length book.now.openings }
+        requires drawn { Contains (entries_of sub self.old.deeds) (Drawn n) }
+        requires number { n ≤ max_seq }
+        ensures own { self.new.id ≡ self.old.id }
+        ensures releases { Releases sub n self.old.deeds self.new.deeds result }
+        ensures ended { self.new.ended ≡ self.old.ended }
+        ensures ordered { AreInOrder self.new.deeds }
+    {
+        let subs = book.key.openings.len();
+        read_limit::<Brand>(&book.table.shared, &mut self.seat, subs, sub, n)
+    }
+
+    /// Why reservations ended, if they did, in one atomic step. Once a pass was told so, it is told the same.
+    pub fn stopped(&mut self, book: &Book) -> Option<Stop>
+        requires own { self.old.id ≡ book.now.id }
+        ensures own { self.new.id ≡ self.old.id }
+        ensures stopped { self.new.deeds ≡ self.old.deeds ++ stop_read result }
+        ensures kept { kept_stop self.new.deeds ≡ result }
+        ensures ended { self.new.ended ≡ self.old.ended }
+        ensures ordered { AreInOrder self.new.deeds }
+    {
+        let shared = &book.table.shared;
+        let place = stop_place(book.key.openings.len());
+        stop_at(read_stop(shared, &mut self.seat, place))
     }
 }

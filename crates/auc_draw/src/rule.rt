@@ -1,8 +1,10 @@
 //! The rule of the shared words, and the kinds of step.
 
 use atomic_table::{Join, Play, Split, TableRule};
+use auc_edge::Stop;
 use auc_history::Entry;
 use std::collections::LinkedList;
+use std::marker::{Brand, PhantomData};
 
 /// What a step of a pass did. The lists of deeds are data of contracts: the program makes no value of this type.
 pub enum Deed {
@@ -10,6 +12,22 @@ pub enum Deed {
     Made(u64, Entry),
     /// It claimed this number, which it found in the job word.
     Claimed(u64),
+    /// It released this number of the subscriber.
+    Released(u64, u64),
+    /// It withheld this number of the subscriber, because reservations had ended.
+    Withheld(u64, u64, Stop),
+    /// It read that reservations had ended.
+    ReadStop(Stop),
+}
+
+/// What the keeper's seat knows of the limits. It is data of contracts, as [`Deed`] is.
+pub struct Note {
+    /// Each subscriber's limit, up to which its numbers may be released.
+    pub limits: LinkedList<u64>,
+    /// Each subscriber's number word, as it was last looked at.
+    pub seen: LinkedList<u64>,
+    /// Why reservations ended, if they did.
+    pub stop: Option<Stop>,
 }
 
 /// What a seat of the table knows. It is data of contracts, as [`Deed`] is.
@@ -24,17 +42,27 @@ pub struct View {
     pub split: u64,
     /// The joined lists, at the one seat that tells them to a closed book. The rule says nothing of this field.
     pub shown: LinkedList<LinkedList<Deed>>,
+    /// What the keeper knows, at its seat; nothing at the others.
+    pub note: Note,
 }
 
-/// The rule. The table's key is the list of the openings.
+/// The table's key: where the numbers stood at the opening, and the limits that were given with them.
+#[derive(Drop)]
+pub(crate) struct Key {
+    pub(crate) openings: Vec<u64>,
+    pub(crate) limits: Vec<u64>,
+}
+
+/// The rule.
 pub(crate) struct Rule;
 
-impl TableRule<(), View, Vec<u64>> for Rule {
+impl TableRule<(), View, Key> for Rule {
+    ghost use Rattle.auc_draw.specs.InnerLimits.{opening_note};
     ghost use Rattle.auc_draw.specs.InnerRule.{Keeps, keeper_view};
 
-    ghost holds = { λ openings s. Keeps openings.items s };
+    ghost holds = { λ key s. Keeps key.openings.items key.limits.items s };
 
-    ghost first = { λ openings. keeper_view 0 };
+    ghost first = { λ key. keeper_view 0 (opening_note key.openings.items key.limits.items) };
 }
 
 /// A pass is split from the keeper's seat.
@@ -95,4 +123,70 @@ impl Play<(), View> for ClaimStep {
     ghost use Rattle.auc_draw.specs.InnerRule.{claims};
 
     ghost then = { claims };
+}
+
+/// What a step on a subscriber's limit is for, where the step itself can't see it. The caller picks both.
+pub(crate) trait Asked {
+    ghost use Rattle.std.specs.Prelude.{ℕ};
+
+    /// The subscriber whose limit it is.
+    ghost sub: { ℕ };
+    /// The number that is to be released.
+    ghost number: { ℕ };
+}
+
+/// A call with `Brand` picks its own. These are those of no step.
+impl Asked for Brand {
+    ghost sub = { 0 };
+
+    ghost number = { 0 };
+}
+
+/// A release loads a subscriber's limit.
+pub(crate) struct ReleaseStep<N: Asked> {
+    asked: PhantomData<N>,
+}
+
+impl<N: Asked> Play<(), View> for ReleaseStep<N> {
+    ghost use Rattle.auc_draw.specs.InnerRule.{AddsRelease};
+
+    ghost then = { λ s v found w. AddsRelease N.sub N.number found v w };
+}
+
+/// A pass loads the stop word.
+pub(crate) struct StoppedStep;
+
+impl Play<(), View> for StoppedStep {
+    ghost use Rattle.auc_draw.specs.InnerRule.{AddsStop};
+
+    ghost then = { λ s v found w. AddsStop found v w };
+}
+
+/// The keeper loads a subscriber's number.
+pub(crate) struct LookStep;
+
+impl Play<(), View> for LookStep {
+    ghost use Rattle.auc_draw.specs.InnerRule.{looks};
+
+    ghost then = { looks };
+}
+
+/// The keeper raises a subscriber's limit.
+pub(crate) struct RaiseStep<N: Asked> {
+    asked: PhantomData<N>,
+}
+
+impl<N: Asked> Play<(), View> for RaiseStep<N> {
+    ghost use Rattle.auc_draw.specs.InnerRule.{NotesLimit};
+
+    ghost then = { λ s v found w. NotesLimit N.sub s.first v w };
+}
+
+/// The keeper stores why reservations ended.
+pub(crate) struct StopStep;
+
+impl Play<(), View> for StopStep {
+    ghost use Rattle.auc_draw.specs.InnerRule.{stops};
+
+    ghost then = { stops };
 }

@@ -3,8 +3,8 @@
 ghost use Rattle.std.specs.Prelude.{◌≡◌, ◌<◌, All, length, IfOk};
 ghost use Rattle.auc_draw.specs.Book.{IsOf};
 
-use crate::{Book, Draw, Jump, Pass};
-use auc_edge::NoMemory;
+use crate::{Book, Draw, Jump, Pass, Release};
+use auc_edge::{NoMemory, Stop};
 use auc_sqn::MAX_SEQ;
 use std::alloc::Global;
 use std::test::Fail;
@@ -23,7 +23,7 @@ fn all_passes(alloc: Global, book: &Book, pass: Pass) -> Result<Vec<Pass>, NoMem
 // By hand: two subscribers, the second one number short of the greatest.
 #[test]
 fn one_pass_draws_jumps_and_claims(rt: HostRuntime) -> Result<(), Fail> {
-    let (book, mut passes, keeper) = Book::open(rt.alloc(), &[10, MAX_SEQ - 1], 1)?;
+    let (book, mut passes, keeper) = Book::open(rt.alloc(), &[10, MAX_SEQ - 1], &[10, MAX_SEQ], 1)?;
     let mut pass = passes.pop().expect(&rt, "a pass");
     assert_eq!(rt; pass.draw(&book, 0), Draw::Number(11));
     assert_eq!(rt; pass.jump(&book, 0, 20), Jump::Moved(11));
@@ -43,6 +43,39 @@ fn one_pass_draws_jumps_and_claims(rt: HostRuntime) -> Result<(), Fail> {
     Ok(())
 }
 
+/// Draws a number of the first subscriber, and releases it if its limit allows that.
+fn draw_and_release(book: &Book, pass: &mut Pass) -> Option<Release>
+    requires own { pass.old.id ≡ book.now.id }
+    requires sub { 0 < length book.now.openings }
+    ensures { pass.new.id ≡ pass.old.id }
+{
+    match pass.draw(book, 0) {
+        Draw::Number(n) => Some(pass.release(book, 0, n)),
+        Draw::Exhausted(_) => None,
+    }
+}
+
+// By hand: a limit of 11, and then the store failed.
+#[test]
+fn numbers_are_released_up_to_the_limit(rt: HostRuntime) -> Result<(), Fail> {
+    let (book, mut passes, mut keeper) = Book::open(rt.alloc(), &[10], &[11], 1)?;
+    let mut pass = passes.pop().expect(&rt, "a pass");
+    assert_eq!(rt; pass.stopped(&book), None);
+    assert_eq!(rt; draw_and_release(&book, &mut pass), Some(Release::Released));
+    assert_eq!(rt;
+        draw_and_release(&book, &mut pass),
+        Some(Release::Above(11))
+    );
+    assert_eq!(rt; keeper.look(&book, 0), 12);
+    keeper.stop(&book, Stop::Fault);
+    assert_eq!(rt; pass.stopped(&book), Some(Stop::Fault));
+    assert_eq!(rt;
+        draw_and_release(&book, &mut pass),
+        Some(Release::Above(11))
+    );
+    Ok(())
+}
+
 /// Draws two numbers of the first subscriber.
 fn draw_two(book: &Book, pass: &mut Pass)
     requires own { pass.old.id ≡ book.now.id }
@@ -56,7 +89,7 @@ fn draw_two(book: &Book, pass: &mut Pass)
 // By hand: three passes draw two numbers each, from 11 to 16.
 #[test]
 fn passes_on_three_threads_draw_from_one_word(rt: HostRuntime) -> Result<(), Fail> {
-    let (book, mut passes, keeper) = Book::open(rt.alloc(), &[10], 3)?;
+    let (book, mut passes, keeper) = Book::open(rt.alloc(), &[10], &[10], 3)?;
     let two = |_: usize, pass: &mut Pass|
         requires { (pass.old.id ≡ book.id) × (0 < length book.openings) }
         ensures { pass.new.id ≡ pass.old.id }

@@ -14,17 +14,17 @@ join_seat-requires c =
       ap (λ h. h.id) c.pass.view_is ∙ own,
       c.pass.invariant.bare,
       c.requires.words,
-      joins_at _ _ _ _ _ _ _ c.loop-pass.invariant.1 c.loop-pass.invariant.2 c.pass.invariant.active,
+      joins_at _ _ _ _ _ _ _ _ _ c.loop-pass.invariant.1 c.loop-pass.invariant.2 c.pass.invariant.active,
     )
 
 pub loop-pass-preserved : goal.loop-pass-preserved
 loop-pass-preserved c = (
   c.join_seat.ensures.0 ∙ c.loop-pass.invariant.0,
   c.join_seat.ensures.1 ∙ c.loop-pass.invariant.1,
-  joined_more _ _ _ _ _ c.pass.inside.seat.me.0 c.loop-pass.invariant.2 c.join_seat.ensures.2 (ap (λ h. h.deeds) c.pass.view_is),
+  joined_more _ _ _ _ _ _ c.pass.inside.seat.me.0 c.loop-pass.invariant.2 c.join_seat.ensures.2 (ap (λ h. h.deeds) c.pass.view_is),
   moved_over c.loop-pass.yielded c.loop-pass.pass-iterator.rest.items c.next.new.self.rest.items c.args.passes.items c.in-Some.pass c.loop-pass.invariant.3 c.in-Some.ensures.steps.0,
 )
 
 pub returns-clause-view : goal.returns-clause-view
-returns-clause-view c = c.loop-pass.invariant.2 ∙ ap (λ ps. (keeper_view_with c.args.seat.me.0.split (map (λ p. p.deeds) ps), []))
+returns-clause-view c = c.loop-pass.invariant.2 ∙ ap (λ ps. (keeper_view_with c.args.seat.me.0.split c.args.seat.me.0.note (map (λ p. p.deeds) ps), []))
     (all_moved c.loop-pass.yielded c.loop-pass.pass-iterator.rest.items c.args.passes.items c.loop-pass.invariant.3 (omega (arith, c.in-None.ensures.steps.0)))

@@ -5,12 +5,12 @@ use Rattle.auc_draw.proofs.BookLemmas.{closes_at}
 use Rattle.auc_draw.proofs.book.Book.close.Goals as goal
 
 pub split_seat-shown-requires : goal.split_seat-shown-requires
-split_seat-shown-requires c = (c.join-seat.ensures.own.0, omega (arith, c.self.invariant.sized), shows_ok _ _ _)
+split_seat-shown-requires c = (c.join-seat.ensures.own.0, omega (arith, c.self.invariant.sized), shows_ok _ _ _ _)
 
 pub returns : goal.returns
-returns c = closes_at c.self.inside.table.shared.key.items c.self.inside.openings.items c.args.self.openings _ c.read-words.result.items _ c.keeper.inside.seat.me.0.split c.split_seat-shown.new.seat.id
+returns c = closes_at _ _ c.self.inside.table.shared.key c.self.inside.key c.args.self c.args.keeper _ c.read-words.result.items _ c.keeper.inside.seat.me.0.split c.split_seat-shown.new.seat.id c.keeper.inside.seat.me.0.note
     (map (λ p. p.deeds) c.args.passes.items) c.split_seat-shown.new.seat.me.0 _
-    c.self.invariant.key (ap (λ b. b.openings) c.self.view_is) (c.split_seat-shown.ensures.1 ∙ c.join-seat.ensures.own.1)
+    c.self.invariant.key c.self.view_is c.keeper.view_is (c.split_seat-shown.ensures.1 ∙ c.join-seat.ensures.own.1)
     (ap (λ m. m.0) c.split_seat-shown.ensures.2 ∙ ap (λ m. m.0) c.join-seat.ensures.view)
     (length-map c.args.passes.items (λ p. p.deeds) ∙ c.requires.all ∙ sym (ap (λ k. k.passes) c.keeper.view_is))
     c.close_with-closed.ensures.values.2 c.read-words.ensures.many c.read-words.ensures.each

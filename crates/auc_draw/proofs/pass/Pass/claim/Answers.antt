@@ -6,7 +6,7 @@ use Rattle.auc_draw.proofs.pass.Pass.claim.Goals as goal
 pub take_number-found-requires-clause-allowed : goal.take_number-found-requires-clause-allowed
 take_number-found-requires-clause-allowed c =
     let none = none_left c.self.inside.ended c.is_some.result c.is_some.ensures c.if-is_some.false in
-    claims_ok _ _ _ _ _ (omega (arith, ap (λ xs. length xs) c.book.invariant.key, c.len.ensures)) c.self.invariant.active (c.self.invariant.narrow none)
+    claims_ok _ _ _ _ _ _ (omega (arith, ap (λ k. length k.openings.items) c.book.invariant.key, c.len.ensures)) c.self.invariant.active (c.self.invariant.narrow none)
 
 pub invariant_of-self : goal.invariant_of-self
 invariant_of-self c =

@@ -19,7 +19,7 @@ move_up-found-requires-clause-allowed c =
     let same = ap (λ h. h.id) c.self.view_is ∙ c.requires.own ∙ sym (ap (λ b. b.id) c.book.view_is) in
     let known : c.args.sub < length c.self.inside.kept.items = omega (arith, c.self.invariant.sized, c.book.invariant.sized, ap (λ z. z.words) same, ap (λ b. length b.openings) c.book.view_is, c.requires.sub) in
     let none = kept_none kept deeds c.args.sub c.index-kept.result.now c.self.invariant.notes known c.index-kept.ensures c.if-kept-ne0.false in
-    jumps_ok _ _ _ _ _ _ (omega (arith, ap (λ xs. length xs) c.book.invariant.key, ap (λ b. length b.openings) c.book.view_is, c.requires.sub)) c.requires.number c.self.invariant.active (unmarked_at deeds c.args.sub none)
+    jumps_ok _ _ _ _ _ _ _ (omega (arith, ap (λ k. length k.openings.items) c.book.invariant.key, ap (λ b. length b.openings) c.book.view_is, c.requires.sub)) c.requires.number c.self.invariant.active (unmarked_at deeds c.args.sub none)
 
 pub invariant_of-self : goal.invariant_of-self
 invariant_of-self c =
