@@ -1,12 +1,11 @@
 -- The keeper's pass: what a step on it says of what contracts see.
-use Rattle.std.proofs.Common.{◌≡◌, ◌⊎◌, ℕ, ◌+◌, ◌≤◌, List, slice_index, slice_set, Option, Some, None, refl, sym, ap, ◌∙◌, subst}
+use Rattle.std.proofs.Common.{◌≡◌, ◌⊎◌, ℕ, ◌+◌, ◌≤◌, slice_index, slice_set, None, ap, ◌∙◌, subst}
 use Rattle.atomic_table.specs.Seated.{TableId}
 use Rattle.atomic_table.specs.Table.{Me}
 use Rattle.auc_sqn.specs.Number.{max_seq}
-use Rattle.auc_draw.specs.declared.rule.Note.{Note}
 use Rattle.auc_draw.specs.declared.rule.View.{View}
 use Rattle.auc_draw.specs.Values.{KeeperValue}
-use Rattle.auc_draw.specs.InnerRule.{with_note, NotesLimit}
+use Rattle.auc_draw.specs.InnerRule.{NotesLimit}
 use Rattle.auc_draw.specs.InnerLimits.{raised}
 use Rattle.auc_draw.proofs.LimitLemmas.{MayRise}
 

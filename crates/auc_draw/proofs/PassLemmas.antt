@@ -2,7 +2,7 @@
 use Rattle.std.proofs.Common.{◌≡◌, ◌≢◌, ℕ, zero, suc, ◌+◌, ◌-◌, ◌<◌, ◌≤◌, ◌==◌, nat_lt, Bool, true, false, if◌then◌else◌, List, [], ◌∷◌, ◌++◌, length, slice_index, slice_set, get_or, Contains, Option, Some, None, is_some, arith, refl, sym, ap, ◌∙◌, subst, eq-eqb}
 use Rattle.std.proofs.lemmas.Bool.Decides.{nat_tests}
 use Rattle.std.proofs.lemmas.Bool.{eqb-true}
-use Rattle.std.proofs.lemmas.List.{append-nil, length-set, get_or-set_same, get_or-set_other}
+use Rattle.std.proofs.lemmas.List.{append-nil, length-append, get_or-append-add, length-set, get_or-set_same, get_or-set_other}
 use Rattle.std.proofs.lemmas.List.Sums.{sum_by-cons, sum_by-append}
 use Rattle.auc_history.specs.declared.entry.Entry.{Entry}
 use Rattle.auc_history.specs.declared.entry.Entry.TheVariants.{Drawn, Moved, Look}
@@ -307,3 +307,10 @@ stopped_quietly o me new is = record { added = stop_read o; is = ap (λ (m : Me 
 -- the number that the caller drew is among the entries of the seat
 pub drawn_here : (id : TableId) (deeds : List Deed) (ended : Option ℕ) (pass : PassValue) (sub n : ℕ) → record { id = id; deeds = deeds; ended = ended } ≡ pass → Contains (entries_of sub pass.deeds) (Drawn n) → Contains (entries_of sub deeds) (Drawn n)
 drawn_here id deeds ended pass sub n is there = subst (λ (ds : List Deed). Contains (entries_of sub ds) (Drawn n)) (sym (ap (λ (p : PassValue). p.deeds) is)) there
+
+-- a number that was just drawn is among the entries
+pub just_drawn : (sub n : ℕ) (old new : List Deed) → Draws sub old new (Number n) → Contains (entries_of sub new) (Drawn n)
+just_drawn sub n old new drew = subst (λ (es : List Entry). Contains es (Drawn n)) (sym (ap (entries_of sub) drew.3 ∙ entries_same sub old (Drawn n))) (last_there (entries_of sub old))
+  where
+    last_there : (es : List Entry) → Contains (es ++ Drawn n ∷ []) (Drawn n)
+    last_there es = (length es, omega (arith, length-append es (Drawn n ∷ [])), ap (λ k. get_or (es ++ Drawn n ∷ []) k (Drawn n)) (omega arith) ∙ get_or-append-add es (Drawn n ∷ []) 0 (Drawn n))

@@ -1,20 +1,18 @@
 -- Each step on a limit or on the stop word, and each look of the keeper, keeps the rule.
-use Rattle.std.proofs.Common.{◌≡◌, ◌⊎◌, ℕ, ◌+◌, ◌<◌, ◌≤◌, nat_lt, Bool, true, false, if◌then◌else◌, List, [], ◌∷◌, ◌++◌, length, slice_index, slice_set, All, Contains, flat_map, Option, Some, None, arith, refl, sym, ap, ◌∙◌, subst, max}
+use Rattle.std.proofs.Common.{◌≡◌, ℕ, ◌+◌, ◌<◌, ◌≤◌, nat_lt, Bool, true, false, if◌then◌else◌, List, [], ◌∷◌, ◌++◌, length, slice_index, slice_set, Contains, Option, Some, None, arith, refl, sym, ap, ◌∙◌, subst, max}
 use Rattle.std.proofs.lemmas.Grind.{flat_map-append}
 use Rattle.std.proofs.lemmas.List.{append-nil, length-set, set-get_or, get_or-set_same, get_or-set_other}
 use mathlib.Core.Option.{some, none}
 use lib.ListN.{get_elem?}
-use Rattle.atomic_table.specs.Table.{State, Me, keeps, step, Allows}
+use Rattle.atomic_table.specs.Table.{State, Me, keeps, step}
 use Rattle.auc_edge.specs.declared.stop.Stop.{Stop}
-use Rattle.auc_history.specs.declared.entry.Entry.{Entry}
 use Rattle.auc_history.specs.declared.entry.Entry.TheVariants.{Drawn}
-use Rattle.auc_sqn.specs.Number.{max_seq}
 use Rattle.auc_draw.specs.declared.rule.Deed.{Deed}
 use Rattle.auc_draw.specs.declared.rule.Deed.TheVariants.{Made, Claimed, Released, Withheld, ReadStop}
 use Rattle.auc_draw.specs.declared.rule.Note.{Note}
 use Rattle.auc_draw.specs.declared.rule.View.{View}
 use Rattle.auc_draw.specs.Deeds.{entries_by, entries_of, claims_by, claims_of, kept_stop, stop_read, withholding}
-use Rattle.auc_draw.specs.InnerLimits.{stop_at, limit_at, stop_word, stop_of, looked, raised, ended, first_note, IsTied, Tells, AreTold, IsTold, KeepsLimits}
+use Rattle.auc_draw.specs.InnerLimits.{stop_at, limit_at, stop_word, stop_of, looked, raised, ended, first_note, IsTied, Tells, AreTold, KeepsLimits}
 use Rattle.auc_draw.specs.InnerRule.{with_deeds, with_note, release_deeds, KeepsNumbers, Keeps, AllowsRelease, AllowsStopped, AllowsLook, AllowsRaise, AllowsStop}
 use Rattle.auc_draw.proofs.StepLemmas.{Alike, numbers_still, jobs_still, seats_still}
 use Rattle.auc_draw.proofs.LimitLemmas.{first_at, first_same, still_same, limits_stepped, limits_noted, kept_more, stop_round, stopped_told, release_told, looked_tied, MayRise, rises, raised_tied, raised_tells, ended_tied, ended_tells}

@@ -1,5 +1,5 @@
 -- Inner facts: the invariant of a pass.
-use Rattle.std.specs.Prelude.{◌≡◌, ℕ, zero, suc, ◌+◌, ◌<◌, List, [], length, slice_index, Option, Some, None}
+use Rattle.std.specs.Prelude.{◌≡◌, ℕ, zero, suc, ◌<◌, List, [], length, slice_index, Option, Some, None}
 use Rattle.auc_draw.specs.Deeds.{AreInOrder, kept_of, claims_of}
 use Rattle.auc_draw.specs.InnerLimits.{limit_at}
 use Rattle.auc_draw.specs.InnerRule.{wide_in}

@@ -6,7 +6,7 @@ ghost use mathlib.Core.Option.{some};
 ghost use lib.ListN.{get_elem?};
 ghost use Rattle.auc_sqn.specs.Number.{max_seq};
 ghost use Rattle.auc_draw.specs.Book.{IsOf, Opens, Closes};
-ghost use Rattle.auc_draw.specs.InnerLimits.{limit_at, opening_note};
+ghost use Rattle.auc_draw.specs.InnerLimits.{limit_at};
 ghost use Rattle.auc_draw.specs.InnerRule.{keeper_view, keeper_view_with};
 ghost use Rattle.auc_draw.specs.InnerSplit.{AreSplit};
 

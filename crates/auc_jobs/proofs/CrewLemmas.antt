@@ -11,7 +11,7 @@ use Rattle.std.proofs.lemmas.List.Sorted.{All-permutation, Contains-permutation,
 use Rattle.atomic_table.specs.Seated.{TableId}
 use Rattle.auc_draw.specs.Book.{Closes}
 use Rattle.auc_draw.specs.Deeds.{entries_of, claims_of}
-use Rattle.auc_draw.specs.Values.{PassValue, ClosedValue}
+use Rattle.auc_draw.specs.Values.{PassValue, BookValue, KeeperValue, ClosedValue}
 use Rattle.auc_draw.specs.declared.rule.Deed.{Deed}
 use Rattle.auc_draw.proofs.Facts.{each_job_is_claimed_once}
 use Rattle.auc_history.specs.declared.entry.Entry.{Entry}
@@ -390,13 +390,27 @@ none_withheld sub (c ∷ done) each =
     ∙ ap (λ (ns : List ℕ). ns ++ withheld_of sub (all_lines (map (λ b. b.served.lines) done))) (All-head (λ b. withheld_of sub b.served.lines ≡ []) c done each)
     ∙ none_withheld sub done (All-tail (λ b. withheld_of sub b.served.lines ≡ []) c done each)
 
+-- a book that was closed, by its openings
+pub record IsClosed (openings : List ℕ) (lists : List (List Deed)) (closed : ClosedValue) : Type 0 where
+  pub book : BookValue
+  pub keeper : KeeperValue
+  pub numbers : book.openings ≡ openings
+  pub closes : Closes book lists keeper closed
+
+-- the lists split a history of each subscriber
+closed_splits : (openings : List ℕ) (lists : List (List Deed)) (closed : ClosedValue) → IsClosed openings lists closed → (sub : ℕ) → sub < length openings
+    → Splits max_seq (slice_index openings sub) (slice_index closed.words sub) (map (entries_of sub) lists)
+closed_splits openings lists closed is sub known =
+    let P : List ℕ → Type 0 = λ os. sub < length os → Splits max_seq (slice_index os sub) (slice_index closed.words sub) (map (entries_of sub) lists) in
+    subst P is.numbers (is.closes.splits sub) known
+
 -- what all workers come to, and the book that was closed after them
 pub record Assembles (shared : Shared) (early : List LineRecord) (openings : List ℕ) (all : List WorkerJobs) (closed : ClosedValue) (sorted : List ClaimedJob) : Type 0 where
   pub recut : RecutSplitIsASplit
   pub some : 1 ≤ length all
   pub served : All (λ d. HasServed shared early d.pass d.jobs.items) all
   pub last : All (λ d. IsLast (length shared.jobs) (claims_of d.pass.deeds)) all
-  pub closes : Closes openings (lists_of all) closed
+  pub closes : IsClosed openings (lists_of all) closed
   pub same : IsPermutation (all_jobs all) sorted
   pub rising : AllPairs (λ b c. b.job ≤ c.job) sorted
   pub apart : AllPairs AreApart shared.jobs
@@ -419,7 +433,7 @@ module _ (shared : Shared) (early : List LineRecord) (openings : List ℕ) (all 
   below_jobs = of_all_jobs (λ c. c.job < n) (λ d s. s.below)
 
   once_jobs : (j : ℕ) → j < n → times j (places (all_jobs all)) ≡ 1
-  once_jobs j low = sym (all_times shared early all j low a.served) ∙ each_job_is_claimed_once openings (lists_of all) closed n a.closes (last_of_all n all a.some a.last) j low
+  once_jobs j low = sym (all_times shared early all j low a.served) ∙ each_job_is_claimed_once a.closes.book (lists_of all) a.closes.keeper closed n a.closes.closes (last_of_all n all a.some a.last) j low
 
   once_turns : (j : ℕ) → j < n → times j (places_of ts) ≡ 1
   once_turns j low = ap (times j) (all_places all) ∙ once_jobs j low
@@ -476,7 +490,7 @@ module _ (shared : Shared) (early : List LineRecord) (openings : List ℕ) (all 
       (All-permutation (IsFromLower ts sub word) ts os in_place.same (lower_all shared early ts sub word all a.served (all_has ts)))
 
   split : (sub : ℕ) → sub < length openings → Splits max_seq (slice_index openings sub) (slice_index closed.words sub) (entries_of_pieces sub (pieces_in os))
-  split sub known = a.recut max_seq (slice_index openings sub) (slice_index closed.words sub) (map (entries_of sub) (lists_of all)) (entries_of_pieces sub (pieces_in os)) (a.closes.splits sub known)
+  split sub known = a.recut max_seq (slice_index openings sub) (slice_index closed.words sub) (map (entries_of sub) (lists_of all)) (entries_of_pieces sub (pieces_in os)) (closed_splits openings (lists_of all) closed a.closes sub known)
       (subst (λ (es : List Entry). IsPermutation es (all_entries (entries_of_pieces sub (pieces_in os)))) (sym (entries_all shared early sub all a.served))
       (subst (λ (es : List Entry). IsPermutation (flat_map (entries_of_turn sub) ts) es) (entries_in sub os) (in_place.flat (entries_of_turn sub))))
       (orders_in sub os (All-permutation (λ t. IsInOrder (entries_of_turn sub t)) ts os in_place.same (of_all_turns (λ t. IsInOrder (entries_of_turn sub t)) (λ d s. s.ordered sub))))
@@ -493,7 +507,7 @@ module _ (shared : Shared) (early : List LineRecord) (openings : List ℕ) (all 
     };
     settled = settled_all shared early shared.jobs sorted 0 sorted_places jobs_first
         (All-permutation (IsSettledAt shared early) (all_jobs all) sorted a.same (of_all_jobs (IsSettledAt shared early) (λ d s. s.settled)));
-    size = a.closes.many;
+    size = a.closes.closes.many ∙ ap (λ (ns : List ℕ). length ns) a.closes.numbers;
   }
 
   -- the printed vectors of the sorted jobs
@@ -510,7 +524,7 @@ pub record Closing (id : TableId) (shared : Shared) (openings : List ℕ) (all :
   pub some : 1 ≤ length all
   pub finished : All (IsDone id shared) all
   pub collected : AreCollected all passes done
-  pub closes : Closes openings (map (λ p. p.deeds) passes) closed
+  pub closes : IsClosed openings (map (λ p. p.deeds) passes) closed
   pub same : IsPermutation done sorted
   pub rising : AllPairs (λ b c. b.job ≤ c.job) sorted
   pub apart : AllPairs AreApart shared.jobs
@@ -525,7 +539,7 @@ assembles id shared openings all passes closed done sorted c early begins =
       some = c.some;
       served = all_from (HasFinishedAt shared early) (λ d. HasServed shared early d.pass d.jobs.items) all (λ d f. f.0) finish;
       last = all_from (HasFinishedAt shared early) (λ d. IsLast (length shared.jobs) (claims_of d.pass.deeds)) all (λ d f. f.1) finish;
-      closes = subst (λ (ls : List (List Deed)). Closes openings ls closed) (lists_are all passes c.collected.passed) c.closes;
+      closes = subst (λ (ls : List (List Deed)). IsClosed openings ls closed) (lists_are all passes c.collected.passed) c.closes;
       same = subst (λ (cs : List ClaimedJob). IsPermutation cs sorted) c.collected.served c.same;
       rising = c.rising;
       apart = c.apart;
@@ -572,7 +586,7 @@ bounded_words [] bound each = All-nil (λ word. word ≤ bound)
 bounded_words (word ∷ words) bound each =
     All-cons (λ x. x ≤ bound) word words (each 0 (omega arith)) (bounded_words words bound (λ sub known. each (suc sub) (omega (arith, known))))
 
-pub closed_within : (openings : List ℕ) (lists : List (List Deed)) (closed : ClosedValue) (words : List ℕ) → Closes openings lists closed → words ≡ closed.words → All (λ word. word ≤ max_seq + 64) words
-closed_within openings lists closed words closes is =
+pub closed_within : (book : BookValue) (lists : List (List Deed)) (keeper : KeeperValue) (closed : ClosedValue) (words : List ℕ) → Closes book lists keeper closed → words ≡ closed.words → All (λ word. word ≤ max_seq + 64) words
+closed_within book lists keeper closed words closes is =
     subst (λ (ws : List ℕ). All (λ word. word ≤ max_seq + 64) ws) (sym is)
     (bounded_words closed.words (max_seq + 64) (λ sub known. closes.bounded sub (omega (arith, known, closes.many))))

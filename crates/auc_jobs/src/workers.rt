@@ -17,6 +17,7 @@ use auc_centre::Naming;
 use auc_draw::{Book, Pass};
 use auc_edge::{Gate, Items, NoMemory};
 use auc_history::recut_split_is_a_split;
+use auc_sqn::MAX_SEQ;
 use std::alloc::Global;
 use std::marker::Brand;
 use std::sync::Wait;
@@ -109,7 +110,8 @@ pub(crate) fn serve_pieces<G: Gate + Sync, R: Threads + Wait + Sync>(
     ensures bound { IfOk result (λ both. All (λ word. word ≤ max_seq + 64) both.1) }
 {
     recut_split_is_a_split();
-    let (book, passes, keeper) = Book::open(alloc, openings, workers)?;
+    let limits = Vec::from_elem(alloc, MAX_SEQ, openings.len())?;
+    let (book, passes, keeper) = Book::open(alloc, openings, limits.as_slice(), workers)?;
     let all = work_all::<Brand, G, R>(rt, alloc, round, &book, gate, passes)?;
     let (passes, done) = collect(alloc, all)?;
     let closed = book.close(passes, keeper);

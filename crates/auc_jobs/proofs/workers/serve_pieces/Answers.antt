@@ -1,5 +1,4 @@
-use Rattle.std.proofs.Common.{ℕ, List, arith, ap, map, subst}
-use Rattle.auc_draw.specs.Book.{Closes}
+use Rattle.std.proofs.Common.{ℕ, List, arith, ap, map}
 use Rattle.auc_jobs.specs.InnerSharing.{Shared}
 use Rattle.auc_jobs.proofs.CollectLemmas.{passes_own}
 use Rattle.auc_jobs.proofs.CrewLemmas.{served_by_workers, printed_by_workers, closed_within}
@@ -16,7 +15,7 @@ returns-clause-served g c =
       some = omega (arith, c.in_ok-all.ensures.0, c.in_ok-book.ensures.many, c.requires.workers.0);
       finished = c.in_ok-all.ensures.1;
       collected = c.in_ok-passes.ensures;
-      closes = subst (λ (os : List ℕ). Closes os (map (λ p. p.deeds) c.in_ok-passes.passes.items) c.close-closed.result) c.in_ok-book.ensures.numbers c.close-closed.ensures;
+      closes = record { book = c.in_ok-book.book; keeper = c.in_ok-book.keeper; numbers = c.in_ok-book.ensures.numbers; closes = c.close-closed.ensures };
       same = c.in_ok-in_order.ensures.same;
       rising = c.in_ok-in_order.ensures.sorted;
       apart = c.requires.round.apart;
@@ -31,7 +30,7 @@ returns-clause-vectors g c =
       some = omega (arith, c.in_ok-all.ensures.0, c.in_ok-book.ensures.many, c.requires.workers.0);
       finished = c.in_ok-all.ensures.1;
       collected = c.in_ok-passes.ensures;
-      closes = subst (λ (os : List ℕ). Closes os (map (λ p. p.deeds) c.in_ok-passes.passes.items) c.close-closed.result) c.in_ok-book.ensures.numbers c.close-closed.ensures;
+      closes = record { book = c.in_ok-book.book; keeper = c.in_ok-book.keeper; numbers = c.in_ok-book.ensures.numbers; closes = c.close-closed.ensures };
       same = c.in_ok-in_order.ensures.same;
       rising = c.in_ok-in_order.ensures.sorted;
       apart = c.requires.round.apart;
@@ -39,4 +38,4 @@ returns-clause-vectors g c =
     c.requires.round (ap (λ (s : Shared). s.full) c.round.view_is) c.in_ok-done.ensures.records c.in_ok-done.ensures.vectors
 
 pub returns-clause-bound : goal.returns-clause-bound
-returns-clause-bound g c = closed_within c.in_ok-book.book.openings (map (λ p. p.deeds) c.in_ok-passes.passes.items) c.close-closed.result c.in_ok-words.words c.close-closed.ensures c.in_ok-words.ensures
+returns-clause-bound g c = closed_within c.in_ok-book.book (map (λ p. p.deeds) c.in_ok-passes.passes.items) c.in_ok-book.keeper c.close-closed.result c.in_ok-words.words c.close-closed.ensures c.in_ok-words.ensures

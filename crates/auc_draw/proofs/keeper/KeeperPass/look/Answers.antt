@@ -1,4 +1,4 @@
-use Rattle.std.proofs.Common.{◌<◌, ◌≡◌, length, slice_set, ap, sym, ◌∙◌, subst, arith}
+use Rattle.std.proofs.Common.{length, ap, arith}
 use Rattle.auc_draw.proofs.StopLemmas.{look_ok}
 use Rattle.auc_draw.proofs.keeper.KeeperPass.look.Goals as goal
 
