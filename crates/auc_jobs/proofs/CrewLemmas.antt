@@ -10,10 +10,11 @@ use Rattle.std.proofs.lemmas.List.Sums.{get_or-le-sum_by, sum_by-cons}
 use Rattle.std.proofs.lemmas.List.Sorted.{All-permutation, Contains-permutation, sum_by-IsPermutation}
 use Rattle.atomic_table.specs.Seated.{TableId}
 use Rattle.auc_draw.specs.Book.{Closes}
-use Rattle.auc_draw.specs.Deeds.{entries_of, claims_of}
+use Rattle.auc_draw.specs.Deeds.{entries_of, claims_of, released_of, held_of as pass_held}
 use Rattle.auc_draw.specs.Values.{PassValue, BookValue, KeeperValue, ClosedValue}
 use Rattle.auc_draw.specs.declared.rule.Deed.{Deed}
 use Rattle.auc_draw.proofs.Facts.{each_job_is_claimed_once}
+use Rattle.auc_edge.specs.declared.stop.Stop.{Stop}
 use Rattle.auc_history.specs.declared.entry.Entry.{Entry}
 use Rattle.auc_history.specs.History.{IsInOrder}
 use Rattle.auc_history.specs.Recut.{RecutSplitIsASplit}
@@ -25,7 +26,7 @@ use Rattle.auc_sqn.specs.Number.{max_seq}
 use Rattle.auc_world.specs.declared.record.LineRecord.{LineRecord}
 use Rattle.auc_world.specs.Entries.{reports, is_reported}
 use Rattle.auc_world.specs.Given.{JobGives}
-use Rattle.auc_world.specs.Lines.{accepted, withheld_by, withheld_of, all_lines}
+use Rattle.auc_world.specs.Lines.{accepted, all_lines}
 use Rattle.auc_world.specs.Pieces.{Piece, IsQuiet, PiecesGive, ReportsAreEarlier, entries_of_pieces, lines_of_pieces}
 use Rattle.auc_world.specs.Vectors.{vectors_in}
 use Rattle.auc_world.proofs.Facts.{accepted-append, job_quiet}
@@ -33,12 +34,16 @@ use Rattle.auc_vector.specs.declared.parts.Vector.{Vector as AuthVector}
 use Rattle.auc_jobs.specs.declared.claiming.ClaimedJob.{ClaimedJob}
 use Rattle.auc_jobs.specs.declared.claiming.WorkerJobs.{WorkerJobs}
 use Rattle.auc_jobs.specs.InnerClaims.{Turn, turns, entries_of_turn, IsGiven, IsSettledAt, IsPrinted, ClaimsAre, HasServed, IsLast, IsDone, AreCollected}
-use Rattle.auc_jobs.specs.InnerRound.{AreSettled, AreServed, IsSettled}
+use Rattle.auc_jobs.specs.InnerRound.{AreSettled, AreServed, GoesByLimits, IsSettled}
 use Rattle.auc_jobs.specs.InnerServing.{before_at}
 use Rattle.auc_jobs.specs.InnerSharing.{Shared, Begins, IsServable}
 use Rattle.auc_jobs.specs.InnerUsims.{OwnUsims, usim_in}
+use Rattle.auc_jobs.specs.Serving.{AreAllKnown, AreKnown}
+use Rattle.auc_jobs.proofs.LimitLemmas.{AreLimited, flat_limited, flat_lines, withholds_by}
+use Rattle.auc_jobs.proofs.LineLemmas.{all_at}
 use Rattle.auc_jobs.proofs.OrderLemmas.{up, places_of, places, Placed, placed, sorted_up, all_front, all_back}
 use Rattle.auc_jobs.proofs.PieceLemmas.{not_given}
+use Rattle.auc_jobs.proofs.TellingLemmas.{IsOwn, job_own}
 use Rattle.auc_jobs.proofs.TurnLemmas.{apart_at}
 
 -- ---- lists
@@ -383,39 +388,71 @@ none_above n j (c ∷ done) high each =
     apart true same = absurd (omega (arith, high, eqb-true c.job j same, All-head (λ b. b.job < n) c done each))
     apart false other = refl
 
-none_withheld : (sub : ℕ) (done : List ClaimedJob) → All (λ c. withheld_of sub c.served.lines ≡ []) done → withheld_of sub (all_lines (map (λ c. c.served.lines) done)) ≡ []
-none_withheld sub [] each = refl
-none_withheld sub (c ∷ done) each =
-    flat_map-append (withheld_by sub) c.served.lines (all_lines (map (λ b. b.served.lines) done))
-    ∙ ap (λ (ns : List ℕ). ns ++ withheld_of sub (all_lines (map (λ b. b.served.lines) done))) (All-head (λ b. withheld_of sub b.served.lines ≡ []) c done each)
-    ∙ none_withheld sub done (All-tail (λ b. withheld_of sub b.served.lines ≡ []) c done each)
+-- ---- limits
+
+-- what each worker's jobs release and withhold is so by the limit, if what its pass released and withheld is
+workers_limited : (shared : Shared) (early : List LineRecord) (sub limit : ℕ) (stop : Option Stop) (all : List WorkerJobs) → All (λ d. HasServed shared early d.pass d.jobs.items) all
+    → All (λ deeds. All (λ n. n ≤ limit) (released_of sub deeds)) (lists_of all) → All (λ deeds. All (λ held. (limit < held.0) × (stop ≡ Some held.1)) (pass_held sub deeds)) (lists_of all)
+    → All (λ d. All (λ c. AreLimited sub limit stop c.served.lines) d.jobs.items) all
+workers_limited shared early sub limit stop [] served low high = All-nil (λ d. All (λ c. AreLimited sub limit stop c.served.lines) d.jobs.items)
+workers_limited shared early sub limit stop (d ∷ all) served low high =
+    All-cons (λ d. All (λ c. AreLimited sub limit stop c.served.lines) d.jobs.items) d all here
+    (workers_limited shared early sub limit stop all (All-tail (λ d. HasServed shared early d.pass d.jobs.items) d all served)
+    (All-tail (λ deeds. All (λ n. n ≤ limit) (released_of sub deeds)) d.pass.deeds (lists_of all) low)
+    (All-tail (λ deeds. All (λ held. (limit < held.0) × (stop ≡ Some held.1)) (pass_held sub deeds)) d.pass.deeds (lists_of all) high))
+  where
+    own : HasServed shared early d.pass d.jobs.items
+    own = All-head (λ d. HasServed shared early d.pass d.jobs.items) d all served
+
+    lows : All (λ n. n ≤ limit) (released_of sub d.pass.deeds)
+    lows = All-head (λ deeds. All (λ n. n ≤ limit) (released_of sub deeds)) d.pass.deeds (lists_of all) low
+
+    highs : All (λ held. (limit < held.0) × (stop ≡ Some held.1)) (pass_held sub d.pass.deeds)
+    highs = All-head (λ deeds. All (λ held. (limit < held.0) × (stop ≡ Some held.1)) (pass_held sub deeds)) d.pass.deeds (lists_of all) high
+
+    here : All (λ c. AreLimited sub limit stop c.served.lines) d.jobs.items
+    here = λ k c within. record {
+      releases = λ i n inside. contained (λ n. n ≤ limit) (released_of sub d.pass.deeds) _ (own.released sub k c within i n inside) lows;
+      withholds = λ i held inside. contained (λ held. (limit < held.0) × (stop ≡ Some held.1)) (pass_held sub d.pass.deeds) _ (own.withheld sub k c within i held inside) highs;
+    }
+
+-- the lines of a worker's jobs name subscribers
+own_turns : (shared : Shared) (early earlier : List LineRecord) (done : List ClaimedJob) → AreAllKnown (length shared.set.rows) shared.jobs → All (IsGiven shared early) (turns earlier done)
+    → All (λ c. All (IsOwn (length shared.set.rows)) c.served.lines) done
+own_turns shared early earlier [] known given = All-nil (λ c. All (IsOwn (length shared.set.rows)) c.served.lines)
+own_turns shared early earlier (c ∷ done) known given =
+    let t : Turn = record { earlier = earlier; claimed = c } in
+    let here = All-head (IsGiven shared early) t (turns (earlier ++ c.served.lines) done) given in
+    All-cons (λ c. All (IsOwn (length shared.set.rows)) c.served.lines) c done
+    (job_own shared.set (before_at early earlier []) here.asked c.served.lines (all_at (AreKnown (length shared.set.rows)) shared.jobs c.job here.asked known here.there) here.given)
+    (own_turns shared early (earlier ++ c.served.lines) done known (All-tail (IsGiven shared early) t (turns (earlier ++ c.served.lines) done) given))
 
 -- a book that was closed, by its openings
-pub record IsClosed (openings : List ℕ) (lists : List (List Deed)) (closed : ClosedValue) : Type 0 where
-  pub book : BookValue
-  pub keeper : KeeperValue
+pub record IsClosed (openings : List ℕ) (book : BookValue) (keeper : KeeperValue) (lists : List (List Deed)) (closed : ClosedValue) : Type 0 where
   pub numbers : book.openings ≡ openings
   pub closes : Closes book lists keeper closed
 
 -- the lists split a history of each subscriber
-closed_splits : (openings : List ℕ) (lists : List (List Deed)) (closed : ClosedValue) → IsClosed openings lists closed → (sub : ℕ) → sub < length openings
+closed_splits : (openings : List ℕ) (book : BookValue) (keeper : KeeperValue) (lists : List (List Deed)) (closed : ClosedValue) → IsClosed openings book keeper lists closed → (sub : ℕ) → sub < length openings
     → Splits max_seq (slice_index openings sub) (slice_index closed.words sub) (map (entries_of sub) lists)
-closed_splits openings lists closed is sub known =
+closed_splits openings book keeper lists closed is sub known =
     let P : List ℕ → Type 0 = λ os. sub < length os → Splits max_seq (slice_index os sub) (slice_index closed.words sub) (map (entries_of sub) lists) in
     subst P is.numbers (is.closes.splits sub) known
 
 -- what all workers come to, and the book that was closed after them
-pub record Assembles (shared : Shared) (early : List LineRecord) (openings : List ℕ) (all : List WorkerJobs) (closed : ClosedValue) (sorted : List ClaimedJob) : Type 0 where
+pub record Assembles (shared : Shared) (early : List LineRecord) (openings : List ℕ) (book : BookValue) (keeper : KeeperValue) (all : List WorkerJobs) (closed : ClosedValue) (sorted : List ClaimedJob) : Type 0 where
   pub recut : RecutSplitIsASplit
   pub some : 1 ≤ length all
   pub served : All (λ d. HasServed shared early d.pass d.jobs.items) all
   pub last : All (λ d. IsLast (length shared.jobs) (claims_of d.pass.deeds)) all
-  pub closes : IsClosed openings (lists_of all) closed
+  pub closes : IsClosed openings book keeper (lists_of all) closed
   pub same : IsPermutation (all_jobs all) sorted
   pub rising : AllPairs (λ b c. b.job ≤ c.job) sorted
   pub apart : AllPairs AreApart shared.jobs
+  pub known : AreAllKnown (length shared.set.rows) shared.jobs
+  pub sized : length openings ≡ length shared.set.rows
 
-module _ (shared : Shared) (early : List LineRecord) (openings : List ℕ) (all : List WorkerJobs) (closed : ClosedValue) (sorted : List ClaimedJob) (a : Assembles shared early openings all closed sorted) where
+module _ (shared : Shared) (early : List LineRecord) (openings : List ℕ) (book : BookValue) (keeper : KeeperValue) (all : List WorkerJobs) (closed : ClosedValue) (sorted : List ClaimedJob) (a : Assembles shared early openings book keeper all closed sorted) where
   abbrev n : ℕ
   n = length shared.jobs
 
@@ -433,7 +470,7 @@ module _ (shared : Shared) (early : List LineRecord) (openings : List ℕ) (all 
   below_jobs = of_all_jobs (λ c. c.job < n) (λ d s. s.below)
 
   once_jobs : (j : ℕ) → j < n → times j (places (all_jobs all)) ≡ 1
-  once_jobs j low = sym (all_times shared early all j low a.served) ∙ each_job_is_claimed_once a.closes.book (lists_of all) a.closes.keeper closed n a.closes.closes (last_of_all n all a.some a.last) j low
+  once_jobs j low = sym (all_times shared early all j low a.served) ∙ each_job_is_claimed_once book (lists_of all) keeper closed n a.closes.closes (last_of_all n all a.some a.last) j low
 
   once_turns : (j : ℕ) → j < n → times j (places_of ts) ≡ 1
   once_turns j low = ap (times j) (all_places all) ∙ once_jobs j low
@@ -490,7 +527,7 @@ module _ (shared : Shared) (early : List LineRecord) (openings : List ℕ) (all 
       (All-permutation (IsFromLower ts sub word) ts os in_place.same (lower_all shared early ts sub word all a.served (all_has ts)))
 
   split : (sub : ℕ) → sub < length openings → Splits max_seq (slice_index openings sub) (slice_index closed.words sub) (entries_of_pieces sub (pieces_in os))
-  split sub known = a.recut max_seq (slice_index openings sub) (slice_index closed.words sub) (map (entries_of sub) (lists_of all)) (entries_of_pieces sub (pieces_in os)) (closed_splits openings (lists_of all) closed a.closes sub known)
+  split sub known = a.recut max_seq (slice_index openings sub) (slice_index closed.words sub) (map (entries_of sub) (lists_of all)) (entries_of_pieces sub (pieces_in os)) (closed_splits openings book keeper (lists_of all) closed a.closes sub known)
       (subst (λ (es : List Entry). IsPermutation es (all_entries (entries_of_pieces sub (pieces_in os)))) (sym (entries_all shared early sub all a.served))
       (subst (λ (es : List Entry). IsPermutation (flat_map (entries_of_turn sub) ts) es) (entries_in sub os) (in_place.flat (entries_of_turn sub))))
       (orders_in sub os (All-permutation (λ t. IsInOrder (entries_of_turn sub t)) ts os in_place.same (of_all_turns (λ t. IsInOrder (entries_of_turn sub t)) (λ d s. s.ordered sub))))
@@ -503,11 +540,40 @@ module _ (shared : Shared) (early : List LineRecord) (openings : List ℕ) (all 
       give = pieces_give shared early shared.jobs os 0 in_place.keyed jobs_first given quiet;
       reports = λ sub. reports_earlier sub [] os 0 n in_place.keyed (λ word. lower sub word);
       split = split;
-      released = λ sub. none_withheld sub sorted (All-permutation (λ c. withheld_of sub c.served.lines ≡ []) (all_jobs all) sorted a.same (of_all_jobs (λ c. withheld_of sub c.served.lines ≡ []) (λ d s. s.released sub)));
     };
     settled = settled_all shared early shared.jobs sorted 0 sorted_places jobs_first
         (All-permutation (IsSettledAt shared early) (all_jobs all) sorted a.same (of_all_jobs (IsSettledAt shared early) (λ d s. s.settled)));
     size = a.closes.closes.many ∙ ap (λ (ns : List ℕ). length ns) a.closes.numbers;
+  }
+
+  -- its lines name its subscribers
+  own : All (IsOwn (length shared.set.rows)) (all_lines (map (λ c. c.served.lines) sorted))
+  own = flat_lines (IsOwn (length shared.set.rows)) sorted
+      (All-permutation (λ c. All (IsOwn (length shared.set.rows)) c.served.lines) (all_jobs all) sorted a.same
+      (of_all_jobs (λ c. All (IsOwn (length shared.set.rows)) c.served.lines) (λ d s. own_turns shared early [] d.jobs.items a.known s.given)))
+
+  in_book : (sub : ℕ) → sub < length shared.set.rows → sub < length book.openings
+  in_book sub known = let numbers = ap (λ (ns : List ℕ). length ns) a.closes.numbers in let sized = a.sized in omega (arith, known, numbers, sized)
+
+  -- what they release and withhold of a subscriber is so by its limit
+  limited : (sub : ℕ) → sub < length shared.set.rows
+      → AreLimited sub (slice_index keeper.limits sub) keeper.stop (all_lines (map (λ c. c.served.lines) sorted))
+  limited sub known =
+      let limit = slice_index keeper.limits sub in
+      let P : ClaimedJob → Type 0 = λ c. AreLimited sub limit keeper.stop c.served.lines in
+      flat_limited sub limit keeper.stop sorted
+      (All-permutation P (all_jobs all) sorted a.same
+      (gather_jobs P all (workers_limited shared early sub limit keeper.stop all a.served (a.closes.closes.released sub (in_book sub known)) (a.closes.closes.withheld sub (in_book sub known)))))
+
+  pub by_limits : GoesByLimits shared.set keeper.stop (map (λ c. c.served.lines) sorted) book.limits closed.words keeper.limits
+  by_limits = record {
+    raises = record {
+      step = λ sub known. a.closes.closes.step sub (in_book sub known);
+      covers = λ sub known. (limited sub known).releases;
+      near = λ sub known. a.closes.closes.near sub (in_book sub known);
+      within = λ sub known. a.closes.closes.within sub (in_book sub known);
+    };
+    withholds = withholds_by keeper.stop (length shared.set.rows) (all_lines (map (λ c. c.served.lines) sorted)) (slice_index keeper.limits) own limited;
   }
 
   -- the printed vectors of the sorted jobs
@@ -519,19 +585,21 @@ abbrev HasFinishedAt : Shared → List LineRecord → WorkerJobs → Type 0
 HasFinishedAt shared early d = HasServed shared early d.pass d.jobs.items × IsLast (length shared.jobs) (claims_of d.pass.deeds)
 
 -- what the calls of a round say
-pub record Closing (id : TableId) (shared : Shared) (openings : List ℕ) (all : List WorkerJobs) (passes : List PassValue) (closed : ClosedValue) (done sorted : List ClaimedJob) : Type 0 where
+pub record Closing (id : TableId) (shared : Shared) (openings : List ℕ) (book : BookValue) (keeper : KeeperValue) (all : List WorkerJobs) (passes : List PassValue) (closed : ClosedValue) (done sorted : List ClaimedJob) : Type 0 where
   pub recut : RecutSplitIsASplit
   pub some : 1 ≤ length all
   pub finished : All (IsDone id shared) all
   pub collected : AreCollected all passes done
-  pub closes : IsClosed openings (map (λ p. p.deeds) passes) closed
+  pub closes : IsClosed openings book keeper (map (λ p. p.deeds) passes) closed
   pub same : IsPermutation done sorted
   pub rising : AllPairs (λ b c. b.job ≤ c.job) sorted
   pub apart : AllPairs AreApart shared.jobs
+  pub known : AreAllKnown (length shared.set.rows) shared.jobs
+  pub sized : length openings ≡ length shared.set.rows
 
-assembles : (id : TableId) (shared : Shared) (openings : List ℕ) (all : List WorkerJobs) (passes : List PassValue) (closed : ClosedValue) (done sorted : List ClaimedJob)
-    → Closing id shared openings all passes closed done sorted → (early : List LineRecord) → Begins shared early → Assembles shared early openings all closed sorted
-assembles id shared openings all passes closed done sorted c early begins =
+assembles : (id : TableId) (shared : Shared) (openings : List ℕ) (book : BookValue) (keeper : KeeperValue) (all : List WorkerJobs) (passes : List PassValue) (closed : ClosedValue) (done sorted : List ClaimedJob)
+    → Closing id shared openings book keeper all passes closed done sorted → (early : List LineRecord) → Begins shared early → Assembles shared early openings book keeper all closed sorted
+assembles id shared openings book keeper all passes closed done sorted c early begins =
     let finish : All (HasFinishedAt shared early) all = both (IsDone id shared) (λ d. d.is_whole ≡ true) (HasFinishedAt shared early) all
     (λ d is whole. ((is.whole whole).served early begins, (is.whole whole).last)) c.finished c.collected.whole in
     record {
@@ -539,21 +607,34 @@ assembles id shared openings all passes closed done sorted c early begins =
       some = c.some;
       served = all_from (HasFinishedAt shared early) (λ d. HasServed shared early d.pass d.jobs.items) all (λ d f. f.0) finish;
       last = all_from (HasFinishedAt shared early) (λ d. IsLast (length shared.jobs) (claims_of d.pass.deeds)) all (λ d f. f.1) finish;
-      closes = subst (λ (ls : List (List Deed)). IsClosed openings ls closed) (lists_are all passes c.collected.passed) c.closes;
+      closes = subst (λ (ls : List (List Deed)). IsClosed openings book keeper ls closed) (lists_are all passes c.collected.passed) c.closes;
       same = subst (λ (cs : List ClaimedJob). IsPermutation cs sorted) c.collected.served c.same;
       rising = c.rising;
       apart = c.apart;
+      known = c.known;
+      sized = c.sized;
     }
 
 -- the round is served
-pub served_by_workers : (id : TableId) (shared : Shared) (openings : List ℕ) (all : List WorkerJobs) (passes : List PassValue) (closed : ClosedValue) (done sorted : List ClaimedJob) (records : List (List LineRecord)) (usims : List OwnUsims) (words : List ℕ)
-    → Closing id shared openings all passes closed done sorted → records ≡ map (λ c. c.served.lines) sorted → usims ≡ map (λ c. c.served.usims) sorted → words ≡ closed.words
+pub served_by_workers : (id : TableId) (shared : Shared) (openings : List ℕ) (book : BookValue) (keeper : KeeperValue) (all : List WorkerJobs) (passes : List PassValue) (closed : ClosedValue) (done sorted : List ClaimedJob) (records : List (List LineRecord)) (usims : List OwnUsims) (words : List ℕ)
+    → Closing id shared openings book keeper all passes closed done sorted → records ≡ map (λ c. c.served.lines) sorted → usims ≡ map (λ c. c.served.usims) sorted → words ≡ closed.words
     → (early : List LineRecord) → Begins shared early → AreServed shared.set early openings shared.jobs records usims words
-served_by_workers id shared openings all passes closed done sorted records usims words c lines own ends early begins =
+served_by_workers id shared openings book keeper all passes closed done sorted records usims words c lines own ends early begins =
     subst (λ (ws : List ℕ). AreServed shared.set early openings shared.jobs records usims ws) (sym ends)
     (subst (λ (us : List OwnUsims). AreServed shared.set early openings shared.jobs records us closed.words) (sym own)
     (subst (λ (rs : List (List LineRecord)). AreServed shared.set early openings shared.jobs rs (map (λ c. c.served.usims) sorted) closed.words) (sym lines)
-    (assembled shared early openings all closed sorted (assembles id shared openings all passes closed done sorted c early begins))))
+    (assembled shared early openings book keeper all closed sorted (assembles id shared openings book keeper all passes closed done sorted c early begins))))
+
+-- the limits that its lines go by
+pub limited_by_workers : (id : TableId) (shared : Shared) (openings : List ℕ) (book : BookValue) (keeper : KeeperValue) (all : List WorkerJobs) (passes : List PassValue) (closed : ClosedValue) (done sorted : List ClaimedJob) (records : List (List LineRecord)) (words : List ℕ) (stop : Option Stop)
+    → Closing id shared openings book keeper all passes closed done sorted → IsServable shared → records ≡ map (λ c. c.served.lines) sorted → words ≡ closed.words → stop ≡ keeper.stop
+    → GoesByLimits shared.set stop records book.limits words keeper.limits
+limited_by_workers id shared openings book keeper all passes closed done sorted records words stop c servable lines ends why =
+    let (early, begins) = servable.begins in
+    subst (λ (s : Option Stop). GoesByLimits shared.set s records book.limits words keeper.limits) (sym why)
+    (subst (λ (ws : List ℕ). GoesByLimits shared.set keeper.stop records book.limits ws keeper.limits) (sym ends)
+    (subst (λ (rs : List (List LineRecord)). GoesByLimits shared.set keeper.stop rs book.limits closed.words keeper.limits) (sym lines)
+    (by_limits shared early openings book keeper all closed sorted (assembles id shared openings book keeper all passes closed done sorted c early begins))))
 
 -- the vectors of a full print
 printed_in : (shared : Shared) (sorted : List ClaimedJob) → shared.full ≡ true → All (λ c. IsPrinted shared c.served) sorted → map (λ c. c.served.vectors) sorted ≡ map (vectors_in shared.set) (map (λ c. c.served.lines) sorted)
@@ -562,17 +643,17 @@ printed_in shared (c ∷ sorted) full each =
     ap (λ (v : List AuthVector). v ∷ map (λ b. b.served.vectors) sorted) (All-head (λ b. IsPrinted shared b.served) c sorted each ∙ ap (λ (b : Bool). if b then vectors_in shared.set c.served.lines else []) full)
     ∙ ap (λ (vs : List (List AuthVector)). vectors_in shared.set c.served.lines ∷ vs) (printed_in shared sorted full (All-tail (λ b. IsPrinted shared b.served) c sorted each))
 
-pub printed_by_workers : (id : TableId) (shared : Shared) (openings : List ℕ) (all : List WorkerJobs) (passes : List PassValue) (closed : ClosedValue) (done sorted : List ClaimedJob) (records : List (List LineRecord)) (vectors : List (List AuthVector)) (full : Bool)
-    → Closing id shared openings all passes closed done sorted → IsServable shared → full ≡ shared.full → records ≡ map (λ c. c.served.lines) sorted → vectors ≡ (if full then map (λ c. c.served.vectors) sorted else [])
+pub printed_by_workers : (id : TableId) (shared : Shared) (openings : List ℕ) (book : BookValue) (keeper : KeeperValue) (all : List WorkerJobs) (passes : List PassValue) (closed : ClosedValue) (done sorted : List ClaimedJob) (records : List (List LineRecord)) (vectors : List (List AuthVector)) (full : Bool)
+    → Closing id shared openings book keeper all passes closed done sorted → IsServable shared → full ≡ shared.full → records ≡ map (λ c. c.served.lines) sorted → vectors ≡ (if full then map (λ c. c.served.vectors) sorted else [])
     → vectors ≡ (if shared.full then map (vectors_in shared.set) records else [])
-printed_by_workers id shared openings all passes closed done sorted records vectors full c servable same lines are =
+printed_by_workers id shared openings book keeper all passes closed done sorted records vectors full c servable same lines are =
     are ∙ ap (λ (b : Bool). if b then map (λ c. c.served.vectors) sorted else []) same ∙ by shared.full refl
     ∙ ap (λ (rs : List (List LineRecord)). if shared.full then map (vectors_in shared.set) rs else []) (sym lines)
   where
     each : All (λ c. IsPrinted shared c.served) sorted
     each =
         let (early, begins) = servable.begins in
-        all_printed shared early openings all closed sorted (assembles id shared openings all passes closed done sorted c early begins)
+        all_printed shared early openings book keeper all closed sorted (assembles id shared openings book keeper all passes closed done sorted c early begins)
 
     by : (b : Bool) → shared.full ≡ b → (if b then map (λ c. c.served.vectors) sorted else []) ≡ (if b then map (vectors_in shared.set) (map (λ c. c.served.lines) sorted) else [])
     by true is = printed_in shared sorted is each

@@ -11,8 +11,11 @@ mod PutLemmas
 mod WorkerLemmas
 mod SharingLemmas
 mod StateLemmas
+mod TellingLemmas
 mod TurnLemmas
 mod OrderLemmas
+mod LimitLemmas
 mod CrewLemmas
+mod KeepingLemmas
 mod CollectLemmas
 mod RoundLemmas

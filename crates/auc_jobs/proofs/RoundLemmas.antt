@@ -1,10 +1,11 @@
 -- For a round: what its pieces make of its record, and of the state after it.
 use Rattle.std.proofs.Common.{◌≡◌, ℕ, zero, suc, ◌+◌, ◌-◌, ◌<◌, ◌≤◌, min, Bool, true, false, List, [], ◌∷◌, ◌++◌, length, get_or, refl, sym, ◌∙◌, ap, subst, arith, append-nil}
-use Rattle.std.specs.Prelude.{All, AllPairs, Some, None, slice_get, slice_index, if◌then◌else◌, ◌==◌}
+use Rattle.std.specs.Prelude.{All, AllPairs, Option, Some, slice_get, slice_index, if◌then◌else◌, ◌==◌}
 use Rattle.std.proofs.lemmas.List.{length-append, length-map}
 use Rattle.std.proofs.lemmas.Grind.{flat_map-append}
 use Rattle.std.proofs.lemmas.List.Sums.{sum_by-append, sum_by-cons}
 use Rattle.std.proofs.lemmas.Option.{slice_get_within}
+use Rattle.auc_edge.specs.declared.stop.Stop.{Stop}
 use Rattle.auc_history.specs.declared.entry.Entry.{Entry}
 use Rattle.auc_history.specs.declared.entry.Entry.TheVariants.{Drawn, Moved as moved, Look}
 use Rattle.auc_history.specs.History.{drawn, drawn_by, skipped, skipped_by}
@@ -17,8 +18,8 @@ use Rattle.auc_world.specs.Entries.{is_reported, entries_of_line, entries_of_lin
 use Rattle.auc_world.specs.Given.{JobsGive}
 use Rattle.auc_world.specs.Setting.{Setting}
 use Rattle.auc_world.proofs.Facts.{jobs_give_after_all_lines, pieces_split_the_round}
-use Rattle.auc_world.specs.Lines.{numbers_of, released_by, withheld_of, all_lines}
-use Rattle.auc_world.specs.Round.{closing_of, closings_from, IsLawfulRound}
+use Rattle.auc_world.specs.Lines.{numbers_of, released_by, withheld_by, withheld_of, all_lines}
+use Rattle.auc_world.specs.Round.{closing_of, closings_from, IsLawfulRound, Withholds}
 use Rattle.auc_world.specs.declared.record.Closing.{Closing}
 use Rattle.auc_world.specs.declared.record.LineRecord.{LineRecord}
 use Rattle.auc_world.specs.declared.record.LineRecord.TheVariants.{Vector, Withheld, Exhausted, Sync, Give}
@@ -88,29 +89,30 @@ passes_lines sub before (line ∷ lines) =
     let rest = passes_lines sub (before ++ line ∷ []) lines in
     omega (arith, e, f, here, rest)
 
--- a released number was drawn
+-- a released or withheld number was drawn
 draws_if : (b : Bool) (n : ℕ) → length (if b then n ∷ [] else []) ≤ length (drawn (if b then Drawn n ∷ [] else []))
 draws_if true n = omega arith
 draws_if false n = omega arith
 
-draws_line : (sub : ℕ) (before : List LineRecord) (line : LineRecord) → length (released_by sub line) ≤ length (drawn (entries_of_line sub before line))
-draws_line sub before (Vector s n) = draws_if (s == sub) n
-draws_line sub before (Withheld s n stop) = omega arith
+draws_line : (sub : ℕ) (before : List LineRecord) (line : LineRecord) → length (released_by sub line) + length (withheld_by sub line) ≤ length (drawn (entries_of_line sub before line))
+draws_line sub before (Vector s n) = let here = draws_if (s == sub) n in omega (arith, here)
+draws_line sub before (Withheld s n stop) = let here = draws_if (s == sub) n in omega (arith, here)
 draws_line sub before (Exhausted s word) = omega arith
 draws_line sub before (Sync s answer) = omega arith
 draws_line sub before (Give s n answer) = omega arith
 
-pub draws_lines : (sub : ℕ) (before lines : List LineRecord) → length (numbers_of sub lines) ≤ length (drawn (entries_of_lines sub before lines))
+draws_lines : (sub : ℕ) (before lines : List LineRecord) → length (numbers_of sub lines) + length (withheld_of sub lines) ≤ length (drawn (entries_of_lines sub before lines))
 draws_lines sub before [] = omega arith
 draws_lines sub before (line ∷ lines) =
     let here = draws_line sub before line in
     let rest = draws_lines sub (before ++ line ∷ []) lines in
     let e = length-append (released_by sub line) (numbers_of sub lines) in
+    let h = length-append (withheld_by sub line) (withheld_of sub lines) in
     let f : drawn (entries_of_line sub before line ++ entries_of_lines sub (before ++ line ∷ []) lines)
     ≡ drawn (entries_of_line sub before line) ++ drawn (entries_of_lines sub (before ++ line ∷ []) lines) =
     flat_map-append drawn_by (entries_of_line sub before line) (entries_of_lines sub (before ++ line ∷ []) lines) in
     let g = ap (λ (ns : List ℕ). length ns) f ∙ length-append (drawn (entries_of_line sub before line)) (drawn (entries_of_lines sub (before ++ line ∷ []) lines)) in
-    omega (arith, here, rest, e, g)
+    omega (arith, here, rest, e, h, g)
 
 -- ---- a subscriber's count
 
@@ -118,7 +120,6 @@ draws_lines sub before (line ∷ lines) =
 pub record Makes (sub opening closing : ℕ) (jobs : List (List LineRecord)) : Type 0 where
   pub split : Splits max_seq opening closing (entries_of_jobs sub [] jobs)
   pub bound : closing ≤ max_seq + 64
-  pub released_all : withheld_of sub (all_lines jobs) ≡ []
 
 -- the parts of its count
 pub record Counts (sub opening closing : ℕ) (lines : List LineRecord) : Type 0 where
@@ -129,7 +130,7 @@ pub record Counts (sub opening closing : ℕ) (lines : List LineRecord) : Type 0
 
 pub counts_made : (sub opening closing : ℕ) (jobs : List (List LineRecord)) → Makes sub opening closing jobs → Counts sub opening closing (all_lines jobs)
 counts_made sub opening closing jobs m =
-    record { whole = whole; skips = omega (arith, whole, bound); releases = omega (arith, whole, bound, few); withholds = rw m.released_all refl }
+    record { whole = whole; skips = omega (arith, whole, bound); releases = omega (arith, whole, bound, few); withholds = omega (arith, whole, bound, few) }
   where
     whole : closing ≡ opening + length (drawn (entries_of_lines sub [] (all_lines jobs))) + passed_in sub (all_lines jobs)
     whole =
@@ -141,7 +142,7 @@ counts_made sub opening closing jobs m =
     bound : closing ≤ max_seq + 64
     bound = m.bound
 
-    few : length (numbers_of sub (all_lines jobs)) ≤ length (drawn (entries_of_lines sub [] (all_lines jobs)))
+    few : length (numbers_of sub (all_lines jobs)) + length (withheld_of sub (all_lines jobs)) ≤ length (drawn (entries_of_lines sub [] (all_lines jobs)))
     few = draws_lines sub [] (all_lines jobs)
 
 -- the closing by the lines and their entries is the counted one
@@ -194,7 +195,6 @@ pieces_make set early openings words jobs records sub p bound known = record {
   split = subst (λ (rs : List (List LineRecord)). Splits max_seq (slice_index openings sub) (slice_index words sub) (entries_of_jobs sub [] rs)) (sym p.lines)
       (pieces_split_the_round max_seq (slice_index openings sub) (slice_index words sub) sub p.pieces (p.reports sub) (p.split sub known));
   bound = below_at words sub (max_seq + 64) bound;
-  released_all = p.released sub;
 }
 
 -- no closing is below the opening and what was passed over
@@ -212,11 +212,11 @@ closes_above set early openings words jobs records counts k count sizes p bound 
     some_is a b e = cc
 
 -- the round is lawful
-pub lawful_round : (set : Setting) (early : List LineRecord) (openings words : List ℕ) (jobs : List (List Line)) (records : List (List LineRecord)) (counts : List Count)
+pub lawful_round : (set : Setting) (stop : Option Stop) (early : List LineRecord) (openings words : List ℕ) (jobs : List (List Line)) (records : List (List LineRecord)) (counts : List Count)
     (number : ℕ) (closings : List Closing) → AllPairs AreApart jobs → ArePieces set early openings jobs records words → All (λ word. word ≤ max_seq + 64) words
-    → length words ≡ length openings → length counts ≡ length openings → AreCounted (all_lines records) counts → closings ≡ counted_closings 0 openings words counts
-    → IsLawfulRound set None early openings jobs (record { number = number; jobs = records; closings = closings }) words
-lawful_round set early openings words jobs records counts number closings apart p bound size sizes counted is = record {
+    → length words ≡ length openings → length counts ≡ length openings → AreCounted (all_lines records) counts → closings ≡ counted_closings 0 openings words counts → Withholds stop (all_lines records)
+    → IsLawfulRound set stop early openings jobs (record { number = number; jobs = records; closings = closings }) words
+lawful_round set stop early openings words jobs records counts number closings apart p bound size sizes counted is withholds = record {
   sizes = size;
   fits = λ sub inside. let below = below_at words sub (max_seq + 64) bound in omega (arith, below);
   given = subst (JobsGive set early [] jobs) (sym p.lines) (jobs_give_after_all_lines set early jobs p.pieces apart p.give);
@@ -227,7 +227,7 @@ lawful_round set early openings words jobs records counts number closings apart 
       subst (λ (s : ℕ). closing_of s (get_or openings k 0) (get_or words k 0) records ≡ counted_closing s (get_or openings k 0) (get_or words k 0) count) here
       (closing_counted k (slice_index openings k) (slice_index words k) records (pieces_make set early openings words jobs records k p bound inside)
       ∙ ap (counted_closing k (slice_index openings k) (slice_index words k)) same)));
-  withheld = p.released;
+  withheld = withholds;
 }
   where
     some_is : (a b : Count) → Some a ≡ Some b → a ≡ b

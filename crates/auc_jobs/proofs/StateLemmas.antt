@@ -44,6 +44,17 @@ stands_first rows set state is words within of_rows behind none = record {
   earlier = λ sub n. rw none refl;
 }
 
+-- at other words it still stands after the same lines
+pub stands_opened : (inside old : Standing) (words : List ℕ) → inside ≡ old → length words ≡ length old.words → All (λ word. word ≤ max_seq) words
+    → (set : Setting) (early : List LineRecord) → StandsAt set early old → StandsAt set early (record { words = words; usims = inside.usims; released = inside.released })
+stands_opened inside old words same size within set early stands =
+    let s : StandsAt set early inside = subst (StandsAt set early) (sym same) stands in
+    record {
+      subscribers = record { size = size ∙ stands.subscribers.size; numbers = within; secrets = s.subscribers.secrets };
+      pasts = s.pasts;
+      earlier = s.earlier;
+    }
+
 -- ---- a round's beginning
 
 -- what its workers share

@@ -1,5 +1,5 @@
 -- For a worker: what it claimed and served, job by job.
-use Rattle.std.proofs.Common.{◌≡◌, ℕ, zero, suc, ◌+◌, ◌<◌, ◌≤◌, Bool, true, false, List, [], ◌∷◌, ◌++◌, length, get_or, map, All, AllPairs, Any, Option, Some, None, flat_map, slice_get, arith, refl, sym, ap, ◌∙◌, subst, inl, inr, append-nil, append_assoc}
+use Rattle.std.proofs.Common.{◌≡◌, ℕ, zero, suc, ◌+◌, ◌<◌, ◌≤◌, Bool, true, false, List, [], ◌∷◌, ◌++◌, length, get_or, map, All, AllPairs, Any, Contains, Option, Some, None, flat_map, slice_get, arith, refl, sym, ap, ◌∙◌, subst, inl, inr, append-nil, append_assoc}
 use Rattle.std.proofs.lemmas.Grind.{flat_map-append}
 use Rattle.std.proofs.lemmas.List.{length-append, map-append}
 use Rattle.std.proofs.lemmas.List.Elements.{All-cons, All-head, All-nil, All-push, All-tail}
@@ -8,7 +8,7 @@ use Rattle.std.proofs.lemmas.Option.{get_or_from_slice_get}
 use Rattle.auc_centre.specs.Adds.{Adds}
 use Rattle.auc_draw.specs.declared.rule.Deed.{Deed}
 use Rattle.auc_draw.specs.declared.rule.Deed.TheVariants.{Claimed}
-use Rattle.auc_draw.specs.Deeds.{entries_of, claims_of, kept_word, kept_of}
+use Rattle.auc_draw.specs.Deeds.{entries_of, claims_of, kept_word, kept_of, released_by, released_of, held_by as pass_held_by, held_of as pass_held}
 use Rattle.auc_draw.specs.Pass.{ClaimsJob, EndsClaims}
 use Rattle.auc_draw.specs.Values.{PassValue}
 use Rattle.auc_draw.proofs.Facts.{claims_more, entries_claimed}
@@ -18,15 +18,18 @@ use Rattle.auc_history.proofs.Facts.{AllPairs-head, AllPairs-tail}
 use Rattle.auc_lines.specs.declared.part.Line.{Line}
 use Rattle.auc_lines.specs.Part.{AreApart, gives_to}
 use Rattle.auc_world.specs.declared.record.LineRecord.{LineRecord}
-use Rattle.auc_world.specs.Lines.{withheld_of, accepted}
-use Rattle.auc_world.proofs.Facts.{accepted-append, job_quiet, none_held}
+use Rattle.auc_world.specs.Lines.{accepted, held_of, numbers_of}
+use Rattle.auc_world.proofs.Facts.{accepted-append, job_quiet}
 use Rattle.auc_jobs.specs.declared.claiming.ClaimedJob.{ClaimedJob}
 use Rattle.auc_jobs.specs.InnerClaims.{Turn, turns, lines_done, entries_of_turn, IsGiven, IsSettledAt, IsPrinted, ClaimsAre, HasServed, IsBetween, IsLast, TakesTurn, HasFinished}
 use Rattle.auc_jobs.specs.InnerRound.{ServesJob}
 use Rattle.auc_jobs.specs.InnerServing.{before_at, IsTold, AreTold}
 use Rattle.auc_jobs.specs.InnerSharing.{Shared, Begins, IsServable, BeginsAt, ServesAt}
 use Rattle.auc_jobs.specs.InnerUsims.{usim_in}
+use Rattle.auc_jobs.specs.Serving.{AreAllKnown, AreKnown}
+use Rattle.auc_jobs.proofs.LineLemmas.{all_at}
 use Rattle.auc_jobs.proofs.PieceLemmas.{not_given}
+use Rattle.auc_jobs.proofs.TellingLemmas.{all_last, job_own, job_released, jobs_grown}
 
 -- ---- lists of jobs
 
@@ -85,7 +88,8 @@ between_first shared early pass done deeds ended none begins =
         made = λ sub. ap (entries_of sub) deeds;
         ordered = λ sub. All-nil (λ (t : Turn). IsInOrder (entries_of_turn sub t));
         given = All-nil (IsGiven shared early);
-        released = λ sub. All-nil (λ (c : ClaimedJob). withheld_of sub c.served.lines ≡ []);
+        released = λ sub. All-nil (λ (c : ClaimedJob). All (Contains (released_of sub pass.deeds)) (numbers_of sub c.served.lines));
+        withheld = λ sub. All-nil (λ (c : ClaimedJob). All (Contains (pass_held sub pass.deeds)) (held_of sub c.served.lines));
         settled = All-nil (IsSettledAt shared early);
         printed = All-nil (λ (c : ClaimedJob). IsPrinted shared c.served);
       };
@@ -149,6 +153,7 @@ claimed_begins shared early old mid done job apart claim between = record {
 -- what the calls of a turn say
 pub record Serves (shared : Shared) (old mid new : PassValue) (done : List ClaimedJob) (c : ClaimedJob) : Type 0 where
   pub apart : AllPairs AreApart shared.jobs
+  pub known : AreAllKnown (length shared.set.rows) shared.jobs
   pub claim : ClaimsJob (length shared.jobs) old mid (Some c.job)
   pub serves : ServesAt (λ i es ws. Adds mid i es ws new) (kept_of mid.deeds) (kept_of new.deeds) shared c.job c.served
 
@@ -174,7 +179,14 @@ between_more shared early old mid new done c s between = record {
         (All-push (λ (t : Turn). IsInOrder (entries_of_turn sub t)) (turns [] done) turn (was.ordered sub) (served.made sub).ordered);
     given = subst (λ (ts : List Turn). All (IsGiven shared early) ts) (sym pushed)
         (All-push (IsGiven shared early) (turns [] done) turn was.given (record { asked = s.serves.asked; there = s.serves.there; given = served.given }));
-    released = λ sub. All-push (λ (b : ClaimedJob). withheld_of sub b.served.lines ≡ []) done c (was.released sub) (none_held sub c.served.lines (served.made sub).released);
+    released = λ sub. All-push (λ (b : ClaimedJob). All (Contains (released_of sub new.deeds)) (numbers_of sub b.served.lines)) done c
+        (jobs_grown (released_by sub) (λ (b : ClaimedJob). numbers_of sub b.served.lines) old.deeds more new.deeds done grows (was.released sub))
+        (job_released (length shared.set.rows) sub (lines_done done) c.served.lines (released_of sub new.deeds)
+        (job_own shared.set (before_at early (lines_done done) []) s.serves.asked c.served.lines (all_at (AreKnown (length shared.set.rows)) shared.jobs c.job s.serves.asked s.known s.serves.there) served.given)
+        (served.made sub).ordered (served.made sub).told);
+    withheld = λ sub. All-push (λ (b : ClaimedJob). All (Contains (pass_held sub new.deeds)) (held_of sub b.served.lines)) done c
+        (jobs_grown (pass_held_by sub) (λ (b : ClaimedJob). held_of sub b.served.lines) old.deeds more new.deeds done grows (was.withheld sub))
+        (all_last (pass_held sub mid.deeds) (held_of sub c.served.lines) (pass_held sub new.deeds) (served.made sub).held);
     settled = All-push (IsSettledAt shared early) done c was.settled (record { asked = s.serves.asked; there = s.serves.there; settled = served.settled });
     printed = All-push (λ (b : ClaimedJob). IsPrinted shared b.served) done c was.printed s.serves.vectors;
   };
@@ -190,6 +202,12 @@ between_more shared early old mid new done c s between = record {
 
     served : ServesJob (λ i es ws. Adds mid i es ws new) shared.set early (lines_done done) (kept_of new.deeds) s.serves.asked c.served.lines (usim_in c.served.usims)
     served = turn_served shared early old mid new done c s between
+
+    more : List Deed
+    more = Claimed c.job ∷ (served.made 0).grows.0
+
+    grows : new.deeds ≡ old.deeds ++ more
+    grows = (served.made 0).grows.1 ∙ ap (λ (ds : List Deed). ds ++ (served.made 0).grows.0) s.claim.2 ∙ append_assoc old.deeds (Claimed c.job ∷ []) (served.made 0).grows.0
 
     pushed : turns [] (done ++ c ∷ []) ≡ turns [] done ++ turn ∷ []
     pushed = turns_push [] done c
@@ -219,7 +237,8 @@ between_out shared early old new done unended claim between = record {
     made = λ sub. ap (entries_of sub) step ∙ entries_claimed sub claim.0 old.deeds ∙ was.made sub;
     ordered = was.ordered;
     given = was.given;
-    released = was.released;
+    released = λ sub. jobs_grown (released_by sub) (λ (c : ClaimedJob). numbers_of sub c.served.lines) old.deeds (Claimed claim.0 ∷ []) new.deeds done step (was.released sub);
+    withheld = λ sub. jobs_grown (pass_held_by sub) (λ (c : ClaimedJob). held_of sub c.served.lines) old.deeds (Claimed claim.0 ∷ []) new.deeds done step (was.withheld sub);
     settled = was.settled;
     printed = was.printed;
   };

@@ -1,8 +1,8 @@
 -- Inner facts: what only private contracts of this crate cite. Here: the jobs that a worker claims and serves, and those of
 -- all workers of a round.
-use Rattle.std.specs.Prelude.{◌≡◌, ◌⊎◌, ℕ, ◌+◌, ◌<◌, ◌≤◌, Bool, true, false, List, [], ◌∷◌, ◌++◌, length, map, flat_map, All, AllPairs, Any, Option, Some, None, slice_get, if◌then◌else◌}
+use Rattle.std.specs.Prelude.{◌≡◌, ◌⊎◌, ℕ, ◌+◌, ◌<◌, ◌≤◌, Bool, true, false, List, [], ◌∷◌, ◌++◌, length, map, flat_map, All, AllPairs, Any, Contains, Option, Some, None, slice_get, if◌then◌else◌}
 use Rattle.atomic_table.specs.Seated.{TableId}
-use Rattle.auc_draw.specs.Deeds.{entries_of, claims_of, kept_of}
+use Rattle.auc_draw.specs.Deeds.{entries_of, claims_of, kept_of, released_of, held_of as pass_held}
 use Rattle.auc_draw.specs.Values.{PassValue}
 use Rattle.auc_history.specs.declared.entry.Entry.{Entry}
 use Rattle.auc_history.specs.History.{IsInOrder}
@@ -10,7 +10,7 @@ use Rattle.auc_lines.specs.declared.part.Line.{Line}
 use Rattle.auc_world.specs.declared.record.LineRecord.{LineRecord}
 use Rattle.auc_world.specs.Entries.{entries_of_lines}
 use Rattle.auc_world.specs.Given.{JobGives}
-use Rattle.auc_world.specs.Lines.{withheld_of}
+use Rattle.auc_world.specs.Lines.{numbers_of, held_of}
 use Rattle.auc_world.specs.Vectors.{vectors_in}
 use Rattle.auc_jobs.specs.declared.claiming.ClaimedJob.{ClaimedJob}
 use Rattle.auc_jobs.specs.declared.claiming.WorkerJobs.{WorkerJobs}
@@ -69,7 +69,9 @@ pub record HasServed (shared : Shared) (early : List LineRecord) (pass : PassVal
   pub made : (sub : ℕ) → entries_of sub pass.deeds ≡ flat_map (entries_of_turn sub) (turns [] done)
   pub ordered : (sub : ℕ) → All (λ t. IsInOrder (entries_of_turn sub t)) (turns [] done)
   pub given : All (IsGiven shared early) (turns [] done)
-  pub released : (sub : ℕ) → All (λ c. withheld_of sub c.served.lines ≡ []) done
+  -- its pass released each number that the lines release, and withheld each one that they withhold, with their cause
+  pub released : (sub : ℕ) → All (λ c. All (Contains (released_of sub pass.deeds)) (numbers_of sub c.served.lines)) done
+  pub withheld : (sub : ℕ) → All (λ c. All (Contains (pass_held sub pass.deeds)) (held_of sub c.served.lines)) done
   pub settled : All (IsSettledAt shared early) done
   pub printed : All (λ c. IsPrinted shared c.served) done
 

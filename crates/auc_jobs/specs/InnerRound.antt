@@ -12,8 +12,10 @@ use Rattle.auc_usim.specs.Usim.{Memory}
 use Rattle.auc_world.specs.declared.record.LineRecord.{LineRecord}
 use Rattle.auc_world.specs.Entries.{entries_of_lines}
 use Rattle.auc_world.specs.Given.{JobGives}
-use Rattle.auc_world.specs.Lines.{accepted, held_of, withheld_of, all_lines}
+use Rattle.auc_world.specs.Limits.{Raises}
+use Rattle.auc_world.specs.Lines.{accepted, held_of, all_lines}
 use Rattle.auc_world.specs.Pieces.{Piece, lines_of_pieces, entries_of_pieces, ReportsAreEarlier, IsQuiet, PiecesGive}
+use Rattle.auc_world.specs.Round.{Withholds}
 use Rattle.auc_world.specs.Setting.{Setting}
 use Rattle.auc_world.specs.Transcript.{reopened}
 use Rattle.auc_world.specs.Released.{Released, AreReleased}
@@ -59,21 +61,24 @@ AreSettled rows early (job ∷ jobs) (lines ∷ records) (own ∷ usims) = IsSet
 
 -- ---- the pieces of a round
 
--- the records of a round's jobs are pieces, each of some worker. They lead each subscriber from its opening to its word,
--- and nothing is withheld
+-- the records of a round's jobs are pieces, each of some worker. They lead each subscriber from its opening to its word
 pub record ArePieces (set : Setting) (early : List LineRecord) (openings : List ℕ) (jobs : List (List Line)) (records : List (List LineRecord)) (words : List ℕ) : Type 0 where
   pub pieces : List Piece
   pub lines : records ≡ lines_of_pieces pieces
   pub give : PiecesGive set early jobs pieces
   pub reports : (sub : ℕ) → ReportsAreEarlier sub [] pieces
   pub split : (sub : ℕ) → sub < length openings → Splits max_seq (slice_index openings sub) (slice_index words sub) (entries_of_pieces sub pieces)
-  pub released : (sub : ℕ) → withheld_of sub (all_lines records) ≡ []
 
 -- a round's pieces, and its jobs' USIMs, after the words at which it opens
 pub record AreServed (set : Setting) (early : List LineRecord) (openings : List ℕ) (jobs : List (List Line)) (records : List (List LineRecord)) (usims : List OwnUsims) (words : List ℕ) : Type 0 where
   pub pieces : ArePieces set early openings jobs records words
   pub settled : AreSettled set.rows early jobs records usims
   pub size : length words ≡ length openings
+
+-- what a round releases and withholds goes by the limits: those before it, and those after it with the stop
+pub record GoesByLimits (set : Setting) (stop : Option Stop) (records : List (List LineRecord)) (limits words next : List ℕ) : Type 0 where
+  pub raises : Raises set.rows (all_lines records) limits words next
+  pub withholds : Withholds stop (all_lines records)
 
 -- the state after a round: where the round's words lead, with the jobs' USIMs put back and the released numbers noted
 pub record IsAdvanced (old : Standing) (jobs : List (List Line)) (records : List (List LineRecord)) (usims : List OwnUsims) (words : List ℕ) (new : Standing) : Type 0 where

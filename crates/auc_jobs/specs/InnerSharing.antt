@@ -40,10 +40,11 @@ pub record IsServable (shared : Shared) : Type 0 where
   pub apart : AllPairs AreApart shared.jobs
   pub begins : (early : List LineRecord) × Begins shared early
 
--- a book of so many subscribers
-pub record IsBookOf (id : TableId) (count : ℕ) (book : BookValue) : Type 0 where
+-- a book of so many subscribers, for as many of which the round's journal is
+pub record IsBookOf (id : TableId) (subs count : ℕ) (book : BookValue) : Type 0 where
   pub own : book.id ≡ id
   pub size : length book.openings ≡ count
+  pub sized : subs ≡ length book.openings
 
 -- what stands before a worker serves the job of a place, after earlier rounds and its own earlier lines
 pub record BeginsAt (shared : Shared) (early beside : List LineRecord) (kept : ℕ → Option ℕ) (job : ℕ) : Type 0 where

@@ -1,12 +1,20 @@
 //! One round.
 
-ghost use Rattle.std.specs.Prelude.{◌≡◌, ◌≤◌, ◌++◌, [], ℕ, None, List, AllPairs, length, map, IfOk, OnErr, if◌then◌else◌};
+ghost use Rattle.std.specs.Prelude.{◌≡◌, ◌≢◌, ◌≤◌, ◌<◌, ◌^◌, ◌+◌, ◌++◌, ◌↔◌, [], ℕ, true, Some, List, All, AllPairs, length, map, IfOk, OnErr, OnOk, if◌then◌else◌};
+ghost use Rattle.auc_edge.specs.Faults.{Rose};
+ghost use Rattle.auc_edge.specs.declared.stop.Stop.TheVariants.{Fault, Full};
+ghost use Rattle.auc_journal.specs.Journal.{limits_of};
 ghost use Rattle.auc_lines.specs.Part.{AreApart};
+ghost use Rattle.auc_sqn.specs.Number.{max_seq};
+ghost use Rattle.auc_subs.specs.Subscriber.{AreSubscribers};
 ghost use Rattle.auc_world.specs.Lines.{all_lines};
-ghost use Rattle.auc_world.specs.Round.{IsLawfulRound};
+ghost use Rattle.auc_world.specs.Round.{IsLawfulRound, Withholds};
 ghost use Rattle.auc_world.specs.Transcript.{reopened};
 ghost use Rattle.auc_world.specs.Vectors.{vectors_in};
 ghost use Rattle.auc_world.specs.declared.record.LineRecord.{LineRecord};
+ghost use Rattle.auc_jobs.specs.InnerKeeping.{StaysNear, TellsStop};
+ghost use Rattle.auc_jobs.specs.InnerRound.{AreServed, GoesByLimits};
+ghost use Rattle.auc_jobs.specs.Round.{IsJournalOf, LeavesMore, Serves};
 ghost use Rattle.auc_jobs.specs.Serving.{AreAllKnown};
 ghost use Rattle.auc_jobs.specs.State.{StandsAt};
 
@@ -15,8 +23,10 @@ use crate::counting::counts;
 use crate::jobs::ServedJobs;
 use crate::round_jobs::RoundJobs;
 use crate::state::State;
-use crate::workers::serve_pieces;
-use auc_edge::{Gate, Items, NoMemory};
+use crate::workers::{Pieces, RoundPieces, serve_pieces};
+use auc_disk::Disk;
+use auc_edge::{Gate, Items, NoMemory, Stop};
+use auc_journal::Journal;
 use auc_lines::JobPart;
 use auc_world::{JobVectors, RoundRecord, Setting};
 use std::alloc::Global;
@@ -30,11 +40,15 @@ pub struct Ran {
     pub round: RoundRecord,
     /// The vectors that each job's lines release, in the order of the jobs; none in a brief print.
     pub vectors: Items<JobVectors>,
+    /// Why reservations ended in this round, if they did.
+    pub stop: Option<Stop>,
 }
 
-/// A round that was served, or why it wasn't, and the state then.
+/// A round that was served, or why it wasn't, and the state and the journal then.
 #[derive(Drop)]
-pub struct Served {
+pub struct Served<D: Disk + Drop> {
+    /// The journal. If memory ran out, its limits may have risen.
+    pub journal: Journal<D>,
     /// What the next round begins with. If memory ran out, it is the state before the round.
     pub state: State,
     /// What the round did.
@@ -43,8 +57,10 @@ pub struct Served {
 
 /// Serves a round of this number by 1 to 64 workers, each in a thread of its own: opens each subscriber at its word of the
 /// state, has the workers claim the jobs and serve them, each with its own copies of the USIMs to which it gives, closes
-/// the subscribers, and puts the USIMs back. The gate is told before a job and after its last line, by its number from 1.
-pub fn serve<G: Gate + Sync, R: Threads + Wait + Sync>(
+/// the subscribers, and puts the USIMs back. A number is released only if the journal has reserved it. If an append is
+/// refused, the round goes on within the limits. The gate is told before a job and after its last line, by its number
+/// from 1.
+pub fn serve<D: Disk + Drop + Send, G: Gate + Sync, R: Threads + Wait + Sync>(
     rt: &R,
     alloc: Global,
     number: u32,
@@ -52,18 +68,20 @@ pub fn serve<G: Gate + Sync, R: Threads + Wait + Sync>(
     set: &Setting,
     full: bool,
     mut state: State,
+    journal: Journal<D>,
     workers: u32,
     gate: &G,
-) -> Served
+) -> Served<D>
     requires state { (early : List LineRecord) × StandsAt set.now early state }
     requires known { AreAllKnown (length set.now.rows) jobs.now }
     requires few { length jobs.now ≤ 200000 }
     requires apart { AllPairs AreApart jobs.now }
     requires workers { (1 ≤ workers) × (workers ≤ 64) }
-    ensures lawful { IfOk result.result (λ ran. (early : List LineRecord)
-        → StandsAt set.now early state → (words : List ℕ)
-        × IsLawfulRound set.now None early state.words jobs.now ran.round words
-        × (result.state.words ≡ reopened words)) }
+    requires subscribers { AreSubscribers set.now.rows }
+    requires journal { IsJournalOf set.now.rows journal }
+    ensures served { IfOk result.result (λ ran. (early : List LineRecord) → StandsAt set.now early state
+        → Serves D.seen D.may_leave set.now early state jobs.now ran.round ran.stop journal
+        result.state result.journal) }
     ensures next { IfOk result.result (λ ran. (early : List LineRecord)
         → StandsAt set.now early state
         → StandsAt set.now (early ++ all_lines ran.round.jobs) result.state) }
@@ -71,41 +89,60 @@ pub fn serve<G: Gate + Sync, R: Threads + Wait + Sync>(
     ensures vectors { IfOk result.result (λ ran. ran.vectors
         ≡ (if full then map (vectors_in set.now) ran.round.jobs else [])) }
     ensures kept { OnErr result.result (result.state ≡ state) }
+
+    // The journal is of the same subscribers. An append failed exactly if reservations ended for a fault.
+    ensures subscribers { result.journal.imsis ≡ journal.imsis }
+    ensures ready { IfOk result.result (λ ran. (result.journal.failed ≡ true) ↔ (ran.stop ≡ Some Fault)) }
+    ensures fault { IfOk result.result (λ ran. ran.stop ≡ Some Fault
+        → Rose (D.faults journal.disk) (D.faults result.journal.disk)) }
+    ensures quiet { IfOk result.result (λ ran. ran.stop ≢ Some Fault
+        → D.faults result.journal.disk ≡ D.faults journal.disk) }
+    ensures full { IfOk result.result (λ ran. ran.stop ≡ Some Full → 2 ^ 30 < result.journal.place + 20) }
+    ensures still { OnErr result.result (LeavesMore D.seen D.may_leave journal result.journal) }
 {
-    let result = run(
-        rt, alloc, number, jobs, set, full, &mut state, workers, gate,
-    );
-    Served { state, result }
+    let pieces = pieces(rt, alloc, jobs, set, full, &state, journal, workers, gate);
+    let Pieces { journal, result } = pieces;
+    let result = match result {
+        Ok(done) => finish(alloc, number, jobs, set, &mut state, done),
+        Err(error) => Err(error),
+    };
+    Served {
+        journal,
+        state,
+        result,
+    }
 }
 
-/// Serves a round, and leads the state to the next one.
-fn run<G: Gate + Sync, R: Threads + Wait + Sync>(
+/// Serves the jobs of a round.
+fn pieces<D: Disk + Drop + Send, G: Gate + Sync, R: Threads + Wait + Sync>(
     rt: &R,
     alloc: Global,
-    number: u32,
     jobs: &[JobPart],
     set: &Setting,
     full: bool,
-    state: &mut State,
+    state: &State,
+    journal: Journal<D>,
     workers: u32,
     gate: &G,
-) -> Result<Ran, NoMemory>
-    requires state { (early : List LineRecord) × StandsAt set.now early state.old }
+) -> Pieces<D>
+    requires state { (early : List LineRecord) × StandsAt set.now early state.now }
     requires known { AreAllKnown (length set.now.rows) jobs.now }
     requires few { length jobs.now ≤ 200000 }
     requires apart { AllPairs AreApart jobs.now }
     requires workers { (1 ≤ workers) × (workers ≤ 64) }
-    ensures lawful { IfOk result (λ ran. (early : List LineRecord)
-        → StandsAt set.now early state.old → (words : List ℕ)
-        × IsLawfulRound set.now None early state.old.words jobs.now ran.round words
-        × (state.new.words ≡ reopened words)) }
-    ensures next { IfOk result (λ ran. (early : List LineRecord)
-        → StandsAt set.now early state.old
-        → StandsAt set.now (early ++ all_lines ran.round.jobs) state.new) }
-    ensures number { IfOk result (λ ran. ran.round.number ≡ number) }
-    ensures vectors { IfOk result (λ ran. ran.vectors
-        ≡ (if full then map (vectors_in set.now) ran.round.jobs else [])) }
-    ensures kept { OnErr result (state.new ≡ state.old) }
+    requires subscribers { AreSubscribers set.now.rows }
+    requires journal { IsJournalOf set.now.rows journal }
+    ensures served { IfOk result.result (λ done. (early : List LineRecord) → StandsAt set.now early state.now
+        → AreServed set.now early state.now.words jobs.now done.jobs.records done.jobs.usims done.words) }
+    ensures limits { IfOk result.result (λ done. GoesByLimits set.now done.stop done.jobs.records
+        (limits_of journal) done.words (limits_of result.journal)) }
+    ensures vectors { IfOk result.result (λ done. done.jobs.vectors
+        ≡ (if full then map (vectors_in set.now) done.jobs.records else [])) }
+    ensures bound { IfOk result.result (λ done. All (λ word. word ≤ max_seq + 64) done.words) }
+    ensures subscribers { result.journal.imsis ≡ journal.imsis }
+    ensures leaves { LeavesMore D.seen D.may_leave journal result.journal }
+    ensures near { IfOk result.result (λ done. StaysNear D.seen D.may_leave journal done.words result.journal) }
+    ensures stop { IfOk result.result (λ done. TellsStop D.faults journal done.stop result.journal) }
 {
     let _count = set.subs.len();
     let round = RoundJobs {
@@ -115,7 +152,49 @@ fn run<G: Gate + Sync, R: Threads + Wait + Sync>(
         jobs,
         full,
     };
-    let (done, words) = serve_pieces(rt, alloc, &round, state.words.as_slice(), workers, gate)?;
+    serve_pieces(
+        rt,
+        alloc,
+        &round,
+        state.words.as_slice(),
+        journal,
+        workers,
+        gate,
+    )
+}
+
+/// The record of a round whose jobs gave this. It leads the state to the next round.
+fn finish(
+    alloc: Global,
+    number: u32,
+    jobs: &[JobPart],
+    set: &Setting,
+    state: &mut State,
+    done: RoundPieces,
+) -> Result<Ran, NoMemory>
+    requires state { (early : List LineRecord) × StandsAt set.now early state.old }
+    requires apart { AllPairs AreApart jobs.now }
+    requires served { (early : List LineRecord) → StandsAt set.now early state.old
+        → AreServed set.now early state.old.words jobs.now done.jobs.records done.jobs.usims done.words }
+    requires withholds { Withholds done.stop (all_lines done.jobs.records) }
+    requires bound { All (λ word. word ≤ max_seq + 64) done.words }
+    ensures lawful { IfOk result (λ ran. (early : List LineRecord) → StandsAt set.now early state.old
+        → IsLawfulRound set.now done.stop early state.old.words jobs.now ran.round done.words) }
+    ensures opens { OnOk result (state.new.words ≡ reopened done.words) }
+    ensures next { IfOk result (λ ran. (early : List LineRecord)
+        → StandsAt set.now early state.old
+        → StandsAt set.now (early ++ all_lines ran.round.jobs) state.new) }
+    ensures number { IfOk result (λ ran. ran.round.number ≡ number) }
+    ensures parts { IfOk result (λ ran. (ran.round.jobs ≡ done.jobs.records)
+        × (ran.vectors ≡ done.jobs.vectors) × (ran.stop ≡ done.stop)) }
+    ensures kept { OnErr result (state.new ≡ state.old) }
+{
+    let _count = set.subs.len();
+    let RoundPieces {
+        jobs: done,
+        words,
+        stop,
+    } = done;
     let ServedJobs {
         records,
         usims,
@@ -137,5 +216,6 @@ fn run<G: Gate + Sync, R: Threads + Wait + Sync>(
             closings,
         },
         vectors,
+        stop,
     })
 }

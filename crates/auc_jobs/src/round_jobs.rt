@@ -2,6 +2,7 @@
 
 ghost use Rattle.std.specs.Prelude.{◌≡◌, ◌<◌, ℕ, List, length, IfOk};
 ghost use Rattle.auc_centre.specs.Adds.{Adds};
+ghost use Rattle.auc_centre.specs.Kept.{subs_of};
 ghost use Rattle.auc_draw.specs.Deeds.{kept_of};
 ghost use Rattle.auc_world.specs.declared.record.LineRecord.{LineRecord};
 ghost use Rattle.auc_jobs.specs.InnerSharing.{BeginsAt, IsBookOf, IsServable, ServesAt};
@@ -10,7 +11,8 @@ ghost use Rattle.auc_jobs.specs.InnerWorker.{IsCentreOf};
 use crate::jobs::ServedJob;
 use crate::worker::Worker;
 use auc_cards::Usims;
-use auc_centre::{Desk, Naming};
+use auc_centre::{Desk, Kept, Naming};
+use auc_disk::Disk;
 use auc_draw::{Book, Pass};
 use auc_edge::NoMemory;
 use auc_lines::JobPart;
@@ -18,8 +20,8 @@ use auc_released::Numbers;
 use auc_vector::Centre;
 use auc_world::Setting;
 use std::alloc::Global;
-use std::marker::{Model, PhantomData};
-use std::sync::Wait;
+use std::marker::Model;
+use std::sync::{Mutex, Wait};
 
 /// What the workers of a round share beside its book: what its jobs are served with, and the jobs. Contracts see all of it.
 #[derive(Drop)]
@@ -82,16 +84,17 @@ impl RoundJobs<'_> {
     }
 
     /// Serves the job of a place at the desk of a pass.
-    pub(crate) fn serve_at_desk<L: Naming, R: Wait>(
+    pub(crate) fn serve_at_desk<L: Naming<D>, D: Disk + Drop, R: Wait>(
         &self,
         rt: &R,
         alloc: Global,
         book: &Book,
+        keeper: &Mutex<Kept<L, D>>,
         pass: &mut Pass,
         job: u32,
     ) -> Result<ServedJob, NoMemory>
         requires servable { IsServable self.now }
-        requires book { IsBookOf L.table (length self.now.set.rows) book.now }
+        requires book { IsBookOf L.table (subs_of L.opening) (length self.now.set.rows) book.now }
         requires own { pass.old.id ≡ L.table }
         requires job { job < length self.now.jobs }
         requires begins { (early : List LineRecord) × (beside : List LineRecord)
@@ -100,11 +103,7 @@ impl RoundJobs<'_> {
         ensures served { IfOk result (λ served. ServesAt (λ i es ws. Adds pass.old i es ws pass.new)
             (kept_of pass.old.deeds) (kept_of pass.new.deeds) self.now job served) }
     {
-        let mut desk = Desk::<L> {
-            pass,
-            book,
-            named: PhantomData,
-        };
+        let mut desk = Desk { pass, book, keeper };
         self.serve_at(rt, alloc, &mut desk, job)
     }
 }

@@ -1,8 +1,9 @@
 //! What passes from round to round.
 
-ghost use Rattle.std.specs.Prelude.{◌≡◌, ◌≤◌, [], All, length, map, IfOk, OnErr, OnOk};
+ghost use Rattle.std.specs.Prelude.{◌≡◌, ◌≤◌, [], List, All, length, map, IfOk, OnErr, OnOk};
 ghost use Rattle.auc_sqn.specs.Number.{max_seq};
 ghost use Rattle.auc_world.specs.Setting.{Setting};
+ghost use Rattle.auc_world.specs.declared.record.LineRecord.{LineRecord};
 ghost use Rattle.auc_jobs.specs.InnerRound.{IsAdvanced};
 ghost use Rattle.auc_jobs.specs.State.{StandsAt};
 
@@ -46,6 +47,16 @@ impl State {
         })
     }
 
+    /// Opens the next round at other words, as a restart does. USIMs and released numbers stay.
+    pub fn open_at(&mut self, words: Items<u64>)
+        requires size { length words ≡ length self.old.words }
+        requires numbers { All (λ word. word ≤ max_seq) words }
+        ensures opened { self.new ≡ record self.old { words = words } }
+        ensures stands { (set : Setting) (early : List LineRecord) → StandsAt set early self.old → StandsAt set early self.new }
+    {
+        self.words = words;
+    }
+
     /// Leads the state from a round's beginning to the next round. All memory is taken before the first change.
     pub(crate) fn advance(
         &mut self,
@@ -59,10 +70,10 @@ impl State {
         ensures advanced { OnOk result (IsAdvanced self.old jobs.now records.now usims.now words.now self.new) }
         ensures kept { OnErr result (self.new ≡ self.old) }
     {
-        let words = reopened(alloc, words)?;
+        let openings = reopened(alloc, words)?;
         note_all(&mut self.released, records)?;
         self.usims.put_back(jobs, usims);
-        self.words = words;
+        self.words = openings;
         Ok(())
     }
 }

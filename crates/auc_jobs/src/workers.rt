@@ -1,50 +1,128 @@
 //! The workers of a round, and what they served in the order of the jobs.
 
-ghost use Rattle.std.specs.Prelude.{◌≡◌, ◌≤◌, ◌+◌, ℕ, [], All, AllPairs, IsPermutation, List, length, map, IfOk, if◌then◌else◌};
-ghost use Rattle.auc_draw.specs.Book.{IsNew};
+ghost use Rattle.std.specs.Prelude.{◌≡◌, ◌≤◌, ◌<◌, ◌+◌, ℕ, [], All, AllPairs, IsPermutation, List, length, map, slice_index, IfOk, if◌then◌else◌};
+ghost use Rattle.auc_centre.specs.Kept.{subs_of};
+ghost use Rattle.auc_draw.specs.Book.{IsNew, Opens};
+ghost use Rattle.auc_journal.specs.Journal.{limits_of};
+ghost use Rattle.auc_keeper.specs.Keeper.{Since};
 ghost use Rattle.auc_sqn.specs.Number.{max_seq};
+ghost use Rattle.auc_subs.specs.Subscriber.{AreSubscribers};
 ghost use Rattle.auc_world.specs.declared.record.LineRecord.{LineRecord};
 ghost use Rattle.auc_world.specs.Vectors.{vectors_in};
 ghost use Rattle.auc_jobs.specs.InnerClaims.{AreCollected, IsDone};
-ghost use Rattle.auc_jobs.specs.InnerRound.{AreServed};
+ghost use Rattle.auc_jobs.specs.InnerKeeping.{CanKeep, StaysNear, TellsStop};
+ghost use Rattle.auc_jobs.specs.InnerRound.{AreServed, GoesByLimits};
 ghost use Rattle.auc_jobs.specs.InnerSharing.{Begins, IsBookOf, IsServable};
+ghost use Rattle.auc_jobs.specs.Round.{IsJournalOf, LeavesMore};
 
 use crate::claiming::{ClaimedJob, WorkerJobs, work};
 use crate::closing::words;
 use crate::jobs::ServedJobs;
 use crate::round_jobs::RoundJobs;
-use auc_centre::Naming;
-use auc_draw::{Book, Pass};
-use auc_edge::{Gate, Items, NoMemory};
+use auc_centre::{Kept, Naming};
+use auc_disk::Disk;
+use auc_draw::{Book, KeeperPass, Pass};
+use auc_edge::{Gate, Items, NoMemory, Stop};
 use auc_history::recut_split_is_a_split;
-use auc_sqn::MAX_SEQ;
+use auc_journal::Journal;
+use auc_keeper::Keeper;
 use std::alloc::Global;
 use std::marker::Brand;
-use std::sync::Wait;
+use std::sync::{Mutex, Wait};
 use std::thread::{self, Threads};
 
+/// What the jobs of a round gave, the subscribers' words after them, and why reservations ended, if they did.
+#[derive(Drop)]
+pub(crate) struct RoundPieces {
+    pub(crate) jobs: ServedJobs,
+    pub(crate) words: Items<u64>,
+    pub(crate) stop: Option<Stop>,
+}
+
+/// What the workers of a round served, and the journal after them.
+#[derive(Drop)]
+pub(crate) struct Pieces<D: Disk + Drop> {
+    pub(crate) journal: Journal<D>,
+    pub(crate) result: Result<RoundPieces, NoMemory>,
+}
+
+/// What the workers of a round come to, and the parts of its keeper after them.
+#[derive(Drop)]
+struct Worked<D: Disk + Drop> {
+    all: Result<Vec<WorkerJobs>, NoMemory>,
+    journal: Journal<D>,
+    keeper: KeeperPass,
+    stop: Option<Stop>,
+}
+
 /// Runs a worker for each pass.
-fn work_all<L: Naming + Send + Sync, G: Gate + Sync, R: Threads + Wait + Sync>(
+fn run_workers<
+    L: Naming<D> + Send + Sync,
+    D: Disk + Drop + Send,
+    G: Gate + Sync,
+    R: Threads + Wait + Sync,
+>(
     rt: &R,
     alloc: Global,
     round: &RoundJobs,
     book: &Book,
+    keeper: &Mutex<Kept<L, D>>,
     gate: &G,
     passes: Vec<Pass>,
 ) -> Result<Vec<WorkerJobs>, NoMemory>
     requires round { IsServable round.now }
-    requires book { IsBookOf L.table (length round.now.set.rows) book.now }
+    requires book { IsBookOf L.table (subs_of L.opening) (length round.now.set.rows) book.now }
     requires new { All (IsNew L.table) passes.items }
     ensures { IfOk result (λ all. (length all.items ≡ length passes.items)
         × All (IsDone L.table round.now) all.items) }
 {
     let one = |pass: Pass| -> WorkerJobs
         requires { IsServable round.now
-            × IsBookOf L.table (length round.now.set.rows) book.now
+            × IsBookOf L.table (subs_of L.opening) (length round.now.set.rows) book.now
             × IsNew L.table pass }
         ensures { IsDone L.table round.entry.now result }
-    { work::<L, G, R>(rt, alloc, round, book, gate, pass) };
+    { work(rt, alloc, round, book, keeper, gate, pass) };
     Ok(thread::map_vec(rt, passes, &one)?)
+}
+
+/// Runs a worker for each pass, over the keeper of a journal in a lock. The parts of the keeper are handed back.
+fn work_all<
+    L: Naming<D> + Send + Sync,
+    D: Disk + Drop + Send,
+    G: Gate + Sync,
+    R: Threads + Wait + Sync,
+>(
+    rt: &R,
+    alloc: Global,
+    round: &RoundJobs,
+    book: &Book,
+    gate: &G,
+    passes: Vec<Pass>,
+    journal: Journal<D>,
+    keeper: KeeperPass,
+) -> Worked<D>
+    requires round { IsServable round.now }
+    requires book { IsBookOf L.table (subs_of L.opening) (length round.now.set.rows) book.now }
+    requires new { All (IsNew L.table) passes.items }
+    requires keeper { CanKeep L.table L.passes L.opening journal keeper }
+    ensures all { IfOk result.all (λ all. (length all.items ≡ length passes.items)
+        × All (IsDone L.table round.now) all.items) }
+    ensures own { (result.keeper.id ≡ L.table) × (result.keeper.passes ≡ L.passes) }
+    ensures stop { result.stop ≡ result.keeper.stop }
+    ensures since { Since D.seen D.may_leave D.faults journal
+        (record { journal = result.journal; pass = result.keeper }) }
+{
+    let lock = Mutex::new(Kept::<L, D>::new(Keeper::new(journal, keeper)));
+    let all = run_workers(rt, alloc, round, book, &lock, gate, passes);
+    let keeper = lock.into_inner().into_keeper();
+    let stop = keeper.stop();
+    let (journal, keeper) = keeper.parts();
+    Worked {
+        all,
+        journal,
+        keeper,
+        stop,
+    }
 }
 
 /// The passes and the jobs of all workers, if each of them had the memory.
@@ -90,32 +168,124 @@ fn served_jobs(alloc: Global, jobs: Vec<ClaimedJob>, full: bool) -> Result<Serve
     Ok(done)
 }
 
-/// Serves the jobs of a round by so many workers, and answers what they gave, and the subscribers' words after them.
-pub(crate) fn serve_pieces<G: Gate + Sync, R: Threads + Wait + Sync>(
+/// Opens a book at the openings, with the limits of a journal.
+fn open_book<D: Disk + Drop>(
+    alloc: Global,
+    openings: &[u64],
+    journal: &Journal<D>,
+    workers: u32,
+) -> Result<(Book, Vec<Pass>, KeeperPass), NoMemory>
+    requires openings { (length openings.now ≤ 65536) × All (λ number. number ≤ max_seq) openings.now }
+    requires journal { length journal.now.imsis ≡ length openings.now }
+    requires workers { (1 ≤ workers) × (workers ≤ 64) }
+    ensures { IfOk result (λ opened. Opens openings.now (limits_of journal.now) workers opened.0 opened.1.items opened.2) }
+{
+    let limits = limits(alloc, journal, openings.len() as u32)?;
+    Book::open(alloc, openings, limits.as_slice(), workers)
+}
+
+/// The limits of a journal of so many subscribers.
+fn limits<D: Disk + Drop>(
+    alloc: Global,
+    journal: &Journal<D>,
+    subs: u32,
+) -> Result<Items<u64>, NoMemory>
+    requires { length journal.now.imsis ≡ subs }
+    ensures value { IfOk result (λ limits. limits ≡ limits_of journal.now) }
+    ensures bound { IfOk result (λ limits. All (λ limit. limit ≤ max_seq) limits) }
+{
+    let mut limits = Items::new(alloc);
+    for sub in 0..subs {
+        limits.push(journal.reserved(sub))?;
+    }
+    Ok(limits)
+}
+
+/// Closes the book of a round, of which these are the workers and the keeper's pass, and puts what they served in the
+/// order of the jobs.
+fn close(
+    alloc: Global,
+    round: &RoundJobs,
+    book: Book,
+    all: Vec<WorkerJobs>,
+    keeper: KeeperPass,
+    stop: Option<Stop>,
+) -> Result<RoundPieces, NoMemory>
+    requires round { IsServable round.now }
+    requires book { length book.openings ≡ length round.now.set.rows }
+    requires all { (1 ≤ length all.items) × All (IsDone book.id round.now) all.items }
+    requires keeper { (keeper.id ≡ book.id) × (keeper.passes ≡ length all.items) }
+    requires stop { stop ≡ keeper.stop }
+    ensures served { IfOk result (λ done. (early : List LineRecord) → Begins round.now early
+        → AreServed round.now.set early book.openings round.now.jobs done.jobs.records done.jobs.usims done.words) }
+    ensures limits { IfOk result (λ done.
+        GoesByLimits round.now.set stop done.jobs.records book.limits done.words keeper.limits) }
+    ensures looked { IfOk result (λ done. (i : ℕ) → i < length book.openings
+        → slice_index keeper.seen i ≤ slice_index done.words i) }
+    ensures vectors { IfOk result (λ done. done.jobs.vectors
+        ≡ (if round.now.full then map (vectors_in round.now.set) done.jobs.records else [])) }
+    ensures bound { IfOk result (λ done. All (λ word. word ≤ max_seq + 64) done.words) }
+    ensures stop { IfOk result (λ done. done.stop ≡ stop) }
+{
+    recut_split_is_a_split();
+    let (passes, done) = collect(alloc, all)?;
+    let set = round.set;
+    let subs = set.subs.len();
+    let closed = book.close(passes, keeper);
+    let jobs = served_jobs(alloc, in_order(done)?, round.full)?;
+    let words = words(alloc, &closed, subs)?;
+    Ok(RoundPieces { jobs, words, stop })
+}
+
+/// Serves the jobs of a round by so many workers, with a journal, which is handed back.
+pub(crate) fn serve_pieces<D: Disk + Drop + Send, G: Gate + Sync, R: Threads + Wait + Sync>(
     rt: &R,
     alloc: Global,
     round: &RoundJobs,
     openings: &[u64],
+    journal: Journal<D>,
     workers: u32,
     gate: &G,
-) -> Result<(ServedJobs, Items<u64>), NoMemory>
+) -> Pieces<D>
     requires round { IsServable round.now }
     requires openings { (length openings.now ≡ length round.now.set.rows) × (length openings.now ≤ 65536)
         × All (λ number. number ≤ max_seq) openings.now }
+    requires subscribers { AreSubscribers round.now.set.rows }
+    requires journal { IsJournalOf round.now.set.rows journal }
     requires workers { (1 ≤ workers) × (workers ≤ 64) }
-    ensures served { IfOk result (λ both. (early : List LineRecord) → Begins round.now early
-        → AreServed round.now.set early openings.now round.now.jobs both.0.records both.0.usims both.1) }
-    ensures vectors { IfOk result (λ both. both.0.vectors
-        ≡ (if round.now.full then map (vectors_in round.now.set) both.0.records else [])) }
-    ensures bound { IfOk result (λ both. All (λ word. word ≤ max_seq + 64) both.1) }
+    ensures served { IfOk result.result (λ done. (early : List LineRecord) → Begins round.now early
+        → AreServed round.now.set early openings.now round.now.jobs done.jobs.records done.jobs.usims done.words) }
+    ensures limits { IfOk result.result (λ done. GoesByLimits round.now.set done.stop done.jobs.records
+        (limits_of journal) done.words (limits_of result.journal)) }
+    ensures vectors { IfOk result.result (λ done. done.jobs.vectors
+        ≡ (if round.now.full then map (vectors_in round.now.set) done.jobs.records else [])) }
+    ensures bound { IfOk result.result (λ done. All (λ word. word ≤ max_seq + 64) done.words) }
+
+    // The journal is of the same subscribers, and no limit of it fell.
+    ensures subscribers { result.journal.imsis ≡ journal.imsis }
+    ensures leaves { LeavesMore D.seen D.may_leave journal result.journal }
+    ensures near { IfOk result.result (λ done. StaysNear D.seen D.may_leave journal done.words result.journal) }
+    ensures stop { IfOk result.result (λ done. TellsStop D.faults journal done.stop result.journal) }
 {
-    recut_split_is_a_split();
-    let limits = Vec::from_elem(alloc, MAX_SEQ, openings.len())?;
-    let (book, passes, keeper) = Book::open(alloc, openings, limits.as_slice(), workers)?;
-    let all = work_all::<Brand, G, R>(rt, alloc, round, &book, gate, passes)?;
-    let (passes, done) = collect(alloc, all)?;
-    let closed = book.close(passes, keeper);
-    let done = served_jobs(alloc, in_order(done)?, round.full)?;
-    let words = words(alloc, &closed, openings.len() as u32)?;
-    Ok((done, words))
+    let (book, passes, keeper) = match open_book(alloc, openings, &journal, workers) {
+        Ok(opened) => opened,
+        Err(error) => {
+            return Pieces {
+                journal,
+                result: Err(error),
+            };
+        }
+    };
+    let worked = work_all::<Brand, D, G, R>(rt, alloc, round, &book, gate, passes, journal, keeper);
+    let Worked {
+        all,
+        journal,
+        keeper,
+        stop,
+    } = worked;
+    let result = match all {
+        Ok(all) => close(alloc, round, book, all, keeper, stop),
+        Err(error) => Err(error),
+    };
+    Pieces { journal, result }
 }

@@ -22,6 +22,7 @@ pub returns-clause-turn : goal.returns-clause-turn
 returns-clause-turn g c =
     turn_on c.args.round.now c.args.pass.now c.claim.new.self c.serve_at_desk.new.pass c.args.done.now.items _ (record { job = c.in-Some.job; served = c.in_ok-served.served }) (record {
       apart = c.requires.round.apart;
+      known = c.requires.round.known;
       claim = subst (λ (k : ℕ). ClaimsJob k c.args.pass.now c.claim.new.self (Some c.in-Some.job)) c.count.ensures c.in-Some.ensures.claims;
       serves = c.in_ok-served.ensures.served;
     }) c.in_ok-push.ensures.items c.requires.stands

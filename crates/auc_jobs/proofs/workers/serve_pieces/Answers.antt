@@ -1,41 +1,40 @@
-use Rattle.std.proofs.Common.{ℕ, List, arith, ap, map}
-use Rattle.auc_jobs.specs.InnerSharing.{Shared}
-use Rattle.auc_jobs.proofs.CollectLemmas.{passes_own}
-use Rattle.auc_jobs.proofs.CrewLemmas.{served_by_workers, printed_by_workers, closed_within}
+use Rattle.std.proofs.Common.{ℕ, ◌<◌, ◌≤◌, List, ap, length, slice_index, sym, ◌∙◌, subst}
+use Rattle.std.specs.Prelude.{IfOk}
+use Rattle.std.proofs.lemmas.List.{length-map}
+use Rattle.auc_edge.specs.Identity.{Identity}
+use Rattle.auc_subs.specs.declared.row.Row.{Row}
+use Rattle.auc_world.specs.declared.record.LineRecord.{LineRecord}
+use Rattle.auc_jobs.specs.declared.workers.RoundPieces.{RoundPieces}
+use Rattle.auc_jobs.specs.InnerKeeping.{StaysNear}
+use Rattle.auc_jobs.specs.InnerRound.{AreServed}
+use Rattle.auc_jobs.specs.InnerSharing.{Begins}
+use Rattle.auc_jobs.proofs.KeepingLemmas.{can_keep, if_ok_map, stays_near}
 use Rattle.auc_jobs.proofs.workers.serve_pieces.Goals as goal
+use Rattle.auc_jobs.proofs.workers.serve_pieces.Goals.{in-Ok-all, in-Err-all}
 
-pub close-closed-requires-clause-own : goal.close-closed-requires-clause-own
-close-closed-requires-clause-own g c = passes_own c.in_ok-book.book.id c.args.round.now c.in_ok-all.all.items c.in_ok-passes.passes.items c.in_ok-passes.ensures.passed c.in_ok-all.ensures.1
+pub work_all-worked-requires-clause-keeper : goal.work_all-worked-requires-clause-keeper
+work_all-worked-requires-clause-keeper g c = λ lifetimes within.
+    can_keep c.args.round.now.set.rows c.args.openings.now c.args.workers c.args.journal c.in-Ok.opened.0 c.in-Ok.opened.1.items c.in-Ok.opened.2 c.requires.subscribers c.requires.journal c.in-Ok.ensures
 
 pub returns-clause-served : goal.returns-clause-served
-returns-clause-served g c =
-    served_by_workers c.in_ok-book.book.id c.args.round.now c.args.openings.now c.in_ok-all.all.items c.in_ok-passes.passes.items c.close-closed.result c.in_ok-passes.done.items c.in_ok-in_order.field-0.items
-    c.in_ok-done.done.records c.in_ok-done.done.usims c.in_ok-words.words (record {
-      recut = c.recut_split_is_a_split.ensures;
-      some = omega (arith, c.in_ok-all.ensures.0, c.in_ok-book.ensures.many, c.requires.workers.0);
-      finished = c.in_ok-all.ensures.1;
-      collected = c.in_ok-passes.ensures;
-      closes = record { book = c.in_ok-book.book; keeper = c.in_ok-book.keeper; numbers = c.in_ok-book.ensures.numbers; closes = c.close-closed.ensures };
-      same = c.in_ok-in_order.ensures.same;
-      rising = c.in_ok-in_order.ensures.sorted;
-      apart = c.requires.round.apart;
-    })
-    c.in_ok-done.ensures.records c.in_ok-done.ensures.usims c.in_ok-words.ensures
+returns-clause-served g c = elim c.match-all.branch [
+  | in-Ok-all w ↦
+      rw w.result-is
+      (subst (λ (os : List ℕ). IfOk w.close-result.result (λ done. (early : List LineRecord) → Begins c.args.round.now early
+      → AreServed c.args.round.now.set early os c.args.round.now.jobs done.jobs.records done.jobs.usims done.words)) c.in-Ok.ensures.numbers w.close-result.ensures.served)
+  | in-Err-all w ↦ rw w.result-is tt
+]
 
-pub returns-clause-vectors : goal.returns-clause-vectors
-returns-clause-vectors g c =
-    printed_by_workers c.in_ok-book.book.id c.args.round.now c.args.openings.now c.in_ok-all.all.items c.in_ok-passes.passes.items c.close-closed.result c.in_ok-passes.done.items c.in_ok-in_order.field-0.items
-    c.in_ok-done.done.records c.in_ok-done.done.vectors c.round.inside.full (record {
-      recut = c.recut_split_is_a_split.ensures;
-      some = omega (arith, c.in_ok-all.ensures.0, c.in_ok-book.ensures.many, c.requires.workers.0);
-      finished = c.in_ok-all.ensures.1;
-      collected = c.in_ok-passes.ensures;
-      closes = record { book = c.in_ok-book.book; keeper = c.in_ok-book.keeper; numbers = c.in_ok-book.ensures.numbers; closes = c.close-closed.ensures };
-      same = c.in_ok-in_order.ensures.same;
-      rising = c.in_ok-in_order.ensures.sorted;
-      apart = c.requires.round.apart;
-    })
-    c.requires.round (ap (λ (s : Shared). s.full) c.round.view_is) c.in_ok-done.ensures.records c.in_ok-done.ensures.vectors
-
-pub returns-clause-bound : goal.returns-clause-bound
-returns-clause-bound g c = closed_within c.in_ok-book.book (map (λ p. p.deeds) c.in_ok-passes.passes.items) c.in_ok-book.keeper c.close-closed.result c.in_ok-words.words c.close-closed.ensures c.in_ok-words.ensures
+pub returns-clause-near : goal.returns-clause-near
+returns-clause-near g c = elim c.match-all.branch [
+  | in-Ok-all w ↦
+      rw w.result-is
+      (if_ok_map (λ (done : RoundPieces). (i : ℕ) → i < length c.in-Ok.opened.0.openings → slice_index c.work_all-worked.result.keeper.seen i ≤ slice_index done.words i)
+      (λ done. StaysNear g.D.Disk.seen g.D.Disk.may_leave c.args.journal done.words c.work_all-worked.result.journal) w.close-result.result
+      (λ done looked. stays_near g.D.Disk.seen g.D.Disk.may_leave g.D.Disk.faults c.args.journal c.work_all-worked.result.journal c.work_all-worked.result.keeper done.words c.in-Ok.opened.0.openings
+      c.work_all-worked.ensures.since
+      (ap (λ (imsis : List Identity). length imsis) c.requires.journal.subscribers ∙ length-map c.args.round.now.set.rows (λ (row : Row). row.imsi) ∙ sym c.requires.openings.0
+      ∙ sym (ap (λ (os : List ℕ). length os) c.in-Ok.ensures.numbers)) looked)
+      w.close-result.ensures.looked)
+  | in-Err-all w ↦ rw w.result-is tt
+]

@@ -1,0 +1,91 @@
+-- For the keeper of a round: the journal after it.
+use Rattle.std.proofs.Common.{◌≡◌, ◌≢◌, ℕ, ◌+◌, ◌<◌, ◌≤◌, List, [], ◌∷◌, length, map, max, slice_index, AllPairs, Option, Some, Result, Ok, Err, arith, refl, sym, ap, subst}
+use Rattle.std.specs.Prelude.{IfOk, OnOk}
+use Rattle.std.proofs.lemmas.List.Elements.{All-map}
+use Rattle.auc_draw.specs.Book.{Opens}
+use Rattle.auc_draw.specs.Values.{BookValue, KeeperValue, PassValue}
+use Rattle.auc_edge.specs.Identity.{Identity}
+use Rattle.auc_edge.specs.declared.no_memory.NoMemory.{NoMemory}
+use Rattle.auc_edge.specs.declared.stop.Stop.{Stop}
+use Rattle.auc_history.proofs.Facts.{AllPairs-cons, AllPairs-head, AllPairs-tail}
+use Rattle.auc_journal.specs.Journal.{JournalState, limits_of}
+use Rattle.auc_journal.proofs.Facts.{durable_more}
+use Rattle.auc_keeper.specs.Keeper.{Since}
+use Rattle.auc_lines.specs.declared.part.Line.{Line}
+use Rattle.auc_subs.specs.Subscriber.{AreSubscribers}
+use Rattle.auc_subs.specs.declared.row.Row.{Row}
+use Rattle.auc_world.specs.declared.record.LineRecord.{LineRecord}
+use Rattle.auc_world.specs.Limits.{Raises, least_step}
+use Rattle.auc_world.specs.Lines.{all_lines}
+use Rattle.auc_world.specs.Round.{IsLawfulRound}
+use Rattle.auc_world.specs.Setting.{Setting}
+use Rattle.auc_world.specs.Transcript.{reopened}
+use Rattle.auc_jobs.specs.declared.round.Ran.{Ran}
+use Rattle.auc_jobs.specs.declared.workers.RoundPieces.{RoundPieces}
+use Rattle.auc_jobs.specs.InnerKeeping.{CanKeep, StaysNear}
+use Rattle.auc_jobs.specs.InnerRound.{GoesByLimits}
+use Rattle.auc_jobs.specs.Round.{IsJournalOf, Serves}
+use Rattle.auc_jobs.specs.State.{Standing, StandsAt}
+
+-- the identities of rows differ if the rows do
+imsis_differ : (rows : List Row) → AllPairs (λ a b. a.imsi ≢ b.imsi) rows → AllPairs (λ (a b : Identity). a ≢ b) (map (λ row. row.imsi) rows)
+imsis_differ [] differ = λ i j d low within. absurd (omega arith)
+imsis_differ (row ∷ rows) differ =
+    AllPairs-cons (λ (a b : Identity). a ≢ b) row.imsi (map (λ row. row.imsi) rows)
+    (All-map (λ imsi. row.imsi ≢ imsi) (λ (r : Row). r.imsi) rows (AllPairs-head (λ a b. a.imsi ≢ b.imsi) row rows differ))
+    (imsis_differ rows (AllPairs-tail (λ a b. a.imsi ≢ b.imsi) row rows differ))
+
+pub subscribers_differ : (rows : List Row) (imsis : List Identity) → imsis ≡ map (λ row. row.imsi) rows → AllPairs (λ a b. a.imsi ≢ b.imsi) rows → AllPairs (λ (a b : Identity). a ≢ b) imsis
+subscribers_differ rows imsis is differ = subst (AllPairs (λ (a b : Identity). a ≢ b)) (sym is) (imsis_differ rows differ)
+
+-- what holds where a result is Ok, by what else holds there
+pub if_ok_map : {A E : Type 0} (P Q : A → Type 0) (result : Result A E) → ((x : A) → P x → Q x) → IfOk result P → IfOk result Q
+if_ok_map P Q (Ok x) f holds = f x holds
+if_ok_map P Q (Err e) f holds = tt
+
+-- a crash leaves nothing above the words, if the keeper saw nothing above them
+pub stays_near : {D : Type 0} (seen : D → Option (List ℕ)) (may_leave : D → List ℕ → Type 0) (faults : D → ℕ) (journal after : JournalState D) (pass : KeeperValue) (words openings : List ℕ)
+    → Since seen may_leave faults journal (record { journal = after; pass = pass }) → length journal.imsis ≡ length openings
+    → ((i : ℕ) → i < length openings → slice_index pass.seen i ≤ slice_index words i) → StaysNear seen may_leave journal words after
+stays_near seen may_leave faults journal after pass words openings since sized looked = λ from most durable.
+    durable_more seen may_leave from (λ i. max (most i) (slice_index pass.seen i + 64)) (λ i. max (most i) (slice_index words i + least_step)) after
+    (λ i inside.
+    let same = ap (λ (imsis : List Identity). length imsis) since.subscribers in
+    let low = looked i (omega (arith, inside, same, sized)) in
+    higher (most i) (slice_index pass.seen i) (slice_index words i) low)
+    (since.durable from most durable)
+  where
+    higher : (m a b : ℕ) → a ≤ b → max m (a + 64) ≤ max m (b + 64)
+    higher m a b low = omega (arith, low)
+
+-- a keeper can begin a round over its journal
+pub can_keep : {D : Type 0} (rows : List Row) (openings : List ℕ) (workers : ℕ) (journal : JournalState D) (book : BookValue) (passes : List PassValue) (pass : KeeperValue)
+    → AreSubscribers rows → IsJournalOf rows journal → Opens openings (limits_of journal) workers book passes pass → CanKeep book.id pass.passes (Some journal) journal pass
+can_keep rows openings workers journal book passes pass subscribers is opens = record {
+  own = opens.own;
+  all = refl;
+  begun = refl;
+  ready = is.ready;
+  differ = subscribers_differ rows journal.imsis is.subscribers subscribers.differ;
+  limits = opens.reserved;
+  running = opens.running;
+}
+
+-- a round whose pieces go by the limits is served
+pub served_round : {D : Type 0} (seen : D → Option (List ℕ)) (may_leave : D → List ℕ → Type 0) (set : Setting) (state next : Standing) (jobs : List (List Line)) (journal after : JournalState D)
+    (done : RoundPieces) (result : Result Ran NoMemory) → IfOk result (λ ran. (early : List LineRecord) → StandsAt set early state → IsLawfulRound set done.stop early state.words jobs ran.round done.words)
+    → OnOk result (next.words ≡ reopened done.words) → IfOk result (λ ran. (ran.round.jobs ≡ done.jobs.records) × (ran.vectors ≡ done.jobs.vectors) × (ran.stop ≡ done.stop))
+    → GoesByLimits set done.stop done.jobs.records (limits_of journal) done.words (limits_of after) → StaysNear seen may_leave journal done.words after
+    → IfOk result (λ ran. (early : List LineRecord) → StandsAt set early state → Serves seen may_leave set early state jobs ran.round ran.stop journal next after)
+served_round seen may_leave set state next jobs journal after done (Ok ran) lawful opens parts limits near = λ early stands. record {
+  words = done.words;
+  lawful = subst (λ (stop : Option Stop). IsLawfulRound set stop early state.words jobs ran.round done.words) (sym parts.2) (lawful early stands);
+  opens = opens;
+  limits = subst (λ (records : List (List LineRecord)). Raises set.rows (all_lines records) (limits_of journal) done.words (limits_of after)) (sym parts.0) limits.raises;
+  durable = near;
+}
+served_round seen may_leave set state next jobs journal after done (Err e) lawful opens parts limits near = tt
+
+-- what holds where a result is Ok holds of what it has
+pub if_ok_at : {A E : Type 0} (P : A → Type 0) (result : Result A E) (x : A) → result ≡ Ok x → IfOk result P → P x
+if_ok_at P result x is holds = subst (λ r. IfOk r P) is holds

@@ -1,0 +1,234 @@
+-- For a worker: each number that its jobs' lines release or withhold was released or withheld by its pass.
+use Rattle.std.proofs.Common.{◌≡◌, ℕ, zero, suc, ◌+◌, ◌<◌, ◌≤◌, ◌==◌, Bool, true, false, cond, List, [], ◌∷◌, ◌++◌, length, get_or, All, Contains, flat_map, arith, refl, sym, ap, ◌∙◌, subst, inl, inr}
+use Rattle.std.specs.Prelude.{if◌then◌else◌}
+use Rattle.std.proofs.lemmas.Bool.{eqb-true, ne_eqb}
+use Rattle.std.proofs.lemmas.Grind.{flat_map-append}
+use Rattle.std.proofs.lemmas.List.Elements.{All-append, All-cons, All-contains_itself, All-head, All-nil, All-tail, Contains-append_left, Contains-append_right}
+use Rattle.auc_centre.specs.Adds.{IsTold}
+use Rattle.auc_draw.specs.declared.rule.Deed.{Deed}
+use Rattle.auc_edge.specs.declared.stop.Stop.{Stop}
+use Rattle.auc_history.specs.declared.entry.Entry.{Entry}
+use Rattle.auc_history.specs.declared.entry.Entry.TheVariants.{Drawn, Moved as moved, Look}
+use Rattle.auc_history.specs.History.{IsBefore, IsInOrder, drawn, drawn_by}
+use Rattle.auc_history.specs.Split.{times}
+use Rattle.auc_history.proofs.Facts.{AllPairs-head, AllPairs-tail, times-append, times-cons, times_at}
+use Rattle.auc_lines.specs.declared.part.Line.{Line}
+use Rattle.auc_lines.specs.declared.part.Line.TheVariants as asked
+use Rattle.auc_sqn.specs.Number.{max_seq}
+use Rattle.auc_world.specs.declared.record.LineRecord.{LineRecord}
+use Rattle.auc_world.specs.declared.record.LineRecord.TheVariants.{Vector, Withheld, Exhausted, Sync, Give}
+use Rattle.auc_world.specs.declared.record.SyncVerdict.{SyncVerdict}
+use Rattle.auc_world.specs.declared.record.SyncVerdict.TheVariants as verdict
+use Rattle.auc_world.specs.Entries.{entries_of_line, entries_of_lines}
+use Rattle.auc_world.specs.Given.{Before, DrawGives, VectorsFollow, LineGives, JobGives, behind}
+use Rattle.auc_world.specs.Lines.{released_by, numbers_of, withheld_by, withheld_of, held_by, held_of}
+use Rattle.auc_world.specs.Setting.{Setting}
+use Rattle.auc_world.proofs.Facts.{withheld_of-held_of}
+use Rattle.auc_jobs.specs.declared.claiming.ClaimedJob.{ClaimedJob}
+use Rattle.auc_jobs.specs.Serving.{IsKnownLine, AreKnown}
+
+-- ---- what a pass did stays
+
+-- what deeds hold, longer ones hold
+grown : {X : Type 0} (f : Deed → List X) (old rest new : List Deed) → new ≡ old ++ rest → (x : X) → Contains (flat_map f old) x → Contains (flat_map f new) x
+grown f old rest new is x has =
+    subst (λ xs. Contains xs x) (sym (ap (flat_map f) is ∙ flat_map-append f old rest)) (Contains-append_left (flat_map f old) (flat_map f rest) x has)
+
+-- of all jobs
+pub jobs_grown : {X : Type 0} (f : Deed → List X) (g : ClaimedJob → List X) (old rest new : List Deed) (done : List ClaimedJob) → new ≡ old ++ rest
+    → All (λ c. All (Contains (flat_map f old)) (g c)) done → All (λ c. All (Contains (flat_map f new)) (g c)) done
+jobs_grown f g old rest new done is each = λ k c within i x inside. grown f old rest new is _ (each k c within i x inside)
+
+-- what comes after what a list had, the longer list has
+pub all_last : {X : Type 0} (front back whole : List X) → whole ≡ front ++ back → All (Contains whole) back
+all_last front back whole is = λ k d within.
+    subst (λ xs. Contains xs (get_or back k d)) (sym is) (Contains-append_right front back (get_or back k d) (All-contains_itself back k d within))
+
+-- ---- what the lines of a job name
+
+-- a line names one of so many subscribers, and the number of a vector is one
+abbrev pub IsOwn : ℕ → LineRecord → Type 0
+IsOwn count (Vector s n) = (s < count) × (n ≤ max_seq)
+IsOwn count (Withheld s n stop) = s < count
+IsOwn count (Exhausted s word) = Unit {0}
+IsOwn count (Sync s answer) = Unit {0}
+IsOwn count (Give s n answer) = Unit {0}
+
+-- the lines of a draw
+draw_own : (set : Setting) (sub count : ℕ) (lines : List LineRecord) → sub < length set.rows → DrawGives set sub count lines → All (IsOwn (length set.rows)) lines
+draw_own set sub zero lines known gives = subst (All (IsOwn (length set.rows))) (sym gives) (All-nil (IsOwn (length set.rows)))
+draw_own set sub (suc count) [] known gives = absurd gives
+draw_own set sub (suc count) (Vector s n ∷ lines) known (same, is, more) =
+    All-cons (IsOwn (length set.rows)) (Vector s n) lines (omega (arith, same, known), is.last) (draw_own set sub count lines known more)
+draw_own set sub (suc count) (Withheld s n stop ∷ lines) known (same, first, last, none) =
+    All-cons (IsOwn (length set.rows)) (Withheld s n stop) lines (omega (arith, same, known)) (subst (All (IsOwn (length set.rows))) (sym none) (All-nil (IsOwn (length set.rows))))
+draw_own set sub (suc count) (Exhausted s word ∷ lines) known (same, spent, none) =
+    All-cons (IsOwn (length set.rows)) (Exhausted s word) lines tt (subst (All (IsOwn (length set.rows))) (sym none) (All-nil (IsOwn (length set.rows))))
+draw_own set sub (suc count) (Sync s answer ∷ lines) known gives = absurd gives
+draw_own set sub (suc count) (Give s n answer ∷ lines) known gives = absurd gives
+
+-- those after a verdict
+follow_own : (set : Setting) (sub count : ℕ) (answer : SyncVerdict) (lines : List LineRecord) → sub < length set.rows → VectorsFollow set sub count answer lines → All (IsOwn (length set.rows)) lines
+follow_own set sub count (verdict.Moved seen seq_ms) lines known follow = draw_own set sub count lines known follow
+follow_own set sub count (verdict.InRange seen seq_ms) lines known follow = draw_own set sub count lines known follow
+follow_own set sub count (verdict.Beyond seen seq_ms) lines known follow = subst (All (IsOwn (length set.rows))) (sym follow) (All-nil (IsOwn (length set.rows)))
+follow_own set sub count verdict.WrongMac lines known follow = subst (All (IsOwn (length set.rows))) (sym follow) (All-nil (IsOwn (length set.rows)))
+
+-- those of a line
+line_own : (set : Setting) (before : Before) (line : Line) (lines : List LineRecord) → IsKnownLine (length set.rows) line → LineGives set before line lines → All (IsOwn (length set.rows)) lines
+line_own set before (asked.Draw sub count) lines known gives = draw_own set sub count lines known gives
+line_own set before (asked.Sync sub seq bit count) lines known gives =
+    subst (All (IsOwn (length set.rows))) (sym gives.lines_are)
+    (All-cons (IsOwn (length set.rows)) (Sync sub gives.answer) gives.more tt (follow_own set sub count gives.answer gives.more known.0 gives.follows))
+line_own set before (asked.Give sub n) lines known gives =
+    subst (All (IsOwn (length set.rows))) (sym gives.lines_are) (All-cons (IsOwn (length set.rows)) (Give sub n gives.answer) [] tt (All-nil (IsOwn (length set.rows))))
+
+-- and those of a job
+pub job_own : (set : Setting) (before : Before) (job : List Line) (lines : List LineRecord) → AreKnown (length set.rows) job → JobGives set before job lines → All (IsOwn (length set.rows)) lines
+job_own set before [] lines known gives = subst (All (IsOwn (length set.rows))) (sym gives) (All-nil (IsOwn (length set.rows)))
+job_own set before (line ∷ job) lines known (front, rest, is, here, more) =
+    subst (All (IsOwn (length set.rows))) (sym is)
+    (All-append (IsOwn (length set.rows)) front rest (line_own set before line front (All-head (IsKnownLine (length set.rows)) line job known) here)
+    (job_own set (behind before front) job rest (All-tail (IsKnownLine (length set.rows)) line job known) more))
+
+-- the released numbers are such
+numbers_within : (count sub : ℕ) (lines : List LineRecord) → All (IsOwn count) lines → All (λ n. n ≤ max_seq) (numbers_of sub lines)
+numbers_within count sub [] own = All-nil (λ n. n ≤ max_seq)
+numbers_within count sub (line ∷ lines) own =
+    All-append (λ n. n ≤ max_seq) (released_by sub line) (numbers_of sub lines) (here line (All-head (IsOwn count) line lines own)) (numbers_within count sub lines (All-tail (IsOwn count) line lines own))
+  where
+    by : (b : Bool) (n : ℕ) → n ≤ max_seq → All (λ m. m ≤ max_seq) (if b then n ∷ [] else [])
+    by true n low = All-cons (λ m. m ≤ max_seq) n [] low (All-nil (λ m. m ≤ max_seq))
+    by false n low = All-nil (λ m. m ≤ max_seq)
+
+    here : (line : LineRecord) → IsOwn count line → All (λ n. n ≤ max_seq) (released_by sub line)
+    here (Vector s n) is = by (s == sub) n is.1
+    here (Withheld s n stop) is = All-nil (λ n. n ≤ max_seq)
+    here (Exhausted s word) is = All-nil (λ n. n ≤ max_seq)
+    here (Sync s answer) is = All-nil (λ n. n ≤ max_seq)
+    here (Give s n answer) is = All-nil (λ n. n ≤ max_seq)
+
+-- nothing is withheld from a subscriber beyond them
+pub held_beyond : (count sub : ℕ) (lines : List LineRecord) → count ≤ sub → All (IsOwn count) lines → held_of sub lines ≡ []
+held_beyond count sub [] high own = refl
+held_beyond count sub (line ∷ lines) high own =
+    ap (λ (hs : List (ℕ × Stop)). hs ++ held_of sub lines) (here line (All-head (IsOwn count) line lines own)) ∙ held_beyond count sub lines high (All-tail (IsOwn count) line lines own)
+  where
+    here : (line : LineRecord) → IsOwn count line → held_by sub line ≡ []
+    here (Vector s n) is = refl
+    here (Withheld s n stop) is = rw (ne_eqb s sub (λ e. omega (arith, e, is, high))) refl
+    here (Exhausted s word) is = refl
+    here (Sync s answer) is = refl
+    here (Give s n answer) is = refl
+
+-- ---- no number is drawn twice
+
+-- numbers above one aren't it
+none_at_most : (m n : ℕ) (entries : List Entry) → n ≤ m → All (IsBefore (Drawn m)) entries → times n (drawn entries) ≡ 0
+none_at_most m n [] low after = refl
+none_at_most m n (Drawn k ∷ entries) low after =
+    let above = All-head (IsBefore (Drawn m)) (Drawn k) entries after in
+    let rest = none_at_most m n entries low (All-tail (IsBefore (Drawn m)) (Drawn k) entries after) in
+    let cut = times-cons n k (drawn entries) in
+    let other : ◌≡◌ {A = ℕ} (cond (k == n) 1 0) 0 = rw (ne_eqb k n (λ e. omega (arith, e, above, low))) refl in
+    omega (arith, rest, cut, other)
+none_at_most m n (moved from to ∷ entries) low after = none_at_most m n entries low (All-tail (IsBefore (Drawn m)) (moved from to) entries after)
+none_at_most m n (Look seen ∷ entries) low after = none_at_most m n entries low (All-tail (IsBefore (Drawn m)) (Look seen) entries after)
+
+-- in order, each number is drawn once at most
+drawn_once : (n : ℕ) (entries : List Entry) → IsInOrder entries → times n (drawn entries) ≤ 1
+drawn_once n [] ordered = omega arith
+drawn_once n (Drawn k ∷ entries) ordered = by (k == n) refl (drawn_once n entries (AllPairs-tail IsBefore (Drawn k) entries ordered))
+  where
+    cut : times n (k ∷ drawn entries) ≡ cond (k == n) 1 0 + times n (drawn entries)
+    cut = times-cons n k (drawn entries)
+
+    by : (b : Bool) → (k == n) ≡ b → times n (drawn entries) ≤ 1 → times n (k ∷ drawn entries) ≤ 1
+    by true e more =
+        let same = eqb-true k n e in
+        let one : ◌≡◌ {A = ℕ} (cond (k == n) 1 0) 1 = rw e refl in
+        let rest = none_at_most k n entries (omega (arith, same)) (AllPairs-head IsBefore (Drawn k) entries ordered) in
+        omega (arith, cut, one, rest)
+    by false e more = let none : ◌≡◌ {A = ℕ} (cond (k == n) 1 0) 0 = rw e refl in omega (arith, cut, none, more)
+drawn_once n (moved from to ∷ entries) ordered = drawn_once n entries (AllPairs-tail IsBefore (moved from to) entries ordered)
+drawn_once n (Look seen ∷ entries) ordered = drawn_once n entries (AllPairs-tail IsBefore (Look seen) entries ordered)
+
+-- what a line releases or withholds, it drew
+told_line : (n sub : ℕ) (before : List LineRecord) (line : LineRecord)
+    → times n (released_by sub line) + times n (withheld_by sub line) ≤ times n (drawn (entries_of_line sub before line))
+told_line n sub before (Vector s m) = by (s == sub)
+  where
+    by : (b : Bool) → times n (if b then m ∷ [] else []) + times n [] ≤ times n (drawn (if b then Drawn m ∷ [] else []))
+    by true = omega arith
+    by false = omega arith
+told_line n sub before (Withheld s m stop) = by (s == sub)
+  where
+    by : (b : Bool) → times n [] + times n (if b then m ∷ [] else []) ≤ times n (drawn (if b then Drawn m ∷ [] else []))
+    by true = omega arith
+    by false = omega arith
+told_line n sub before (Exhausted s word) = omega arith
+told_line n sub before (Sync s answer) = omega arith
+told_line n sub before (Give s m answer) = omega arith
+
+told_lines : (n sub : ℕ) (before lines : List LineRecord)
+    → times n (numbers_of sub lines) + times n (withheld_of sub lines) ≤ times n (drawn (entries_of_lines sub before lines))
+told_lines n sub before [] = omega arith
+told_lines n sub before (line ∷ lines) =
+    let here = told_line n sub before line in
+    let rest = told_lines n sub (before ++ line ∷ []) lines in
+    let a = times-append n (released_by sub line) (numbers_of sub lines) in
+    let b = times-append n (withheld_by sub line) (withheld_of sub lines) in
+    let c = ap (times n) (flat_map-append drawn_by (entries_of_line sub before line) (entries_of_lines sub (before ++ line ∷ []) lines))
+    ∙ times-append n (drawn (entries_of_line sub before line)) (drawn (entries_of_lines sub (before ++ line ∷ []) lines)) in
+    omega (arith, here, rest, a, b, c)
+
+-- each released number was drawn
+drew_line : (sub : ℕ) (before : List LineRecord) (line : LineRecord) → All (Contains (drawn (entries_of_line sub before line))) (released_by sub line)
+drew_line sub before (Vector s m) = by (s == sub)
+  where
+    by : (b : Bool) → All (Contains (drawn (if b then Drawn m ∷ [] else []))) (if b then m ∷ [] else [])
+    by true = All-contains_itself (m ∷ [])
+    by false = All-nil (Contains [])
+drew_line sub before (Withheld s m stop) = All-nil (Contains (drawn (entries_of_line sub before (Withheld s m stop))))
+drew_line sub before (Exhausted s word) = All-nil (Contains (drawn (entries_of_line sub before (Exhausted s word))))
+drew_line sub before (Sync s answer) = All-nil (Contains (drawn (entries_of_line sub before (Sync s answer))))
+drew_line sub before (Give s m answer) = All-nil (Contains (drawn (entries_of_line sub before (Give s m answer))))
+
+drew_lines : (sub : ℕ) (before lines : List LineRecord) → All (Contains (drawn (entries_of_lines sub before lines))) (numbers_of sub lines)
+drew_lines sub before [] = All-nil (Contains [])
+drew_lines sub before (line ∷ lines) =
+    let whole = drawn (entries_of_lines sub before (line ∷ lines)) in
+    let front = drawn (entries_of_line sub before line) in
+    let back = drawn (entries_of_lines sub (before ++ line ∷ []) lines) in
+    let cut : whole ≡ front ++ back = flat_map-append drawn_by (entries_of_line sub before line) (entries_of_lines sub (before ++ line ∷ []) lines) in
+    subst (λ (ns : List ℕ). All (Contains ns) (released_by sub line ++ numbers_of sub lines)) (sym cut)
+    (All-append (Contains (front ++ back)) (released_by sub line) (numbers_of sub lines)
+    (λ k d within. Contains-append_left front back (get_or (released_by sub line) k d) (drew_line sub before line k d within))
+    (λ k d within. Contains-append_right front back (get_or (numbers_of sub lines) k d) (drew_lines sub (before ++ line ∷ []) lines k d within)))
+
+-- a number that stands in a list, counts in it
+counts_in : (n : ℕ) (numbers : List ℕ) → Contains numbers n → 1 ≤ times n numbers
+counts_in n numbers (k, within, at) = subst (λ (m : ℕ). 1 ≤ times m numbers) at (times_at numbers k n within)
+
+-- ---- a job
+
+-- if each drawn number is told, each number that the lines of a job release was released
+pub job_released : (count sub : ℕ) (before lines : List LineRecord) (released : List ℕ) → All (IsOwn count) lines → IsInOrder (entries_of_lines sub before lines)
+    → All (IsTold (held_of sub lines) released) (drawn (entries_of_lines sub before lines)) → All (Contains released) (numbers_of sub lines)
+job_released count sub before lines released own ordered told = λ k d within.
+    let n = get_or (numbers_of sub lines) k d in
+    by n (numbers_within count sub lines own k d within) (All-contains_itself (numbers_of sub lines) k d within) (told_at n (drew_lines sub before lines k d within))
+  where
+    told_at : (n : ℕ) → Contains (drawn (entries_of_lines sub before lines)) n → IsTold (held_of sub lines) released n
+    told_at n (j, inside, at) = subst (IsTold (held_of sub lines) released) at (told j n inside)
+
+    by : (n : ℕ) → n ≤ max_seq → Contains (numbers_of sub lines) n → IsTold (held_of sub lines) released n → Contains released n
+    by n low here (inl high) = absurd (omega (arith, low, high))
+    by n low here (inr (inr there)) = there
+    by n low here (inr (inl held)) =
+        let withheld : Contains (withheld_of sub lines) n = subst (λ (ns : List ℕ). Contains ns n) (sym (withheld_of-held_of sub lines)) held in
+        let a = counts_in n (numbers_of sub lines) here in
+        let b = counts_in n (withheld_of sub lines) withheld in
+        let c = told_lines n sub before lines in
+        let once = drawn_once n (entries_of_lines sub before lines) ordered in
+        absurd (omega (arith, a, b, c, once))

@@ -1,0 +1,34 @@
+-- Inner facts: what only private contracts of this crate cite. Here: the keeper of a round, from its journal to the journal
+-- after it.
+use Rattle.std.specs.Prelude.{◌≡◌, ◌≢◌, ◌↔◌, ℕ, ◌+◌, ◌<◌, ◌^◌, AllPairs, false, true, List, Option, Some, None, max, slice_index}
+use Rattle.atomic_table.specs.Seated.{TableId}
+use Rattle.auc_draw.specs.Values.{KeeperValue}
+use Rattle.auc_edge.specs.Faults.{Rose}
+use Rattle.auc_edge.specs.declared.stop.Stop.{Stop}
+use Rattle.auc_edge.specs.declared.stop.Stop.TheVariants.{Fault, Full}
+use Rattle.auc_journal.specs.Durable.{IsDurable}
+use Rattle.auc_journal.specs.Journal.{JournalState, limits_of}
+use Rattle.auc_world.specs.Limits.{least_step}
+
+-- a keeper can begin a round: its pass is of the round's table, and the limits of its pass are the journal's
+pub record CanKeep {D : Type 0} (table : TableId) (passes : ℕ) (opening : Option (JournalState D)) (journal : JournalState D) (pass : KeeperValue) : Type 0 where
+  pub own : pass.id ≡ table
+  pub all : pass.passes ≡ passes
+  pub begun : opening ≡ Some journal
+  -- the journal takes appends, and each of its subscribers has an identity of its own
+  pub ready : journal.failed ≡ false
+  pub differ : AllPairs (λ a b. a ≢ b) journal.imsis
+  pub limits : pass.limits ≡ limits_of journal
+  pub running : pass.stop ≡ None
+
+-- what a stop says of the journals before and after it
+pub record TellsStop {D : Type 0} (faults : D → ℕ) (journal : JournalState D) (stop : Option Stop) (after : JournalState D) : Type 0 where
+  pub ready : (after.failed ≡ true) ↔ (stop ≡ Some Fault)
+  pub fault : stop ≡ Some Fault → Rose (faults journal.disk) (faults after.disk)
+  pub quiet : stop ≢ Some Fault → faults after.disk ≡ faults journal.disk
+  pub full : stop ≡ Some Full → 2 ^ 30 < after.place + 20
+
+-- a crash leaves no limit above that of before and a step above the word
+abbrev pub StaysNear : {D : Type 0} → (D → Option (List ℕ)) → (D → List ℕ → Type 0) → JournalState D → List ℕ → JournalState D → Type 0
+StaysNear {D} seen may_leave journal words after = (from : D) (most : ℕ → ℕ) → IsDurable seen may_leave from most journal
+    → IsDurable seen may_leave from (λ i. max (most i) (slice_index words i + least_step)) after

@@ -1,0 +1,37 @@
+-- A round that is served with a journal.
+use Rattle.std.specs.Prelude.{◌≡◌, ℕ, ◌+◌, ◌<◌, ◌≤◌, max, false, List, length, map, slice_index, Option}
+use Rattle.auc_edge.specs.declared.stop.Stop.{Stop}
+use Rattle.auc_journal.specs.Durable.{IsDurable}
+use Rattle.auc_journal.specs.Journal.{JournalState, limits_of, reserved_at}
+use Rattle.auc_lines.specs.declared.part.Line.{Line}
+use Rattle.auc_subs.specs.declared.row.Row.{Row}
+use Rattle.auc_world.specs.Limits.{Raises, least_step}
+use Rattle.auc_world.specs.Lines.{all_lines}
+use Rattle.auc_world.specs.Round.{IsLawfulRound}
+use Rattle.auc_world.specs.Setting.{Setting}
+use Rattle.auc_world.specs.Transcript.{reopened}
+use Rattle.auc_world.specs.declared.record.LineRecord.{LineRecord}
+use Rattle.auc_world.specs.declared.record.RoundRecord.{RoundRecord}
+use Rattle.auc_jobs.specs.State.{Standing}
+
+-- a journal is one of these subscribers, and no append failed
+pub record IsJournalOf {D : Type 0} (rows : List Row) (journal : JournalState D) : Type 0 where
+  pub subscribers : journal.imsis ≡ map (λ row. row.imsi) rows
+  pub ready : journal.failed ≡ false
+
+-- a round was served after the lines of earlier rounds: from a state and a journal to the next ones. Reservations may have
+-- ended in it, for this cause
+pub record Serves {D : Type 0} (seen : D → Option (List ℕ)) (may_leave : D → List ℕ → Type 0) (set : Setting) (early : List LineRecord) (state : Standing) (jobs : List (List Line)) (round : RoundRecord) (stop : Option Stop) (journal : JournalState D) (next : Standing) (after : JournalState D) : Type 0 where
+  -- the subscribers' words after it
+  pub words : List ℕ
+  pub lawful : IsLawfulRound set stop early state.words jobs round words
+  pub opens : next.words ≡ reopened words
+  -- each released number is within the limits of the journal
+  pub limits : Raises set.rows (all_lines round.jobs) (limits_of journal) words (limits_of after)
+  -- a crash leaves these limits at least, and none above that of before and a step above the word
+  pub durable : (from : D) (most : ℕ → ℕ) → IsDurable seen may_leave from most journal → IsDurable seen may_leave from (λ i. max (most i) (slice_index words i + least_step)) after
+
+-- if memory ran out: no limit fell, and a crash leaves journals with the limits at least
+pub record LeavesMore {D : Type 0} (seen : D → Option (List ℕ)) (may_leave : D → List ℕ → Type 0) (journal after : JournalState D) : Type 0 where
+  pub rises : (i : ℕ) → i < length journal.imsis → reserved_at journal i ≤ reserved_at after i
+  pub durable : (from : D) (most : ℕ → ℕ) → IsDurable seen may_leave from most journal → (more : ℕ → ℕ) × IsDurable seen may_leave from more after
