@@ -2,7 +2,6 @@
 use Rattle.std.proofs.Common.{◌≡◌, ℕ, Bool, true, false, List, [], ◌∷◌, ◌++◌, refl, sym, ◌∙◌, ap, subst, append_assoc, append-nil, inl, inr, ◌⊎◌, ◌≢◌, eqb}
 use Rattle.std.specs.Prelude.{Option, Some, slice_get, ◌||◌}
 use Rattle.std.proofs.lemmas.Bool.Decides.{eqb_tells}
-use Rattle.std.proofs.lemmas.Grind.{flat_map-append}
 use Rattle.auc_edge.specs.declared.stop.Stop.{Stop}
 use Rattle.auc_history.specs.declared.entry.Entry.{Entry}
 use Rattle.auc_lines.specs.declared.part.Line.{Line}
@@ -11,7 +10,7 @@ use Rattle.auc_subs.specs.declared.row.Row.{Row}
 use Rattle.auc_world.specs.Entries.{entries_of_lines}
 use Rattle.auc_world.specs.Given.{is_in, is_released, past_of, GiveGives, LineGives, JobGives}
 use Rattle.auc_world.specs.Setting.{Setting}
-use Rattle.auc_world.specs.Lines.{numbers_of, held_of, accepted_by, accepted, all_lines}
+use Rattle.auc_world.specs.Lines.{numbers_of, held_of, accepted_by, accepted}
 use Rattle.auc_usim.specs.Usim.{Memory}
 use Rattle.auc_world.specs.declared.record.GiveVerdict.{GiveVerdict}
 use Rattle.auc_world.specs.declared.record.GiveVerdict.TheVariants as given
@@ -201,7 +200,3 @@ job_all goes set early beside kept released usims left job lines none serving = 
 }
 
 -- ---- the jobs
-
--- the lines of jobs and of one more
-pub all_lines-push : (jobs : List (List LineRecord)) (job : List LineRecord) → all_lines (jobs ++ job ∷ []) ≡ all_lines jobs ++ job
-all_lines-push jobs job = flat_map-append (λ job. job) jobs (job ∷ []) ∙ rw append-nil refl

@@ -4,7 +4,6 @@ mod DrawingLemmas
 mod UsimLemmas
 mod JobLemmas
 mod SyncLemmas
-mod CountLemmas
 mod SettleLemmas
 mod PieceLemmas
 mod PutLemmas

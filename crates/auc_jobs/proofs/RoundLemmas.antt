@@ -25,8 +25,8 @@ use Rattle.auc_world.specs.declared.record.LineRecord.{LineRecord}
 use Rattle.auc_world.specs.declared.record.LineRecord.TheVariants.{Vector, Withheld, Exhausted, Sync, Give}
 use Rattle.auc_world.specs.declared.record.SyncVerdict.{SyncVerdict}
 use Rattle.auc_world.specs.declared.record.SyncVerdict.TheVariants as verdict
-use Rattle.auc_jobs.specs.declared.counting.Count.{Count}
-use Rattle.auc_jobs.specs.InnerClosings.{passed, passed_by, passed_in, capped, counted_in, AreCounted, counted_closing, counted_closings}
+use Rattle.auc_world.specs.declared.counting.Count.{Count}
+use Rattle.auc_world.specs.Counts.{passed, passed_by, passed_in, capped, counted_in, AreCounted, counted_closing, counted_closings}
 use Rattle.auc_jobs.specs.Usims.{AreBehind}
 use Rattle.auc_jobs.specs.InnerRound.{ArePieces, AreServed, IsAdvanced}
 use Rattle.auc_jobs.specs.InnerUsims.{OwnUsims}

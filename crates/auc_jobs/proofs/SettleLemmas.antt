@@ -19,10 +19,11 @@ use Rattle.auc_world.specs.Lines.{accepted}
 use Rattle.auc_world.specs.Setting.{Setting}
 use Rattle.auc_world.proofs.Facts.{accepted-append, job_quiet}
 use Rattle.auc_world.specs.Released.{Released}
+use Rattle.auc_world.specs.Vectors.{IsReleasableLine}
 use Rattle.auc_jobs.specs.Serving.{IsKnownLine}
 use Rattle.auc_jobs.specs.Usims.{HaveSecrets, AreOfRows}
 use Rattle.auc_jobs.specs.InnerRound.{JobBegins, ServesJob}
-use Rattle.auc_jobs.specs.InnerServing.{before_at, IsReleasableLine, Stands, ServesLines}
+use Rattle.auc_jobs.specs.InnerServing.{before_at, Stands, ServesLines}
 use Rattle.auc_jobs.specs.InnerUsims.{has_usim, AreCopies}
 use Rattle.auc_cards.proofs.Facts.{copies_found, copies_keyed}
 

@@ -8,12 +8,13 @@ use Rattle.auc_world.specs.Given.{LineGives}
 use Rattle.auc_world.specs.Setting.{Setting}
 use Rattle.auc_usim.specs.Usim.{Memory}
 use Rattle.auc_world.specs.Released.{Released}
+use Rattle.auc_world.specs.Vectors.{IsReleasableLine}
 use Rattle.auc_jobs.specs.Serving.{IsKnownLine}
 use Rattle.auc_jobs.specs.Usims.{HaveSecrets, AreOfRows}
 use Rattle.auc_jobs.specs.InnerRound.{ServesJob}
 use Rattle.auc_jobs.specs.InnerUsims.{OwnUsims, AreCopies, has_usim, usim_in}
 use Rattle.auc_world.specs.declared.record.LineRecord.{LineRecord}
-use Rattle.auc_jobs.specs.InnerServing.{before_at, IsReleasableLine, Stands, Adds, Serves, ServesLines}
+use Rattle.auc_jobs.specs.InnerServing.{before_at, Stands, Adds, Serves, ServesLines}
 use Rattle.auc_jobs.specs.InnerWorker.{WorkerState, WorkerStands, WorkerServes, WorkerServesLines, WorkerBegins, WorkerServesJob}
 use Rattle.auc_jobs.proofs.JobLemmas.{serves_adds, ServingLines, job_none}
 use Rattle.auc_jobs.proofs.SettleLemmas.{begins_stands, job_releasable, job_settles}

@@ -5,14 +5,11 @@ use Rattle.auc_history.specs.declared.entry.Entry.{Entry}
 use Rattle.auc_lines.specs.declared.part.Line.{Line}
 use Rattle.auc_sqn.specs.Number.{max_seq}
 use Rattle.auc_subs.specs.declared.row.Row.{Row}
-use Rattle.auc_subs.specs.Subscriber.{IsRow}
 use Rattle.auc_vector.specs.Auts.{read_auts_of}
 use Rattle.auc_vector.specs.declared.auts.Auts.{Auts}
 use Rattle.auc_vector.specs.Random.{rand_of}
 use Rattle.auc_world.specs.declared.record.SyncVerdict.{SyncVerdict}
 use Rattle.auc_world.specs.declared.record.SyncVerdict.TheVariants as verdict
-use Rattle.auc_vector.specs.Vector.{vector_of, Source}
-use Rattle.auc_vector.specs.declared.parts.Vector.{Vector as AuthVector}
 use Rattle.auc_world.specs.Entries.{is_reported, entries_of_line, entries_of_lines}
 use Rattle.auc_world.specs.Given.{Before, IsReleasable, IsGiven, is_released, past_before, GiveGives, JobGives, auts_for}
 use Rattle.auc_world.specs.Setting.{Setting}
@@ -23,28 +20,6 @@ use Rattle.auc_world.specs.declared.record.LineRecord.{LineRecord}
 use Rattle.auc_world.specs.declared.record.LineRecord.TheVariants.{Vector, Withheld, Exhausted, Sync, Give}
 use Rattle.auc_world.specs.Released.{Released, AreReleased}
 use Rattle.auc_jobs.specs.Usims.{AreBehind}
-
--- vectors are those of a subscriber's row, with the subscriber's RANDs
-pub record AreOfRow (key : List ℕ) (rows : List Row) (sub : ℕ) (source : Source) : Type 0 where
-  pub row : Row
-  pub there : slice_get rows sub ≡ Some row
-  pub is_row : IsRow row
-  pub made : source ≡ record { secret = row.secret; amf = row.amf; rands = record { key = key; sub = sub } }
-
--- the vector of a subscriber's number is the one of its row
-pub record IsOfRow (key : List ℕ) (rows : List Row) (sub n : ℕ) (vector : AuthVector) : Type 0 where
-  pub row : Row
-  pub there : slice_get rows sub ≡ Some row
-  pub is_row : IsRow row
-  pub made : vector ≡ vector_of row.secret row.amf n (rand_of key sub n)
-
--- a line that releases a vector names a number that a vector may have, and a known subscriber
-abbrev pub IsReleasableLine : Setting → LineRecord → Type 0
-IsReleasableLine set (Vector s n) = IsReleasable set s n
-IsReleasableLine set (Withheld s n stop) = Unit {0}
-IsReleasableLine set (Exhausted s word) = Unit {0}
-IsReleasableLine set (Sync s answer) = Unit {0}
-IsReleasableLine set (Give s n answer) = Unit {0}
 
 -- ---- the calls of the centre
 

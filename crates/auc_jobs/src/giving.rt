@@ -11,7 +11,6 @@ ghost use Rattle.auc_jobs.specs.InnerUsims.{Presents, has_usim, usim_in};
 ghost use Rattle.auc_jobs.specs.InnerWorker.{GoesOnWith, WorkerServes};
 ghost use Rattle.auc_jobs.specs.Usims.{AreBehind, HaveSecrets};
 
-use crate::bytes::vector_at;
 use crate::job_lines::JobLines;
 use crate::worker::Worker;
 use auc_cards::JobUsims;
@@ -19,7 +18,7 @@ use auc_edge::NoMemory;
 use auc_released::Numbers;
 use auc_usim::Answer;
 use auc_vector::Centre;
-use auc_world::{GiveVerdict, LineRecord, Setting};
+use auc_world::{GiveVerdict, LineRecord, Setting, vector_at};
 
 /// Presents the vector of a subscriber's number, made again, to the subscriber's USIM.
 fn present(set: &Setting, usims: &mut JobUsims, sub: u32, n: u64) -> GiveVerdict

@@ -10,13 +10,12 @@ ghost use Rattle.auc_jobs.specs.InnerUsims.{has_usim, usim_in};
 ghost use Rattle.auc_jobs.specs.InnerWorker.{IsSameWorker, GoesOnWith, WorkerServes, WorkerServesLines, WorkerBegins, WorkerServesJob};
 ghost use Rattle.auc_jobs.specs.Usims.{AreOfRows};
 
-use crate::bytes::printed_vectors;
 use crate::worker::Worker;
 use auc_cards::{JobUsims, Usims};
 use auc_edge::{Items, NoMemory};
 use auc_lines::Line;
 use auc_vector::Centre;
-use auc_world::{JobRecord, JobVectors};
+use auc_world::{JobRecord, JobVectors, printed_vectors};
 use std::alloc::Global;
 use std::sync::Wait;
 

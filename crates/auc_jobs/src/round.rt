@@ -18,8 +18,6 @@ ghost use Rattle.auc_jobs.specs.Round.{IsJournalOf, LeavesMore, Serves};
 ghost use Rattle.auc_jobs.specs.Serving.{AreAllKnown};
 ghost use Rattle.auc_jobs.specs.State.{StandsAt};
 
-use crate::closing::closings;
-use crate::counting::counts;
 use crate::jobs::ServedJobs;
 use crate::round_jobs::RoundJobs;
 use crate::state::State;
@@ -28,7 +26,7 @@ use auc_disk::Disk;
 use auc_edge::{Gate, Items, NoMemory, Stop};
 use auc_journal::Journal;
 use auc_lines::JobPart;
-use auc_world::{JobVectors, RoundRecord, Setting};
+use auc_world::{JobVectors, RoundRecord, Setting, closings, counts};
 use std::alloc::Global;
 use std::sync::Wait;
 use std::thread::Threads;

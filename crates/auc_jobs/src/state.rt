@@ -7,13 +7,12 @@ ghost use Rattle.auc_world.specs.declared.record.LineRecord.{LineRecord};
 ghost use Rattle.auc_jobs.specs.InnerRound.{IsAdvanced};
 ghost use Rattle.auc_jobs.specs.State.{StandsAt};
 
-use crate::closing::reopened;
 use auc_cards::{JobUsims, Usims};
 use auc_edge::{Items, NoMemory};
 use auc_lines::JobPart;
 use auc_released::Numbers;
 use auc_subs::Subscribers;
-use auc_world::{JobRecord, note_all};
+use auc_world::{JobRecord, note_all, reopened};
 use std::alloc::Global;
 use std::marker::Model;
 

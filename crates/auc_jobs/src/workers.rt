@@ -16,12 +16,11 @@ ghost use Rattle.auc_jobs.specs.InnerSharing.{Begins, IsBookOf, IsServable};
 ghost use Rattle.auc_jobs.specs.Round.{IsJournalOf, LeavesMore};
 
 use crate::claiming::{ClaimedJob, WorkerJobs, work};
-use crate::closing::words;
 use crate::jobs::ServedJobs;
 use crate::round_jobs::RoundJobs;
 use auc_centre::{Kept, Naming};
 use auc_disk::Disk;
-use auc_draw::{Book, KeeperPass, Pass};
+use auc_draw::{Book, Closed, KeeperPass, Pass};
 use auc_edge::{Gate, Items, NoMemory, Stop};
 use auc_history::recut_split_is_a_split;
 use auc_journal::Journal;
@@ -199,6 +198,18 @@ fn limits<D: Disk + Drop>(
         limits.push(journal.reserved(sub))?;
     }
     Ok(limits)
+}
+
+/// The word of each subscriber of a closed book.
+fn words(alloc: Global, closed: &Closed, subs: u32) -> Result<Items<u64>, NoMemory>
+    requires { length closed.now.words ≡ subs }
+    ensures { IfOk result (λ words. words ≡ closed.now.words) }
+{
+    let mut words = Items::new(alloc);
+    for sub in 0..subs {
+        words.push(closed.word(sub))?;
+    }
+    Ok(words)
 }
 
 /// Closes the book of a round, of which these are the workers and the keeper's pass, and puts what they served in the

@@ -1,8 +1,10 @@
 pub mod Facts
 mod ApartLemmas
 mod BitLemmas
+mod CountLemmas
 mod HeldLemmas
 mod PieceLemmas
 mod LimitLemmas
 mod NotingLemmas
 mod PastLemmas
+mod VectorLemmas

@@ -1,9 +1,11 @@
 -- The vectors of a transcript's records: a function of the subscriber, the number and the setting.
-use Rattle.std.specs.Prelude.{ℕ, List, [], ◌∷◌, flat_map, Option, Some, None, slice_get}
+use Rattle.std.specs.Prelude.{◌≡◌, ℕ, List, [], ◌∷◌, flat_map, Option, Some, None, slice_get}
+use Rattle.auc_subs.specs.Subscriber.{IsRow}
 use Rattle.auc_subs.specs.declared.row.Row.{Row}
 use Rattle.auc_vector.specs.Random.{rand_of}
-use Rattle.auc_vector.specs.Vector.{vector_of}
+use Rattle.auc_vector.specs.Vector.{vector_of, Source}
 use Rattle.auc_vector.specs.declared.parts.Vector.{Vector as AuthVector}
+use Rattle.auc_world.specs.Given.{IsReleasable}
 use Rattle.auc_world.specs.Setting.{Setting}
 use Rattle.auc_world.specs.declared.record.LineRecord.{LineRecord}
 use Rattle.auc_world.specs.declared.record.LineRecord.TheVariants.{Vector, Withheld, Exhausted, Sync, Give}
@@ -29,3 +31,27 @@ vector_in set (Give sub n verdict) = []
 -- the vectors that some lines release, in the order of the lines
 abbrev pub vectors_in : Setting → List LineRecord → List AuthVector
 vectors_in set lines = flat_map (vector_in set) lines
+
+-- ---- how they are made
+
+-- vectors are those of a subscriber's row, with the subscriber's RANDs
+pub record AreOfRow (key : List ℕ) (rows : List Row) (sub : ℕ) (source : Source) : Type 0 where
+  pub row : Row
+  pub there : slice_get rows sub ≡ Some row
+  pub is_row : IsRow row
+  pub made : source ≡ record { secret = row.secret; amf = row.amf; rands = record { key = key; sub = sub } }
+
+-- the vector of a subscriber's number is the one of its row
+pub record IsOfRow (key : List ℕ) (rows : List Row) (sub n : ℕ) (vector : AuthVector) : Type 0 where
+  pub row : Row
+  pub there : slice_get rows sub ≡ Some row
+  pub is_row : IsRow row
+  pub made : vector ≡ vector_of row.secret row.amf n (rand_of key sub n)
+
+-- a line that releases a vector names a number that a vector may have, and a known subscriber
+abbrev pub IsReleasableLine : Setting → LineRecord → Type 0
+IsReleasableLine set (Vector s n) = IsReleasable set s n
+IsReleasableLine set (Withheld s n stop) = Unit {0}
+IsReleasableLine set (Exhausted s word) = Unit {0}
+IsReleasableLine set (Sync s answer) = Unit {0}
+IsReleasableLine set (Give s n answer) = Unit {0}

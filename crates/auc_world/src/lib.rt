@@ -13,15 +13,25 @@
 //! The record of a released vector has its subscriber and its number. They determine the vector's bytes
 //! (`specs/Vectors`), so a transcript has no bytes of vectors. [`note`] and [`note_all`] keep a set of the numbers that
 //! lines release (`specs/Released`). They take memory, and leave the set as it was if memory runs out.
+//!
+//! What follows from the lines and the words of a round is made here too: the vectors of the full print
+//! ([`printed_vectors`]), the counts of the lines and the closings by them (`specs/Counts`), and the words at which the next
+//! round opens ([`reopened`]).
 #![tactic(auto)]
 
 mod auts;
+mod bytes;
+mod closing;
+mod counting;
 mod law;
 mod noting;
 mod record;
 mod setting;
 
 pub use auts::auts_of;
+pub use bytes::{printed_vectors, vector_at};
+pub use closing::{closings, reopened};
+pub use counting::{Count, counts};
 pub use law::{
     jobs_give_after_all_lines, past_has_each_accepted_sqn, pieces_split_the_round,
     restart_opens_above_released_numbers,

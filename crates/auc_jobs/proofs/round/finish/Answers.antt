@@ -3,8 +3,8 @@ use Rattle.std.specs.Prelude.{slice_get, Some}
 use Rattle.auc_world.specs.Lines.{all_lines}
 use Rattle.auc_world.specs.Transcript.{reopened}
 use Rattle.auc_world.specs.declared.record.LineRecord.{LineRecord}
-use Rattle.auc_jobs.specs.declared.counting.Count.{Count}
-use Rattle.auc_jobs.specs.InnerClosings.{AreCounted, counted_closings}
+use Rattle.auc_world.specs.declared.counting.Count.{Count}
+use Rattle.auc_world.specs.Counts.{AreCounted, counted_closings}
 use Rattle.auc_jobs.specs.State.{Standing}
 use Rattle.auc_jobs.proofs.RoundLemmas.{advanced_as, closes_above, lawful_round, stands_after}
 use Rattle.auc_jobs.proofs.StateLemmas.{settled_length}

@@ -3,8 +3,8 @@ use Rattle.std.specs.Prelude.{slice_get, Some}
 use Rattle.auc_subs.specs.Subscriber.{IsRow}
 use Rattle.auc_subs.specs.declared.row.Row.{Row}
 use Rattle.auc_world.specs.Setting.{Setting}
-use Rattle.auc_jobs.proofs.LineLemmas.{all_at}
-use Rattle.auc_jobs.proofs.bytes.vectors_of.Goals as goal
+use Rattle.auc_world.proofs.VectorLemmas.{all_at}
+use Rattle.auc_world.proofs.bytes.vectors_of.Goals as goal
 
 pub returns : goal.returns
 returns c =

@@ -2,10 +2,10 @@ use Rattle.std.proofs.Common.{◌≡◌, ◌+◌, ◌++◌, List, take, drop, le
 use Rattle.std.proofs.lemmas.Grind.{common_steps}
 use Rattle.std.proofs.lemmas.List.{take_more}
 use Rattle.auc_world.specs.Lines.{all_lines}
-use Rattle.auc_jobs.specs.declared.counting.Count.{Count}
-use Rattle.auc_jobs.specs.InnerClosings.{AreCounted}
-use Rattle.auc_jobs.proofs.CountLemmas.{counted_job, counted_none}
-use Rattle.auc_jobs.proofs.counting.counts.Goals as goal
+use Rattle.auc_world.specs.declared.counting.Count.{Count}
+use Rattle.auc_world.specs.Counts.{AreCounted}
+use Rattle.auc_world.proofs.CountLemmas.{counted_job, counted_none}
+use Rattle.auc_world.proofs.counting.counts.Goals as goal
 
 pub loop-job-init : goal.loop-job-init
 loop-job-init c = record {

@@ -1,8 +1,8 @@
 -- Inner facts: what only private contracts of this crate cite. Here: what vectors are made with.
 use Rattle.std.specs.Prelude.{Option, Some, None}
 use Rattle.auc_world.specs.Setting.{Setting}
-use Rattle.auc_jobs.specs.declared.bytes.Source.{Source}
-use Rattle.auc_jobs.specs.InnerServing.{AreOfRow}
+use Rattle.auc_world.specs.declared.bytes.Source.{Source}
+use Rattle.auc_world.specs.Vectors.{AreOfRow}
 
 -- if there is a source of a subscriber's vectors, it is that of its row
 abbrev pub IsSourceOf : Setting → Option Source → Type 0

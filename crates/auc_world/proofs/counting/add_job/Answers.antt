@@ -1,7 +1,7 @@
 use Rattle.std.proofs.Common.{◌++◌, take}
 use Rattle.std.proofs.lemmas.List.{take_more}
-use Rattle.auc_jobs.proofs.CountLemmas.{counted_take}
-use Rattle.auc_jobs.proofs.counting.add_job.Goals as goal
+use Rattle.auc_world.proofs.CountLemmas.{counted_take}
+use Rattle.auc_world.proofs.counting.add_job.Goals as goal
 
 pub loop-line-preserved : goal.loop-line-preserved
 loop-line-preserved c = λ before are.

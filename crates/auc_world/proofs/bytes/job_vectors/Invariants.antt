@@ -1,7 +1,7 @@
 use Rattle.std.proofs.Common.{◌≡◌, take}
 use Rattle.auc_world.specs.Vectors.{vectors_in}
-use Rattle.auc_jobs.specs.InnerVectors.{IsSourceOf}
-use Rattle.auc_jobs.proofs.bytes.job_vectors.Given as goal
+use Rattle.auc_world.specs.InnerVectors.{IsSourceOf}
+use Rattle.auc_world.proofs.bytes.job_vectors.Given as goal
 
 abbrev pub invariant-loop-line : goal.invariant-loop-line
 invariant-loop-line l = record {

@@ -3,21 +3,21 @@
 ghost use Rattle.std.specs.Prelude.{◌≡◌, ◌++◌, ◌∷◌, [], List, length, IfOk};
 ghost use Rattle.auc_world.specs.declared.record.LineRecord.{LineRecord};
 ghost use Rattle.auc_world.specs.Lines.{all_lines};
-ghost use Rattle.auc_jobs.specs.InnerClosings.{passed, count_with, AreCounted};
+ghost use Rattle.auc_world.specs.Counts.{passed, count_with, AreCounted};
 
+use crate::record::{JobRecord, LineRecord, SyncVerdict};
 use auc_edge::NoMemory;
-use auc_world::{JobRecord, LineRecord, SyncVerdict};
 use std::alloc::Global;
 
 /// What some lines did to a subscriber's numbers. A count ends at the greatest machine word.
 #[derive(Clone, Copy, Debug, PartialEq, Eq)]
-pub(crate) struct Count {
+pub struct Count {
     /// How many vectors were released.
-    pub(crate) released: u64,
+    pub released: u64,
     /// How many drawn numbers were withheld.
-    pub(crate) withheld: u64,
+    pub withheld: u64,
     /// How many numbers resynchronisations passed over.
-    pub(crate) skipped: u64,
+    pub skipped: u64,
 }
 
 /// How many numbers a verdict passed over.
@@ -67,11 +67,7 @@ fn add_job(counts: &mut [Count], lines: &[LineRecord])
 }
 
 /// The counts of so many subscribers in the records of a round's jobs.
-pub(crate) fn counts(
-    alloc: Global,
-    subs: usize,
-    records: &[JobRecord],
-) -> Result<Vec<Count>, NoMemory>
+pub fn counts(alloc: Global, subs: usize, records: &[JobRecord]) -> Result<Vec<Count>, NoMemory>
     ensures size { IfOk result (λ counts. length counts.items ≡ subs) }
     ensures counted { IfOk result (λ counts. AreCounted (all_lines records.now) counts.items) }
 {

@@ -4,30 +4,17 @@ ghost use Rattle.std.specs.Prelude.{◌≡◌, ◌+◌, ◌≤◌, ◌<◌, ◌^
 ghost use Rattle.std.specs.Option.{option_to_list};
 ghost use Rattle.auc_sqn.specs.Number.{max_seq};
 ghost use Rattle.auc_world.specs.Transcript.{reopened as reopened_by};
-ghost use Rattle.auc_jobs.specs.declared.counting.Count.{Count};
-ghost use Rattle.auc_jobs.specs.InnerClosings.{counted_closing, counted_closings};
+ghost use Rattle.auc_world.specs.declared.counting.Count.{Count};
+ghost use Rattle.auc_world.specs.Counts.{counted_closing, counted_closings};
 
 use crate::counting::Count;
-use auc_draw::Closed;
+use crate::record::Closing;
 use auc_edge::{Items, NoMemory};
 use auc_sqn::MAX_SEQ;
-use auc_world::Closing;
 use std::alloc::Global;
 
-/// The word of each subscriber of a closed book.
-pub(crate) fn words(alloc: Global, closed: &Closed, subs: u32) -> Result<Items<u64>, NoMemory>
-    requires { length closed.now.words ≡ subs }
-    ensures { IfOk result (λ words. words ≡ closed.now.words) }
-{
-    let mut words = Items::new(alloc);
-    for sub in 0..subs {
-        words.push(closed.word(sub))?;
-    }
-    Ok(words)
-}
-
 /// The words at which the next round opens the subscribers: no higher than their greatest number.
-pub(crate) fn reopened(alloc: Global, words: &[u64]) -> Result<Items<u64>, NoMemory>
+pub fn reopened(alloc: Global, words: &[u64]) -> Result<Items<u64>, NoMemory>
     ensures value { IfOk result (λ openings. openings ≡ reopened_by words.now) }
     ensures bound { IfOk result (λ openings. All (λ word. word ≤ max_seq) openings) }
 {
@@ -58,7 +45,7 @@ fn closing(sub: u32, first: u64, last: u64, count: Count) -> Option<Closing>
 }
 
 /// The closings of all subscribers whose words rose, in the subscribers' order.
-pub(crate) fn closings(
+pub fn closings(
     alloc: Global,
     openings: &[u64],
     words: &[u64],

@@ -1,5 +1,5 @@
-use Rattle.auc_jobs.proofs.DrawingLemmas.{vector_of_row}
-use Rattle.auc_jobs.proofs.bytes.vector_at.Goals as goal
+use Rattle.auc_world.proofs.VectorLemmas.{vector_of_row}
+use Rattle.auc_world.proofs.bytes.vector_at.Goals as goal
 
 pub returns : goal.returns
 returns c = record {

@@ -2,13 +2,13 @@
 
 ghost use Rattle.std.specs.Prelude.{◌≡◌, ◌≤◌, ◌<◌, [], ◌∷◌, All, length, IfOk, if◌then◌else◌};
 ghost use Rattle.auc_sqn.specs.Number.{max_seq};
-ghost use Rattle.auc_world.specs.Vectors.{vector_at as vector_there, vectors_in, vector_in};
-ghost use Rattle.auc_jobs.specs.InnerServing.{AreOfRow, IsOfRow, IsReleasableLine};
-ghost use Rattle.auc_jobs.specs.InnerVectors.{IsSourceOf};
+ghost use Rattle.auc_world.specs.Vectors.{AreOfRow, IsOfRow, IsReleasableLine, vector_at as vector_there, vectors_in, vector_in};
+ghost use Rattle.auc_world.specs.InnerVectors.{IsSourceOf};
 
+use crate::record::{JobVectors, LineRecord};
+use crate::setting::Setting;
 use auc_edge::{Items, NoMemory};
 use auc_vector::{Vector, Vectors};
-use auc_world::{JobVectors, LineRecord, Setting};
 use std::alloc::Global;
 
 /// The vectors of a subscriber, by its row.
@@ -22,7 +22,7 @@ fn vectors_of(set: &Setting, sub: u32) -> Vectors
 }
 
 /// The vector of a subscriber's number, with the RAND of both.
-pub(crate) fn vector_at(set: &Setting, sub: u32, n: u64) -> Vector
+pub fn vector_at(set: &Setting, sub: u32, n: u64) -> Vector
     requires known { sub < length set.now.rows }
     requires first { 1 ≤ n }
     requires last { n ≤ max_seq }
@@ -33,9 +33,9 @@ pub(crate) fn vector_at(set: &Setting, sub: u32, n: u64) -> Vector
 
 /// What the vectors of one subscriber are made with.
 #[derive(Drop)]
-pub(crate) struct Source {
-    pub(crate) sub: u32,
-    pub(crate) vectors: Vectors,
+struct Source {
+    sub: u32,
+    vectors: Vectors,
 }
 
 /// The source of a subscriber's vectors: the last one, if it is this subscriber's.
@@ -55,11 +55,7 @@ fn source_of(set: &Setting, last: Option<Source>, sub: u32) -> Source
 
 /// The vectors that a job's lines release, in the order of the lines. Consecutive lines of one subscriber share its key
 /// schedule and its generator.
-pub(crate) fn job_vectors(
-    alloc: Global,
-    set: &Setting,
-    lines: &[LineRecord],
-) -> Result<JobVectors, NoMemory>
+fn job_vectors(alloc: Global, set: &Setting, lines: &[LineRecord]) -> Result<JobVectors, NoMemory>
     requires { All (IsReleasableLine set.now) lines.now }
     ensures { IfOk result (λ vectors. vectors ≡ vectors_in set.now lines.now) }
 {
@@ -76,7 +72,7 @@ pub(crate) fn job_vectors(
 }
 
 /// The same for the full print; the brief print needs no vectors.
-pub(crate) fn printed_vectors(
+pub fn printed_vectors(
     alloc: Global,
     set: &Setting,
     lines: &[LineRecord],
