@@ -132,16 +132,16 @@ success_in p state.Waiting keys bytes e = absurd cc
 success_in p (state.Refusing cause) keys bytes e = absurd cc
 success_in p state.Ended keys bytes e = absurd cc
 
-again_none : (p : Peer) (last : Option Last) (keys : KeySet) (bytes : List ℕ) → IsSuccess keys bytes (again p last) → ⊥
+pub again_none : (p : Peer) (last : Option Last) (keys : KeySet) (bytes : List ℕ) → IsSuccess keys bytes (again p last) → ⊥
 again_none p None keys bytes e = cc
 again_none p (Some last) keys bytes e = cc
 
-challenged_none : (s : Subscription) (p : Peer) (seen : Seen) (c : Challenge) (n : Option UsimNote) (keys : KeySet) (bytes : List ℕ) (readable : Bool) → IsSuccess keys bytes (challenged s p seen c n readable) → ⊥
+pub challenged_none : (s : Subscription) (p : Peer) (seen : Seen) (c : Challenge) (n : Option UsimNote) (keys : KeySet) (bytes : List ℕ) (readable : Bool) → IsSuccess keys bytes (challenged s p seen c n readable) → ⊥
 challenged_none s p seen c None keys bytes readable e = cc
 challenged_none s p seen c (Some n) keys bytes readable e = answer_none p seen c (answer_noted s.secret c n) keys bytes readable e
 
 -- a turn that ends in Success began in Answered
-row_success : (s : Subscription) (p : Peer) (seen : Seen) (r : Row) (n : Option UsimNote) (readable : Bool) (keys : KeySet) (bytes : List ℕ) → IsSuccess keys bytes (peer_does s p seen r n readable) → p.state ≡ state.Answered keys
+pub row_success : (s : Subscription) (p : Peer) (seen : Seen) (r : Row) (n : Option UsimNote) (readable : Bool) (keys : KeySet) (bytes : List ℕ) → IsSuccess keys bytes (peer_does s p seen r n readable) → p.state ≡ state.Answered keys
 row_success s p seen (row.Ignore cause) n readable keys bytes e = absurd cc
 row_success s p seen row.Again n readable keys bytes e = absurd (again_none p p.last keys bytes e)
 row_success s p seen row.First n readable keys bytes e = absurd cc

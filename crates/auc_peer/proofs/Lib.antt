@@ -2,4 +2,5 @@ mod AskingLemmas
 mod MessageLemmas
 mod LawLemmas
 mod FitsLemmas
+mod MoveLemmas
 mod TurnLemmas

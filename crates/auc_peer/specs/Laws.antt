@@ -72,6 +72,21 @@ EachTurnFits =
     (s : Subscription) (p : Peer) (seen : Seen) (n : Option UsimNote) (readable : Bool) → Fits s p
     → Fits s (peer_step s p seen n readable).0
 
+-- ---- inputs of the keys
+
+-- what a turn does to what keys are made from: only a waiting peer accepts a challenge, or sends another identity; keys
+-- come with a right AT_MAC; Success comes under the keys of an answered Challenge; and a session that has ended stays so
+pub record Moves (p new : Peer) (turn : Turn PeerWhy) : Type 0 where
+  pub keeps : (p.state ≡ state.Waiting) ⊎ ((new.accepted ≡ p.accepted) × (new.identity ≡ p.identity))
+  pub keys : (keys : KeySet) → new.state ≡ state.Answered keys → (p.state ≡ state.Answered keys) ⊎ (turn.checked ≡ true)
+  pub success : (keys : KeySet) (bytes : List ℕ) → turn.step ≡ step.Ended (outcome.Success keys) bytes
+      → (p.state ≡ state.Answered keys) × (new.state ≡ state.Ended)
+  pub ended : p.state ≡ state.Ended → new.state ≡ state.Ended
+
+abbrev pub EachTurnMoves : Type 0
+EachTurnMoves = (s : Subscription) (p : Peer) (seen : Seen) (n : Option UsimNote) (readable : Bool)
+    → Moves p (peer_step s p seen n readable).0 (peer_step s p seen n readable).1
+
 -- ---- turns
 
 -- two turns of equal peers at equal bytes, in which a USIM that remembers some past answered alike, are the same

@@ -23,7 +23,8 @@ mod why;
 
 pub use device::Device;
 pub use law::{
-    each_turn_keeps_the_keys_of_its_inputs, equal_turns_are_one, success_needs_a_right_mac,
+    each_turn_keeps_the_keys_of_its_inputs, each_turn_keeps_what_keys_are_made_from,
+    equal_turns_are_one, success_needs_a_right_mac,
 };
 pub use peer::{Challenge, Last, Peer, PeerState};
 pub use rows::Row;

@@ -11,7 +11,8 @@ use Rattle.auc_vector.specs.declared.notes.ResyncNote.TheVariants as resync
 use Rattle.auc_vector.specs.declared.parts.Vector.{Vector}
 use Rattle.auc_vector.specs.declared.turn.Outcome.{Outcome}
 use Rattle.auc_vector.specs.declared.turn.Outcome.TheVariants as outcome
-use Rattle.auc_server.specs.Laws.{Fits}
+use Rattle.auc_hmac.specs.declared.keys.KeySet.{KeySet}
+use Rattle.auc_server.specs.Laws.{Fits, Has}
 use Rattle.auc_server.specs.Messages.{keys_of}
 use Rattle.auc_server.specs.Rows.{server_row, text_in}
 use Rattle.auc_server.specs.Server.{ServerEnd}
@@ -32,10 +33,25 @@ no_notifying cause e = cc
 no_ended : (result : Outcome ServerWhy) → state.Ended result ≡ state.AwaitIdentity → ⊥
 no_ended result e = cc
 
+no_success : (cause : ServerWhy) (keys : KeySet) → state.Notifying cause ≡ state.Ended (outcome.Success keys) → ⊥
+no_success cause keys e = cc
+
+no_failure : (cause : ServerWhy) (keys : KeySet) → ◌≡◌ {A = Outcome ServerWhy} (outcome.Failure cause) (outcome.Success keys) → ⊥
+no_failure cause keys e = cc
+
+no_success_awaited : (keys : KeySet) → state.AwaitChallenge ≡ state.Ended (outcome.Success keys) → ⊥
+no_success_awaited keys e = cc
+
+same_result : (a b : Outcome ServerWhy) → state.Ended a ≡ state.Ended b → a ≡ b
+same_result a b e = cc
+
+same_keys : (a b : KeySet) → ◌≡◌ {A = Outcome ServerWhy} (outcome.Success a) (outcome.Success b) → b ≡ a
+same_keys a b e = cc
+
 no_challenge : state.AwaitChallenge ≡ state.AwaitIdentity → ⊥
 no_challenge e = cc
 
-no_sent : (c : Option Challenged) (sent : Challenged) → c ≡ None → c ≡ Some sent → ⊥
+pub no_sent : (c : Option Challenged) (sent : Challenged) → c ≡ None → c ≡ Some sent → ⊥
 no_sent c sent e f = cc
 
 same_sent : (a b : Challenged) → ◌≡◌ {A = Option Challenged} (Some a) (Some b) → b ≡ a
@@ -43,13 +59,14 @@ same_sent a b e = cc
 
 -- a server that fits, with another identity before its first challenge
 identified_fits : (s : ServerEnd) (text : List ℕ) → s.state ≡ state.AwaitIdentity → Fits s → Fits (identified s text)
-identified_fits s text e f = record { first = f.first; keys = λ sent g. absurd (no_sent s.challenged sent (f.first e) g) }
+identified_fits s text e f = record { first = f.first; keys = λ sent g. absurd (no_sent s.challenged sent (f.first e) g); success = f.success }
 
 notified_fits : (s : ServerEnd) (cause : ServerWhy) (notes : Notes) (checked : Bool) → Fits s → Fits (notified s cause notes checked).0
-notified_fits s cause notes checked f = record { first = λ e. absurd (no_notifying cause e); keys = f.keys }
+notified_fits s cause notes checked f = record { first = λ e. absurd (no_notifying cause e); keys = f.keys; success = λ keys e. absurd (no_success cause keys e) }
 
-ended_fits : (s : ServerEnd) (result : Outcome ServerWhy) (bytes : List ℕ) (checked : Bool) → Fits s → Fits (ended s result bytes checked).0
-ended_fits s result bytes checked f = record { first = λ e. absurd (no_ended result e); keys = f.keys }
+ended_fits : (s : ServerEnd) (result : Outcome ServerWhy) (bytes : List ℕ) (checked : Bool) → ((keys : KeySet) → result ≡ outcome.Success keys → Has s.challenged keys)
+    → Fits s → Fits (ended s result bytes checked).0
+ended_fits s result bytes checked has f = record { first = λ e. absurd (no_ended result e); keys = f.keys; success = λ keys e. has keys (same_result result (outcome.Success keys) e) }
 
 keys_are : (s : ServerEnd) (sub : ℕ) (v : Vector) (sent : Challenged) → sent ≡ challenge_of s sub v → sent.keys ≡ keys_of s.identity sent.vector
 keys_are s sub v sent e = rw e refl
@@ -59,6 +76,7 @@ sent_fits s sub None notes f = f
 sent_fits s sub (Some v) notes f = record {
   first = λ e. absurd (no_challenge e);
   keys = λ sent g. keys_are s sub v sent (same_sent (challenge_of s sub v) sent g);
+  success = λ keys e. absurd (no_success_awaited keys e);
 }
 
 challenged_fits : (set : Setting) (s : ServerEnd) (sub : ℕ) (resynced : Option ResyncNote) (drawn : Option NumberNote) → Fits s → Fits (challenged set s sub resynced drawn).0
@@ -68,7 +86,7 @@ challenged_fits set s sub resynced (Some (number.Exhausted w)) f = notified_fits
 challenged_fits set s sub resynced (Some (number.Withheld n stop)) f = notified_fits s (why.Stopped n stop) (noted resynced (Some (number.Withheld n stop))) false f
 
 synced_fits : (s : ServerEnd) → Fits s → Fits (resynchronising s)
-synced_fits s f = record { first = f.first; keys = f.keys }
+synced_fits s f = record { first = f.first; keys = f.keys; success = f.success }
 
 resynchronised_fits : (set : Setting) (s : ServerEnd) (sub : ℕ) (resynced : Option ResyncNote) (drawn : Option NumberNote) → Fits s → Fits (resynchronised set s sub resynced drawn).0
 resynchronised_fits set s sub None drawn f = f
@@ -78,12 +96,13 @@ resynchronised_fits set s sub (Some (resync.Beyond seen seq)) drawn f =
 resynchronised_fits set s sub (Some (resync.InRange seen seq)) drawn f = challenged_fits set (resynchronising s) sub (Some (resync.InRange seen seq)) drawn (synced_fits s f)
 resynchronised_fits set s sub (Some (resync.Moved seen seq)) drawn f = challenged_fits set (resynchronising s) sub (Some (resync.Moved seen seq)) drawn (synced_fits s f)
 
-succeeded_fits : (s : ServerEnd) (c : Option Challenged) → Fits s → Fits (succeeded s c).0
-succeeded_fits s None f = f
-succeeded_fits s (Some sent) f = ended_fits s (outcome.Success sent.keys) (packet_text (packet.Success s.id)) true f
+succeeded_fits : (s : ServerEnd) (c : Option Challenged) → s.challenged ≡ c → Fits s → Fits (succeeded s c).0
+succeeded_fits s None e f = f
+succeeded_fits s (Some sent) e f =
+    ended_fits s (outcome.Success sent.keys) (packet_text (packet.Success s.id)) true (λ keys g. (sent, e, same_keys sent.keys keys g)) f
 
 failed_fits : (s : ServerEnd) (cause : ServerWhy) → Fits s → Fits (failed s cause).0
-failed_fits s cause f = ended_fits s (outcome.Failure cause) (packet_text (packet.Failure s.id)) false f
+failed_fits s cause f = ended_fits s (outcome.Failure cause) (packet_text (packet.Failure s.id)) false (λ keys e. absurd (no_failure cause keys e)) f
 
 does_fits : (set : Setting) (s : ServerEnd) (seen : Seen) (text : List ℕ) (r : Row) (notes : Notes) → Says s seen r → Fits s → Fits (server_does set s text r notes).0
 does_fits set s seen text (row.Ignore cause) notes says f = f
@@ -92,7 +111,7 @@ does_fits set s seen text (row.Challenge sub) notes says f = challenged_fits set
 does_fits set s seen text row.WrongMac notes says f = notified_fits s why.WrongMac silent false f
 does_fits set s seen text row.WrongRes notes says f = notified_fits s why.WrongRes silent true f
 does_fits set s seen text row.WrongCheckcode notes says f = notified_fits s why.WrongCheckcode silent true f
-does_fits set s seen text row.Success notes says f = succeeded_fits s s.challenged f
+does_fits set s seen text row.Success notes says f = succeeded_fits s s.challenged refl f
 does_fits set s seen text row.SecondSync notes says f = notified_fits s why.SecondSync silent false f
 does_fits set s seen text row.BadAuts notes says f = notified_fits s why.BadAuts (noted (Some resync.BadAuts) None) false f
 does_fits set s seen text (row.Resynchronise sub seq) notes says f = resynchronised_fits set s sub notes.resync notes.number f

@@ -3,3 +3,4 @@ mod FitsLemmas
 mod HomeLemmas
 mod LawLemmas
 mod MessageLemmas
+mod MoveLemmas

@@ -1,18 +1,25 @@
 -- What holds of every turn of a server.
-use Rattle.std.specs.Prelude.{◌≡◌, ℕ, true, List, [], Some, None}
+use Rattle.std.specs.Prelude.{◌≡◌, ◌⊎◌, ℕ, true, List, [], Option, Some, None}
 use Rattle.auc_hmac.specs.declared.keys.KeySet.{KeySet}
 use Rattle.auc_hmac.specs.declared.method.Method.TheVariants as method
 use Rattle.auc_packet.specs.Received.{Seen, is_sealed}
+use Rattle.auc_vector.specs.Notes.{Asking}
 use Rattle.auc_vector.specs.declared.notes.Notes.{Notes}
+use Rattle.auc_vector.specs.declared.notes.NumberNote.TheVariants as number
+use Rattle.auc_vector.specs.declared.parts.Vector.{Vector}
 use Rattle.auc_vector.specs.declared.turn.Outcome.TheVariants as outcome
 use Rattle.auc_vector.specs.declared.turn.Step.TheVariants as step
+use Rattle.auc_vector.specs.declared.turn.Turn.{Turn}
 use Rattle.auc_server.specs.Messages.{keys_of}
+use Rattle.auc_server.specs.Rows.{server_row}
 use Rattle.auc_server.specs.Server.{ServerEnd}
 use Rattle.auc_server.specs.Setting.{Setting}
-use Rattle.auc_server.specs.Table.{server_step}
+use Rattle.auc_server.specs.Steps.{asking}
+use Rattle.auc_server.specs.Table.{challenge_of, server_step, vector_at}
 use Rattle.auc_server.specs.declared.server.Challenged.{Challenged}
 use Rattle.auc_server.specs.declared.server.ServerState.TheVariants as state
 use Rattle.auc_server.specs.declared.setting.HomeRow.{HomeRow}
+use Rattle.auc_server.specs.declared.why.ServerWhy.{ServerWhy}
 
 -- keys of the last challenge, under which received bytes have a right AT_MAC
 pub record AreProved (s : ServerEnd) (seen : Seen) (keys : KeySet) : Type 0 where
@@ -27,12 +34,41 @@ SuccessNeedsARightMac = (set : Setting) (homes : List HomeRow) (s : ServerEnd) (
     → (server_step set homes s seen notes).1.step ≡ step.Ended (outcome.Success keys) bytes
     → AreProved s seen keys × ((server_step set homes s seen notes).1.checked ≡ true)
 
+-- the last challenge has these keys
+abbrev pub Has : Option Challenged → KeySet → Type 0
+Has challenged keys = (sent : Challenged) × (challenged ≡ Some sent) × (keys ≡ sent.keys)
+
 -- the keys of the last challenge are those of its vector under the identity that was received last, and there is none
--- while the identity is awaited
+-- while the identity is awaited; the keys of Success are those of the last challenge
 pub record Fits (s : ServerEnd) : Type 0 where
   pub first : s.state ≡ state.AwaitIdentity → s.challenged ≡ None
   pub keys : (sent : Challenged) → s.challenged ≡ Some sent → sent.keys ≡ keys_of s.identity sent.vector
+  pub success : (keys : KeySet) → s.state ≡ state.Ended (outcome.Success keys) → Has s.challenged keys
 
 -- no turn makes the keys others than those of their inputs
 abbrev pub EachTurnFits : Type 0
 EachTurnFits = (set : Setting) (homes : List HomeRow) (s : ServerEnd) (seen : Seen) (notes : Notes) → Fits s → Fits (server_step set homes s seen notes).0
+
+-- ---- what a turn does to the last challenge
+
+-- it stays, and so does the identity that its keys are made from
+pub record KeepsChallenge (s new : ServerEnd) : Type 0 where
+  pub challenge : new.challenged ≡ s.challenged
+  pub identity : (sent : Challenged) → s.challenged ≡ Some sent → new.identity ≡ s.identity
+
+-- a challenge is sent: the vector of a number that the centre gave for the subscriber that the turn asked it for
+pub record SendsChallenge (set : Setting) (asked : Option Asking) (new : ServerEnd) (turn : Turn ServerWhy) : Type 0 where
+  pub request : Asking
+  pub of : asked ≡ Some request
+  pub n : ℕ
+  pub drawn : turn.notes.number ≡ Some (number.Drew n)
+  pub vector : Vector
+  pub of_number : vector_at set request.sub n ≡ Some vector
+  pub challenge : new.challenged ≡ Some (challenge_of new request.sub vector)
+  pub sent : turn.step ≡ step.Sent new.last
+
+-- a turn keeps the last challenge, or sends a new one
+abbrev pub EachTurnKeepsOrChallenges : Type 0
+EachTurnKeepsOrChallenges = (set : Setting) (homes : List HomeRow) (s : ServerEnd) (seen : Seen) (notes : Notes) → Fits s
+    → KeepsChallenge s (server_step set homes s seen notes).0
+    ⊎ SendsChallenge set (asking (server_row set homes s seen)) (server_step set homes s seen notes).0 (server_step set homes s seen notes).1

@@ -1,6 +1,6 @@
 //! What holds of every turn of a server.
 
-ghost use Rattle.auc_server.specs.Laws.{EachTurnFits, SuccessNeedsARightMac};
+ghost use Rattle.auc_server.specs.Laws.{EachTurnFits, EachTurnKeepsOrChallenges, SuccessNeedsARightMac};
 
 /// A session ends in Success only in a turn in which a response with a right AT_MAC came, under the keys of the last
 /// challenge (RFC 4187 §6.3.4 and §10.15); an EAP-Success that somebody else sent changes nothing.
@@ -9,7 +9,13 @@ pub fn success_needs_a_right_mac()
 {}
 
 /// The keys of the last challenge stay those of its vector and of the identity that was received last: once a challenge
-/// is sent, no turn changes the identity (RFC 4187 §7).
+/// is sent, no turn changes the identity (RFC 4187 §7). The keys of Success are those of the last challenge.
 pub fn each_turn_keeps_the_keys_of_its_inputs()
     ensures { EachTurnFits }
+{}
+
+/// A turn keeps the last challenge and the identity under it, or sends a new challenge with a number that the centre gave in
+/// that turn for the subscriber that it was asked for.
+pub fn each_turn_keeps_the_challenge_or_sends_one()
+    ensures { EachTurnKeepsOrChallenges }
 {}

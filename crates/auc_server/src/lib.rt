@@ -23,7 +23,10 @@ mod setting;
 mod turns;
 mod why;
 
-pub use law::{each_turn_keeps_the_keys_of_its_inputs, success_needs_a_right_mac};
+pub use law::{
+    each_turn_keeps_the_challenge_or_sends_one, each_turn_keeps_the_keys_of_its_inputs,
+    success_needs_a_right_mac,
+};
 pub use rows::Row;
 pub use server::{Challenged, Server, ServerState};
 pub use setting::{HomeRow, Setting};

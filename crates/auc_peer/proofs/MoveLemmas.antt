@@ -1,0 +1,233 @@
+-- What a turn does to the inputs of a peer's keys.
+use Rattle.std.proofs.Common.{◌≡◌, ◌⊎◌, ℕ, ◌==◌, ◌||◌, ◌&&◌, nat_le, nat_lt, Bool, true, false, cond, not, List, [], ◌∷◌, Option, Some, None, refl, ap, ◌∙◌, inl, inr}
+use Rattle.auc_attr.specs.declared.attr.Attr.{Attr}
+use Rattle.auc_hmac.specs.declared.keys.KeySet.{KeySet}
+use Rattle.auc_hmac.specs.declared.method.Method.TheVariants as method
+use Rattle.auc_packet.specs.Head.{head_at}
+use Rattle.auc_packet.specs.Messages.{is_malformed}
+use Rattle.auc_packet.specs.Received.{Seen, is_sealed}
+use Rattle.auc_packet.specs.declared.packet.Head.{Head}
+use Rattle.auc_packet.specs.declared.packet.Packet.TheVariants as packet
+use Rattle.auc_packet.specs.declared.received.Reading.{Reading}
+use Rattle.auc_packet.specs.declared.received.Reading.TheVariants as reading
+use Rattle.auc_packet.specs.declared.subtype.Subtype.TheVariants as subtype
+use Rattle.auc_peer.specs.Asking.{answer_noted}
+use Rattle.auc_peer.specs.Attributes.{checkcode, differs, first_code}
+use Rattle.auc_peer.specs.Laws.{EachTurnMoves}
+use Rattle.auc_peer.specs.Rows.{ended_by, is_last, late, late_notification, notified_or, notified_row, of_kind, on_failure, on_success, peer_row, repeats, requested, row_headed, row_in}
+use Rattle.auc_peer.specs.Subscription.{Subscription}
+use Rattle.auc_peer.specs.Table.{accepted, accepting, again, by_answer, challenged, client, genuine, keys_for, opened, peer_does, peer_step, succeeded, text_or_none}
+use Rattle.auc_peer.specs.declared.peer.Challenge.{Challenge}
+use Rattle.auc_peer.specs.declared.peer.Last.{Last}
+use Rattle.auc_peer.specs.declared.peer.Peer.{Peer}
+use Rattle.auc_peer.specs.declared.peer.PeerState.{PeerState}
+use Rattle.auc_peer.specs.declared.peer.PeerState.TheVariants as state
+use Rattle.auc_peer.specs.declared.rows.Row.{Row}
+use Rattle.auc_peer.specs.declared.rows.Row.TheVariants as row
+use Rattle.auc_peer.specs.declared.why.PeerWhy.{PeerWhy}
+use Rattle.auc_peer.specs.declared.why.PeerWhy.TheVariants as why
+use Rattle.auc_usim.specs.declared.answer.Answer.{Answer}
+use Rattle.auc_usim.specs.declared.answer.Answer.TheVariants as answer
+use Rattle.auc_vector.specs.declared.notes.UsimNote.{UsimNote}
+use Rattle.auc_vector.specs.declared.notes.UsimNote.TheVariants as note
+use Rattle.auc_vector.specs.declared.turn.Outcome.TheVariants as outcome
+use Rattle.auc_vector.specs.declared.turn.Reason.TheVariants as reason
+use Rattle.auc_vector.specs.declared.turn.Step.TheVariants as step
+use Rattle.auc_vector.specs.declared.turn.Turn.{Turn}
+use Rattle.auc_peer.proofs.LawLemmas.{again_none, challenged_none, row_success}
+
+-- ---- which rows are a waiting peer's
+
+-- a first identity is sent, and a challenge taken, by a waiting peer
+abbrev Waits : Peer → Row → Type 0
+Waits p row.First = p.state ≡ state.Waiting
+Waits p (row.Challenged c) = p.state ≡ state.Waiting
+Waits p other = Unit {0}
+
+picked : (P : Row → Type 0) (b : Bool) (x y : Row) → P x → P y → P (cond b x y)
+picked P true x y f g = f
+picked P false x y f g = g
+
+any_waits : (p : Peer) (r : Row) → p.state ≡ state.Waiting → Waits p r
+any_waits p row.First e = e
+any_waits p (row.Challenged c) e = e
+any_waits p (row.Ignore cause) e = tt
+any_waits p row.Again e = tt
+any_waits p (row.Client cause) e = tt
+any_waits p (row.Notified code) e = tt
+any_waits p row.Success e = tt
+any_waits p (row.Failure cause) e = tt
+
+late_waits : (p : Peer) (r : Reading) → Waits p (late r)
+late_waits p (reading.Read (packet.Aka request id m subtype.Notification list)) =
+    picked (Waits p) (is_malformed subtype.Notification true method.Aka list) (row.Ignore reason.Unexpected) (notified_or (row.Ignore reason.Unexpected) (first_code list)) tt (by (first_code list))
+  where
+    by : (code : Option ℕ) → Waits p (notified_or (row.Ignore reason.Unexpected) code)
+    by None = tt
+    by (Some code) = picked (Waits p) (nat_le 16384 code && nat_lt code 32768) (row.Notified code) (row.Ignore reason.Unexpected) tt tt
+late_waits p (reading.Read (packet.Aka request id m subtype.Challenge list)) = tt
+late_waits p (reading.Read (packet.Aka request id m subtype.AuthenticationReject list)) = tt
+late_waits p (reading.Read (packet.Aka request id m subtype.SynchronizationFailure list)) = tt
+late_waits p (reading.Read (packet.Aka request id m subtype.Identity list)) = tt
+late_waits p (reading.Read (packet.Aka request id m subtype.Reauthentication list)) = tt
+late_waits p (reading.Read (packet.Aka request id m subtype.ClientError list)) = tt
+late_waits p (reading.Read (packet.Identity request id text)) = tt
+late_waits p (reading.Read (packet.Success id)) = tt
+late_waits p (reading.Read (packet.Failure id)) = tt
+late_waits p (reading.Fault fault) = tt
+
+requested_waits : (p : Peer) (s : PeerState) (r : Reading) → p.state ≡ s → Waits p (requested s r)
+requested_waits p state.Waiting r e = any_waits p (requested state.Waiting r) e
+requested_waits p (state.Answered keys) r e = late_waits p r
+requested_waits p (state.Refusing cause) r e = tt
+requested_waits p state.Ended r e = tt
+
+success_waits : (p : Peer) (s : PeerState) → Waits p (on_success s)
+success_waits p (state.Answered keys) = tt
+success_waits p state.Waiting = tt
+success_waits p (state.Refusing cause) = tt
+success_waits p state.Ended = tt
+
+failure_waits : (p : Peer) (s : PeerState) → Waits p (on_failure s)
+failure_waits p (state.Answered keys) = tt
+failure_waits p state.Waiting = tt
+failure_waits p (state.Refusing cause) = tt
+failure_waits p state.Ended = tt
+
+kind_waits : (p : Peer) (s : PeerState) (last : Option Last) (seen : Seen) (head : Head) (kind : Option ℕ) → p.state ≡ s → Waits p (of_kind s last seen head kind)
+kind_waits p s last seen head None e =
+    picked (Waits p) (not (is_last last head.id)) (row.Ignore reason.Unexpected) (cond (head.code == 3) (on_success s) (on_failure s)) tt
+    (picked (Waits p) (head.code == 3) (on_success s) (on_failure s) (success_waits p s) (failure_waits p s))
+kind_waits p s last seen head (Some kind) e =
+    picked (Waits p) (not (kind == 1 || kind == 23)) (row.Ignore reason.OtherType) (requested s seen.reading) tt (requested_waits p s seen.reading e)
+
+headed_waits : (p : Peer) (s : PeerState) (last : Option Last) (seen : Seen) (head : Option Head) → p.state ≡ s → Waits p (row_headed s last seen head)
+headed_waits p s last seen None e = tt
+headed_waits p s last seen (Some head) e =
+    picked (Waits p) (head.code == 2) (row.Ignore reason.NotForMe) (cond (repeats last seen.bytes) row.Again (of_kind s last seen head head.kind)) tt
+    (picked (Waits p) (repeats last seen.bytes) row.Again (of_kind s last seen head head.kind) tt (kind_waits p s last seen head head.kind e))
+
+in_waits : (p : Peer) (s : PeerState) (last : Option Last) (seen : Seen) → p.state ≡ s → Waits p (row_in s last seen)
+in_waits p state.Ended last seen e = tt
+in_waits p state.Waiting last seen e = headed_waits p state.Waiting last seen (head_at seen.bytes) e
+in_waits p (state.Answered keys) last seen e = headed_waits p (state.Answered keys) last seen (head_at seen.bytes) e
+in_waits p (state.Refusing cause) last seen e = headed_waits p (state.Refusing cause) last seen (head_at seen.bytes) e
+
+-- ---- what a turn keeps
+
+abbrev Keeps : Peer → Peer × Turn PeerWhy → Type 0
+Keeps p t = (p.state ≡ state.Waiting) ⊎ ((t.0.accepted ≡ p.accepted) × (t.0.identity ≡ p.identity))
+
+again_keeps : (p : Peer) (last : Option Last) → Keeps p (again p last)
+again_keeps p None = inr (refl, refl)
+again_keeps p (Some last) = inr (refl, refl)
+
+succeeded_keeps : (p : Peer) (s : PeerState) → Keeps p (succeeded p s)
+succeeded_keeps p (state.Answered keys) = inr (refl, refl)
+succeeded_keeps p state.Waiting = inr (refl, refl)
+succeeded_keeps p (state.Refusing cause) = inr (refl, refl)
+succeeded_keeps p state.Ended = inr (refl, refl)
+
+row_keeps : (s : Subscription) (p : Peer) (seen : Seen) (r : Row) (n : Option UsimNote) (readable : Bool) → Waits p r → Keeps p (peer_does s p seen r n readable)
+row_keeps s p seen (row.Ignore cause) n readable w = inr (refl, refl)
+row_keeps s p seen row.Again n readable w = again_keeps p p.last
+row_keeps s p seen row.First n readable w = inl w
+row_keeps s p seen (row.Client cause) n readable w = inr (refl, refl)
+row_keeps s p seen (row.Notified code) n readable w = inr (refl, refl)
+row_keeps s p seen (row.Challenged c) n readable w = inl w
+row_keeps s p seen row.Success n readable w = succeeded_keeps p p.state
+row_keeps s p seen (row.Failure cause) n readable w = inr (refl, refl)
+
+-- ---- keys come with a right AT_MAC
+
+abbrev Checks : KeySet → Peer × Turn PeerWhy → Type 0
+Checks keys t = t.0.state ≡ state.Answered keys → t.1.checked ≡ true
+
+on_cond : (P : Peer × Turn PeerWhy → Type 0) (b : Bool) (x y : Peer × Turn PeerWhy) → P x → P y → P (cond b x y)
+on_cond P true x y f g = f
+on_cond P false x y f g = g
+
+refused : (keys : KeySet) (w : PeerWhy) → state.Refusing w ≡ state.Answered keys → ⊥
+refused keys w e = cc
+
+client_checks : (p : Peer) (seen : Seen) (w : PeerWhy) (n : Option UsimNote) (checked : Bool) (keys : KeySet) → Checks keys (client p seen w n checked)
+client_checks p seen w n checked keys = λ e. absurd (refused keys w e)
+
+opened_checks : (p : Peer) (seen : Seen) (res sqn : List ℕ) (k : KeySet) (readable : Bool) (keys : KeySet) → Checks keys (opened p seen res sqn k readable)
+opened_checks p seen res sqn k true keys = λ e. refl
+opened_checks p seen res sqn k false keys = client_checks p seen why.Undecryptable (Some (note.Accepted sqn)) true keys
+
+accepted_checks : (p : Peer) (seen : Seen) (c : Challenge) (res sqn : List ℕ) (k : KeySet) (readable : Bool) (keys : KeySet) → Checks keys (accepted p seen c res sqn k readable)
+accepted_checks p seen c res sqn k readable keys =
+    on_cond (Checks keys) (not (is_sealed method.Aka k.k_aut [] seen)) (client p seen why.WrongMac (Some (note.Accepted sqn)) false) (genuine (accepting p c) seen res sqn k readable)
+    (client_checks p seen why.WrongMac (Some (note.Accepted sqn)) false keys)
+    (on_cond (Checks keys) (differs (checkcode seen)) (client (accepting p c) seen why.WrongCheckcode (Some (note.Accepted sqn)) true) (opened (accepting p c) seen res sqn k readable)
+    (client_checks (accepting p c) seen why.WrongCheckcode (Some (note.Accepted sqn)) true keys) (opened_checks (accepting p c) seen res sqn k readable keys))
+
+answer_checks : (p : Peer) (seen : Seen) (c : Challenge) (a : Answer) (readable : Bool) (keys : KeySet) → Checks keys (by_answer p seen c a readable)
+answer_checks p seen c answer.WrongMac readable keys = λ e. absurd cc
+answer_checks p seen c (answer.SyncFailure auts sqn) readable keys = λ e. absurd cc
+answer_checks p seen c (answer.Accepted res ck ik ak amf sqn) readable keys = accepted_checks p seen c res sqn (keys_for (text_or_none p.identity) ik ck) readable keys
+
+abbrev Right : KeySet → Peer → Peer × Turn PeerWhy → Type 0
+Right keys p t = (p.state ≡ state.Answered keys) ⊎ (t.1.checked ≡ true)
+
+challenged_checks : (s : Subscription) (p : Peer) (seen : Seen) (c : Challenge) (n : Option UsimNote) (readable : Bool) (keys : KeySet)
+    → (challenged s p seen c n readable).0.state ≡ state.Answered keys → Right keys p (challenged s p seen c n readable)
+challenged_checks s p seen c None readable keys e = inl e
+challenged_checks s p seen c (Some n) readable keys e = inr (answer_checks p seen c (answer_noted s.secret c n) readable keys e)
+
+again_checks : (p : Peer) (last : Option Last) (keys : KeySet) → (again p last).0.state ≡ state.Answered keys → Right keys p (again p last)
+again_checks p None keys e = inl e
+again_checks p (Some last) keys e = inl e
+
+succeeded_checks : (p : Peer) (s : PeerState) (keys : KeySet) → (succeeded p s).0.state ≡ state.Answered keys → Right keys p (succeeded p s)
+succeeded_checks p (state.Answered k) keys e = absurd cc
+succeeded_checks p state.Waiting keys e = inl e
+succeeded_checks p (state.Refusing cause) keys e = inl e
+succeeded_checks p state.Ended keys e = inl e
+
+row_checks : (s : Subscription) (p : Peer) (seen : Seen) (r : Row) (n : Option UsimNote) (readable : Bool) (keys : KeySet)
+    → (peer_does s p seen r n readable).0.state ≡ state.Answered keys → Right keys p (peer_does s p seen r n readable)
+row_checks s p seen (row.Ignore cause) n readable keys e = inl e
+row_checks s p seen row.Again n readable keys e = again_checks p p.last keys e
+row_checks s p seen row.First n readable keys e = absurd cc
+row_checks s p seen (row.Client cause) n readable keys e = absurd cc
+row_checks s p seen (row.Notified code) n readable keys e = absurd cc
+row_checks s p seen (row.Challenged c) n readable keys e = challenged_checks s p seen c n readable keys e
+row_checks s p seen row.Success n readable keys e = succeeded_checks p p.state keys e
+row_checks s p seen (row.Failure cause) n readable keys e = absurd cc
+
+-- ---- the end of a session
+
+abbrev Succeeds : KeySet → List ℕ → Peer × Turn PeerWhy → Type 0
+Succeeds keys bytes t = t.1.step ≡ step.Ended (outcome.Success keys) bytes
+
+succeeded_ends : (p : Peer) (s : PeerState) (keys : KeySet) (bytes : List ℕ) → Succeeds keys bytes (succeeded p s) → (succeeded p s).0.state ≡ state.Ended
+succeeded_ends p (state.Answered k) keys bytes e = refl
+succeeded_ends p state.Waiting keys bytes e = absurd cc
+succeeded_ends p (state.Refusing cause) keys bytes e = absurd cc
+succeeded_ends p state.Ended keys bytes e = absurd cc
+
+row_ends : (s : Subscription) (p : Peer) (seen : Seen) (r : Row) (n : Option UsimNote) (readable : Bool) (keys : KeySet) (bytes : List ℕ)
+    → Succeeds keys bytes (peer_does s p seen r n readable) → (peer_does s p seen r n readable).0.state ≡ state.Ended
+row_ends s p seen (row.Ignore cause) n readable keys bytes e = absurd cc
+row_ends s p seen row.Again n readable keys bytes e = absurd (again_none p p.last keys bytes e)
+row_ends s p seen row.First n readable keys bytes e = absurd cc
+row_ends s p seen (row.Client cause) n readable keys bytes e = absurd cc
+row_ends s p seen (row.Notified code) n readable keys bytes e = absurd cc
+row_ends s p seen (row.Challenged c) n readable keys bytes e = absurd (challenged_none s p seen c n keys bytes readable e)
+row_ends s p seen row.Success n readable keys bytes e = succeeded_ends p p.state keys bytes e
+row_ends s p seen (row.Failure cause) n readable keys bytes e = refl
+
+-- each turn
+pub each_turn_moves : EachTurnMoves
+each_turn_moves s p seen n readable = record {
+  keeps = row_keeps s p seen (peer_row p seen) n readable (in_waits p p.state p.last seen refl);
+  keys = λ keys e. row_checks s p seen (peer_row p seen) n readable keys e;
+  success = λ keys bytes e. (
+    row_success s p seen (peer_row p seen) n readable keys bytes e,
+    row_ends s p seen (peer_row p seen) n readable keys bytes e,
+  );
+  ended = λ e. ap (λ (st : PeerState). (peer_does s p seen (row_in st p.last seen) n readable).0.state) e ∙ e;
+}
