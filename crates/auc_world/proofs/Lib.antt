@@ -6,3 +6,6 @@ mod PieceLemmas
 mod LimitLemmas
 mod NotingLemmas
 mod PastLemmas
+mod PremiseLemmas
+mod AgreementLemmas
+mod Examples
