@@ -8,3 +8,6 @@ mod LimitLemmas
 mod NotingLemmas
 mod PastLemmas
 mod VectorLemmas
+mod PremiseLemmas
+mod AgreementLemmas
+mod Examples

@@ -19,25 +19,30 @@
 //! round opens ([`reopened`]).
 #![tactic(auto)]
 
+mod agreement;
 mod auts;
 mod bytes;
 mod closing;
 mod counting;
+mod event;
 mod law;
+mod net;
 mod noting;
 mod record;
-mod setting;
 
+pub use agreement::{breach_is_the_first_delivery_that_is_not_honest, each_honest_run_agrees};
+pub use auc_server::Setting;
 pub use auts::auts_of;
 pub use bytes::{printed_vectors, vector_at};
 pub use closing::{closings, reopened};
 pub use counting::{Count, counts};
+pub use event::{End, Event};
 pub use law::{
     jobs_give_after_all_lines, past_has_each_accepted_sqn, pieces_split_the_round,
     restart_opens_above_released_numbers,
 };
+pub use net::{Breach, Inputs, Released, SentPacket, Session};
 pub use noting::{note, note_all};
 pub use record::{
     Closing, GiveVerdict, JobRecord, JobVectors, LineRecord, PartRecord, RoundRecord, SyncVerdict,
 };
-pub use setting::Setting;

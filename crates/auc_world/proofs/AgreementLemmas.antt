@@ -1,0 +1,780 @@
+-- For Agreement: in an honest run, in which each number was released once, the ends of one challenge have equal keys.
+use Rattle.std.proofs.Common.{◌≡◌, ◌⊎◌, ℕ, ◌≤◌, true, List, [], ◌∷◌, ◌++◌, length, Option, Some, None, slice_get, slice_set, All, Contains, arith, refl, sym, ap, ◌∙◌, subst, inl, inr, ⊎_elim, append_assoc, length-append}
+use Rattle.std.proofs.lemmas.List.{append-nil, get_or_append_left, get_or_push, length_push}
+use Rattle.std.proofs.lemmas.List.Elements.{All-nil, All-push, All-set, All-weaker, Contains-append_left, Contains-push, Contains-push_cases}
+use Rattle.std.proofs.lemmas.Option.{get_or_from_slice_get, slice_get_within}
+use Rattle.auc_hmac.specs.declared.keys.KeySet.{KeySet}
+use Rattle.auc_milenage.specs.Milenage.{f3, f4}
+use Rattle.auc_milenage.specs.declared.secret.Secret.{Secret}
+use Rattle.auc_peer.specs.Laws as peer_laws
+use Rattle.auc_peer.specs.Laws.{keys_of_inputs}
+use Rattle.auc_peer.specs.Subscription.{Subscription}
+use Rattle.auc_peer.specs.Table.{keys_for, text_or_none, gave_up as peer_gave_up}
+use Rattle.auc_peer.specs.declared.peer.Challenge.{Challenge}
+use Rattle.auc_peer.specs.declared.peer.Peer.{Peer}
+use Rattle.auc_peer.specs.declared.peer.PeerState.{PeerState}
+use Rattle.auc_peer.specs.declared.peer.PeerState.TheVariants as peer_state
+use Rattle.auc_peer.specs.declared.why.PeerWhy.{PeerWhy}
+use Rattle.auc_peer.specs.declared.why.PeerWhy.TheVariants as peer_why
+use Rattle.auc_server.specs.Laws.{EachTurnFits, EachTurnKeepsOrChallenges, Fits, KeepsChallenge, SendsChallenge}
+use Rattle.auc_server.specs.Messages.{keys_of}
+use Rattle.auc_server.specs.Rows.{server_row}
+use Rattle.auc_server.specs.Server.{ServerEnd, started}
+use Rattle.auc_server.specs.Setting.{Setting}
+use Rattle.auc_server.specs.Steps.{asking}
+use Rattle.auc_server.specs.Table.{challenge_of, gave_up, repeated, vector_at, vector_of_row}
+use Rattle.auc_server.specs.declared.server.Challenged.{Challenged}
+use Rattle.auc_server.specs.declared.server.ServerState.{ServerState}
+use Rattle.auc_server.specs.declared.server.ServerState.TheVariants as state
+use Rattle.auc_server.specs.declared.why.ServerWhy.{ServerWhy}
+use Rattle.auc_server.specs.declared.why.ServerWhy.TheVariants as why
+use Rattle.auc_sqn.specs.Number.{max_seq}
+use Rattle.auc_subs.specs.Subscriber.{AreSubscribers, IsRow}
+use Rattle.auc_subs.specs.declared.row.Row.{Row}
+use Rattle.auc_vector.specs.Notes.{Asking}
+use Rattle.auc_vector.specs.Random.{rand_of}
+use Rattle.auc_vector.specs.Vector.{NumbersHaveDifferentSqns, autn_of, sqn_in, vector_of}
+use Rattle.auc_vector.specs.declared.parts.Vector.{Vector}
+use Rattle.auc_vector.specs.declared.turn.Outcome.{Outcome}
+use Rattle.auc_vector.specs.declared.turn.Outcome.TheVariants as outcome
+use Rattle.auc_vector.specs.declared.turn.Step.{Step}
+use Rattle.auc_vector.specs.declared.turn.Step.TheVariants as step
+use Rattle.auc_world.specs.Agreement.{Agree, AreOfOneChallenge, AreReleasedOnce, EachHonestRunAgrees, Happening, HaveSecrets, IsFresh, IsHonest, IsHonestAt, IsHonestFinding, Noted, Occurs, after, after_one}
+use Rattle.auc_world.specs.Happened.{Delivery, Told, at_place, at_session, delivered, delivery_at, delivery_of, found, found_by, give_up, in_session, keys_won, moved, opened, peer_finds, peer_turn, released_by, repeat, sent_by, server_gives_up, server_turn, start, to_peer, to_server, with_peer, with_server}
+use Rattle.auc_world.specs.Net.{Net, device_place, inputs_accepted, inputs_of_peer, inputs_of_server, inputs_sent, packet_at, posted, session_place}
+use Rattle.auc_world.specs.declared.event.End.{End}
+use Rattle.auc_world.specs.declared.event.End.TheVariants as end
+use Rattle.auc_world.specs.declared.event.Event.{Event}
+use Rattle.auc_world.specs.declared.event.Event.TheVariants as event
+use Rattle.auc_world.specs.declared.net.Inputs.{Inputs}
+use Rattle.auc_world.specs.declared.net.Released.{Released}
+use Rattle.auc_world.specs.declared.net.SentPacket.{SentPacket}
+use Rattle.auc_world.specs.declared.net.Session.{Session}
+use Rattle.auc_world.proofs.PremiseLemmas.{honest_run}
+
+-- the laws of the two ends and of vectors
+pub record Laws : Type 0 where
+  pub server_fits : EachTurnFits
+  pub server_moves : EachTurnKeepsOrChallenges
+  pub peer_fits : peer_laws.EachTurnFits
+  pub peer_moves : peer_laws.EachTurnMoves
+  pub numbers : NumbersHaveDifferentSqns
+
+-- ---- lists
+
+-- what holds of all holds of the one at a place
+at : {X : Type 0} (P : X → Type 0) (xs : List X) (i : ℕ) (x : X) → All P xs → slice_get xs i ≡ Some x → P x
+at P xs i x all there = subst P (get_or_from_slice_get xs i x x there) (all i x (slice_get_within xs i x there))
+
+one : {X : Type 0} (o : Option X) (a b : X) → o ≡ Some a → o ≡ Some b → a ≡ b
+one o a b e f = cc
+
+none_some : {X : Type 0} (o : Option X) (a : X) → o ≡ None → o ≡ Some a → ⊥
+none_some o a e f = cc
+
+-- the first numbers of numbers that were released once
+once_front : (xs ys : List Released) → AreReleasedOnce (xs ++ ys) → AreReleasedOnce xs
+once_front xs ys o =
+    let long = length-append xs ys in record {
+      once = λ i j d before within. λ same. o.once i j d before (omega arith) (get_or_append_left xs ys d i (omega arith) ∙ same ∙ sym (get_or_append_left xs ys d j within));
+      numbers = λ k d within. subst (λ (r : Released). r.n ≤ max_seq) (get_or_append_left xs ys d k within) (o.numbers k d (omega arith));
+    }
+
+-- the last of them isn't among those before
+not_before : (xs : List Released) (x : Released) → AreReleasedOnce (xs ++ x ∷ []) → Contains xs x → ⊥
+not_before xs x o c =
+    let long = length_push xs x in
+    let (place, within, is) = c in
+    o.once place (length xs) x within (omega arith) (get_or_append_left xs (x ∷ []) x place within ∙ is ∙ sym (get_or_push xs x x (length xs) refl))
+
+number_fits : (released : List Released) (x : Released) → AreReleasedOnce released → Contains released x → x.n ≤ max_seq
+number_fits released x o c = let (place, within, is) = c in subst (λ (r : Released). r.n ≤ max_seq) is (o.numbers place x within)
+
+-- ---- what is posted
+
+-- a server posted a packet with these inputs
+pub record IsPosted (packets : List SentPacket) (i : Inputs) : Type 0 where
+  pub packet : SentPacket
+  pub is_in : Contains packets packet
+  pub role : packet.sender ≡ end.Server
+  pub with_inputs : packet.inputs ≡ Some i
+
+posted_after : (packets : List SentPacket) (from : End) (inputs : Option Inputs) (sent : Option (List ℕ)) (i : Inputs) → IsPosted packets i → IsPosted (posted packets from inputs sent) i
+posted_after packets from inputs None i p = p
+posted_after packets from inputs (Some bytes) i p = record {
+  packet = p.packet;
+  is_in = Contains-append_left packets (record { bytes = bytes; sender = from; inputs = inputs } ∷ []) p.packet p.is_in;
+  role = p.role;
+  with_inputs = p.with_inputs;
+}
+
+-- it was posted before, or is what the server posted now
+posted_cases : (packets : List SentPacket) (inputs : Option Inputs) (sent : Option (List ℕ)) (i : Inputs) → IsPosted (posted packets end.Server inputs sent) i → IsPosted packets i ⊎ (inputs ≡ Some i)
+posted_cases packets inputs None i p = inl p
+posted_cases packets inputs (Some bytes) i p =
+    let new : SentPacket = record { bytes = bytes; sender = end.Server; inputs = inputs } in
+    ⊎_elim (λ there. inl (record { packet = p.packet; is_in = there; role = p.role; with_inputs = p.with_inputs }))
+    (λ (same : new ≡ p.packet). inr (ap (λ (x : SentPacket). x.inputs) same ∙ p.with_inputs))
+    (Contains-push_cases packets new p.packet p.is_in)
+
+-- a peer's packet isn't a server's
+peer_posts : (packets : List SentPacket) (inputs : Option Inputs) (sent : Option (List ℕ)) (i : Inputs) → IsPosted (posted packets end.Peer inputs sent) i → IsPosted packets i
+peer_posts packets inputs None i p = p
+peer_posts packets inputs (Some bytes) i p =
+    let new : SentPacket = record { bytes = bytes; sender = end.Peer; inputs = inputs } in
+    ⊎_elim (λ there. record { packet = p.packet; is_in = there; role = p.role; with_inputs = p.with_inputs })
+    (λ (same : new ≡ p.packet). absurd (roles p.packet.sender (ap (λ (x : SentPacket). x.sender) same) p.role))
+    (Contains-push_cases packets new p.packet p.is_in)
+  where
+    roles : (e : End) → end.Peer ≡ e → e ≡ end.Server → ⊥
+    roles e f g = cc
+
+-- ---- what holds of a network
+
+-- inputs are those of the vector of a released number
+pub record IsDrawn (set : Setting) (released : List Released) (i : Inputs) : Type 0 where
+  pub n : ℕ
+  pub vector : Vector
+  pub is_in : Contains released (record { sub = i.sub; n = n })
+  pub of_number : vector_at set i.sub n ≡ Some vector
+  pub rand : i.rand ≡ vector.rand
+  pub autn : i.autn ≡ vector.autn
+
+abbrev pub HasNumber : Setting → ServerEnd → Type 0
+HasNumber set s = (sent : Challenged) → s.challenged ≡ Some sent → (n : ℕ) × (vector_at set sent.sub n ≡ Some sent.vector)
+
+pub record ServerFine (set : Setting) (packets : List SentPacket) (s : ServerEnd) : Type 0 where
+  pub fits : Fits s
+  pub was_posted : (i : Inputs) → inputs_of_server s ≡ Some i → IsPosted packets i
+  pub drawn : HasNumber set s
+
+abbrev pub inputs_at : ℕ → Challenge → Peer → Inputs
+inputs_at sub c p = record { sub = sub; rand = c.rand; autn = c.autn; identity = text_or_none p.identity }
+
+-- a peer's keys are those of inputs that a server posted
+pub record PeerIs (device : Subscription) (packets : List SentPacket) (sub : ℕ) (p : Peer) (keys : KeySet) : Type 0 where
+  pub challenge : Challenge
+  pub was_accepted : p.accepted ≡ Some challenge
+  pub same : keys ≡ keys_of_inputs device challenge (text_or_none p.identity)
+  pub was_posted : IsPosted packets (inputs_at sub challenge p)
+
+abbrev pub Live : List Subscription → List SentPacket → ℕ → ℕ → Peer → Type 0
+Live devices packets place sub p = (device : Subscription) (keys : KeySet) → slice_get devices place ≡ Some device → p.state ≡ peer_state.Answered keys → PeerIs device packets sub p keys
+
+pub record Done (devices : List Subscription) (packets : List SentPacket) (place sub : ℕ) (p : Peer) (keys : KeySet) : Type 0 where
+  pub ended : p.state ≡ peer_state.Ended
+  pub device : Subscription
+  pub there : slice_get devices place ≡ Some device
+  pub is : PeerIs device packets sub p keys
+
+abbrev pub AllDone : List Subscription → List SentPacket → ℕ → ℕ → Peer → Option KeySet → Type 0
+AllDone devices packets place sub p won = (keys : KeySet) → won ≡ Some keys → Done devices packets place sub p keys
+
+pub record SessionFine (set : Setting) (devices : List Subscription) (packets : List SentPacket) (a : Session) : Type 0 where
+  pub server : (s : ServerEnd) → a.server ≡ Some s → ServerFine set packets s
+  pub card : (device : Subscription) (row : Row) → slice_get devices a.device ≡ Some device → slice_get set.rows a.sub ≡ Some row → device.secret ≡ row.secret
+  pub live : Live devices packets a.device a.sub a.peer
+  pub done : AllDone devices packets a.device a.sub a.peer a.peer_keys
+
+pub record Holds (set : Setting) (devices : List Subscription) (packets : List SentPacket) (sessions : List Session) (released : List Released) : Type 0 where
+  pub secrets : HaveSecrets set devices
+  pub drawn : (i : Inputs) → IsPosted packets i → IsDrawn set released i
+  pub alike : (i j : Inputs) → IsPosted packets i → IsPosted packets j → AreOfOneChallenge i j → i ≡ j
+  pub fine : All (SessionFine set devices packets) sessions
+
+abbrev pub HoldsOf : Setting → Net → Type 0
+HoldsOf set w = Holds set w.devices w.packets w.sessions w.released
+
+-- ---- what stays as packets are posted
+
+server_later : (set : Setting) (packets : List SentPacket) (from : End) (inputs : Option Inputs) (sent : Option (List ℕ)) (s : ServerEnd) → ServerFine set packets s
+    → ServerFine set (posted packets from inputs sent) s
+server_later set packets from inputs sent s f = record {
+  fits = f.fits;
+  was_posted = λ i e. posted_after packets from inputs sent i (f.was_posted i e);
+  drawn = f.drawn;
+}
+
+is_later : (device : Subscription) (packets : List SentPacket) (from : End) (inputs : Option Inputs) (sent : Option (List ℕ)) (sub : ℕ) (p : Peer) (keys : KeySet) → PeerIs device packets sub p keys
+    → PeerIs device (posted packets from inputs sent) sub p keys
+is_later device packets from inputs sent sub p keys f = record {
+  challenge = f.challenge;
+  was_accepted = f.was_accepted;
+  same = f.same;
+  was_posted = posted_after packets from inputs sent (inputs_at sub f.challenge p) f.was_posted;
+}
+
+done_later : (devices : List Subscription) (packets : List SentPacket) (from : End) (inputs : Option Inputs) (sent : Option (List ℕ)) (place sub : ℕ) (p : Peer) (keys : KeySet) → Done devices packets place sub p keys
+    → Done devices (posted packets from inputs sent) place sub p keys
+done_later devices packets from inputs sent place sub p keys f = record {
+  ended = f.ended;
+  device = f.device;
+  there = f.there;
+  is = is_later f.device packets from inputs sent sub p keys f.is;
+}
+
+session_later : (set : Setting) (devices : List Subscription) (packets : List SentPacket) (from : End) (inputs : Option Inputs) (sent : Option (List ℕ)) (a : Session) → SessionFine set devices packets a
+    → SessionFine set devices (posted packets from inputs sent) a
+session_later set devices packets from inputs sent a f = record {
+  server = λ s e. server_later set packets from inputs sent s (f.server s e);
+  card = f.card;
+  live = λ device keys there e. is_later device packets from inputs sent a.sub a.peer keys (f.live device keys there e);
+  done = λ keys e. done_later devices packets from inputs sent a.device a.sub a.peer keys (f.done keys e);
+}
+
+drawn_later : (set : Setting) (released more : List Released) (i : Inputs) → IsDrawn set released i → IsDrawn set (released ++ more) i
+drawn_later set released more i d = record {
+  n = d.n;
+  vector = d.vector;
+  is_in = Contains-append_left released more (record { sub = i.sub; n = d.n }) d.is_in;
+  of_number = d.of_number;
+  rand = d.rand;
+  autn = d.autn;
+}
+
+-- ---- numbers
+
+-- two vectors of a subscriber with one RAND and one AUTN are of one number
+one_number : Laws → (set : Setting) (sub m n : ℕ) (v u : Vector) → AreSubscribers set.rows → vector_at set sub m ≡ Some v → vector_at set sub n ≡ Some u
+    → v.rand ≡ u.rand → v.autn ≡ u.autn → m ≤ max_seq → n ≤ max_seq → m ≡ n
+one_number laws set sub m n v u subscribers ev eu rand autn mm nn = by (slice_get set.rows sub) refl ev eu
+  where
+    by : (o : Option Row) → slice_get set.rows sub ≡ o → vector_of_row set sub m o ≡ Some v → vector_of_row set sub n o ≡ Some u → m ≡ n
+    by None e f g = absurd (none_some None v refl f)
+    by (Some home) e f g =
+        let row = at IsRow set.rows sub home subscribers.each e in
+        let k = home.secret.k in
+        let opc = home.secret.opc in
+        let r = rand_of set.key sub m in
+        let s = rand_of set.key sub n in
+        let left : vector_of home.secret home.amf m r ≡ v = one (Some v) (vector_of home.secret home.amf m r) v (sym f) refl in
+        let right : vector_of home.secret home.amf n s ≡ u = one (Some u) (vector_of home.secret home.amf n s) u (sym g) refl in
+        let rands : r ≡ s = ap (λ (x : Vector). x.rand) left ∙ rand ∙ sym (ap (λ (x : Vector). x.rand) right) in
+        let autns : autn_of k opc r home.amf m ≡ autn_of k opc s home.amf n = ap (λ (x : Vector). x.autn) left ∙ autn ∙ sym (ap (λ (x : Vector). x.autn) right) in
+        laws.numbers k opc home.amf r s m n row.key row.operator mm nn
+        (ap (λ (x : List ℕ). sqn_in k opc x (autn_of k opc r home.amf m)) rands ∙ ap (λ (y : List ℕ). sqn_in k opc s y) autns)
+
+-- ---- a server's turn
+
+-- the sessions after a server's turn
+set_server : (set : Setting) (devices : List Subscription) (packets : List SentPacket) (sessions : List Session) (place : ℕ) (session : Session) (s : ServerEnd) (sent : Option (List ℕ))
+    → All (SessionFine set devices packets) sessions → slice_get sessions place ≡ Some session
+    → ServerFine set (posted packets end.Server (inputs_of_server s) sent) s
+    → All (SessionFine set devices (posted packets end.Server (inputs_of_server s) sent)) (slice_set sessions place (record session { server = Some s }))
+set_server set devices packets sessions place session s sent all there fine =
+    let after' = posted packets end.Server (inputs_of_server s) sent in
+    let old = session_later set devices packets end.Server (inputs_of_server s) sent session (at (SessionFine set devices packets) sessions place session all there) in
+    All-set (SessionFine set devices after') sessions place (record session { server = Some s })
+    (record {
+      server = λ t e. subst (ServerFine set after') (one (Some s) s t refl e) fine;
+      card = old.card;
+      live = old.live;
+      done = old.done;
+    })
+    (All-weaker (SessionFine set devices packets) (SessionFine set devices after') (λ a f. session_later set devices packets end.Server (inputs_of_server s) sent a f) sessions all)
+
+-- a turn after which the server's inputs are posted already
+server_kept : (set : Setting) (w : Net) (place : ℕ) (session : Session) (s : ServerEnd) (did : Step ServerWhy) (more : List Released) → HoldsOf set w → slice_get w.sessions place ≡ Some session
+    → ServerFine set w.packets s → HoldsOf set (with_server w place session more s did)
+server_kept set w place session s did more h there fine =
+    let back : (i : Inputs) → IsPosted (posted w.packets end.Server (inputs_of_server s) (sent_by did)) i → IsPosted w.packets i =
+    λ i p. ⊎_elim (λ old. old) (λ own. fine.was_posted i own) (posted_cases w.packets (inputs_of_server s) (sent_by did) i p) in
+    record {
+      secrets = h.secrets;
+      drawn = λ i p. drawn_later set w.released more i (h.drawn i (back i p));
+      alike = λ i j p q. h.alike i j (back i p) (back j q);
+      fine = set_server set w.devices w.packets w.sessions place session s (sent_by did) h.fine there (server_later set w.packets end.Server (inputs_of_server s) (sent_by did) s fine);
+    }
+
+-- what a server posts with a packet
+posts : (packets : List SentPacket) (inputs : Option Inputs) (bytes : List ℕ) (i : Inputs) → inputs ≡ Some i → IsPosted (posted packets end.Server inputs (Some bytes)) i
+posts packets inputs bytes i e = record {
+  packet = record { bytes = bytes; sender = end.Server; inputs = inputs };
+  is_in = Contains-push packets (record { bytes = bytes; sender = end.Server; inputs = inputs });
+  role = refl;
+  with_inputs = e;
+}
+
+-- the inputs of a vector's challenge
+abbrev pub inputs_new : ServerEnd → ℕ → Vector → Inputs
+inputs_new s sub v = record { sub = sub; rand = v.rand; autn = v.autn; identity = s.identity }
+
+same_number : (sub m n : ℕ) → m ≡ n → ◌≡◌ {A = Released} (record { sub = sub; n = m }) (record { sub = sub; n = n })
+same_number sub m n e = cc
+
+same_subscriber : (sub other n : ℕ) → sub ≡ other → ◌≡◌ {A = Released} (record { sub = sub; n = n }) (record { sub = other; n = n })
+same_subscriber sub other n e = cc
+
+contains_same : (xs : List Released) (x y : Released) → x ≡ y → Contains xs x → Contains xs y
+contains_same xs x y e c = subst (Contains xs) e c
+
+-- no inputs that were posted before are those of a number that is released now
+fresh : Laws → (set : Setting) (w : Net) (sub n : ℕ) (v : Vector) (i : Inputs) → AreSubscribers set.rows → HoldsOf set w → AreReleasedOnce (w.released ++ record { sub = sub; n = n } ∷ [])
+    → vector_at set sub n ≡ Some v → IsPosted w.packets i → i.sub ≡ sub → i.rand ≡ v.rand → i.autn ≡ v.autn → ⊥
+fresh laws set w sub n v i subscribers h once of p is rand autn =
+    let d = h.drawn i p in
+    let x : Released = record { sub = sub; n = n } in
+    let front = once_front w.released (x ∷ []) once in
+    let mm = number_fits w.released (record { sub = i.sub; n = d.n }) front d.is_in in
+    let nn = number_fits (w.released ++ x ∷ []) x once (Contains-push w.released x) in
+    let m_at : vector_at set sub d.n ≡ Some d.vector = ap (λ (k : ℕ). vector_at set k d.n) (sym is) ∙ d.of_number in
+    let number = one_number laws set sub d.n n d.vector v subscribers m_at of (sym d.rand ∙ rand) (sym d.autn ∙ autn) mm nn in
+    not_before w.released x once
+    (contains_same w.released (record { sub = i.sub; n = d.n }) x (same_subscriber i.sub sub d.n is ∙ same_number sub d.n n number) d.is_in)
+
+-- a turn that sends a new challenge
+server_new : Laws → (set : Setting) (w : Net) (place : ℕ) (session : Session) (s : ServerEnd) (did : Step ServerWhy) (sub n : ℕ) (v : Vector) (bytes : List ℕ)
+    → AreSubscribers set.rows → HoldsOf set w → slice_get w.sessions place ≡ Some session → Fits s → vector_at set sub n ≡ Some v → s.challenged ≡ Some (challenge_of s sub v)
+    → did ≡ step.Sent bytes → AreReleasedOnce (w.released ++ record { sub = sub; n = n } ∷ []) → HoldsOf set (with_server w place session (record { sub = sub; n = n } ∷ []) s did)
+server_new laws set w place session s did sub n v bytes subscribers h there fits of sent_is did_is once =
+    let x : Released = record { sub = sub; n = n } in
+    let j = inputs_new s sub v in
+    let after' = posted w.packets end.Server (inputs_of_server s) (sent_by did) in
+    let own : inputs_of_server s ≡ Some j = ap (inputs_sent s.identity) sent_is in
+    let here : IsPosted after' j =
+    subst (λ (d : Step ServerWhy). IsPosted (posted w.packets end.Server (inputs_of_server s) (sent_by d)) j) (sym did_is) (posts w.packets (inputs_of_server s) bytes j own) in
+    let cases : (i : Inputs) → IsPosted after' i → IsPosted w.packets i ⊎ (j ≡ i) =
+    λ i p. ⊎_elim (λ old. inl old) (λ is. inr (one (inputs_of_server s) j i own is)) (posted_cases w.packets (inputs_of_server s) (sent_by did) i p) in
+    let new : IsDrawn set (w.released ++ x ∷ []) j = record { n = n; vector = v; is_in = Contains-push w.released x; of_number = of; rand = refl; autn = refl } in
+    record {
+      secrets = h.secrets;
+      drawn = λ i p. ⊎_elim (λ old. drawn_later set w.released (x ∷ []) i (h.drawn i old)) (λ is. subst (IsDrawn set (w.released ++ x ∷ [])) is new) (cases i p);
+      alike = λ i k p q alike.
+          ⊎_elim
+          (λ old. ⊎_elim
+          (λ other. h.alike i k old other alike)
+          (λ is. absurd (fresh laws set w sub n v i subscribers h once of old (alike.sub ∙ sym (ap (λ (y : Inputs). y.sub) is)) (alike.rand ∙ sym (ap (λ (y : Inputs). y.rand) is)) (alike.autn ∙ sym (ap (λ (y : Inputs). y.autn) is))))
+          (cases k q))
+          (λ is. ⊎_elim
+          (λ other. absurd (fresh laws set w sub n v k subscribers h once of other (sym alike.sub ∙ sym (ap (λ (y : Inputs). y.sub) is)) (sym alike.rand ∙ sym (ap (λ (y : Inputs). y.rand) is)) (sym alike.autn ∙ sym (ap (λ (y : Inputs). y.autn) is))))
+          (λ same. sym is ∙ same)
+          (cases k q))
+          (cases i p);
+      fine = set_server set w.devices w.packets w.sessions place session s (sent_by did) h.fine there (record {
+        fits = fits;
+        was_posted = λ i e. subst (IsPosted after') (one (inputs_of_server s) j i own e) here;
+        drawn = λ sent e. subst (λ (c : Challenged). (m : ℕ) × (vector_at set c.sub m ≡ Some c.vector)) (one s.challenged (challenge_of s sub v) sent sent_is e) (n, of);
+      });
+    }
+
+-- ---- a peer's turn
+
+set_peer : (set : Setting) (w : Net) (place : ℕ) (session : Session) (p : Peer) (did : Step PeerWhy) → HoldsOf set w → slice_get w.sessions place ≡ Some session
+    → Live w.devices w.packets session.device session.sub p → AllDone w.devices w.packets session.device session.sub p (keys_won session.peer_keys did)
+    → HoldsOf set (with_peer w place session p did)
+set_peer set w place session p did h there live done =
+    let inputs = inputs_of_peer session.sub p in
+    let sent = sent_by did in
+    let after' = posted w.packets end.Peer inputs sent in
+    let old = session_later set w.devices w.packets end.Peer inputs sent session (at (SessionFine set w.devices w.packets) w.sessions place session h.fine there) in
+    let new : Session = record session { peer = p; peer_keys = keys_won session.peer_keys did } in
+    record {
+      secrets = h.secrets;
+      drawn = λ i q. h.drawn i (peer_posts w.packets inputs sent i q);
+      alike = λ i j q r. h.alike i j (peer_posts w.packets inputs sent i q) (peer_posts w.packets inputs sent j r);
+      fine = All-set (SessionFine set w.devices after') w.sessions place new
+          (record {
+            server = old.server;
+            card = old.card;
+            live = λ device keys is e. is_later device w.packets end.Peer inputs sent session.sub p keys (live device keys is e);
+            done = λ keys e. done_later w.devices w.packets end.Peer inputs sent session.device session.sub p keys (done keys e);
+          })
+          (All-weaker (SessionFine set w.devices w.packets) (SessionFine set w.devices after') (λ a f. session_later set w.devices w.packets end.Peer inputs sent a f) w.sessions h.fine);
+    }
+
+-- ---- agreement
+
+keys_alike : (text : List ℕ) (v : Vector) → keys_of text v ≡ keys_for text v.ik v.ck
+unfolding keys_of keys_for
+keys_alike text v = refl
+
+-- the keys of a vector's challenge are those of a USIM with the subscriber's secret
+vector_keys : (set : Setting) (sub n : ℕ) (v : Vector) (device : Subscription) (c : Challenge) (text : List ℕ) → vector_at set sub n ≡ Some v → c.rand ≡ v.rand
+    → ((row : Row) → slice_get set.rows sub ≡ Some row → device.secret ≡ row.secret) → keys_of text v ≡ keys_of_inputs device c text
+vector_keys set sub n v device c text e rand secret = by (slice_get set.rows sub) refl e
+  where
+    by : (o : Option Row) → slice_get set.rows sub ≡ o → vector_of_row set sub n o ≡ Some v → keys_of text v ≡ keys_of_inputs device c text
+    by None at' f = absurd (none_some None v refl f)
+    by (Some home) at' f =
+        let r = rand_of set.key sub n in
+        let is : vector_of home.secret home.amf n r ≡ v = one (Some v) (vector_of home.secret home.amf n r) v (sym f) refl in
+        let same : home.secret ≡ device.secret = sym (secret home at') in
+        let rands : r ≡ c.rand = ap (λ (x : Vector). x.rand) is ∙ sym rand in
+        let ik : v.ik ≡ f4 device.secret.k device.secret.opc c.rand =
+        sym (ap (λ (x : Vector). x.ik) is) ∙ ap (λ (s : Secret). f4 s.k s.opc r) same ∙ ap (λ (x : List ℕ). f4 device.secret.k device.secret.opc x) rands in
+        let ck : v.ck ≡ f3 device.secret.k device.secret.opc c.rand =
+        sym (ap (λ (x : Vector). x.ck) is) ∙ ap (λ (s : Secret). f3 s.k s.opc r) same ∙ ap (λ (x : List ℕ). f3 device.secret.k device.secret.opc x) rands in
+        keys_alike text v ∙ ap (λ (x : List ℕ). keys_for text x v.ck) ik ∙ ap (λ (x : List ℕ). keys_for text (f4 device.secret.k device.secret.opc c.rand) x) ck
+
+contained : {X : Type 0} (P : X → Type 0) (xs : List X) (x : X) → All P xs → Contains xs x → P x
+contained P xs x all c = subst P c.2 (all c.0 x c.1)
+
+agreed : (set : Setting) (w : Net) → HoldsOf set w → Agree w
+agreed set w h a b k l i j ina inb won other alike =
+    let s = won.server in
+    let fa = (contained (SessionFine set w.devices w.packets) w.sessions a h.fine ina).server s won.is in
+    let fb = contained (SessionFine set w.devices w.packets) w.sessions b h.fine inb in
+    let done = fb.done l other.won in
+    let (sent, last, keys) = fa.fits.success k won.won in
+    let c = done.is.challenge in
+    let text = text_or_none b.peer.identity in
+    let here = inputs_new s sent.sub sent.vector in
+    let there = inputs_at b.sub c b.peer in
+    let is_i : here ≡ i = one (inputs_of_server s) here i (ap (inputs_sent s.identity) last) won.inputs in
+    let is_j : there ≡ j = one (inputs_of_peer b.sub b.peer) there j (ap (inputs_accepted b.sub b.peer.identity) done.is.was_accepted) other.inputs in
+    let both = h.alike i j (fa.was_posted i won.inputs) (subst (IsPosted w.packets) is_j done.is.was_posted) alike in
+    let same : here ≡ there = is_i ∙ both ∙ sym is_j in
+    let (n, of) = fa.drawn sent last in
+    keys ∙ fa.fits.keys sent last ∙ ap (λ (t : List ℕ). keys_of t sent.vector) (ap (λ (y : Inputs). y.identity) same)
+    ∙ vector_keys set sent.sub n sent.vector done.device c text of (sym (ap (λ (y : Inputs). y.rand) same))
+    (λ row e. fb.card done.device row done.there (ap (slice_get set.rows) (sym (ap (λ (y : Inputs). y.sub) same)) ∙ e)) ∙ sym done.is.same
+
+-- ---- events
+
+-- a network after something that happened
+pub record Next (set : Setting) (w next : Net) : Type 0 where
+  pub more : List Released
+  pub grows : next.released ≡ w.released ++ more
+  pub holds : HoldsOf set w → AreReleasedOnce next.released → HoldsOf set next
+
+still : (set : Setting) (w : Net) → Next set w w
+still set w = record { more = []; grows = sym (append-nil w.released); holds = λ h o. h }
+
+-- a server steps, and its inputs are posted already
+kept_next : (set : Setting) (w : Net) (place : ℕ) (session : Session) (s : ServerEnd) (did : Step ServerWhy) → slice_get w.sessions place ≡ Some session
+    → (HoldsOf set w → ServerFine set w.packets s) → Next set w (with_server w place session [] s did)
+kept_next set w place session s did there fine = record {
+  more = [];
+  grows = refl;
+  holds = λ h o. server_kept set w place session s did [] h there (fine h);
+}
+
+server_in : (set : Setting) (w : Net) (place : ℕ) (session : Session) (s : ServerEnd) → slice_get w.sessions place ≡ Some session → session.server ≡ Some s → HoldsOf set w → ServerFine set w.packets s
+server_in set w place session s there is h = (at (SessionFine set w.devices w.packets) w.sessions place session h.fine there).server s is
+
+-- ---- a delivery to a server
+
+inputs_kept : (s t : ServerEnd) → KeepsChallenge s t → (i : Inputs) → inputs_of_server t ≡ Some i → inputs_of_server s ≡ Some i
+inputs_kept s t k i e = by s.challenged refl
+  where
+    by : (o : Option Challenged) → s.challenged ≡ o → inputs_of_server s ≡ Some i
+    by None f = absurd (none_some (inputs_of_server t) i (ap (inputs_sent t.identity) (k.challenge ∙ f)) e)
+    by (Some sent) f =
+        ap (inputs_sent s.identity) f ∙ ap (λ (x : List ℕ). inputs_sent x (Some sent)) (sym (k.identity sent f)) ∙ ap (inputs_sent t.identity) (sym (k.challenge ∙ f)) ∙ e
+
+kept_fine : (set : Setting) (packets : List SentPacket) (s t : ServerEnd) → ServerFine set packets s → KeepsChallenge s t → Fits t → ServerFine set packets t
+kept_fine set packets s t f k fits = record {
+  fits = fits;
+  was_posted = λ i e. f.was_posted i (inputs_kept s t k i e);
+  drawn = λ sent e. f.drawn sent (sym k.challenge ∙ e);
+}
+
+to_server_next : Laws → (set : Setting) (w : Net) (d : Delivery) (told : Told) (o : Option ServerEnd) → AreSubscribers set.rows → d.session.server ≡ o
+    → slice_get w.sessions d.place ≡ Some d.session → Next set w (to_server set w d told o)
+to_server_next laws set w d told None subscribers is there = still set w
+to_server_next laws set w d told (Some s) subscribers is there =
+    let turn = server_turn set w s told in
+    let asked = asking (server_row set w.homes s told.seen) in
+    let more = released_by asked turn.1.notes.number in
+    record {
+      more = more;
+      grows = refl;
+      holds = λ h o.
+          let old = server_in set w d.place d.session s there is h in
+          let fits = laws.server_fits set w.homes s told.seen told.notes old.fits in
+          ⊎_elim
+          (λ kept. server_kept set w d.place d.session turn.0 turn.1.step more h there (kept_fine set w.packets s turn.0 old kept fits))
+          (λ (new : SendsChallenge set asked turn.0 turn.1).
+          let x : Released = record { sub = new.request.sub; n = new.n } in
+          let is_more : more ≡ x ∷ [] = ap (λ (a : Option Asking). released_by a turn.1.notes.number) new.of ∙ ap (released_by (Some new.request)) new.drawn in
+          subst (λ (r : List Released). AreReleasedOnce (w.released ++ r) → HoldsOf set (with_server w d.place d.session r turn.0 turn.1.step)) (sym is_more)
+          (λ once. server_new laws set w d.place d.session turn.0 turn.1.step new.request.sub new.n new.vector turn.0.last subscribers h there fits new.of_number new.challenge new.sent once) o)
+          (laws.server_moves set w.homes s told.seen told.notes old.fits);
+    }
+
+-- ---- a delivery to a peer
+
+peer_kept : (device : Subscription) (packets : List SentPacket) (sub : ℕ) (p z : Peer) (keys : KeySet) → PeerIs device packets sub p keys → z.accepted ≡ p.accepted → z.identity ≡ p.identity
+    → PeerIs device packets sub z keys
+peer_kept device packets sub p z keys f acc id =
+    let c = f.challenge in
+    record {
+      challenge = c;
+      was_accepted = acc ∙ f.was_accepted;
+      same = f.same ∙ ap (λ (t : Option (List ℕ)). keys_of_inputs device c (text_or_none t)) (sym id);
+      was_posted = subst (λ (t : Option (List ℕ)). IsPosted packets (record { sub = sub; rand = c.rand; autn = c.autn; identity = text_or_none t })) (sym id) f.was_posted;
+    }
+
+no_waiting : (s : PeerState) (keys : KeySet) → s ≡ peer_state.Waiting → s ≡ peer_state.Answered keys → ⊥
+no_waiting s keys e f = cc
+
+no_ended : (s : PeerState) → s ≡ peer_state.Waiting → s ≡ peer_state.Ended → ⊥
+no_ended s e f = cc
+
+won_cases : (before : Option KeySet) (did : Step PeerWhy) (keys : KeySet) → keys_won before did ≡ Some keys → ((bytes : List ℕ) × (did ≡ step.Ended (outcome.Success keys) bytes)) ⊎ (before ≡ Some keys)
+won_cases before (step.Ended (outcome.Success k) bytes) keys e = inl (bytes, ap (λ (x : KeySet). step.Ended (outcome.Success x) bytes) (one (Some k) k keys refl e))
+won_cases before (step.Ended (outcome.Failure cause) bytes) keys e = inr e
+won_cases before (step.Sent bytes) keys e = inr e
+won_cases before (step.Ignored cause) keys e = inr e
+
+to_peer_next : Laws → (set : Setting) (w : Net) (d : Delivery) (told : Told) (o : Option Subscription) → slice_get w.devices d.session.device ≡ o
+    → slice_get w.sessions d.place ≡ Some d.session → IsHonestFinding w.packets (peer_finds d told o) → Next set w (to_peer w d told o)
+to_peer_next laws set w d told None is there honest = still set w
+to_peer_next laws set w d told (Some device) is there honest =
+    let turn = peer_turn device d.session told in
+    let p = d.session.peer in
+    let z = turn.0 in
+    let sub = d.session.sub in
+    let m = laws.peer_moves device p told.seen told.notes.usim told.readable in
+    record {
+      more = [];
+      grows = sym (append-nil w.released);
+      holds = λ h o.
+          let old = at (SessionFine set w.devices w.packets) w.sessions d.place d.session h.fine there in
+          let fits = laws.peer_fits device p told.seen told.notes.usim told.readable (λ keys e.
+          let f = old.live device keys is e in record { challenge = f.challenge; was_accepted = f.was_accepted; same = f.same }) in
+          let kept : (other : Subscription) (keys : KeySet) → PeerIs other w.packets sub p keys → (p.state ≡ peer_state.Waiting → ⊥) → PeerIs other w.packets sub z keys =
+          λ other keys f apart. ⊎_elim (λ waits. absurd (apart waits)) (λ same. peer_kept other w.packets sub p z keys f same.0 same.1) m.keeps in
+          let fresh_keys : (keys : KeySet) → z.state ≡ peer_state.Answered keys → turn.1.checked ≡ true → PeerIs device w.packets sub z keys =
+          λ keys e checked.
+          let f = fits keys e in
+          let s = honest checked in
+          let own = inputs_at sub f.challenge z in
+          let same : s.own ≡ own = one (inputs_of_peer sub z) s.own own s.same_inputs (ap (inputs_accepted sub z.identity) f.was_accepted) in
+          record {
+            challenge = f.challenge;
+            was_accepted = f.was_accepted;
+            same = f.same;
+            was_posted = subst (IsPosted w.packets) same (record { packet = s.packet; is_in = s.is_in; role = s.role; with_inputs = s.with_inputs });
+          } in
+          set_peer set w d.place d.session z turn.1.step h there
+          (λ other keys at' e.
+          ⊎_elim
+          (λ was. kept other keys (old.live other keys at' was) (λ waits. no_waiting p.state keys waits was))
+          (λ checked. subst (λ (x : Subscription). PeerIs x w.packets sub z keys) (one (slice_get w.devices d.session.device) device other is at') (fresh_keys keys e checked))
+          (m.keys keys e))
+          (λ keys e.
+          ⊎_elim
+          (λ success.
+          let ends = m.success keys success.0 success.1 in
+          record { ended = ends.1; device = device; there = is; is = kept device keys (old.live device keys is ends.0) (λ waits. no_waiting p.state keys waits ends.0) })
+          (λ before.
+          let f = old.done keys before in
+          record { ended = m.ended f.ended; device = f.device; there = f.there; is = kept f.device keys f.is (λ waits. no_ended p.state waits f.ended) })
+          (won_cases d.session.peer_keys turn.1.step keys e));
+    }
+
+-- ---- deliveries
+
+server_delivered : Laws → (set : Setting) (w : Net) (told : Told) (packet : ℕ) (o : Option ℕ) → AreSubscribers set.rows → Next set w (delivered set w end.Server told (delivery_at w packet o))
+server_delivered laws set w told packet None subscribers = still set w
+server_delivered laws set w told packet (Some place) subscribers = by (slice_get w.sessions place) (packet_at w.packets packet) refl
+  where
+    by : (x : Option Session) (y : Option SentPacket) → slice_get w.sessions place ≡ x → Next set w (delivered set w end.Server told (delivery_of packet place x y))
+    by (Some session) (Some sent) e = to_server_next laws set w (record { place = place; session = session; bytes = sent.bytes; packet = packet }) told session.server subscribers refl e
+    by (Some session) None e = still set w
+    by None (Some sent) e = still set w
+    by None None e = still set w
+
+peer_delivered : Laws → (set : Setting) (w : Net) (told : Told) (packet : ℕ) (o : Option ℕ) → IsHonestFinding w.packets (found_by set w end.Peer told (delivery_at w packet o))
+    → Next set w (delivered set w end.Peer told (delivery_at w packet o))
+peer_delivered laws set w told packet None honest = still set w
+peer_delivered laws set w told packet (Some place) honest = by (slice_get w.sessions place) (packet_at w.packets packet) refl honest
+  where
+    by : (x : Option Session) (y : Option SentPacket) → slice_get w.sessions place ≡ x → IsHonestFinding w.packets (found_by set w end.Peer told (delivery_of packet place x y))
+        → Next set w (delivered set w end.Peer told (delivery_of packet place x y))
+    by (Some session) (Some sent) e fair =
+        to_peer_next laws set w (record { place = place; session = session; bytes = sent.bytes; packet = packet }) told (slice_get w.devices session.device) refl e fair
+    by (Some session) None e fair = still set w
+    by None (Some sent) e fair = still set w
+    by None None e fair = still set w
+
+-- ---- the other events
+
+session_next : (set : Setting) (w : Net) (session : ℕ) (does : ℕ → Session → Net) → ((place : ℕ) (s : Session) → slice_get w.sessions place ≡ Some s → Next set w (does place s))
+    → Next set w (at_session w session does)
+session_next set w session does each = by (session_place w.sessions session)
+  where
+    found_one : (place : ℕ) (x : Option Session) → slice_get w.sessions place ≡ x → Next set w (in_session w does place x)
+    found_one place None e = still set w
+    found_one place (Some s) e = each place s e
+
+    by : (o : Option ℕ) → Next set w (at_place w does o)
+    by None = still set w
+    by (Some place) = found_one place (slice_get w.sessions place) refl
+
+no_ended_success : (keys : KeySet) → state.AwaitIdentity ≡ state.Ended (outcome.Success keys) → ⊥
+no_ended_success keys e = cc
+
+nothing : {X : Type 0} (x : X) → ◌≡◌ {A = Option X} None (Some x) → ⊥
+nothing x e = cc
+
+started_fine : (set : Setting) (packets : List SentPacket) → ServerFine set packets started
+started_fine set packets = record {
+  fits = record {
+    first = λ e. refl;
+    keys = λ sent e. absurd (nothing sent e);
+    success = λ keys e. absurd (no_ended_success keys e);
+  };
+  was_posted = λ i e. absurd (nothing i e);
+  drawn = λ sent e. absurd (nothing sent e);
+}
+
+start_next : (set : Setting) (w : Net) (place : ℕ) (session : Session) (o : Option ServerEnd) → slice_get w.sessions place ≡ Some session → Next set w (start w place session o)
+start_next set w place session None there = kept_next set w place session started (step.Sent started.last) there (λ h. started_fine set w.packets)
+start_next set w place session (Some s) there = still set w
+
+repeat_next : (set : Setting) (w : Net) (place : ℕ) (session : Session) (o : Option ServerEnd) → session.server ≡ o → slice_get w.sessions place ≡ Some session → Next set w (repeat w place session o)
+repeat_next set w place session None is there = still set w
+repeat_next set w place session (Some s) is there = kept_next set w place session s (repeated s s.state) there (λ h. server_in set w place session s there is h)
+
+abbrev given_up : ServerEnd → ServerEnd
+given_up s = record s { state = state.Ended (outcome.Failure why.GivenUp) }
+
+no_awaiting : (r : Outcome ServerWhy) → state.Ended r ≡ state.AwaitIdentity → ⊥
+no_awaiting r e = cc
+
+no_success : (keys : KeySet) (cause : ServerWhy) → state.Ended (outcome.Failure cause) ≡ state.Ended (outcome.Success keys) → ⊥
+no_success keys cause e = cc
+
+given_up_fine : (set : Setting) (packets : List SentPacket) (s : ServerEnd) → ServerFine set packets s → ServerFine set packets (given_up s)
+given_up_fine set packets s f = record {
+  fits = record {
+    first = λ e. absurd (no_awaiting (outcome.Failure why.GivenUp) e);
+    keys = f.fits.keys;
+    success = λ keys e. absurd (no_success keys why.GivenUp e);
+  };
+  was_posted = f.was_posted;
+  drawn = f.drawn;
+}
+
+server_gives_next : (set : Setting) (w : Net) (place : ℕ) (session : Session) (o : Option ServerEnd) → session.server ≡ o → slice_get w.sessions place ≡ Some session
+    → Next set w (server_gives_up w place session o)
+server_gives_next set w place session None is there = still set w
+server_gives_next set w place session (Some s) is there = by s.state
+  where
+    by : (st : ServerState) → Next set w (with_server w place session [] (gave_up s st).0 (gave_up s st).1)
+    by (state.Ended r) = kept_next set w place session s (gave_up s (state.Ended r)).1 there (λ h. server_in set w place session s there is h)
+    by state.AwaitIdentity = kept_next set w place session (given_up s) (gave_up s state.AwaitIdentity).1 there (λ h. given_up_fine set w.packets s (server_in set w place session s there is h))
+    by state.AwaitChallenge = kept_next set w place session (given_up s) (gave_up s state.AwaitChallenge).1 there (λ h. given_up_fine set w.packets s (server_in set w place session s there is h))
+    by (state.Notifying cause) = kept_next set w place session (given_up s) (gave_up s (state.Notifying cause)).1 there (λ h. given_up_fine set w.packets s (server_in set w place session s there is h))
+
+abbrev peer_over : Peer → Peer
+peer_over p = record { state = peer_state.Ended; last = p.last; identity = p.identity; accepted = p.accepted }
+
+no_answered : (keys : KeySet) → peer_state.Ended ≡ peer_state.Answered keys → ⊥
+no_answered keys e = cc
+
+peer_gives_next : (set : Setting) (w : Net) (place : ℕ) (session : Session) → slice_get w.sessions place ≡ Some session → Next set w (give_up w end.Peer place session)
+peer_gives_next set w place session there = by session.peer.state
+  where
+    over : Next set w (with_peer w place session (peer_over session.peer) (step.Ended (outcome.Failure peer_why.GivenUp) []))
+    over = record {
+      more = [];
+      grows = sym (append-nil w.released);
+      holds = λ h o.
+          let old = at (SessionFine set w.devices w.packets) w.sessions place session h.fine there in
+          set_peer set w place session (peer_over session.peer) (step.Ended (outcome.Failure peer_why.GivenUp) []) h there
+          (λ device keys is e. absurd (no_answered keys e))
+          (λ keys e. let f = old.done keys e in record {
+            ended = refl;
+            device = f.device;
+            there = f.there;
+            is = peer_kept f.device w.packets session.sub session.peer (peer_over session.peer) keys f.is refl refl;
+          });
+    }
+
+    by : (st : PeerState) → Next set w (with_peer w place session (peer_gave_up session.peer st).0 (peer_gave_up session.peer st).1)
+    by peer_state.Ended = record {
+      more = [];
+      grows = sym (append-nil w.released);
+      holds = λ h o.
+          let old = at (SessionFine set w.devices w.packets) w.sessions place session h.fine there in
+          set_peer set w place session session.peer (peer_gave_up session.peer peer_state.Ended).1 h there old.live old.done;
+    }
+    by peer_state.Waiting = over
+    by (peer_state.Answered keys) = over
+    by (peer_state.Refusing cause) = over
+
+give_up_next : (set : Setting) (w : Net) (at' : End) (place : ℕ) (session : Session) → slice_get w.sessions place ≡ Some session → Next set w (give_up w at' place session)
+give_up_next set w end.Server place session there = server_gives_next set w place session session.server refl there
+give_up_next set w end.Peer place session there = peer_gives_next set w place session there
+
+no_waiting_answered : (keys : KeySet) → peer_state.Waiting ≡ peer_state.Answered keys → ⊥
+no_waiting_answered keys e = cc
+
+opened_next : (set : Setting) (w : Net) (session sub : ℕ) (o : Option ℕ) → device_place set.rows w.devices sub ≡ o → Next set w (opened w session sub o)
+opened_next set w session sub None e = still set w
+opened_next set w session sub (Some place) e = record {
+  more = [];
+  grows = sym (append-nil w.released);
+  holds = λ h o. record {
+    secrets = h.secrets;
+    drawn = h.drawn;
+    alike = h.alike;
+    fine = All-push (SessionFine set w.devices w.packets) w.sessions _ h.fine (record {
+      server = λ s is. absurd (nothing s is);
+      card = λ device row there is. h.secrets sub place device row e there is;
+      live = λ device keys there is. absurd (no_waiting_answered keys is);
+      done = λ keys is. absurd (nothing keys is);
+    });
+  };
+}
+
+-- ---- a run
+
+moved_next : Laws → (set : Setting) (w : Net) (e : Event) (told : Told) → AreSubscribers set.rows → IsHonestFinding w.packets (found set w e told) → Next set w (moved set w e told)
+moved_next laws set w (event.Open session sub) told subscribers honest = opened_next set w session sub (device_place set.rows w.devices sub) refl
+moved_next laws set w (event.Start session) told subscribers honest =
+    session_next set w session (λ place s. start w place s s.server) (λ place s there. start_next set w place s s.server there)
+moved_next laws set w (event.Deliver session end.Server packet) told subscribers honest = server_delivered laws set w told packet (session_place w.sessions session) subscribers
+moved_next laws set w (event.Deliver session end.Peer packet) told subscribers honest = peer_delivered laws set w told packet (session_place w.sessions session) honest
+moved_next laws set w (event.Repeat session) told subscribers honest =
+    session_next set w session (λ place s. repeat w place s s.server) (λ place s there. repeat_next set w place s s.server refl there)
+moved_next laws set w (event.GiveUp session at') told subscribers honest = session_next set w session (give_up w at') (λ place s there. give_up_next set w at' place s there)
+moved_next laws set w (event.Give sub n earlier) told subscribers honest = still set w
+
+one_next : Laws → (set : Setting) (w : Net) (h : Happening) → AreSubscribers set.rows → IsHonestAt set w h → Next set w (after_one set w h)
+one_next laws set w (Occurs e told) subscribers honest =
+    let n = moved_next laws set w e told subscribers honest in record { more = n.more; grows = n.grows; holds = n.holds }
+one_next laws set w (Noted released) subscribers honest = record {
+  more = released ∷ [];
+  grows = refl;
+  holds = λ h o. record {
+    secrets = h.secrets;
+    drawn = λ i p. drawn_later set w.released (released ∷ []) i (h.drawn i p);
+    alike = h.alike;
+    fine = h.fine;
+  };
+}
+
+run_grows : Laws → (set : Setting) (w : Net) (hs : List Happening) → AreSubscribers set.rows → IsHonest set w hs → (more : List Released) × ((after set w hs).released ≡ w.released ++ more)
+run_grows laws set w [] subscribers honest = ([], sym (append-nil w.released))
+run_grows laws set w (h ∷ hs) subscribers honest =
+    let first = one_next laws set w h subscribers honest.0 in
+    let rest = run_grows laws set (after_one set w h) hs subscribers honest.1 in
+    (first.more ++ rest.0, rest.1 ∙ ap (λ (l : List Released). l ++ rest.0) first.grows ∙ append_assoc w.released first.more rest.0)
+
+run_holds : Laws → (set : Setting) (w : Net) (hs : List Happening) → AreSubscribers set.rows → IsHonest set w hs → HoldsOf set w → AreReleasedOnce (after set w hs).released
+    → HoldsOf set (after set w hs)
+run_holds laws set w [] subscribers honest h once = h
+run_holds laws set w (e ∷ es) subscribers honest h once =
+    let first = one_next laws set w e subscribers honest.0 in
+    let rest = run_grows laws set (after_one set w e) es subscribers honest.1 in
+    run_holds laws set (after_one set w e) es subscribers honest.1
+    (first.holds h (once_front (after_one set w e).released rest.0 (subst AreReleasedOnce rest.1 once))) once
+
+no_packet : (packets : List SentPacket) (i : Inputs) → packets ≡ [] → IsPosted packets i → ⊥
+no_packet packets i e p = let c = subst (λ (l : List SentPacket). Contains l p.packet) e p.is_in in let lt = c.1 in omega arith
+
+begins : (set : Setting) (w : Net) → HaveSecrets set w.devices → IsFresh w → HoldsOf set w
+begins set w secrets new = record {
+  secrets = secrets;
+  drawn = λ i p. absurd (no_packet w.packets i new.packets p);
+  alike = λ i j p q alike. absurd (no_packet w.packets i new.packets p);
+  fine = subst (All (SessionFine set w.devices w.packets)) (sym new.sessions) (All-nil (SessionFine set w.devices w.packets));
+}
+
+pub honest_runs_agree : Laws → EachHonestRunAgrees
+honest_runs_agree laws set w hs subscribers secrets new once unbroken =
+    agreed set (after set w hs) (run_holds laws set w hs subscribers (honest_run set w hs unbroken).1 (begins set w secrets new) once)

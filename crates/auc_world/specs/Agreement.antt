@@ -1,0 +1,131 @@
+-- Runs of a job's sessions: when a run is honest, and that the ends of one challenge then agree on the keys.
+use Rattle.std.specs.Prelude.{◌≡◌, ◌≢◌, ◌↔◌, ℕ, ◌≤◌, true, List, [], ◌∷◌, ◌++◌, Option, Some, None, slice_get, All, AllPairs, Contains}
+use Rattle.auc_hmac.specs.declared.keys.KeySet.{KeySet}
+use Rattle.auc_peer.specs.Subscription.{Subscription}
+use Rattle.auc_server.specs.Server.{ServerEnd}
+use Rattle.auc_server.specs.Setting.{Setting}
+use Rattle.auc_server.specs.declared.server.ServerState.TheVariants as state
+use Rattle.auc_sqn.specs.Number.{max_seq}
+use Rattle.auc_subs.specs.Subscriber.{AreSubscribers}
+use Rattle.auc_subs.specs.declared.row.Row.{Row}
+use Rattle.auc_vector.specs.declared.turn.Outcome.TheVariants as outcome
+use Rattle.auc_world.specs.Happened.{Told, found, happened}
+use Rattle.auc_world.specs.Net.{Finding, Net, device_place, inputs_of_peer, inputs_of_server, other}
+use Rattle.auc_world.specs.declared.event.End.{End}
+use Rattle.auc_world.specs.declared.event.Event.{Event}
+use Rattle.auc_world.specs.declared.net.Breach.{Breach}
+use Rattle.auc_world.specs.declared.net.Inputs.{Inputs}
+use Rattle.auc_world.specs.declared.net.Released.{Released}
+use Rattle.auc_world.specs.declared.net.SentPacket.{SentPacket}
+use Rattle.auc_world.specs.declared.net.Session.{Session}
+
+-- ---- runs
+
+-- what befalls a network: an event, or the release of a number outside the sessions
+pub data Happening : Type 0 where
+  Occurs : Event → Told → Happening
+  Noted : Released → Happening
+
+abbrev pub after_one : Setting → Net → Happening → Net
+after_one set w (Occurs e told) = happened set w e told
+after_one set w (Noted number) = record w { released = w.released ++ number ∷ [] }
+
+-- the network after some happenings, in their order
+abbrev pub after : Setting → Net → List Happening → Net
+after set w [] = w
+after set w (h ∷ hs) = after set (after_one set w h) hs
+
+-- ---- the premise
+
+-- an end of a role sent these bytes, with these inputs of its keys
+pub record SentBefore (from : End) (inputs : Option Inputs) (bytes : List ℕ) (packets : List SentPacket) : Type 0 where
+  pub packet : SentPacket
+  pub is_in : Contains packets packet
+  pub role : packet.sender ≡ from
+  pub own : Inputs
+  pub with_inputs : packet.inputs ≡ Some own
+  pub same_inputs : inputs ≡ Some own
+  pub with_bytes : packet.bytes ≡ bytes
+
+-- a delivery is honest: if the end finds a right MAC, an end of the other role sent these bytes before, with the same inputs
+abbrev pub IsHonestFinding : List SentPacket → Option Finding → Type 0
+IsHonestFinding packets None = Unit {0}
+IsHonestFinding packets (Some f) = f.checked ≡ true → SentBefore (other f.delivery.end) f.inputs f.bytes packets
+
+abbrev pub IsHonestAt : Setting → Net → Happening → Type 0
+IsHonestAt set w (Occurs e told) = IsHonestFinding w.packets (found set w e told)
+IsHonestAt set w (Noted number) = Unit {0}
+
+-- each delivery of a run is honest
+abbrev pub IsHonest : Setting → Net → List Happening → Type 0
+IsHonest set w [] = Unit {0}
+IsHonest set w (h ∷ hs) = IsHonestAt set w h × IsHonest set (after_one set w h) hs
+
+-- a network knows no breach after a run exactly if it knew none before, and the run is honest
+abbrev pub BrokenTells : Type 0
+BrokenTells = (set : Setting) (w : Net) (hs : List Happening) → ((after set w hs).broken ≡ None) ↔ ((w.broken ≡ None) × IsHonest set w hs)
+
+-- what an end finds at a happening
+abbrev pub found_at : Setting → Net → Happening → Option Finding
+found_at set w (Occurs e told) = found set w e told
+found_at set w (Noted number) = None
+
+-- a breach is the delivery of the first happening that isn't honest
+pub record IsFirst (set : Setting) (w : Net) (hs : List Happening) (breach : Breach) : Type 0 where
+  pub before : List Happening
+  pub at' : Happening
+  pub rest : List Happening
+  pub all : hs ≡ before ++ at' ∷ rest
+  pub honest : IsHonest set w before
+  pub finding : Finding
+  pub found_then : found_at set (after set w before) at' ≡ Some finding
+  pub named : finding.delivery ≡ breach
+  pub dishonest : IsHonestAt set (after set w before) at' → ⊥
+
+abbrev pub BreachIsFirst : Type 0
+BreachIsFirst = (set : Setting) (w : Net) (hs : List Happening) (breach : Breach) → w.broken ≡ None → (after set w hs).broken ≡ Some breach
+    → IsFirst set w hs breach
+
+-- ---- agreement
+
+-- a network before its first event
+pub record IsFresh (w : Net) : Type 0 where
+  pub packets : w.packets ≡ []
+  pub sessions : w.sessions ≡ []
+
+-- the USIM of each subscriber's device has the subscriber's secret
+abbrev pub HaveSecrets : Setting → List Subscription → Type 0
+HaveSecrets set devices = (sub place : ℕ) (device : Subscription) (row : Row) → device_place set.rows devices sub ≡ Some place
+    → slice_get devices place ≡ Some device → slice_get set.rows sub ≡ Some row → device.secret ≡ row.secret
+
+-- no number was released twice, and each is one that a vector may have
+pub record AreReleasedOnce (released : List Released) : Type 0 where
+  pub once : AllPairs ◌≢◌ released
+  pub numbers : All (λ number. number.n ≤ max_seq) released
+
+-- inputs are of one challenge of a subscriber, under whatever identities
+pub record AreOfOneChallenge (i j : Inputs) : Type 0 where
+  pub sub : i.sub ≡ j.sub
+  pub rand : i.rand ≡ j.rand
+  pub autn : i.autn ≡ j.autn
+
+-- the server of a session ended in Success under these keys, with these inputs
+pub record ServerWon (a : Session) (keys : KeySet) (i : Inputs) : Type 0 where
+  pub server : ServerEnd
+  pub is : a.server ≡ Some server
+  pub won : server.state ≡ state.Ended (outcome.Success keys)
+  pub inputs : inputs_of_server server ≡ Some i
+
+-- and so did the peer of a session
+pub record PeerWon (b : Session) (keys : KeySet) (j : Inputs) : Type 0 where
+  pub won : b.peer_keys ≡ Some keys
+  pub inputs : inputs_of_peer b.sub b.peer ≡ Some j
+
+-- a server and a peer, of one session or of two, that ended in Success over one challenge have equal keys
+abbrev pub Agree : Net → Type 0
+Agree w = (a b : Session) (k l : KeySet) (i j : Inputs) → Contains w.sessions a → Contains w.sessions b
+    → ServerWon a k i → PeerWon b l j → AreOfOneChallenge i j → k ≡ l
+
+abbrev pub EachHonestRunAgrees : Type 0
+EachHonestRunAgrees = (set : Setting) (w : Net) (hs : List Happening) → AreSubscribers set.rows → HaveSecrets set w.devices → IsFresh w
+    → AreReleasedOnce (after set w hs).released → (after set w hs).broken ≡ None → Agree (after set w hs)

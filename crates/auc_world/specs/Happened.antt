@@ -1,0 +1,199 @@
+-- What an event does to the network of a job's sessions.
+use Rattle.std.specs.Prelude.{ℕ, Bool, List, [], ◌∷◌, ◌++◌, Option, Some, None, slice_get, slice_set}
+use Rattle.auc_hmac.specs.declared.keys.KeySet.{KeySet}
+use Rattle.auc_packet.specs.Received.{Seen}
+use Rattle.auc_peer.specs.Subscription.{Subscription}
+use Rattle.auc_peer.specs.Table.{gave_up as peer_gave_up, new_peer, peer_step}
+use Rattle.auc_peer.specs.declared.peer.Peer.{Peer}
+use Rattle.auc_peer.specs.declared.why.PeerWhy.{PeerWhy}
+use Rattle.auc_server.specs.Rows.{server_row}
+use Rattle.auc_server.specs.Server.{ServerEnd, started}
+use Rattle.auc_server.specs.Setting.{Setting}
+use Rattle.auc_server.specs.Steps.{asking}
+use Rattle.auc_server.specs.Table.{gave_up as server_gave_up, repeated, server_step}
+use Rattle.auc_server.specs.declared.why.ServerWhy.{ServerWhy}
+use Rattle.auc_vector.specs.Notes.{Asking}
+use Rattle.auc_vector.specs.declared.notes.Notes.{Notes}
+use Rattle.auc_vector.specs.declared.notes.NumberNote.{NumberNote}
+use Rattle.auc_vector.specs.declared.notes.NumberNote.TheVariants as number
+use Rattle.auc_vector.specs.declared.turn.Outcome.TheVariants as outcome
+use Rattle.auc_vector.specs.declared.turn.Step.{Step}
+use Rattle.auc_vector.specs.declared.turn.Step.TheVariants as step
+use Rattle.auc_vector.specs.declared.turn.Turn.{Turn}
+use Rattle.auc_world.specs.Net.{Finding, Net, device_place, inputs_of_peer, inputs_of_server, judged, packet_at, posted, session_place}
+use Rattle.auc_world.specs.declared.event.End.{End}
+use Rattle.auc_world.specs.declared.event.End.TheVariants as end
+use Rattle.auc_world.specs.declared.event.Event.{Event}
+use Rattle.auc_world.specs.declared.event.Event.TheVariants as event
+use Rattle.auc_world.specs.declared.net.Breach.{Breach}
+use Rattle.auc_world.specs.declared.net.Released.{Released}
+use Rattle.auc_world.specs.declared.net.SentPacket.{SentPacket}
+use Rattle.auc_world.specs.declared.net.Session.{Session}
+
+-- what is told of an event: what an end received, what the centre or the USIM answered, and whether what is encrypted was
+-- readable
+pub record Told : Type 0 where
+  pub seen : Seen
+  pub notes : Notes
+  pub readable : Bool
+
+-- ---- what steps leave
+
+-- the packet of a step
+abbrev pub sent_by : {W : Type 0} → Step W → Option (List ℕ)
+sent_by (step.Sent bytes) = Some bytes
+sent_by (step.Ended result []) = None
+sent_by (step.Ended result (byte ∷ bytes)) = Some (byte ∷ bytes)
+sent_by (step.Ignored cause) = None
+
+-- the keys of Success
+abbrev pub keys_won : Option KeySet → Step PeerWhy → Option KeySet
+keys_won before (step.Ended (outcome.Success keys) bytes) = Some keys
+keys_won before (step.Ended (outcome.Failure cause) bytes) = before
+keys_won before (step.Sent bytes) = before
+keys_won before (step.Ignored cause) = before
+
+-- the number that a turn drew for the subscriber that it asked for
+abbrev pub released_by : Option Asking → Option NumberNote → List Released
+released_by (Some asked) (Some (number.Drew n)) = record { sub = asked.sub; n = n } ∷ []
+released_by _ _ = []
+
+-- a server that took a step
+abbrev pub with_server : Net → ℕ → Session → List Released → ServerEnd → Step ServerWhy → Net
+with_server w place session released s did = record w {
+  packets = posted w.packets end.Server (inputs_of_server s) (sent_by did);
+  sessions = slice_set w.sessions place (record session { server = Some s });
+  released = w.released ++ released;
+}
+
+-- a peer that took a step
+abbrev pub with_peer : Net → ℕ → Session → Peer → Step PeerWhy → Net
+with_peer w place session p did = record w {
+  packets = posted w.packets end.Peer (inputs_of_peer session.sub p) (sent_by did);
+  sessions = slice_set w.sessions place (record session { peer = p; peer_keys = keys_won session.peer_keys did });
+}
+
+-- ---- deliveries
+
+-- a packet that reaches a session: the session with its place, and the packet's bytes
+pub record Delivery : Type 0 where
+  pub place : ℕ
+  pub session : Session
+  pub bytes : List ℕ
+  pub packet : ℕ
+
+abbrev pub delivery_of : ℕ → ℕ → Option Session → Option SentPacket → Option Delivery
+delivery_of packet place (Some session) (Some sent) = Some (record { place = place; session = session; bytes = sent.bytes; packet = packet })
+delivery_of packet place _ _ = None
+
+abbrev pub delivery_at : Net → ℕ → Option ℕ → Option Delivery
+delivery_at w packet None = None
+delivery_at w packet (Some place) = delivery_of packet place (slice_get w.sessions place) (packet_at w.packets packet)
+
+abbrev pub delivery_in : Net → ℕ → ℕ → Option Delivery
+delivery_in w session packet = delivery_at w packet (session_place w.sessions session)
+
+-- the turns of the two ends
+abbrev pub server_turn : Setting → Net → ServerEnd → Told → ServerEnd × Turn ServerWhy
+server_turn set w s told = server_step set w.homes s told.seen told.notes
+
+abbrev pub peer_turn : Subscription → Session → Told → Peer × Turn PeerWhy
+peer_turn device session told = peer_step device session.peer told.seen told.notes.usim told.readable
+
+abbrev pub to_server : Setting → Net → Delivery → Told → Option ServerEnd → Net
+to_server set w d told None = w
+to_server set w d told (Some s) =
+    let turn = server_turn set w s told in
+    with_server w d.place d.session (released_by (asking (server_row set w.homes s told.seen)) turn.1.notes.number) turn.0 turn.1.step
+
+abbrev pub to_peer : Net → Delivery → Told → Option Subscription → Net
+to_peer w d told None = w
+to_peer w d told (Some device) = let turn = peer_turn device d.session told in with_peer w d.place d.session turn.0 turn.1.step
+
+abbrev pub delivered : Setting → Net → End → Told → Option Delivery → Net
+delivered set w at' told None = w
+delivered set w end.Server told (Some d) = to_server set w d told d.session.server
+delivered set w end.Peer told (Some d) = to_peer w d told (slice_get w.devices d.session.device)
+
+-- what an end finds: a server under the inputs that it had before the turn, a peer under those that it has after it
+abbrev pub breach_at : Delivery → End → Breach
+breach_at d at' = record { session = d.session.number; end = at'; packet = d.packet }
+
+abbrev pub server_finds : Setting → Net → Delivery → Told → Option ServerEnd → Option Finding
+server_finds set w d told None = None
+server_finds set w d told (Some s) = Some (record {
+  checked = (server_turn set w s told).1.checked;
+  inputs = inputs_of_server s;
+  bytes = d.bytes;
+  delivery = breach_at d end.Server;
+})
+
+abbrev pub peer_finds : Delivery → Told → Option Subscription → Option Finding
+peer_finds d told None = None
+peer_finds d told (Some device) = Some (record {
+  checked = (peer_turn device d.session told).1.checked;
+  inputs = inputs_of_peer d.session.sub (peer_turn device d.session told).0;
+  bytes = d.bytes;
+  delivery = breach_at d end.Peer;
+})
+
+abbrev pub found_by : Setting → Net → End → Told → Option Delivery → Option Finding
+found_by set w at' told None = None
+found_by set w end.Server told (Some d) = server_finds set w d told d.session.server
+found_by set w end.Peer told (Some d) = peer_finds d told (slice_get w.devices d.session.device)
+
+-- ---- the other events
+
+abbrev pub opened : Net → ℕ → ℕ → Option ℕ → Net
+opened w session sub None = w
+opened w session sub (Some place) = record w {
+  sessions = w.sessions ++ record { number = session; sub = sub; device = place; server = None; peer = new_peer; peer_keys = None } ∷ [];
+}
+
+-- a server starts once
+abbrev pub start : Net → ℕ → Session → Option ServerEnd → Net
+start w place session None = with_server w place session [] started (step.Sent started.last)
+start w place session (Some s) = w
+
+abbrev pub repeat : Net → ℕ → Session → Option ServerEnd → Net
+repeat w place session None = w
+repeat w place session (Some s) = with_server w place session [] s (repeated s s.state)
+
+abbrev pub server_gives_up : Net → ℕ → Session → Option ServerEnd → Net
+server_gives_up w place session None = w
+server_gives_up w place session (Some s) = with_server w place session [] (server_gave_up s s.state).0 (server_gave_up s s.state).1
+
+abbrev pub give_up : Net → End → ℕ → Session → Net
+give_up w end.Server place session = server_gives_up w place session session.server
+give_up w end.Peer place session = with_peer w place session (peer_gave_up session.peer session.peer.state).0 (peer_gave_up session.peer session.peer.state).1
+
+abbrev pub in_session : Net → (ℕ → Session → Net) → ℕ → Option Session → Net
+in_session w does place None = w
+in_session w does place (Some session) = does place session
+
+abbrev pub at_place : Net → (ℕ → Session → Net) → Option ℕ → Net
+at_place w does None = w
+at_place w does (Some place) = in_session w does place (slice_get w.sessions place)
+
+-- what happens in a session, if it is open
+abbrev pub at_session : Net → ℕ → (ℕ → Session → Net) → Net
+at_session w session does = at_place w does (session_place w.sessions session)
+
+-- ---- an event
+
+-- sessions and packets after an event; a refused event changes nothing
+abbrev pub moved : Setting → Net → Event → Told → Net
+moved set w (event.Open session sub) told = opened w session sub (device_place set.rows w.devices sub)
+moved set w (event.Start session) told = at_session w session (λ place s. start w place s s.server)
+moved set w (event.Deliver session at' packet) told = delivered set w at' told (delivery_in w session packet)
+moved set w (event.Repeat session) told = at_session w session (λ place s. repeat w place s s.server)
+moved set w (event.GiveUp session at') told = at_session w session (give_up w at')
+moved set w (event.Give sub n earlier) told = w
+
+-- what an end finds in an event
+abbrev pub found : Setting → Net → Event → Told → Option Finding
+found set w (event.Deliver session at' packet) told = found_by set w at' told (delivery_in w session packet)
+found set w other told = None
+
+abbrev pub happened : Setting → Net → Event → Told → Net
+happened set w e told = record (moved set w e told) { broken = judged w.packets w.broken (found set w e told) }

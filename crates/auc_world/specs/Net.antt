@@ -1,0 +1,120 @@
+-- The network of a job's sessions: what its ends and packets are, and when the premise of equal keys is broken.
+use Rattle.std.specs.Prelude.{ℕ, ◌==◌, ◌&&◌, not, Bool, true, false, zero, suc, List, [], ◌∷◌, ◌++◌, Option, Some, None, slice_get, position, if◌then◌else◌}
+use Rattle.std.specs.List.{list_any}
+use Rattle.std.specs.Str.{bytes_eq}
+use Rattle.auc_peer.specs.Subscription.{Subscription}
+use Rattle.auc_peer.specs.Table.{text_or_none}
+use Rattle.auc_peer.specs.declared.peer.Challenge.{Challenge}
+use Rattle.auc_peer.specs.declared.peer.Peer.{Peer}
+use Rattle.auc_server.specs.Server.{ServerEnd}
+use Rattle.auc_server.specs.declared.server.Challenged.{Challenged}
+use Rattle.auc_server.specs.declared.setting.HomeRow.{HomeRow}
+use Rattle.auc_subs.specs.Subscriber.{same_identity}
+use Rattle.auc_subs.specs.declared.row.Row.{Row}
+use Rattle.auc_world.specs.declared.event.End.{End}
+use Rattle.auc_world.specs.declared.event.End.TheVariants as end
+use Rattle.auc_world.specs.declared.net.Breach.{Breach}
+use Rattle.auc_world.specs.declared.net.Inputs.{Inputs}
+use Rattle.auc_world.specs.declared.net.Released.{Released}
+use Rattle.auc_world.specs.declared.net.SentPacket.{SentPacket}
+use Rattle.auc_world.specs.declared.net.Session.{Session}
+
+pub record Net : Type 0 where
+  -- the packets that were sent so far
+  pub packets : List SentPacket
+  -- the sessions that were opened so far
+  pub sessions : List Session
+  -- the numbers that were released so far
+  pub released : List Released
+  -- the subscribers that the servers serve
+  pub homes : List HomeRow
+  -- what the peers take from the devices
+  pub devices : List Subscription
+  -- the first breach of the premise
+  pub broken : Option Breach
+
+-- ---- the inputs of keys
+
+-- a server's: those of its last challenge
+abbrev pub inputs_sent : List ℕ → Option Challenged → Option Inputs
+inputs_sent text None = None
+inputs_sent text (Some sent) = Some (record { sub = sent.sub; rand = sent.vector.rand; autn = sent.vector.autn; identity = text })
+
+abbrev pub inputs_of_server : ServerEnd → Option Inputs
+inputs_of_server s = inputs_sent s.identity s.challenged
+
+-- a peer's: those of the challenge that it accepted last, at its subscriber's device
+abbrev pub inputs_accepted : ℕ → Option (List ℕ) → Option Challenge → Option Inputs
+inputs_accepted sub text None = None
+inputs_accepted sub text (Some c) = Some (record { sub = sub; rand = c.rand; autn = c.autn; identity = text_or_none text })
+
+abbrev pub inputs_of_peer : ℕ → Peer → Option Inputs
+inputs_of_peer sub p = inputs_accepted sub p.identity p.accepted
+
+-- ---- packets
+
+-- the packet of a number, from 1
+abbrev pub packet_at : List SentPacket → ℕ → Option SentPacket
+packet_at packets zero = None
+packet_at packets (suc place) = slice_get packets place
+
+-- the packets after one that was sent, if one was
+abbrev pub posted : List SentPacket → End → Option Inputs → Option (List ℕ) → List SentPacket
+posted packets from inputs None = packets
+posted packets from inputs (Some bytes) = packets ++ record { bytes = bytes; sender = from; inputs = inputs } ∷ []
+
+-- the end that sends to an end
+abbrev pub other : End → End
+other end.Server = end.Peer
+other end.Peer = end.Server
+
+abbrev pub same_end : End → End → Bool
+same_end end.Server end.Server = true
+same_end end.Peer end.Peer = true
+same_end _ _ = false
+
+abbrev pub same_inputs : Inputs → Inputs → Bool
+same_inputs a b = a.sub == b.sub && (bytes_eq a.rand b.rand && (bytes_eq a.autn b.autn && bytes_eq a.identity b.identity))
+
+-- an end without keys shares no inputs
+abbrev pub share_inputs : Option Inputs → Option Inputs → Bool
+share_inputs (Some a) (Some b) = same_inputs a b
+share_inputs _ _ = false
+
+-- whether an end of a role sent some bytes, with some inputs
+abbrev pub was_sent : End → Option Inputs → List ℕ → List SentPacket → Bool
+was_sent from inputs bytes packets =
+    list_any (λ p. same_end p.sender from && (share_inputs p.inputs inputs && bytes_eq p.bytes bytes)) packets
+
+-- ---- the premise
+
+-- what an end finds in a delivery: whether a MAC that it demands is right, and under which inputs of its keys
+pub record Finding : Type 0 where
+  pub checked : Bool
+  pub inputs : Option Inputs
+  pub bytes : List ℕ
+  pub delivery : Breach
+
+-- whether no end of the other role sent the bytes with the same inputs, though the MAC is right
+abbrev pub breaks : List SentPacket → Finding → Bool
+breaks packets f = f.checked && not (was_sent (other f.delivery.end) f.inputs f.bytes packets)
+
+-- the first breach stays
+abbrev pub judged : List SentPacket → Option Breach → Option Finding → Option Breach
+judged packets (Some first) found = Some first
+judged packets None None = None
+judged packets None (Some f) = if breaks packets f then Some f.delivery else None
+
+-- ---- look-ups
+
+-- the first session with a number
+abbrev pub session_place : List Session → ℕ → Option ℕ
+session_place all number = position (λ s. s.number == number) all
+
+-- the first device with a subscriber's identity
+abbrev pub place_with : List Subscription → Option Row → Option ℕ
+place_with devices None = None
+place_with devices (Some row) = position (λ device. same_identity device.imsi row.imsi) devices
+
+abbrev pub device_place : List Row → List Subscription → ℕ → Option ℕ
+device_place rows devices sub = place_with devices (slice_get rows sub)

@@ -1,0 +1,57 @@
+//! The network of a job's sessions: packets, sessions, and the first breach of the premise of equal keys.
+
+use crate::event::End;
+use auc_edge::Octets;
+use auc_hmac::KeySet;
+use auc_peer::Peer;
+use auc_server::Server;
+
+/// What an end derives its keys from (RFC 4187 §7): the subscriber, with its secret; RAND and AUTN of the challenge; and
+/// the identity.
+#[derive(Drop)]
+pub struct Inputs {
+    pub sub: u32,
+    pub rand: [u8; 16],
+    pub autn: [u8; 16],
+    pub identity: Octets,
+}
+
+/// A packet that an end sent.
+#[derive(Drop)]
+pub struct SentPacket {
+    pub bytes: Octets,
+    pub sender: End,
+    /// What the sender derived its keys from when it sent the packet, or `None` if it had no keys.
+    pub inputs: Option<Inputs>,
+}
+
+/// A session.
+#[derive(Drop)]
+pub struct Session {
+    pub number: u32,
+    /// The subscriber at whose device it was opened.
+    pub sub: u32,
+    /// The place of this device.
+    pub device: u32,
+    /// The server, or `None` before it starts.
+    pub server: Option<Server>,
+    pub peer: Peer,
+    /// The keys under which the peer ended in Success, or `None` if it didn't.
+    pub peer_keys: Option<KeySet>,
+}
+
+/// A delivery that breaks the premise: an end found a right MAC over bytes that no end of the other role had sent with the
+/// same inputs of its keys.
+#[derive(Clone, Copy, Debug, PartialEq, Eq)]
+pub struct Breach {
+    pub session: u32,
+    pub end: End,
+    pub packet: u32,
+}
+
+/// A number that was released for a subscriber.
+#[derive(Clone, Copy, Debug, PartialEq, Eq)]
+pub struct Released {
+    pub sub: u32,
+    pub n: u64,
+}
