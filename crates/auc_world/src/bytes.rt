@@ -6,8 +6,8 @@ ghost use Rattle.auc_world.specs.Vectors.{AreOfRow, IsOfRow, IsReleasableLine, v
 ghost use Rattle.auc_world.specs.InnerVectors.{IsSourceOf};
 
 use crate::record::{JobVectors, LineRecord};
-use crate::setting::Setting;
 use auc_edge::{Items, NoMemory};
+use auc_server::Setting;
 use auc_vector::{Vector, Vectors};
 use std::alloc::Global;
 
