@@ -1,5 +1,6 @@
 -- What is kept while lines are read, for `SoFar`.
-use Rattle.std.proofs.Common.{ℕ, ◌≡◌, ◌<◌, ◌≤◌, ◌+◌, ◌∙◌, ◌&&◌, ◌||◌, nat_eq, nat_le, nat_lt, Bool, true, false, List, ◌∷◌, ◌++◌, [], length, get_or, slice_index, slice_set, Option, Some, None, is_some, Ok, Err, arith, ap, sym, refl, append-nil, append_assoc, length-append, length-set, replicate}
+use Rattle.std.proofs.Common.{ℕ, ◌≡◌, ◌<◌, ◌≤◌, ◌+◌, ◌*◌, ◌∙◌, ◌&&◌, ◌||◌, nat_eq, nat_le, nat_lt, Bool, true, false, List, ◌∷◌, ◌++◌, [], length, get_or, slice_index, slice_set, Option, Some, None, is_some, Ok, Err, arith, ap, sym, refl, append-nil, append_assoc, length-append, length-set, replicate}
+use Rattle.std.specs.Prelude.{◌==◌, not}
 use Rattle.std.specs.List.{All, AllPairs, list_any, sum_by}
 use Rattle.std.specs.Option.{option_to_list}
 use Rattle.std.proofs.lemmas.Bool.Decides.{nat_tests}
@@ -21,7 +22,7 @@ use Rattle.auc_script.specs.declared.round_so_far.RoundSoFar.{RoundSoFar}
 use Rattle.auc_script.specs.declared.word.JobWord.{JobWord}
 use Rattle.auc_script.specs.Limits.{AreJobs, AreWithin, IsLine, IsPart}
 use Rattle.auc_lines.specs.Part.{AreApart}
-use Rattle.auc_script.specs.Scenario.{Scenario, is_busy, jobs_in, job_line, line_of, no_jobs, of_job_line, parts_of, round_line, with_round}
+use Rattle.auc_script.specs.Scenario.{Scenario, is_busy, jobs_in, job_line, line_of, no_jobs, of_job_line, parts_of, restart_line, round_line, rounds_of, with_round}
 use Rattle.auc_lines.specs.Part.{asked, asked_by, gives_to, is_give_to, jobs_of}
 use Rattle.auc_script.specs.declared.refusal.ScriptWhy.TheVariants.{Limit}
 use Rattle.auc_script.specs.Field.{no_field}
@@ -40,12 +41,30 @@ length-jobs ended jobs = rw (jobs_with ended jobs) (length-append (jobs_of ended
 pub asked-jobs : (ended : List Part) (jobs : List (List Line)) → asked (jobs_of (ended ++ Round jobs ∷ [])) ≡ asked (jobs_of ended) + asked jobs
 asked-jobs ended jobs = rw (jobs_with ended jobs) (sum_by-append (λ job. sum_by asked_by job) (jobs_of ended) jobs)
 
+-- how many rounds they are
+pub rounds-round : (ended : List Part) (jobs : List (List Line)) → rounds_of (ended ++ Round jobs ∷ []) ≡ rounds_of ended + 1
+rounds-round [] jobs = refl
+rounds-round (Restart ∷ more) jobs = rounds-round more jobs
+rounds-round (Round first ∷ more) jobs = ap (λ n. n + 1) (rounds-round more jobs)
+
+-- a restart after some parts has no jobs, and is no round
+rounds-restart : (ended : List Part) → rounds_of (ended ++ Restart ∷ []) ≡ rounds_of ended
+rounds-restart [] = refl
+rounds-restart (Restart ∷ more) = rounds-restart more
+rounds-restart (Round first ∷ more) = ap (λ n. n + 1) (rounds-restart more)
+
+jobs-restart : (ended : List Part) → jobs_of (ended ++ Restart ∷ []) ≡ jobs_of ended
+jobs-restart [] = refl
+jobs-restart (Restart ∷ more) = jobs-restart more
+jobs-restart (Round first ∷ more) = ap (λ rest. first ++ rest) (jobs-restart more)
+
 -- other jobs in the present round
 pub within_with : (rows : List Row) (ended : List Part) (old new : List (List Line)) → AreWithin rows (ended ++ Round old ∷ []) → AreJobs rows new
     → length (jobs_of (ended ++ Round new ∷ [])) ≤ most_jobs → asked (jobs_of (ended ++ Round new ∷ [])) ≤ most_vectors → AreWithin rows (ended ++ Round new ∷ [])
 within_with rows ended old new within jobs count vectors = record {
   each = All-push (IsPart rows) ended (Round new) (All-pop (IsPart rows) (ended ++ Round old ∷ []) ended (Some (Round old)) refl within.each).0 jobs;
-  rounds = omega (arith, within.rounds, length-append ended (Round old ∷ []), length-append ended (Round new ∷ []));
+  rounds = omega (arith, within.rounds, rounds-round ended old, rounds-round ended new);
+  restarts = omega (arith, within.restarts, rounds-round ended old, rounds-round ended new, length-append ended (Round old ∷ []), length-append ended (Round new ∷ []));
   jobs = count;
   vectors = vectors;
 }
@@ -55,10 +74,11 @@ pub present_jobs : (rows : List Row) (ended : List Part) (jobs : List (List Line
 present_jobs rows ended jobs within = (All-pop (IsPart rows) (ended ++ Round jobs ∷ []) ended (Some (Round jobs)) refl within.each).1
 
 -- a round without jobs
-pub no_jobs_more : (rows : List Row) (ended : List Part) → AreWithin rows ended → length ended < most_rounds → AreWithin rows (ended ++ Round [] ∷ [])
+pub no_jobs_more : (rows : List Row) (ended : List Part) → AreWithin rows ended → rounds_of ended < most_rounds → AreWithin rows (ended ++ Round [] ∷ [])
 no_jobs_more rows ended within room = record {
   each = All-push (IsPart rows) ended (Round []) within.each (record { lines = All-nil (λ job. All (IsLine rows) job); apart = λ i j d less inside. absurd (omega arith) });
-  rounds = omega (arith, room, length-append ended (Round [] ∷ []));
+  rounds = omega (arith, room, rounds-round ended []);
+  restarts = omega (arith, within.restarts, rounds-round ended [], length-append ended (Round [] ∷ []));
   jobs = omega (arith, within.jobs, length-jobs ended []);
   vectors = omega (arith, within.vectors, asked-jobs ended []);
 }
@@ -232,7 +252,8 @@ kept_job rows s round kept room =
       jobs = sym count;
       asked = sym vectors;
       round = record { before = kept.round.before; each = kept.round.each; marks = marks_job s.givers.before s.givers.marks.items round kept.round.marks };
-      first = tt;
+      rounds = kept.rounds ∙ rounds-round s.ended (jobs_in round) ∙ sym (rounds-round s.ended (jobs_in round ++ [] ∷ []));
+      restarts = kept.restarts;
     }
 
 -- what is kept when a line of a job comes
@@ -255,7 +276,8 @@ kept_line rows s jobs job line givers kept is_line free room before marks =
         each = rw marks (length-marked s.givers.marks.items (s.givers.before + length jobs + 1) line) ∙ kept.round.each;
         marks = rw (before, marks) (marks_line s.givers.before s.givers.marks.items jobs job line kept.round.marks free);
       };
-      first = tt;
+      rounds = kept.rounds ∙ rounds-round s.ended (jobs ++ job ∷ []) ∙ sym (rounds-round s.ended (jobs ++ (job ++ line ∷ []) ∷ []));
+      restarts = kept.restarts;
     }
 
 -- the lines of all parts of no rounds speak of any subscribers
@@ -263,6 +285,7 @@ pub within_none : (rows after : List Row) (ended : List Part) → ended ≡ [] �
 within_none rows after ended none within = record {
   each = λ k d inside. absurd (no_part (rw none at inside));
   rounds = within.rounds;
+  restarts = within.restarts;
   jobs = within.jobs;
   vectors = within.vectors;
 }
@@ -271,16 +294,17 @@ within_none rows after ended none within = record {
     no_part less = omega arith
 
 -- what is kept before the first round when a subscriber comes
-pub kept_rows : (rows after : List Row) (s : SoFar) → IsSoFar rows s → s.round ≡ None → IsSoFar after s
-kept_rows rows after s kept none =
+pub kept_rows : (rows after : List Row) (s : SoFar) → IsSoFar rows s → s.round ≡ None → s.ended ≡ [] → IsSoFar after s
+kept_rows rows after s kept none first =
     let at : IsSoFar rows (record s { round = None }) = at_round rows s None none kept in
     let all : IsSoFar after (record s { round = None }) = record {
       header = at.header;
-      parts = within_none rows after s.ended at.first at.parts;
+      parts = within_none rows after s.ended first at.parts;
       jobs = at.jobs;
       asked = at.asked;
       round = tt;
-      first = at.first;
+      rounds = at.rounds;
+      restarts = at.restarts;
     } in
     rw none all
 
@@ -292,11 +316,13 @@ high : (before mark : ℕ) → mark ≤ before → false ≡ nat_eq mark (before
 high before mark bound = grind (arith, nat_tests)
 
 -- what is kept when a round begins
-pub kept_round : (rows : List Row) (old s : SoFar) → IsSoFar rows old → length (with_round old.ended old.round) < most_rounds → IsBetween rows old s
-    → IsSoFar rows (record s { round = Some (record { jobs = []; job = None }) })
+pub kept_round : (rows : List Row) (old s : SoFar) → IsSoFar rows old → old.rounds < most_rounds → IsBetween rows old s
+    → IsSoFar rows (record s { round = Some (record { jobs = []; job = None }); rounds = s.rounds + 1 })
 kept_round rows old s kept room between =
     let same : s.ended ≡ with_round old.ended old.round = between.ended in
-    let parts : AreWithin rows (s.ended ++ Round [] ∷ []) = rw same (no_jobs_more rows (with_round old.ended old.round) kept.parts room) in
+    let parts : AreWithin rows (s.ended ++ Round [] ∷ []) = rw same (no_jobs_more rows (with_round old.ended old.round) kept.parts (omega (arith, kept.rounds, room))) in
+    let rounds : s.rounds ≡ rounds_of s.ended = rw same (between.rounds ∙ kept.rounds) in
+    let restarts : length s.ended ≤ 2 * rounds_of s.ended = rw same kept.parts.restarts in
     let jobs : s.jobs ≡ length (jobs_of s.ended) = rw same (between.jobs ∙ kept.jobs) in
     let vectors : s.asked ≡ asked (jobs_of s.ended) = rw same (between.asked ∙ kept.asked) in
     record {
@@ -309,7 +335,8 @@ kept_round rows old s kept room between =
         each = between.each;
         marks = λ sub inside. fresh s.givers.before sub (slice_index s.givers.marks.items sub) (rw between.before (between.marks sub 0 inside));
       };
-      first = tt;
+      rounds = omega (arith, rounds, rounds-round s.ended []);
+      restarts = restarts;
     }
   where
     fresh : (before sub mark : ℕ) → mark ≤ before → IsMark before (record { jobs = []; job = None }) sub mark
@@ -321,25 +348,59 @@ marks_bound rows s round kept = All-from_get_or (λ mark. mark ≤ s.jobs) s.giv
     (λ sub inside. omega (arith, (kept.round.marks sub inside).bound, kept.round.before, kept.jobs, length-jobs s.ended (jobs_in round)))
 
 -- where no round has begun
-pub not_begun : (round : Option RoundSoFar) → is_some round ≡ false → round ≡ None
-not_begun None begun = refl
-not_begun (Some round) begun = absurd cc
+pub not_begun : (round : Option RoundSoFar) (ended : List Part) → (is_some round || not (length ended == 0)) ≡ false → (round ≡ None) × (ended ≡ [])
+not_begun None [] begun = (refl, refl)
+not_begun None (part ∷ more) begun = let some : nat_eq (length (part ∷ more)) 0 ≡ false = grind (arith, nat_tests) in absurd (apart (nat_eq (length (part ∷ more)) 0) begun some)
+  where
+    apart : (b : Bool) → not b ≡ false → b ≡ false → ⊥
+    apart true is same = cc
+    apart false is same = cc
+not_begun (Some round) ended begun = absurd (apart begun)
+  where
+    apart : true ≡ false → ⊥
+    apart same = cc
 
--- how many rounds have ended, where one is present
-pub ended_bound : (ended : List Part) (round : RoundSoFar) (present : Option RoundSoFar) → present ≡ Some round → length (with_round ended present) ≤ most_rounds → length ended < most_rounds
-ended_bound ended round present is bound = omega (arith, length-append ended (Round (jobs_in round) ∷ []), rw is at bound)
+-- what is kept when a restart comes
+pub kept_restart : (rows : List Row) (old s : SoFar) (parts : List Part) (round : RoundSoFar) → IsSoFar rows old → old.round ≡ Some round → IsBetween rows old s
+    → parts ≡ s.ended ++ Restart ∷ [] → IsSoFar rows (record s { ended = parts })
+kept_restart rows old s parts round kept is between pushed =
+    let at : IsSoFar rows (record old { round = Some round }) = at_round rows old (Some round) is kept in
+    let same : s.ended ≡ old.ended ++ Round (jobs_in round) ∷ [] = rw is at between.ended in
+    let within : AreWithin rows s.ended = rw same at.parts in
+    let counts = rounds-round old.ended (jobs_in round) in
+    let all : length s.ended + 1 ≤ 2 * rounds_of s.ended = rw same (omega (arith, at.restarts, counts, length-append old.ended (Round (jobs_in round) ∷ []))) in
+    let rounds : s.rounds ≡ rounds_of s.ended = rw same (between.rounds ∙ at.rounds) in
+    let jobs : s.jobs ≡ length (jobs_of s.ended) = rw same (between.jobs ∙ at.jobs) in
+    let vectors : s.asked ≡ asked (jobs_of s.ended) = rw same (between.asked ∙ at.asked) in
+    rw (between.round, pushed) (record {
+      header = rw between.header kept.header;
+      parts = record {
+        each = All-push (IsPart rows) s.ended Restart within.each tt;
+        rounds = omega (arith, within.rounds, rounds-restart s.ended);
+        restarts = omega (arith, all, rounds-restart s.ended, length-append s.ended (Restart ∷ []));
+        jobs = rw (jobs-restart s.ended) within.jobs;
+        vectors = rw (jobs-restart s.ended) within.vectors;
+      };
+      jobs = rw (jobs-restart s.ended) jobs;
+      asked = rw (jobs-restart s.ended) vectors;
+      round = tt;
+      rounds = rw (rounds-restart s.ended) rounds;
+      restarts = omega (arith, all, rounds-restart s.ended, length-append s.ended (Restart ∷ []));
+    })
 
 -- the present round has ended
 pub between_some : (rows : List Row) (s : SoFar) (round : RoundSoFar) (parts : List Part) (present : Option RoundSoFar) → IsSoFar rows s → s.round ≡ Some round
-    → parts ≡ s.ended ++ Round (jobs_in round) ∷ []
+    → parts ≡ s.ended ++ Round (jobs_in round) ∷ [] → present ≡ None
     → IsBetween rows s (record s { ended = parts; round = present; givers = record { before = s.jobs; marks = s.givers.marks } })
-between_some rows s round parts present kept is pushed =
+between_some rows s round parts present kept is pushed left =
     let at = at_round rows s (Some round) is kept in
     record {
       header = refl;
       ended = rw is pushed;
       jobs = refl;
       asked = refl;
+      rounds = refl;
+      round = left;
       before = refl;
       each = at.round.each;
       marks = marks_bound rows s round at;
@@ -347,17 +408,17 @@ between_some rows s round parts present kept is pushed =
 
 -- there was no round
 pub between_none : (rows : List Row) (s : SoFar) (givers : Givers) (present : Option RoundSoFar) (subs : ℕ) → IsSoFar rows s → s.round ≡ None
-    → subs ≡ length rows → givers.before ≡ 0 → givers.marks.items ≡ replicate subs 0
+    → subs ≡ length rows → givers.before ≡ s.jobs → givers.marks.items ≡ replicate subs 0 → present ≡ None
     → IsBetween rows s (record s { round = present; givers = givers })
-between_none rows s givers present subs kept none size before marks =
-    let at = at_round rows s None none kept in
-    let no_jobs : s.jobs ≡ 0 = at.jobs ∙ ap (λ parts. length (jobs_of parts)) at.first in
+between_none rows s givers present subs kept none size before marks left =
     record {
       header = refl;
       ended = rw none refl;
       jobs = refl;
       asked = refl;
-      before = before ∙ sym no_jobs;
+      rounds = refl;
+      round = left;
+      before = before;
       each = rw marks (length-replicate subs 0) ∙ size;
       marks = rw marks (All-replicate (λ mark. mark ≤ s.jobs) subs 0 (omega arith));
     }
@@ -416,9 +477,14 @@ job_refused s fields round none n is no_more counted reached =
     let test = full (length (jobs_of (parts_of s))) most_jobs (omega (arith, counted, reached)) in
     rw (no_more, test, is) refl
 
+-- what a restart makes of the scenario
+pub restart_becomes : (s : Scenario) (fields : List (List ℕ)) (round : RoundSoFar) (parts : List Part) (none : Unit {0}) → s.round ≡ Some round → no_field fields ≡ Ok none
+    → parts ≡ parts_of s ++ Restart ∷ [] → restart_line s fields ≡ Ok (record s { ended = parts; round = None })
+restart_becomes s fields round parts none is no_more made = rw (made, no_more, is) refl
+
 -- what a round makes of the scenario
-pub round_becomes : (s : Scenario) (fields : List (List ℕ)) (parts : List Part) (none : Unit {0}) (n : ℕ) → no_field fields ≡ Ok none → n ≡ length (parts_of s) → n < most_rounds
+pub round_becomes : (s : Scenario) (fields : List (List ℕ)) (parts : List Part) (none : Unit {0}) (n : ℕ) → no_field fields ≡ Ok none → n ≡ rounds_of (parts_of s) → n < most_rounds
     → parts ≡ parts_of s → round_line s fields ≡ Ok (record s { ended = parts; round = Some no_jobs })
 round_becomes s fields parts none n no_more counted room made =
-    let test = fits (length (parts_of s)) most_rounds (omega (arith, counted, room)) in
+    let test = fits (rounds_of (parts_of s)) most_rounds (omega (arith, counted, room)) in
     rw (made, no_more, test) refl

@@ -1,5 +1,5 @@
 -- Inner facts: what only private contracts of this crate cite. What is kept while lines are read.
-use Rattle.std.specs.Prelude.{ℕ, ◌≡◌, ◌<◌, ◌≤◌, ◌+◌, ◌++◌, ◌&&◌, nat_eq, nat_le, nat_lt, All, List, [], ◌∷◌, length, Option, Some, None, IfNone, IfSome, slice_index, slice_set}
+use Rattle.std.specs.Prelude.{ℕ, ◌≡◌, ◌<◌, ◌≤◌, ◌+◌, ◌*◌, ◌++◌, ◌&&◌, nat_eq, nat_le, nat_lt, All, List, [], ◌∷◌, length, Option, Some, None, IfSome, slice_index, slice_set}
 use Rattle.std.specs.List.{list_any}
 use Rattle.auc_subs.specs.declared.row.Row.{Row}
 use Rattle.auc_script.specs.declared.header.Header.{Header}
@@ -7,7 +7,7 @@ use Rattle.auc_lines.specs.declared.part.Line.{Line}
 use Rattle.auc_lines.specs.declared.part.Line.TheVariants.{Draw, Give, Sync}
 use Rattle.auc_script.specs.declared.round_so_far.RoundSoFar.{RoundSoFar}
 use Rattle.auc_script.specs.declared.so_far.SoFar.{SoFar}
-use Rattle.auc_script.specs.Scenario.{Scenario, jobs_in, with_round}
+use Rattle.auc_script.specs.Scenario.{Scenario, jobs_in, rounds_of, with_round}
 use Rattle.auc_lines.specs.Part.{asked, gives_to, jobs_of}
 use Rattle.auc_script.specs.Limits.{AreWithin}
 use Rattle.auc_script.specs.Numbers.{longest_realm, most_workers}
@@ -70,7 +70,8 @@ pub record IsSoFar (rows : List Row) (s : SoFar) : Type 0 where
   pub jobs : s.jobs ≡ length (jobs_of (with_round s.ended s.round))
   pub asked : s.asked ≡ asked (jobs_of (with_round s.ended s.round))
   pub round : IfSome s.round (IsMarked rows s)
-  pub first : IfNone s.round (s.ended ≡ [])
+  pub rounds : s.rounds ≡ rounds_of (with_round s.ended s.round)
+  pub restarts : length s.ended ≤ 2 * rounds_of s.ended
 
 -- the rounds that have ended and their jobs once the present round has: the same header, all rounds
 -- ended, the same counts, and a mark for each subscriber
@@ -79,6 +80,8 @@ pub record IsBetween (rows : List Row) (old new : SoFar) : Type 0 where
   pub ended : new.ended ≡ with_round old.ended old.round
   pub jobs : new.jobs ≡ old.jobs
   pub asked : new.asked ≡ old.asked
+  pub rounds : new.rounds ≡ old.rounds
+  pub round : new.round ≡ None
   pub before : new.givers.before ≡ old.jobs
   pub each : length new.givers.marks.items ≡ length rows
   pub marks : All (λ mark. mark ≤ old.jobs) new.givers.marks.items

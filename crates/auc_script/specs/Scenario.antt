@@ -7,6 +7,7 @@
 --   realm TEXT                               before the first round; once; 255 bytes at most
 --   subscriber IMSI K KIND OP AMF SEQ USIM   before the first round; a new subscriber
 --   round                                    1000 at most
+--   restart                                  once after each round, before the next one
 --   job                                      in a round; 200000 in all at most
 --   draw IMSI COUNT                          in a job; 1 to 1000 vectors; a subscriber's IMSI
 --   sync IMSI SEQ BIT COUNT                  in a job; SEQ to max_seq, BIT 0 to 111 or -, 0 to 1000
@@ -16,7 +17,7 @@
 --
 -- All lines together ask for 1000000 vectors at most. A line without a word and a comment say nothing.
 -- What isn't served so far is told before all else: the lines of other words.
-use Rattle.std.specs.Prelude.{ℕ, ◌+◌, ◌==◌, ◌++◌, not, nat_le, nat_lt, Bool, false, List, [], ◌∷◌, length, Option, Some, None, is_some, Result, Ok, Err, if◌then◌else◌}
+use Rattle.std.specs.Prelude.{ℕ, ◌+◌, ◌==◌, ◌++◌, ◌&&◌, not, nat_le, nat_lt, Bool, false, List, [], ◌∷◌, length, Option, Some, None, is_some, Result, Ok, Err, if◌then◌else◌}
 use Rattle.std.specs.List.{join_with_byte, list_any}
 use Rattle.std.specs.Option.{ok_or, option_to_list}
 use Rattle.auc_edge.specs.Identity.{identity_of}
@@ -29,7 +30,7 @@ use Rattle.auc_subs.specs.Subscriber.{place_of, rows_after}
 use Rattle.auc_lines.specs.declared.part.Line.{Line}
 use Rattle.auc_lines.specs.declared.part.Line.TheVariants.{Draw, Give, Sync}
 use Rattle.auc_lines.specs.declared.part.Part.{Part}
-use Rattle.auc_lines.specs.declared.part.Part.TheVariants.{Round}
+use Rattle.auc_lines.specs.declared.part.Part.TheVariants.{Round, Restart}
 use Rattle.auc_lines.specs.Part.{asked, asked_by, gives_to, jobs_of}
 use Rattle.auc_script.specs.Numbers.{longest_realm, most_count, most_jobs, most_rounds, most_vectors, most_workers}
 use Rattle.auc_script.specs.declared.refusal.ScriptWhy.{ScriptWhy}
@@ -46,8 +47,8 @@ use Rattle.auc_subs.specs.Steps.{◌>>=◌}
 use Rattle.auc_script.specs.Field.{bit_in, four_fields, full_in, no_field, number_between, one_field, require, two_fields}
 use Rattle.auc_script.specs.Word.{is_comment, is_later, word_of}
 
--- what some lines say: the subscribers, the words of the header, the rounds before the present one, and
--- the present one
+-- what some lines say: the subscribers, the words of the header, the parts before the present round, and
+-- the present round, if there is one
 pub record Scenario : Type 0 where
   pub rows : List Row
   pub header : Header
@@ -58,7 +59,7 @@ pub record Scenario : Type 0 where
 abbrev pub jobs_in : RoundSoFar → List (List Line)
 jobs_in round = round.jobs ++ option_to_list round.job
 
--- the rounds with the present one, if there is one
+-- the parts with the present round, if there is one
 abbrev pub with_round : List Part → Option RoundSoFar → List Part
 with_round ended None = ended
 with_round ended (Some round) = ended ++ Round (jobs_in round) ∷ []
@@ -66,6 +67,12 @@ with_round ended (Some round) = ended ++ Round (jobs_in round) ∷ []
 -- the parts of a scenario
 abbrev pub parts_of : Scenario → List Part
 parts_of s = with_round s.ended s.round
+
+-- how many of some parts are rounds
+abbrev pub rounds_of : List Part → ℕ
+rounds_of [] = 0
+rounds_of (Round jobs ∷ more) = rounds_of more + 1
+rounds_of (Restart ∷ more) = rounds_of more
 
 -- an earlier job of the round gives to the USIM to which a line is to give
 abbrev pub is_busy : RoundSoFar → Line → Bool
@@ -114,7 +121,7 @@ header_with h header.Realm fields = realm_line h fields
 
 -- before the first round
 abbrev pub in_header : Scenario → Result (Unit {0}) ScriptWhy
-in_header s = require (not (is_some s.round)) why.OutOfOrder
+in_header s = require (not (is_some s.round) && (length s.ended == 0)) why.OutOfOrder
 
 abbrev pub header_line : Scenario → HeaderWord → List (List ℕ) → Result Scenario ScriptWhy
 header_line s which fields = do
@@ -143,8 +150,15 @@ no_jobs = record { jobs = []; job = None }
 abbrev pub round_line : Scenario → List (List ℕ) → Result Scenario ScriptWhy
 round_line s fields = do
   none ← no_field fields
-  within ← require (nat_lt (length (parts_of s)) most_rounds) why.Limit
+  within ← require (nat_lt (rounds_of (parts_of s)) most_rounds) why.Limit
   Ok (record s { ended = parts_of s; round = Some no_jobs })
+
+-- `restart`
+abbrev pub restart_line : Scenario → List (List ℕ) → Result Scenario ScriptWhy
+restart_line s fields = do
+  round ← ok_or s.round why.OutOfOrder
+  none ← no_field fields
+  Ok (record s { ended = parts_of s ++ Restart ∷ []; round = None })
 
 -- `job`
 abbrev pub job_line : Scenario → List (List ℕ) → Result Scenario ScriptWhy
@@ -202,6 +216,7 @@ word_line s (word.Header which) fields = header_line s which fields
 word_line s word.Subscriber fields = subscriber_line s fields
 word_line s word.Round fields = round_line s fields
 word_line s word.Job fields = job_line s fields
+word_line s word.Restart fields = restart_line s fields
 word_line s (word.OfJob which) fields = of_job_line s which fields
 
 -- a line that begins with a word

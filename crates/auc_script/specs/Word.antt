@@ -37,17 +37,22 @@ abbrev pub of_job : Option JobWord → Option Word → Option Word
 of_job (Some which) else_word = Some (word.OfJob which)
 of_job None else_word = else_word
 
+-- the word that a text is, if it is none of a subscriber, a round or a job
+abbrev pub other_word_of : List ℕ → Option Word
+other_word_of text =
+    if is_text text (codes "restart") then Some word.Restart else of_job (job_word_of text) (of_header (header_word_of text))
+
 -- the word that a text is
 abbrev pub word_of : List ℕ → Option Word
 word_of text =
     if is_text text (codes "subscriber") then Some word.Subscriber
     else if is_text text (codes "round") then Some word.Round
     else if is_text text (codes "job") then Some word.Job
-    else of_job (job_word_of text) (of_header (header_word_of text))
+    else other_word_of text
 
 -- whether a text is a word of lines that aren't served so far
 abbrev pub is_later : List ℕ → Bool
 is_later text =
-    is_text text (codes "restart") || is_text text (codes "session") || is_text text (codes "start")
-    || is_text text (codes "repeat") || is_text text (codes "deliver") || is_text text (codes "giveup")
+    is_text text (codes "session") || is_text text (codes "start") || is_text text (codes "repeat")
+    || is_text text (codes "deliver") || is_text text (codes "giveup")
     || is_text text (codes "plain") || is_text text (codes "tamper") || is_text text (codes "cut")

@@ -29,13 +29,13 @@ impl Givers {
         }
     }
 
-    /// No job, over so many subscribers.
-    pub fn over(alloc: Global, subs: u32) -> Result<Givers, NoMemory>
-        ensures before { IfOk result (λ givers. givers.before ≡ 0) }
+    /// No job, over so many subscribers, after so many jobs of earlier rounds.
+    pub fn over(alloc: Global, subs: u32, before: u32) -> Result<Givers, NoMemory>
+        ensures before { IfOk result (λ givers. givers.before ≡ before) }
         ensures marks { IfOk result (λ givers. givers.marks.items ≡ replicate subs 0) }
     {
         let marks = vec![in alloc; 0; subs as usize]?;
-        Ok(Givers { before: 0, marks })
+        Ok(Givers { before, marks })
     }
 
     /// Whether an earlier job of the round gives to the USIM to which a line is to give.

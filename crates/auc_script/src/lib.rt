@@ -2,12 +2,13 @@
 //!
 //! [`Script::read`] reads a scenario's text: lines of words, each line with the first word that says what
 //! it is. `randkey`, `workers`, `print`, `realm` and the scenario's own `subscriber`s come before the first
-//! `round`; a round has `job`s, and a job has lines `draw`, `sync` and `give`. The first line that is none
+//! `round`; a round has `job`s, and a job has lines `draw`, `sync` and `give`. A `restart` may stand once after each
+//! round. The first line that is none
 //! of these, or stands in a wrong place, or has a wrong field, or passes a limit, is refused by its number
 //! and its first cause, a [`ScriptWhy`].
 //!
 //! The parts and lines of a scenario are types of `auc_lines`. Contracts see the lists of a [`Script`] as
-//! lists; its subscribers go to `auc_subs`. No text is read as a restart yet.
+//! lists; its subscribers go to `auc_subs`.
 #![tactic(auto)]
 
 mod field;

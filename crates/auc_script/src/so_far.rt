@@ -1,15 +1,14 @@
 //! What the lines so far say.
 
-ghost use Rattle.std.specs.Prelude.{◌≡◌, ◌≤◌, [], List, length, IfOk, OnErr, OnOk};
+ghost use Rattle.std.specs.Prelude.{◌≡◌, ◌==◌, ◌||◌, not, is_some, [], List, length, IfOk, OnErr, OnOk};
 ghost use Rattle.std.specs.Option.{unwrap_or};
 ghost use Rattle.auc_subs.specs.declared.row.Row.{Row};
 ghost use Rattle.auc_subs.specs.Subscriber.{AreSubscribers};
 ghost use Rattle.auc_text.specs.Text.{words_of};
 ghost use Rattle.auc_script.specs.Limits.{IsWithin};
-ghost use Rattle.auc_script.specs.Numbers.{most_rounds};
 ghost use Rattle.auc_script.specs.Reading.{beginning, script_from};
 ghost use Rattle.auc_script.specs.InnerRefusal.{Becomes};
-ghost use Rattle.auc_script.specs.Scenario.{after_line, header_line, job_line, of_job_line, round_line, subscriber_line, with_round, word_line};
+ghost use Rattle.auc_script.specs.Scenario.{after_line, header_line, job_line, of_job_line, restart_line, round_line, subscriber_line, with_round, word_line};
 ghost use Rattle.auc_script.specs.InnerSoFar.{IsBetween, IsHeader, IsSoFar, scenario, with_line};
 
 use crate::field::no_field;
@@ -32,10 +31,12 @@ use std::alloc::Global;
 pub struct SoFar {
     /// The words of the header.
     pub header: Header,
-    /// The rounds before the present one.
+    /// The parts before the present round.
     pub ended: Items<Part>,
-    /// The present round, once one has begun.
+    /// The present round, if one has begun after the last restart.
     pub round: Option<RoundSoFar>,
+    /// How many rounds there are.
+    pub rounds: usize,
     /// How many jobs there are.
     pub jobs: usize,
     /// How many vectors their lines ask for.
@@ -60,6 +61,7 @@ impl SoFar {
             header,
             ended: Items::new(alloc),
             round: None,
+            rounds: 0,
             jobs: 0,
             asked: 0,
             givers: Givers::none(alloc),
@@ -113,6 +115,7 @@ impl SoFar {
             Word::Subscriber => self.put_subscriber(alloc, subs, fields),
             Word::Round => self.put_round(alloc, subs, fields),
             Word::Job => self.put_job(alloc, fields),
+            Word::Restart => self.put_restart(alloc, subs, fields),
             Word::OfJob(which) => self.put_line(subs, which, fields),
         }
     }
@@ -129,7 +132,7 @@ impl SoFar {
             (scenario rows self.new) }
         ensures kept { (rows : List Row) → IsSoFar rows self.old → OnOk result (IsSoFar rows self.new) }
     {
-        if self.round.is_some() {
+        if self.has_begun() {
             return Err(LineRefusal::Why(ScriptWhy::OutOfOrder));
         }
         self.header.put(alloc, word, fields)
@@ -148,7 +151,7 @@ impl SoFar {
         ensures kept { OnOk result (IsSoFar subs.new self.new) }
         ensures rows { OnErr result (subs.new ≡ subs.old) }
     {
-        if self.round.is_some() {
+        if self.has_begun() {
             return Err(LineRefusal::Why(ScriptWhy::OutOfOrder));
         }
         if word_count(fields) != 7 {
@@ -175,7 +178,7 @@ impl SoFar {
         ensures kept { OnOk result (IsSoFar subs.now self.new) }
     {
         no_field(fields)?;
-        if self.rounds() >= MAX_ROUNDS {
+        if self.rounds >= MAX_ROUNDS {
             return Err(LineRefusal::Why(ScriptWhy::Limit));
         }
         self.end_round(alloc, subs)?;
@@ -183,6 +186,28 @@ impl SoFar {
             jobs: Items::new(alloc),
             job: None,
         });
+        self.rounds += 1;
+        Ok(())
+    }
+
+    /// Puts a restart after the present round.
+    fn put_restart(
+        &mut self,
+        alloc: Global,
+        subs: &Subscribers,
+        fields: &[u8],
+    ) -> Result<(), LineRefusal>
+        requires { IsSoFar subs.now self.old }
+        ensures becomes { Becomes (restart_line (scenario subs.now self.old) (words_of fields.now)) result
+            (scenario subs.now self.new) }
+        ensures kept { OnOk result (IsSoFar subs.now self.new) }
+    {
+        let Some(_) = &self.round else {
+            return Err(LineRefusal::Why(ScriptWhy::OutOfOrder));
+        };
+        no_field(fields)?;
+        self.end_round(alloc, subs)?;
+        self.ended.push(Part::Restart)?;
         Ok(())
     }
 
@@ -236,19 +261,14 @@ impl SoFar {
         Ok(())
     }
 
-    /// How many rounds there are.
-    fn rounds(&self) -> usize
-        requires { length (with_round self.now.ended self.now.round) ≤ most_rounds }
-        ensures { result ≡ length (with_round self.now.ended self.now.round) }
+    /// Whether a round has begun.
+    fn has_begun(&self) -> bool
+        ensures { result ≡ (is_some self.now.round || not (length self.now.ended == 0)) }
     {
-        match &self.round {
-            Some(_) => self.ended.len() + 1,
-            None => self.ended.len(),
-        }
+        self.round.is_some() || !self.ended.is_empty()
     }
 
-    /// Puts the present round after those before it. Before the first round it makes a mark for each
-    /// subscriber.
+    /// Puts the present round after the parts before it. If there is none, it makes a mark for each subscriber.
     fn end_round(&mut self, alloc: Global, subs: &Subscribers) -> Result<(), NoMemory>
         requires { IsSoFar subs.now self.old }
         ensures { OnOk result (IsBetween subs.now self.old self.new) }
@@ -258,7 +278,7 @@ impl SoFar {
                 self.ended.push(Part::Round(round.end()?))?;
                 self.givers.before = self.jobs as u32;
             }
-            None => self.givers = Givers::over(alloc, subs.len())?,
+            None => self.givers = Givers::over(alloc, subs.len(), self.jobs as u32)?,
         }
         Ok(())
     }

@@ -1,7 +1,7 @@
 //! How a line begins: with the `#` of a comment, or with a word.
 
 ghost use Rattle.std.specs.Prelude.{◌≡◌};
-ghost use Rattle.auc_script.specs.Word.{header_word_of, is_comment, is_later, job_word_of, word_of};
+ghost use Rattle.auc_script.specs.Word.{header_word_of, is_comment, is_later, job_word_of, other_word_of, word_of};
 
 /// A word of a line before the first round, which stands there at most once.
 #[derive(Clone, Copy)]
@@ -38,6 +38,8 @@ pub enum Word {
     Round,
     /// `job`
     Job,
+    /// `restart`
+    Restart,
     /// One of a job's lines.
     OfJob(JobWord),
 }
@@ -53,16 +55,30 @@ pub fn is_comment(line: &[u8]) -> bool
 pub fn read_word(text: &[u8]) -> Option<Word>
     ensures { result ≡ word_of text.now }
 {
-    match text {
-        b"subscriber" => Some(Word::Subscriber),
-        b"round" => Some(Word::Round),
-        b"job" => Some(Word::Job),
-        _ => match read_job_word(text) {
-            Some(word) => Some(Word::OfJob(word)),
-            None => match read_header_word(text) {
-                Some(word) => Some(Word::Header(word)),
-                None => None,
-            },
+    if text == b"subscriber".as_slice() {
+        return Some(Word::Subscriber);
+    }
+    if text == b"round".as_slice() {
+        return Some(Word::Round);
+    }
+    if text == b"job".as_slice() {
+        return Some(Word::Job);
+    }
+    read_other_word(text)
+}
+
+/// The word that a text is, if it is none of a subscriber, a round or a job.
+fn read_other_word(text: &[u8]) -> Option<Word>
+    ensures { result ≡ other_word_of text.now }
+{
+    if text == b"restart".as_slice() {
+        return Some(Word::Restart);
+    }
+    match read_job_word(text) {
+        Some(word) => Some(Word::OfJob(word)),
+        None => match read_header_word(text) {
+            Some(word) => Some(Word::Header(word)),
+            None => None,
         },
     }
 }
@@ -96,8 +112,7 @@ fn read_header_word(text: &[u8]) -> Option<HeaderWord>
 pub fn is_later(text: &[u8]) -> bool
     ensures { result ≡ is_later text.now }
 {
-    text == b"restart".as_slice()
-        || text == b"session".as_slice()
+    text == b"session".as_slice()
         || text == b"start".as_slice()
         || text == b"repeat".as_slice()
         || text == b"deliver".as_slice()
