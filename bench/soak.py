@@ -88,9 +88,10 @@ def judged(output, asked):
 
 def run(words, asked):
     began = time.monotonic()
-    child = subprocess.Popen([program(), *words], stdout=subprocess.PIPE, text=True)
-    fault, vectors = judged(child.stdout, asked)
-    _, status, usage = os.wait4(child.pid, 0)
+    with tempfile.TemporaryDirectory() as folder:
+        child = subprocess.Popen([program(), *words], cwd=folder, stdout=subprocess.PIPE, text=True)
+        fault, vectors = judged(child.stdout, asked)
+        _, status, usage = os.wait4(child.pid, 0)
     seconds = time.monotonic() - began
     if os.waitstatus_to_exitcode(status):
         fault = f"status {os.waitstatus_to_exitcode(status)}"

@@ -14,6 +14,7 @@ import argparse
 import re
 import subprocess
 import sys
+import tempfile
 from pathlib import Path
 
 HERE = Path(__file__).resolve().parent
@@ -36,8 +37,15 @@ def counts_in(line):
 
 
 def words_of(name):
-    """The words that run an example, from the folder examples/."""
-    return ["run", f"{name}.scenario", *([SUBSCRIBERS[name]] if name in SUBSCRIBERS else [])]
+    """The words that run an example, from any folder."""
+    files = [f"{name}.scenario", *([SUBSCRIBERS[name]] if name in SUBSCRIBERS else [])]
+    return ["run", *(str(HERE / file) for file in files)]
+
+
+def ran_anew(program, words):
+    """A run in a new folder, so that it finds no journal of an earlier run."""
+    with tempfile.TemporaryDirectory() as folder:
+        return subprocess.run([program, *words], cwd=folder, capture_output=True, timeout=SECONDS)
 
 
 def difference(wrote, expected):
@@ -55,7 +63,7 @@ def fault_of(name, program):
     if not expected.exists():
         return f"there is no {expected.name}"
     try:
-        ran = subprocess.run([program, *words_of(name)], cwd=HERE, capture_output=True, timeout=SECONDS)
+        ran = ran_anew(program, words_of(name))
     except OSError as error:
         return f"the program could not be run: {error.strerror}"
     except subprocess.TimeoutExpired:

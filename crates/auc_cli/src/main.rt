@@ -1,4 +1,4 @@
-//! The program: `auc_run::run` over the real files and standard output.
+//! The program: `auc_run::run` over the real files, the file `auc.journal` in the current folder, and standard output.
 //!
 //! It ends with the number of the run's status, or with 10 if memory runs out while its words are read. A
 //! word that isn't UTF-8 is passed on as an empty word.
@@ -6,6 +6,7 @@
 
 mod words;
 
+use auc_disk::FileDisk;
 use auc_edge::{FileShelf, NoMemory, OpenGate, StdSink};
 use auc_run::{Status, run};
 use std::process::ExitCode;
@@ -16,6 +17,7 @@ fn main(rt: HostRuntime) -> ExitCode {
         Ok(words) => {
             let mut shelf = FileShelf::new(&rt);
             let mut out = StdSink::new(&rt);
+            let disk = FileDisk::new(&rt);
             let gate = OpenGate::new();
             run(
                 &rt,
@@ -23,6 +25,7 @@ fn main(rt: HostRuntime) -> ExitCode {
                 words.as_slice(),
                 &mut shelf,
                 &mut out,
+                disk,
                 &gate,
             )
             .status

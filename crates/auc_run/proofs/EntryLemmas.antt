@@ -13,7 +13,7 @@ use Rattle.auc_history.specs.declared.entry.Entry.{Entry}
 use Rattle.auc_history.specs.declared.entry.Entry.TheVariants.{Drawn, Moved, Look}
 use Rattle.auc_history.proofs.Facts.{times-append, times-numbers_after}
 use Rattle.auc_world.specs.Entries.{reports, entries_of_verdict, entries_of_line, entries_of_lines, entries_of_jobs}
-use Rattle.auc_world.specs.Lines.{released_by, numbers_of, all_lines}
+use Rattle.auc_world.specs.Lines.{released_by, numbers_of, withheld_by, withheld_of, all_lines}
 use Rattle.auc_world.specs.Record.{subscriber_of}
 use Rattle.auc_world.specs.declared.record.LineRecord.{LineRecord}
 use Rattle.auc_world.specs.declared.record.LineRecord.TheVariants.{Vector, Withheld, Exhausted, Sync, Give}
@@ -194,25 +194,31 @@ lines_within sub closing before (line ∷ lines) reported within =
 
 -- ---- counts
 
--- a line releases no more than it draws
-released_fewer : (sub : ℕ) (before : List LineRecord) (line : LineRecord) → length (released_by sub line) ≤ length (drawn (entries_of_line sub before line))
-released_fewer sub before (Vector s n) = vector_fewer (s == sub) n
+-- a line releases and withholds no more than it draws
+told_fewer : (sub : ℕ) (before : List LineRecord) (line : LineRecord) → length (released_by sub line) + length (withheld_by sub line) ≤ length (drawn (entries_of_line sub before line))
+told_fewer sub before (Vector s n) = vector_fewer (s == sub) n
   where
-    vector_fewer : (there : Bool) (n : ℕ) → length (if there then n ∷ [] else []) ≤ length (drawn (if there then Drawn n ∷ [] else []))
+    vector_fewer : (there : Bool) (n : ℕ) → length (if there then n ∷ [] else []) + 0 ≤ length (drawn (if there then Drawn n ∷ [] else []))
     vector_fewer true n = omega arith
     vector_fewer false n = omega arith
-released_fewer sub before (Withheld s n stop) = omega arith
-released_fewer sub before (Exhausted s word) = omega arith
-released_fewer sub before (Sync s answer) = omega arith
-released_fewer sub before (Give s n answer) = omega arith
+told_fewer sub before (Withheld s n stop) = withheld_fewer (s == sub) n
+  where
+    withheld_fewer : (there : Bool) (n : ℕ) → 0 + length (if there then n ∷ [] else []) ≤ length (drawn (if there then Drawn n ∷ [] else []))
+    withheld_fewer true n = omega arith
+    withheld_fewer false n = omega arith
+told_fewer sub before (Exhausted s word) = omega arith
+told_fewer sub before (Sync s answer) = omega arith
+told_fewer sub before (Give s n answer) = omega arith
 
--- lines release no more vectors than they draw numbers
-pub length-numbers : (sub : ℕ) (before lines : List LineRecord) → length (numbers_of sub lines) ≤ length (drawn (entries_of_lines sub before lines))
-length-numbers sub before [] = omega arith
-length-numbers sub before (line ∷ lines) =
-    let first = released_fewer sub before line in
-    let rest = length-numbers sub (before ++ line ∷ []) lines in
-    let all = length-append (released_by sub line) (numbers_of sub lines) in
+-- lines release and withhold no more vectors than they draw numbers
+pub length-told : (sub : ℕ) (before lines : List LineRecord)
+    → length (numbers_of sub lines) + length (withheld_of sub lines) ≤ length (drawn (entries_of_lines sub before lines))
+length-told sub before [] = omega arith
+length-told sub before (line ∷ lines) =
+    let first = told_fewer sub before line in
+    let rest = length-told sub (before ++ line ∷ []) lines in
+    let released = length-append (released_by sub line) (numbers_of sub lines) in
+    let withheld = length-append (withheld_by sub line) (withheld_of sub lines) in
     let cut = ap length (flat_map-append drawn_by (entries_of_line sub before line) (entries_of_lines sub (before ++ line ∷ []) lines)) in
     let both = length-append (drawn (entries_of_line sub before line)) (drawn (entries_of_lines sub (before ++ line ∷ []) lines)) in
-    omega (arith, first, rest, all, cut, both)
+    omega (arith, first, rest, released, withheld, cut, both)

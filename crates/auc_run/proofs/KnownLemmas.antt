@@ -1,5 +1,5 @@
 -- For the top call: a scenario that was read asks only for what can be served.
-use Rattle.std.proofs.Common.{◌^◌, ◌<◌, ◌≤◌, List, [], ◌∷◌, length, All, arith}
+use Rattle.std.proofs.Common.{◌+◌, ◌^◌, ◌<◌, ◌≤◌, List, [], ◌∷◌, length, All, arith}
 use Rattle.std.proofs.lemmas.List.{length-append}
 use Rattle.std.proofs.lemmas.List.Elements.{All-nil, All-cons, All-head, All-tail, All-weaker}
 use Rattle.auc_jobs.specs.Serving.{IsKnownLine, AreKnown}
@@ -19,7 +19,7 @@ use Rattle.auc_run.specs.Inner.{IsKnownPart}
 pub record Known (rows : List Row) (script : Script) : Type 0 where
   pub subscribers : AreSubscribers rows
   pub parts : All (IsKnownPart (length rows)) script.parts
-  pub count : length script.parts < 2 ^ 32
+  pub count : length script.parts + 1 < 2 ^ 32
 
 -- a line
 known_line : (rows : List Row) (line : Line) → IsLine rows line → IsKnownLine (length rows) line
@@ -30,7 +30,8 @@ known_line rows (Give sub n) is = (is.0, is.1, is.2)
 -- parts that have not too many jobs together
 known_parts : (rows : List Row) (parts : List Part) → All (IsPart rows) parts → length (jobs_of parts) ≤ most_jobs → All (IsKnownPart (length rows)) parts
 known_parts rows [] each few = All-nil (IsKnownPart (length rows))
-known_parts rows (Restart ∷ parts) each few = absurd (All-head (IsPart rows) Restart parts each)
+known_parts rows (Restart ∷ parts) each few =
+    All-cons (IsKnownPart (length rows)) Restart parts tt (known_parts rows parts (All-tail (IsPart rows) Restart parts each) few)
 known_parts rows (Round jobs ∷ parts) each few =
     let cut = length-append jobs (jobs_of parts) in
     let here = All-head (IsPart rows) (Round jobs) parts each in
@@ -47,8 +48,9 @@ pub known : (rows : List Row) (script : Script) → IsWithin rows script → Kno
 known rows script within =
     let jobs = within.parts.jobs in
     let rounds = within.parts.rounds in
+    let restarts = within.parts.restarts in
     record {
       subscribers = within.subscribers;
       parts = known_parts rows script.parts within.parts.each (omega (arith, jobs));
-      count = omega (arith, rounds);
+      count = omega (arith, rounds, restarts);
     }

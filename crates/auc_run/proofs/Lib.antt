@@ -2,8 +2,13 @@ mod SizeLemmas
 mod MadeLemmas
 mod EntryLemmas
 mod PrintableLemmas
+mod StandLemmas
+mod OpeningLemmas
+mod StepLemmas
 mod OutputLemmas
 mod KnownLemmas
 mod OutcomeLemmas
 mod RefusalLemmas
+mod TopLemmas
+mod CauseLemmas
 mod LoadLemmas

@@ -1,5 +1,5 @@
 -- For the transcript: a lawful one names subscribers alone, and its values have their sizes, so its text is its own.
-use Rattle.std.proofs.Common.{◌≡◌, ℕ, suc, ◌+◌, ◌^◌, ◌<◌, Bool, true, false, List, [], ◌∷◌, ◌++◌, length, get_or, All, Option, None, refl, ap, subst, arith, min}
+use Rattle.std.proofs.Common.{◌≡◌, ℕ, suc, ◌+◌, ◌^◌, ◌<◌, ◌≤◌, Bool, true, false, List, [], ◌∷◌, ◌++◌, length, get_or, All, Option, refl, ap, subst, arith, min}
 use Rattle.std.specs.Prelude.{◌==◌, if◌then◌else◌}
 use Rattle.std.proofs.lemmas.List.{length-map}
 use Rattle.std.proofs.lemmas.List.Elements.{All-nil, All-cons, All-head, All-tail, All-append, All-same, All-weaker}
@@ -18,7 +18,8 @@ use Rattle.auc_world.specs.Entries.{entries_of_jobs}
 use Rattle.auc_world.specs.Setting.{Setting}
 use Rattle.auc_world.specs.Lines.{numbers_of, withheld_of, all_lines}
 use Rattle.auc_world.specs.Round.{IsLawfulRound, closing_of, closings_from}
-use Rattle.auc_world.specs.Transcript.{Course, Leads, stop_before}
+use Rattle.auc_world.proofs.Facts.{length-opened}
+use Rattle.auc_world.specs.Transcript.{Course, Leads, ServesPart, stop_before}
 use Rattle.auc_world.specs.Record.{subscriber_of, NamesBelow}
 use Rattle.auc_world.specs.declared.record.Closing.{Closing}
 use Rattle.auc_world.specs.declared.record.LineRecord.{LineRecord}
@@ -29,7 +30,7 @@ use Rattle.auc_world.specs.declared.record.RoundRecord.{RoundRecord}
 use Rattle.auc_world.specs.declared.record.SyncVerdict.{SyncVerdict}
 use Rattle.auc_world.specs.declared.record.SyncVerdict.TheVariants as verdict
 use Rattle.auc_run.specs.Inner.{IsKnownPart, IsKnownRound}
-use Rattle.auc_run.proofs.EntryLemmas.{IsWithin, SeenWithin, WordWithin, all_entries-of_jobs, splits_within, lines_within, length-numbers}
+use Rattle.auc_run.proofs.EntryLemmas.{IsWithin, SeenWithin, WordWithin, all_entries-of_jobs, splits_within, lines_within, length-told}
 use Rattle.auc_run.proofs.MadeLemmas.{IsMade, SeqFits, jobs_made, length-given}
 
 -- what holds of all lines holds of each job's
@@ -71,21 +72,21 @@ answer_fits set closing (Sync sub answer) (inside, fits) within bound = sync_fit
 answer_fits set closing (Give sub n answer) (inside, last, fits) within bound = (omega arith, fits)
 
 -- a round of which each line is such, between openings and words of as many subscribers
-record IsRound (set : Setting) (early : List LineRecord) (openings : List ℕ) (jobs : List (List Line)) (round : RoundRecord) (words : List ℕ) : Type 0 where
-  lawful : IsLawfulRound set None early openings jobs round words
+record IsRound (set : Setting) (stop : Option Stop) (early : List LineRecord) (openings : List ℕ) (jobs : List (List Line)) (round : RoundRecord) (words : List ℕ) : Type 0 where
+  lawful : IsLawfulRound set stop early openings jobs round words
   count : length openings ≡ length set.rows
   made : All (IsMade set) (all_lines round.jobs)
 
 -- the word at which a round closes a subscriber has 64 bits
-word_fits : (set : Setting) (early : List LineRecord) (openings : List ℕ) (jobs : List (List Line)) (round : RoundRecord) (words : List ℕ)
-    → IsRound set early openings jobs round words → (sub : ℕ) → sub < length set.rows → get_or words sub 0 < 2 ^ 64
-word_fits set early openings jobs round words is sub inside =
+word_fits : (set : Setting) (stop : Option Stop) (early : List LineRecord) (openings : List ℕ) (jobs : List (List Line)) (round : RoundRecord) (words : List ℕ)
+    → IsRound set stop early openings jobs round words → (sub : ℕ) → sub < length set.rows → get_or words sub 0 < 2 ^ 64
+word_fits set stop early openings jobs round words is sub inside =
     let sizes = is.lawful.sizes in let count = is.count in is.lawful.fits sub (omega (arith, sizes, count))
 
 -- the values of its lines have their sizes
-lines_fit : (set : Setting) (early : List LineRecord) (openings : List ℕ) (jobs : List (List Line)) (round : RoundRecord) (words : List ℕ)
-    → IsRound set early openings jobs round words → All AnswerFits (all_lines round.jobs)
-lines_fit set early openings jobs round words is k d inside =
+lines_fit : (set : Setting) (stop : Option Stop) (early : List LineRecord) (openings : List ℕ) (jobs : List (List Line)) (round : RoundRecord) (words : List ℕ)
+    → IsRound set stop early openings jobs round words → All AnswerFits (all_lines round.jobs)
+lines_fit set stop early openings jobs round words is k d inside =
     let line = get_or (all_lines round.jobs) k d in
     let made = is.made k d inside in
     let named = made_named set line made in
@@ -95,7 +96,7 @@ lines_fit set early openings jobs round words is k d inside =
     let entries = subst (All (IsWithin closing)) (all_entries-of_jobs sub [] round.jobs)
     (splits_within max_seq (get_or openings sub 0) closing (entries_of_jobs sub [] round.jobs) (is.lawful.split sub (omega (arith, named, count)))) in
     let words_are = lines_within sub closing [] (all_lines round.jobs) (λ word told. absurd (cc)) entries in
-    answer_fits set closing line made (words_are k d inside refl) (word_fits set early openings jobs round words is sub named)
+    answer_fits set closing line made (words_are k d inside refl) (word_fits set stop early openings jobs round words is sub named)
 
 -- ---- closings
 
@@ -156,16 +157,15 @@ closings_fit count sub (opening ∷ openings) (word ∷ words) jobs each =
     subst (λ (s : ℕ). CountsFit count s (get_or openings k 0) (get_or words k 0) jobs) there (each (suc k) (omega arith))))
 
 -- the counts of a lawful round
-counts_fit : (set : Setting) (early : List LineRecord) (openings : List ℕ) (jobs : List (List Line)) (round : RoundRecord) (words : List ℕ)
-    → IsRound set early openings jobs round words → (sub : ℕ) → sub < length openings
+counts_fit : (set : Setting) (stop : Option Stop) (early : List LineRecord) (openings : List ℕ) (jobs : List (List Line)) (round : RoundRecord) (words : List ℕ)
+    → IsRound set stop early openings jobs round words → (sub : ℕ) → sub < length openings
     → CountsFit (length set.rows) sub (get_or openings sub 0) (get_or words sub 0) round.jobs
-counts_fit set early openings jobs round words is sub inside =
+counts_fit set stop early openings jobs round words is sub inside =
     let count = is.count in
-    let bound = word_fits set early openings jobs round words is sub (omega (arith, count)) in
+    let bound = word_fits set stop early openings jobs round words is sub (omega (arith, count)) in
     let whole = split_counts_its_numbers max_seq (get_or openings sub 0) (get_or words sub 0) (entries_of_jobs sub [] round.jobs) (is.lawful.split sub inside) in
-    let fewer = length-numbers sub [] (all_lines round.jobs) in
+    let fewer = length-told sub [] (all_lines round.jobs) in
     let same = ap (λ (es : List Entry). length (drawn es)) (all_entries-of_jobs sub [] round.jobs) in
-    let none = ap length (is.lawful.withheld sub) in
     record {
       named = omega (arith, count);
       first = omega (arith, bound, whole);
@@ -173,18 +173,18 @@ counts_fit set early openings jobs round words is sub inside =
       draws = omega (arith, bound, whole);
       passes = omega (arith, bound, whole);
       releases = omega (arith, bound, whole, fewer, same);
-      withholds = omega (arith, none);
+      withholds = omega (arith, bound, whole, fewer, same);
     }
 
 -- its closings
-round_closings : (set : Setting) (early : List LineRecord) (openings : List ℕ) (jobs : List (List Line)) (round : RoundRecord) (words : List ℕ)
-    → IsRound set early openings jobs round words → All (IsClosing (length set.rows)) round.closings
-round_closings set early openings jobs round words is =
+round_closings : (set : Setting) (stop : Option Stop) (early : List LineRecord) (openings : List ℕ) (jobs : List (List Line)) (round : RoundRecord) (words : List ℕ)
+    → IsRound set stop early openings jobs round words → All (IsClosing (length set.rows)) round.closings
+round_closings set stop early openings jobs round words is =
     All-same (IsClosing (length set.rows)) round.closings (closings_from 0 openings words round.jobs) is.lawful.closings
     (closings_fit (length set.rows) 0 openings words round.jobs (λ sub inside.
     let here : sub ≡ 0 + sub = omega arith in
     subst (λ (s : ℕ). CountsFit (length set.rows) s (get_or openings sub 0) (get_or words sub 0) round.jobs) here
-    (counts_fit set early openings jobs round words is sub inside)))
+    (counts_fit set stop early openings jobs round words is sub inside)))
 
 -- ---- rounds
 
@@ -194,14 +194,14 @@ pub record Prints (set : Setting) (round : RoundRecord) : Type 0 where
   pub fits : RoundFits round
 
 -- a lawful round is such
-pub round_prints : (set : Setting) (early : List LineRecord) (openings : List ℕ) (jobs : List (List Line)) (round : RoundRecord) (words : List ℕ)
+pub round_prints : (set : Setting) (stop : Option Stop) (early : List LineRecord) (openings : List ℕ) (jobs : List (List Line)) (round : RoundRecord) (words : List ℕ)
     → AreSubscribers set.rows → length openings ≡ length set.rows → IsKnownRound (length set.rows) jobs → round.number < 2 ^ 64
-    → IsLawfulRound set None early openings jobs round words → Prints set round
-round_prints set early openings jobs round words are count known number lawful =
+    → IsLawfulRound set stop early openings jobs round words → Prints set round
+round_prints set stop early openings jobs round words are count known number lawful =
     let made = jobs_made set early [] jobs round.jobs are known.known lawful.given in
     let many = length-given set early [] jobs round.jobs lawful.given in
-    let is : IsRound set early openings jobs round words = record { lawful = lawful; count = count; made = made } in
-    let closings = round_closings set early openings jobs round words is in
+    let is : IsRound set stop early openings jobs round words = record { lawful = lawful; count = count; made = made } in
+    let closings = round_closings set stop early openings jobs round words is in
     let few = known.few in
     record {
       named = record {
@@ -212,7 +212,7 @@ round_prints set early openings jobs round words are count known number lawful =
       fits = record {
         number = number;
         count = omega (arith, many, few);
-        jobs = each_job AnswerFits round.jobs (lines_fit set early openings jobs round words is);
+        jobs = each_job AnswerFits round.jobs (lines_fit set stop early openings jobs round words is);
         closings = All-weaker (IsClosing (length set.rows)) ClosingFits (λ closing is. is.fits) round.closings closings;
       };
     }
@@ -222,27 +222,46 @@ abbrev pub PartPrints : Setting → PartRecord → Type 0
 PartPrints set (record_of.Round round) = Prints set round
 PartPrints set record_of.Restart = Unit {0}
 
--- the parts of a lawful transcript
-pub parts_print : (set : Setting) (at : Course) (parts : List Part) (records : List PartRecord) (end : Course)
-    → AreSubscribers set.rows → length at.openings ≡ length set.rows → All (IsKnownPart (length set.rows)) parts → at.number + length parts < 2 ^ 64
-    → Leads set None at parts records end → All (PartPrints set) records
-parts_print set at [] records end are count known few (none, same) = rw none (All-nil (PartPrints set))
-parts_print set at (part ∷ parts) [] end are count known few leads = absurd leads
-parts_print set at (Restart ∷ parts) (first ∷ records) end are count known few leads = absurd (All-head (IsKnownPart (length set.rows)) Restart parts known)
-parts_print set at (Round jobs ∷ parts) (record_of.Restart ∷ records) end are count known few (next, serves, rest) = absurd serves
-parts_print set at (Round jobs ∷ parts) (record_of.Round round ∷ records) end are count known few (next, serves, rest) =
+-- a part of a lawful transcript
+part_prints : (set : Setting) (stop : Option Stop) (at : Course) (part : Part) (made : PartRecord) (next : Course) → AreSubscribers set.rows → length at.openings ≡ length set.rows
+    → IsKnownPart (length set.rows) part → at.number < 2 ^ 64 → ServesPart set stop at part made next → PartPrints set made
+part_prints set stop at (Round jobs) (record_of.Round round) next are count known few serves =
     let numbered = serves.numbered in
-    let lawful : IsLawfulRound set None at.early at.openings jobs round serves.words =
-    subst (λ (s : Option Stop). IsLawfulRound set s at.early at.openings jobs round serves.words) (no_stop_before records) serves.lawful in
-    let sizes = lawful.sizes in
+    round_prints set stop at.early at.openings jobs round serves.words are count known (omega (arith, numbered, few)) serves.lawful
+part_prints set stop at (Round jobs) record_of.Restart next are count known few serves = absurd serves
+part_prints set stop at Restart (record_of.Round round) next are count known few serves = absurd serves
+part_prints set stop at Restart record_of.Restart next are count known few serves = tt
+
+-- the next part has as many openings, and its round the next number at most
+record Follows (set : Setting) (at next : Course) : Type 0 where
+  count : length next.openings ≡ length set.rows
+  number : next.number ≤ at.number + 1
+
+part_follows : (set : Setting) (stop : Option Stop) (at : Course) (part : Part) (made : PartRecord) (next : Course) → length at.openings ≡ length set.rows
+    → ServesPart set stop at part made next → Follows set at next
+part_follows set stop at (Round jobs) (record_of.Round round) next count serves =
+    let sizes = serves.lawful.sizes in
     let kept = length-map serves.words (λ (word : ℕ). min word max_seq) in
     let opens = ap (λ (c : Course). length c.openings) serves.leads in
     let counts = ap (λ (c : Course). c.number) serves.leads in
-    All-cons (PartPrints set) (record_of.Round round) records
-    (round_prints set at.early at.openings jobs round serves.words are count (All-head (IsKnownPart (length set.rows)) (Round jobs) parts known) (omega (arith, numbered)) lawful)
-    (parts_print set next parts records end are (omega (arith, sizes, kept, opens, count))
-    (All-tail (IsKnownPart (length set.rows)) (Round jobs) parts known) (omega (arith, counts)) rest)
-  where
-    no_stop_before : (records : List PartRecord) → stop_before None records ≡ None
-    no_stop_before [] = refl
-    no_stop_before (first ∷ records) = refl
+    record { count = omega (arith, sizes, kept, opens, count); number = omega (arith, counts) }
+part_follows set stop at (Round jobs) record_of.Restart next count serves = absurd serves
+part_follows set stop at Restart (record_of.Round round) next count serves = absurd serves
+part_follows set stop at Restart record_of.Restart next count serves =
+    let opens = ap (λ (c : Course). length c.openings) serves.leads in
+    let counts = ap (λ (c : Course). c.number) serves.leads in
+    let many = length-opened set.rows serves.limits in
+    record { count = omega (arith, opens, many); number = omega (arith, counts) }
+
+-- the parts of a lawful transcript
+pub parts_print : (set : Setting) (stop : Option Stop) (at : Course) (parts : List Part) (records : List PartRecord) (end : Course)
+    → AreSubscribers set.rows → length at.openings ≡ length set.rows → All (IsKnownPart (length set.rows)) parts → at.number + length parts < 2 ^ 64
+    → Leads set stop at parts records end → All (PartPrints set) records
+parts_print set stop at [] records end are count known few (none, same) = rw none (All-nil (PartPrints set))
+parts_print set stop at (part ∷ parts) [] end are count known few leads = absurd leads
+parts_print set stop at (part ∷ parts) (first ∷ records) end are count known few (next, serves, rest) =
+    let follows = part_follows set (stop_before stop records) at part first next count serves in
+    let number = follows.number in
+    All-cons (PartPrints set) first records
+    (part_prints set (stop_before stop records) at part first next are count (All-head (IsKnownPart (length set.rows)) part parts known) (omega (arith, few)) serves)
+    (parts_print set stop next parts records end are follows.count (All-tail (IsKnownPart (length set.rows)) part parts known) (omega (arith, few, number)) rest)

@@ -1,15 +1,24 @@
 -- Inner facts: what only private contracts of this crate cite.
-use Rattle.std.specs.Prelude.{◌≡◌, ℕ, ◌+◌, ◌≤◌, ◌⊎◌, AllPairs, Bool, List, length, Option, Some, None, Ok, Err}
+use Rattle.std.specs.Prelude.{◌≡◌, ℕ, ◌+◌, ◌<◌, ◌≤◌, ◌⊎◌, ◌++◌, max, true, false, AllPairs, All, Bool, List, [], length, map, slice_index, Option, Some, None, Result, Ok, Err}
 use Rattle.std.specs.Option.{option_copied}
 use Rattle.auc_edge.specs.Shelf.{File, IsLongerFile}
 use Rattle.auc_edge.specs.Sink.{Appends}
+use Rattle.auc_edge.specs.declared.stop.Stop.{Stop}
 use Rattle.auc_edge.specs.declared.read_refusal.ReadRefusal.{ReadRefusal}
 use Rattle.auc_edge.specs.declared.read_refusal.ReadRefusal.TheVariants as unread
+use Rattle.auc_forms.specs.Algorithm.{values_named}
+use Rattle.auc_forms.specs.Reserved.{asks_reserved}
+use Rattle.auc_forms.specs.declared.algorithm.AlgorithmWords.{AlgorithmWords}
+use Rattle.auc_journal.specs.Durable.{IsDurable, IsTold}
+use Rattle.auc_journal.specs.Image.{Frame}
+use Rattle.auc_journal.specs.Journal.{JournalState, limits_of, reserved_at}
+use Rattle.auc_journal.specs.declared.open_why.OpenWhy.{OpenWhy}
+use Rattle.auc_journal.specs.declared.open_why.OpenWhy.TheVariants as unopened
 use Rattle.auc_load.specs.Words.{load_named}
 use Rattle.auc_load.specs.declared.words.LoadWords.{LoadWords}
 use Rattle.auc_jobs.specs.Serving.{AreAllKnown}
 use Rattle.auc_jobs.specs.State.{Standing, StandsAt}
-use Rattle.auc_print.specs.Text.{part_text}
+use Rattle.auc_print.specs.Text.{part_text, transcript_text}
 use Rattle.auc_script.specs.Numbers.{most_jobs}
 use Rattle.auc_script.specs.Reading.{script_of}
 use Rattle.auc_lines.specs.Part.{AreApart}
@@ -24,19 +33,20 @@ use Rattle.auc_subs.specs.declared.refusal.SubsRefusal.{SubsRefusal}
 use Rattle.auc_subs.specs.declared.refusal.SubsRefusal.TheVariants as wrong_subs
 use Rattle.auc_subs.specs.declared.row.Row.{Row}
 use Rattle.auc_world.specs.Setting.{Setting}
-use Rattle.auc_world.specs.Transcript.{Course, ServesPart}
+use Rattle.auc_world.specs.Limits.{Raises, least_step}
+use Rattle.auc_world.specs.Lines.{numbers_of}
+use Rattle.auc_world.specs.Transcript.{Course, Leads, ServesPart}
+use Rattle.auc_world.specs.declared.record.LineRecord.{LineRecord}
 use Rattle.auc_world.specs.declared.record.PartRecord.{PartRecord}
-use Rattle.auc_run.specs.Algorithm.{values_named}
-use Rattle.auc_run.specs.Outcome.{HasText, AreRead, AreWrong, max_file}
-use Rattle.auc_run.specs.Output.{IsTranscript, text_of}
+use Rattle.auc_run.specs.Crash.{IsFound, IsFull, IsKept, IsNoJournal, MayLeave, limits_in}
+use Rattle.auc_run.specs.Outcome.{HasText, AreRead, AreRight, AreWrong, IsStopOf, IsWritten, RunsFiles, max_file}
 use Rattle.auc_run.specs.Refusal.{status_of, line_of}
 use Rattle.auc_run.specs.Words.{Files, files_named}
-use Rattle.auc_run.specs.declared.algorithm.AlgorithmWords.{AlgorithmWords}
 use Rattle.auc_run.specs.declared.forms.InputFiles.{InputFiles}
 use Rattle.auc_run.specs.declared.refusal.Refusal.{Refusal}
 use Rattle.auc_run.specs.declared.refusal.Refusal.TheVariants as refused
 use Rattle.auc_run.specs.declared.status.Status.{Status}
-use Rattle.auc_run.specs.declared.status.Status.TheVariants.{WriteFault, NoMemory}
+use Rattle.auc_run.specs.declared.status.Status.TheVariants.{Done, SubscribersRefused, ScenarioRefused, ReadFault, WriteFault, StoreFull, TooLong, NoMemory}
 
 -- the files, as the code hands their names on
 abbrev pub files_seen : InputFiles → Files
@@ -57,6 +67,11 @@ subs_refusal wrong_subs.NoMemory = refused.NoMemory
 abbrev pub script_refusal : ScriptRefusal → Refusal
 script_refusal (wrong_script.Line line fault) = refused.Scenario line fault
 script_refusal wrong_script.NoMemory = refused.NoMemory
+
+abbrev pub open_refusal : OpenWhy → Refusal
+open_refusal unopened.StoreFault = refused.StoreFault
+open_refusal (unopened.NotJournal place) = refused.NotJournal place
+open_refusal unopened.NoMemory = refused.NoMemory
 
 -- why a file isn't read
 abbrev pub FileStops : Option (List File) → List ℕ → Refusal → Type 0
@@ -80,42 +95,91 @@ ScenarioStops told name rows (refused.Scenario line fault) =
     (text : List ℕ) × HasText told name text × (script_of rows text ≡ Err (wrong_script.Line line fault))
 ScenarioStops told name rows refusal = FileStops told name refusal
 
--- why rounds or a text aren't written
+-- why a journal isn't opened
+abbrev pub JournalStops : Option (List ℕ) → Refusal → Type 0
+JournalStops seen refused.StoreFault = Unit {0}
+JournalStops seen (refused.NotJournal place) = IsNoJournal seen place
+JournalStops seen refused.NoMemory = Unit {0}
+JournalStops seen _ = ⊥
+
+-- why rounds end early
+abbrev pub RoundsStop : Refusal → Type 0
+RoundsStop refused.WriteFault = Unit {0}
+RoundsStop refused.StoreFault = Unit {0}
+RoundsStop refused.StoreFull = Unit {0}
+RoundsStop refused.NoMemory = Unit {0}
+RoundsStop _ = ⊥
+
+-- why a text isn't written
 abbrev pub OutputStops : Refusal → Type 0
 OutputStops refused.WriteFault = Unit {0}
 OutputStops refused.NoMemory = Unit {0}
 OutputStops _ = ⊥
 
--- the files are right
-pub record AreRight (told : Option (List File)) (files : Files) : Type 0 where
-  pub rows : List Row
+-- why the files of a run aren't read
+abbrev pub ReadingStops : Option (List File) → Files → Refusal → Type 0
+ReadingStops told files refused.ReadFault = Unit {0}
+ReadingStops told files refused.NoMemory = Unit {0}
+ReadingStops told files refusal = AreWrong told files refusal
+
+-- the files of a run were read: its subscribers, and its script
+pub record IsRead (told : Option (List File)) (files : Files) (rows : List Row) (script : Script) : Type 0 where
+  pub first : List Row
   pub text : List ℕ
-  pub are_read : AreRead told files rows text
-  pub script : Script
-  pub after : List Row
-  pub is_script : script_of rows text ≡ Ok (script, after)
+  pub are_read : AreRead told files first text
+  pub is_script : script_of first text ≡ Ok (script, rows)
+
+-- the rounds of a run's files were served so far, or its rounds didn't begin and nothing was written
+abbrev pub FilesLeave : Option (List File) → Files → Option (List ℕ) → (List ℕ → Type 0) → Status → Option (List ℕ) → Option (List ℕ) → Type 0
+FilesLeave told files seen leaves Done old new = RunsFiles told files seen leaves Done old new
+FilesLeave told files seen leaves StoreFull old new = RunsFiles told files seen leaves StoreFull old new
+FilesLeave told files seen leaves status old new = RunsFiles told files seen leaves status old new ⊎ (new ≡ old)
+
+-- a run ended before the journal was opened, and not because memory ran out
+abbrev pub IsBeforeJournal : Status → Type 0
+IsBeforeJournal SubscribersRefused = Unit {0}
+IsBeforeJournal ScenarioRefused = Unit {0}
+IsBeforeJournal ReadFault = Unit {0}
+IsBeforeJournal TooLong = Unit {0}
+IsBeforeJournal status = ⊥
 
 -- why a run whose words name files ends early
-abbrev pub FilesStop : Option (List File) → Files → Refusal → Type 0
-FilesStop told files refused.ReadFault = Unit {0}
-FilesStop told files refused.WriteFault = AreRight told files
-FilesStop told files refused.NoMemory = Unit {0}
-FilesStop told files refusal = AreWrong told files refusal
+abbrev pub FilesStop : Option (List File) → Files → Option (List ℕ) → Refusal → Type 0
+FilesStop told files seen refused.ReadFault = Unit {0}
+FilesStop told files seen refused.WriteFault = AreRight told files
+FilesStop told files seen refused.StoreFault = AreRight told files
+FilesStop told files seen (refused.NotJournal place) = AreRight told files × IsNoJournal seen place
+FilesStop told files seen refused.StoreFull = AreRight told files
+FilesStop told files seen refused.NoMemory = Unit {0}
+FilesStop told files seen refusal = AreWrong told files refusal
+
+-- why files that are right aren't served to the end
+abbrev pub InputStops : Option (List ℕ) → Refusal → Type 0
+InputStops seen refusal = JournalStops seen refusal ⊎ RoundsStop refusal
+
+-- why the limits of a journal aren't written
+abbrev pub ReservedStops : Option (List ℕ) → Refusal → Type 0
+ReservedStops seen refused.WriteFault = Unit {0}
+ReservedStops seen refusal = JournalStops seen refusal
 
 -- why a load ends early: the words are none of a load, or in serving it or writing its lines
 abbrev pub LoadStops : List (List ℕ) → Refusal → Type 0
 LoadStops words refusal = ((load_named words ≡ None) × (refusal ≡ refused.Usage))
     ⊎ ((load : LoadWords) × (load_named words ≡ Some load) × OutputStops refusal)
 
--- why a run ends early: by its files, by the words alone, in printing the functions of Milenage, or in a load
-abbrev pub Stops : List (List ℕ) → Option (List File) → Refusal → Type 0
-Stops words told refusal = ((files : Files) × (files_named words ≡ Some files) × FilesStop told files refusal)
+-- why a run ends early: by its files, in printing the functions of Milenage, in telling the journal, or in a load, or by
+-- the words alone
+abbrev pub Stops : List (List ℕ) → Option (List File) → Option (List ℕ) → Refusal → Type 0
+Stops words told seen refusal = ((files : Files) × (files_named words ≡ Some files) × FilesStop told files seen refusal)
     ⊎ ((values : AlgorithmWords) × (files_named words ≡ None) × (values_named words ≡ Some values) × OutputStops refusal)
-    ⊎ ((files_named words ≡ None) × (values_named words ≡ None) × LoadStops words refusal)
+    ⊎ ((files_named words ≡ None) × (values_named words ≡ None) × (asks_reserved words ≡ true) × ReservedStops seen refusal)
+    ⊎ ((files_named words ≡ None) × (values_named words ≡ None) × (asks_reserved words ≡ false) × LoadStops words refusal)
 
 -- nothing was written, unless a refusal is one that may come after rounds were written
 abbrev pub IsSilent : Refusal → Option (List ℕ) → Option (List ℕ) → Type 0
 IsSilent refused.WriteFault old new = Unit {0}
+IsSilent refused.StoreFault old new = Unit {0}
+IsSilent refused.StoreFull old new = Unit {0}
 IsSilent refused.NoMemory old new = Unit {0}
 IsSilent _ old new = new ≡ old
 
@@ -124,11 +188,47 @@ abbrev pub IsUntold : Refusal → Status → Type 0
 IsUntold refused.Usage status = status ≡ WriteFault
 IsUntold (refused.Subscribers row fault) status = (status ≡ WriteFault) ⊎ (status ≡ NoMemory)
 IsUntold (refused.Scenario line fault) status = (status ≡ WriteFault) ⊎ (status ≡ NoMemory)
+IsUntold (refused.NotJournal place) status = (status ≡ WriteFault) ⊎ (status ≡ NoMemory)
 IsUntold _ status = ⊥
 
 -- how a run ends with a refusal
 abbrev pub Tells : Refusal → Status → Option (List ℕ) → Option (List ℕ) → Type 0
 Tells refusal status old new = ((status ≡ status_of refusal) × Appends old new (line_of refusal)) ⊎ IsUntold refusal status
+
+-- the status of a run that ended so
+abbrev pub status_in : Result (Unit {0}) Refusal → Status
+status_in (Ok done) = Done
+status_in (Err refusal) = status_of refusal
+
+-- ---- the journal
+
+-- what a run begins with: the journal of a disk, opened for some subscribers
+pub record Begins {D : Type 0} (seen : D → Option (List ℕ)) (may_leave : D → List ℕ → Type 0) (faults : D → ℕ) (rows : List Row) (from : D) (journal : JournalState D) : Type 0 where
+  pub found : List Frame
+  pub is_found : IsFound (seen from) found
+  pub subscribers : journal.imsis ≡ map (λ row. row.imsi) rows
+  pub limits : limits_of journal ≡ limits_in rows found
+  pub ready : journal.failed ≡ false
+  pub durable : IsDurable seen may_leave from (λ sub. reserved_at journal sub) journal
+  pub quiet : faults journal.disk ≡ faults from
+
+-- the greatest limit that a crash may leave of a subscriber: what was reserved at first, or a step above its greatest word
+abbrev pub most_at : List ℕ → Course → ℕ → ℕ
+most_at reserved at sub = max (slice_index reserved sub) (slice_index at.highs sub + least_step)
+
+-- a journal of these subscribers has limits that a restart may have, and a crash leaves none that are lower, and none above
+-- those that the rounds so far may reserve
+pub record Reserves {D : Type 0} (seen : D → Option (List ℕ)) (may_leave : D → List ℕ → Type 0) (rows : List Row) (from : D) (reserved : List ℕ) (at : Course) (journal : JournalState D) : Type 0 where
+  pub subscribers : journal.imsis ≡ map (λ row. row.imsi) rows
+  pub raises : Raises rows at.early at.limits at.highs (limits_of journal)
+  pub durable : IsDurable seen may_leave from (most_at reserved at) journal
+
+-- a journal of these subscribers reserves each number that was released, and a crash leaves no lower limits
+pub record Covers {D : Type 0} (seen : D → Option (List ℕ)) (may_leave : D → List ℕ → Type 0) (rows : List Row) (from : D) (early : List LineRecord) (journal : JournalState D) : Type 0 where
+  pub subscribers : journal.imsis ≡ map (λ row. row.imsi) rows
+  pub covers : (sub : ℕ) → sub < length rows → All (λ n. n ≤ slice_index (limits_of journal) sub) (numbers_of sub early)
+  pub most : ℕ → ℕ
+  pub durable : IsDurable seen may_leave from most journal
 
 -- ---- the rounds, one after the other
 
@@ -138,32 +238,69 @@ pub record IsKnownRound (count : ℕ) (jobs : List (List Line)) : Type 0 where
   pub apart : AllPairs AreApart jobs
   pub few : length jobs ≤ most_jobs
 
--- a part that can be served: such a round
+-- a part that can be served: such a round, or a restart
 abbrev pub IsKnownPart : ℕ → Part → Type 0
 IsKnownPart count (Round jobs) = IsKnownRound count jobs
-IsKnownPart count Restart = ⊥
+IsKnownPart count Restart = Unit {0}
 
--- a state is the one at which a part of a transcript goes on
-pub record StandsOn (set : Setting) (number : ℕ) (at : Course) (state : Standing) : Type 0 where
+-- a part of a transcript goes on from here: the number of the next round, the state, and the journal
+pub record StandsOn {D : Type 0} (seen : D → Option (List ℕ)) (may_leave : D → List ℕ → Type 0) (set : Setting) (from : D) (reserved : List ℕ) (at : Course) (number : ℕ) (state : Standing) (journal : JournalState D) : Type 0 where
   pub numbered : at.number ≡ number
   pub stands : StandsAt set at.early state
   pub opens : state.words ≡ at.openings
+  pub ready : journal.failed ≡ false
+  pub reserves : Reserves seen may_leave set.rows from reserved at journal
 
--- a part was served, and its text was written
-pub record WritesPart (set : Setting) (full : Bool) (number : ℕ) (at : Course) (part : Part) (next : Standing) (old new : Option (List ℕ)) : Type 0 where
+-- the text of a part is written after what waited, or waits with it: a restart's line waits
+abbrev pub IsPut : Part → List ℕ → List ℕ → List ℕ → Option (List ℕ) → Option (List ℕ) → Type 0
+IsPut (Round jobs) text before after old new = Appends old new (before ++ text) × (after ≡ [])
+IsPut Restart text before after old new = (new ≡ old) × (after ≡ before ++ text)
+
+-- a part was served, and the next one goes on from there
+pub record GoesOn {D : Type 0} (seen : D → Option (List ℕ)) (may_leave : D → List ℕ → Type 0) (set : Setting) (full : Bool) (from : D) (reserved : List ℕ) (at : Course) (part : Part)
+    (number : ℕ) (state : Standing) (journal : JournalState D) (before after : List ℕ) (old new : Option (List ℕ)) : Type 0 where
   pub made : PartRecord
-  pub after : Course
-  pub served : ServesPart set None at part made after
-  pub on : StandsOn set (number + 1) after next
-  pub written : Appends old new (part_text set full made)
+  pub next : Course
+  pub served : ServesPart set None at part made next
+  pub on : StandsOn seen may_leave set from reserved next number state journal
+  pub put : IsPut part (part_text set full made) before after old new
 
--- the same from wherever the state before it stands
-abbrev pub Continues : Setting → Bool → ℕ → Standing → Part → Standing → Option (List ℕ) → Option (List ℕ) → Type 0
-Continues set full number state part next old new =
-    (at : Course) → StandsOn set number at state → WritesPart set full number at part next old new
+-- the last part of a run that ends early was served, and its text was written after what waited
+pub record ServesLast {D : Type 0} (seen : D → Option (List ℕ)) (may_leave : D → List ℕ → Type 0) (set : Setting) (full : Bool) (from : D) (reserved : List ℕ) (at : Course) (part : Part)
+    (status : Status) (journal : JournalState D) (before : List ℕ) (old new : Option (List ℕ)) : Type 0 where
+  pub stop : Option Stop
+  pub stopped : IsStopOf status stop
+  pub made : PartRecord
+  pub next : Course
+  pub served : ServesPart set stop at part made next
+  pub reserves : Reserves seen may_leave set.rows from reserved next journal
+  pub written : IsWritten status old new (before ++ part_text set full made)
+  pub full_at : status ≡ StoreFull → IsTold seen may_leave from → IsFull (seen journal.disk)
 
--- the text of a lawful transcript of a script was written
-pub record WritesScript (rows : List Row) (script : Script) (old new : Option (List ℕ)) : Type 0 where
+-- a run ended in a part: if memory ran out, nothing of it was written
+abbrev pub EndsIn : {D : Type 0} → (D → Option (List ℕ)) → (D → List ℕ → Type 0) → Setting → Bool → D → List ℕ → Course → Part
+    → Status → JournalState D → List ℕ → Option (List ℕ) → Option (List ℕ) → Type 0
+EndsIn seen may_leave set full from reserved at part NoMemory journal before old new = Covers seen may_leave set.rows from at.early journal × (new ≡ old)
+EndsIn seen may_leave set full from reserved at part status journal before old new =
+    ServesLast seen may_leave set full from reserved at part status journal before old new
+
+-- a text was written after a round in which reservations may have stopped, unless memory ran out
+abbrev pub HasWritten : Option Stop → Status → Option (List ℕ) → Option (List ℕ) → List ℕ → Type 0
+HasWritten stop NoMemory old new text = new ≡ old
+HasWritten stop status old new text = IsStopOf status stop × IsWritten status old new text
+
+-- the first of some parts were served and written, all of them if the run is done, and the disk is left so
+pub record RunsParts {D : Type 0} (seen : D → Option (List ℕ)) (may_leave : D → List ℕ → Type 0) (set : Setting) (full : Bool) (from : D) (reserved : List ℕ) (at : Course) (parts : List Part)
+    (status : Status) (disk : D) (old new : Option (List ℕ)) : Type 0 where
+  pub served : List Part
+  pub left : List Part
+  pub cut : parts ≡ served ++ left
+  pub whole : status ≡ Done → left ≡ []
+  pub stop : Option Stop
+  pub stopped : IsStopOf status stop
   pub records : List PartRecord
-  pub lawful : IsTranscript rows script records
-  pub written : Appends old new (text_of rows script records)
+  pub end : Course
+  pub leads : Leads set stop at served records end
+  pub written : IsWritten status old new (transcript_text set full records)
+  pub kept : (image : List ℕ) → MayLeave seen may_leave from disk image → IsKept status set.rows reserved end image
+  pub full_at : status ≡ StoreFull → IsTold seen may_leave from → IsFull (seen disk)

@@ -1,5 +1,5 @@
 pub mod Words
-pub mod Algorithm
+pub mod Crash
 pub mod Output
 pub mod Refusal
 pub mod Outcome

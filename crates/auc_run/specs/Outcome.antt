@@ -1,7 +1,14 @@
--- How a run ends: what each status says of the words, the shelf's files and the output.
-use Rattle.std.specs.Prelude.{◌≡◌, ℕ, ◌≤◌, ◌⊎◌, List, [], length, Option, Some, None, Ok, Err}
+-- How a run ends: what each status says of the words, the shelf's files, the journal and the output.
+use Rattle.std.specs.Prelude.{◌≡◌, ℕ, ◌≤◌, ◌⊎◌, true, false, List, [], ◌++◌, length, Option, Some, None, Ok, Err}
 use Rattle.auc_edge.specs.Shelf.{File, IsFile, IsLongerFile}
-use Rattle.auc_edge.specs.Sink.{Appends}
+use Rattle.auc_edge.specs.Sink.{Appends, AppendsFront}
+use Rattle.auc_edge.specs.declared.stop.Stop.{Stop}
+use Rattle.auc_edge.specs.declared.stop.Stop.TheVariants.{Fault, Full}
+use Rattle.auc_forms.specs.Algorithm.{values_named, algorithm_text}
+use Rattle.auc_forms.specs.Reserved.{IsReservedText, asks_reserved}
+use Rattle.auc_forms.specs.declared.algorithm.AlgorithmWords.{AlgorithmWords}
+use Rattle.auc_journal.specs.Image.{Frame}
+use Rattle.auc_lines.specs.declared.part.Part.{Part}
 use Rattle.auc_load.specs.Summary.{load_text}
 use Rattle.auc_load.specs.Words.{load_named}
 use Rattle.auc_load.specs.declared.words.LoadWords.{LoadWords}
@@ -11,15 +18,15 @@ use Rattle.auc_script.specs.declared.script.Script.{Script}
 use Rattle.auc_subs.specs.File.{subscribers_in}
 use Rattle.auc_subs.specs.declared.refusal.SubsRefusal.TheVariants.{Row as wrong_row}
 use Rattle.auc_subs.specs.declared.row.Row.{Row}
-use Rattle.auc_run.specs.Algorithm.{values_named, algorithm_text}
+use Rattle.auc_world.specs.Transcript.{Course}
+use Rattle.auc_run.specs.Crash.{IsFound, IsKept, IsNoJournal, limits_in}
 use Rattle.auc_run.specs.Output.{IsOutput}
 use Rattle.auc_run.specs.Refusal.{status_of, line_of}
 use Rattle.auc_run.specs.Words.{Files, files_named}
-use Rattle.auc_run.specs.declared.algorithm.AlgorithmWords.{AlgorithmWords}
 use Rattle.auc_run.specs.declared.refusal.Refusal.{Refusal}
 use Rattle.auc_run.specs.declared.refusal.Refusal.TheVariants as refused
 use Rattle.auc_run.specs.declared.status.Status.{Status}
-use Rattle.auc_run.specs.declared.status.Status.TheVariants.{Done, ReadFault, WriteFault, NoMemory}
+use Rattle.auc_run.specs.declared.status.Status.TheVariants.{Done, Usage, SubscribersRefused, ScenarioRefused, ReadFault, WriteFault, StoreFault, StoreFull, TooLong, NoMemory}
 
 -- ---- the input, in the order in which it is read
 
@@ -48,23 +55,70 @@ abbrev pub IsReadNext : Option (List File) → Files → List ℕ → Type 0
 IsReadNext told files name =
     (files.subscribers ≡ Some name) ⊎ ((rows : List Row) × BeginsWith told files.subscribers rows × (files.scenario ≡ name))
 
+-- the files are right
+pub record AreRight (told : Option (List File)) (files : Files) : Type 0 where
+  pub rows : List Row
+  pub text : List ℕ
+  pub are_read : AreRead told files rows text
+  pub script : Script
+  pub after : List Row
+  pub is_script : script_of rows text ≡ Ok (script, after)
+
+-- the words ask for the journal, and no file that is read before it is wrong
+abbrev pub OpensJournal : List (List ℕ) → Option (List File) → Type 0
+OpensJournal words told = (asks_reserved words ≡ true) ⊎ ((files : Files) × (files_named words ≡ Some files) × AreRight told files)
+
 -- ---- what is done
 
--- the scenario of the files was read whole, and the output of its run was written
-pub record RunsFiles (told : Option (List File)) (files : Files) (old new : Option (List ℕ)) : Type 0 where
+-- why reservations had stopped in the last round of a run that ended so, if they had; a write that fails may end either
+abbrev pub IsStopOf : Status → Option Stop → Type 0
+IsStopOf Done stop = stop ≡ None
+IsStopOf StoreFault stop = stop ≡ Some Fault
+IsStopOf StoreFull stop = stop ≡ Some Full
+IsStopOf NoMemory stop = stop ≡ None
+IsStopOf WriteFault stop = Unit {0}
+IsStopOf _ stop = ⊥
+
+-- a text was written, or its first bytes if the write failed
+abbrev pub IsWritten : Status → Option (List ℕ) → Option (List ℕ) → List ℕ → Type 0
+IsWritten WriteFault old new text = AppendsFront old new text
+IsWritten _ old new text = Appends old new text
+
+-- the scenario of the files was read whole and the journal opened, the first of its parts were served, and the output of
+-- their run was written. A crash may now leave such images
+pub record RunsFiles (told : Option (List File)) (files : Files) (seen : Option (List ℕ)) (leaves : List ℕ → Type 0) (status : Status) (old new : Option (List ℕ)) : Type 0 where
   pub first : List Row
   pub text : List ℕ
   pub are_read : AreRead told files first text
   pub script : Script
   pub rows : List Row
   pub is_script : script_of first text ≡ Ok (script, rows)
+  pub found : List Frame
+  pub is_found : IsFound seen found
+  -- the parts that were served, all of them if the run is done, and whether reservations stopped in the last of them
+  pub served : List Part
+  pub left : List Part
+  pub cut : script.parts ≡ served ++ left
+  pub whole : status ≡ Done → left ≡ []
+  pub stop : Option Stop
+  pub stopped : IsStopOf status stop
+  -- their output, and what a crash leaves of the journal
   pub output : List ℕ
-  pub is_output : IsOutput rows script output
-  pub written : Appends old new output
+  pub end : Course
+  pub is_output : IsOutput rows script (limits_in rows found) stop served end output
+  pub written : IsWritten status old new output
+  pub kept : (image : List ℕ) → leaves image → IsKept status rows (limits_in rows found) end image
 
 -- the words name the files of a scenario that was read and run
-abbrev pub RunsScenario : List (List ℕ) → Option (List File) → Option (List ℕ) → Option (List ℕ) → Type 0
-RunsScenario words told old new = (files : Files) × (files_named words ≡ Some files) × RunsFiles told files old new
+abbrev pub RunsScenario : List (List ℕ) → Option (List File) → Option (List ℕ) → (List ℕ → Type 0) → Status → Option (List ℕ) → Option (List ℕ) → Type 0
+RunsScenario words told seen leaves status old new = (files : Files) × (files_named words ≡ Some files) × RunsFiles told files seen leaves status old new
+
+-- the rounds didn't begin: nothing was written, or a line that says what is refused, or its first bytes
+abbrev pub EndsBefore : Status → Option (List ℕ) → Option (List ℕ) → Type 0
+EndsBefore Done old new = ⊥
+EndsBefore StoreFull old new = ⊥
+EndsBefore StoreFault old new = Appends old new []
+EndsBefore status old new = (refusal : Refusal) × AppendsFront old new (line_of refusal)
 
 -- the words give the values of Milenage's functions, and these were written
 abbrev pub PrintsAlgorithm : List (List ℕ) → Option (List ℕ) → Option (List ℕ) → Type 0
@@ -73,6 +127,15 @@ PrintsAlgorithm words old new = (values : AlgorithmWords) × (values_named words
 -- the words are those of a load, and its five lines were written: they are a function of the words
 abbrev pub RunsLoad : List (List ℕ) → Option (List ℕ) → Option (List ℕ) → Type 0
 RunsLoad words old new = (load : LoadWords) × (load_named words ≡ Some load) × Appends old new (load_text load)
+
+-- the word is `reserved`, and the limits of the journal that was found were written
+pub record PrintsReserved (words : List (List ℕ)) (seen : Option (List ℕ)) (old new : Option (List ℕ)) : Type 0 where
+  pub asks : asks_reserved words ≡ true
+  pub found : List Frame
+  pub is_found : IsFound seen found
+  pub text : List ℕ
+  pub is_text : IsReservedText found text
+  pub written : Appends old new text
 
 -- ---- what is refused
 
@@ -85,26 +148,49 @@ AreWrong told files (refused.Scenario line fault) =
 AreWrong told files refused.TooLong = (name : List ℕ) × IsReadNext told files name × IsLongerFile told name max_file
 AreWrong told files _ = ⊥
 
--- the cause of a refusal: the words have no form, or what is wrong with the files that they name
-abbrev pub IsCause : List (List ℕ) → Option (List File) → Refusal → Type 0
-IsCause words told refused.Usage = (files_named words ≡ None) × (values_named words ≡ None) × (load_named words ≡ None)
-IsCause words told refusal = (files : Files) × (files_named words ≡ Some files) × AreWrong told files refusal
+-- the cause of a refusal: the words have no form, what is wrong with the files that they name, or that the file of the
+-- journal is none
+abbrev pub IsCause : List (List ℕ) → Option (List File) → Option (List ℕ) → Refusal → Type 0
+IsCause words told seen refused.Usage =
+    (files_named words ≡ None) × (values_named words ≡ None) × (load_named words ≡ None) × (asks_reserved words ≡ false)
+IsCause words told seen (refused.NotJournal place) = OpensJournal words told × IsNoJournal seen place
+IsCause words told seen refusal = (files : Files) × (files_named words ≡ Some files) × AreWrong told files refusal
 
 -- a run was refused: the refusal's cause is there, and its line was written
-pub record Refuses (words : List (List ℕ)) (told : Option (List File)) (status : Status) (old new : Option (List ℕ)) : Type 0 where
+pub record Refuses (words : List (List ℕ)) (told : Option (List File)) (seen : Option (List ℕ)) (status : Status) (old new : Option (List ℕ)) : Type 0 where
   pub refusal : Refusal
   pub is_status : status ≡ status_of refusal
-  pub cause : IsCause words told refusal
+  pub cause : IsCause words told seen refusal
   pub written : Appends old new (line_of refusal)
 
--- a fault, or want of memory
+-- a fault, a journal that is full, or want of memory
 abbrev pub IsStop : Status → Type 0
-IsStop status = (status ≡ ReadFault) ⊎ (status ≡ WriteFault) ⊎ (status ≡ NoMemory)
+IsStop status = (status ≡ ReadFault) ⊎ (status ≡ WriteFault) ⊎ (status ≡ StoreFault) ⊎ (status ≡ StoreFull) ⊎ (status ≡ NoMemory)
 
--- how a run may end whose words name files that are right
+-- no call of the disk failed in a run that ended so
+abbrev pub IsQuiet : Status → Type 0
+IsQuiet StoreFault = ⊥
+IsQuiet WriteFault = ⊥
+IsQuiet NoMemory = ⊥
+IsQuiet _ = Unit {0}
+
+-- how a run may end whose words name files that are right, and whose journal is one
 abbrev pub MayRun : Status → Type 0
 MayRun status = (status ≡ Done) ⊎ IsStop status
 
 -- how a run may end whose words give the values of Milenage's functions, or are those of a load
 abbrev pub MayPrint : Status → Type 0
 MayPrint status = (status ≡ Done) ⊎ (status ≡ WriteFault) ⊎ (status ≡ NoMemory)
+
+-- how a run may end whose word is `reserved`, and whose journal is one
+abbrev pub MayTell : Status → Type 0
+MayTell status = MayPrint status ⊎ (status ≡ StoreFault)
+
+-- a run whose words need no journal, or that ended before the journal is opened
+abbrev pub NeedsNoJournal : List (List ℕ) → Status → Type 0
+NeedsNoJournal words Usage = Unit {0}
+NeedsNoJournal words SubscribersRefused = Unit {0}
+NeedsNoJournal words ScenarioRefused = Unit {0}
+NeedsNoJournal words ReadFault = Unit {0}
+NeedsNoJournal words TooLong = Unit {0}
+NeedsNoJournal words _ = ((values : AlgorithmWords) × (values_named words ≡ Some values)) ⊎ ((load : LoadWords) × (load_named words ≡ Some load))

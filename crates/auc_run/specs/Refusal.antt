@@ -7,7 +7,7 @@ use Rattle.auc_subs.specs.declared.refusal.SubsWhy.TheVariants as subs_why
 use Rattle.auc_run.specs.declared.refusal.Refusal.{Refusal}
 use Rattle.auc_run.specs.declared.refusal.Refusal.TheVariants as refused
 use Rattle.auc_run.specs.declared.status.Status.{Status}
-use Rattle.auc_run.specs.declared.status.Status.TheVariants.{Usage, SubscribersRefused, ScenarioRefused, ReadFault, WriteFault, TooLong, NoMemory}
+use Rattle.auc_run.specs.declared.status.Status.TheVariants.{Usage, SubscribersRefused, ScenarioRefused, ReadFault, WriteFault, StoreFault, NotJournal, StoreFull, TooLong, NoMemory}
 
 -- the status of a run that was refused
 abbrev pub status_of : Refusal → Status
@@ -16,6 +16,9 @@ status_of (refused.Subscribers row fault) = SubscribersRefused
 status_of (refused.Scenario line fault) = ScenarioRefused
 status_of refused.ReadFault = ReadFault
 status_of refused.WriteFault = WriteFault
+status_of refused.StoreFault = StoreFault
+status_of (refused.NotJournal place) = NotJournal
+status_of refused.StoreFull = StoreFull
 status_of refused.TooLong = TooLong
 status_of refused.NoMemory = NoMemory
 
@@ -52,6 +55,7 @@ abbrev pub line_of : Refusal → List ℕ
 line_of refused.Usage = codes "usage\n"
 line_of (refused.Subscribers row fault) = codes "refused subscribers " ++ decimal row ++ codes " " ++ subs_why_word fault ++ codes "\n"
 line_of (refused.Scenario line fault) = codes "refused scenario " ++ decimal line ++ codes " " ++ why_word fault ++ codes "\n"
+line_of (refused.NotJournal place) = codes "refused journal " ++ decimal place ++ codes "\n"
 line_of _ = []
 
 -- a fault or want of memory that may stop a run with this refusal: no file is read for `usage`, for which no memory
@@ -59,6 +63,7 @@ line_of _ = []
 abbrev pub MayStop : Refusal → Status → Type 0
 MayStop refused.Usage status = status ≡ WriteFault
 MayStop refused.TooLong status = (status ≡ ReadFault) ⊎ (status ≡ NoMemory)
+MayStop (refused.NotJournal place) status = (status ≡ ReadFault) ⊎ (status ≡ WriteFault) ⊎ (status ≡ StoreFault) ⊎ (status ≡ NoMemory)
 MayStop _ status = (status ≡ ReadFault) ⊎ (status ≡ WriteFault) ⊎ (status ≡ NoMemory)
 
 -- how a run may end whose input has the cause of this refusal

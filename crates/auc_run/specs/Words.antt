@@ -2,7 +2,7 @@
 use Rattle.std.specs.Prelude.{ℕ, List, [], ◌∷◌, length, Option, Some, None, if◌then◌else◌, ◌&&◌, nat_lt, codes}
 use Rattle.std.specs.Str.{bytes_eq}
 use Rattle.auc_run.specs.declared.status.Status.{Status}
-use Rattle.auc_run.specs.declared.status.Status.TheVariants.{Done, Usage, SubscribersRefused, ScenarioRefused, ReadFault, WriteFault, TooLong, NoMemory}
+use Rattle.auc_run.specs.declared.status.Status.TheVariants.{Done, Usage, SubscribersRefused, ScenarioRefused, ReadFault, WriteFault, StoreFault, NotJournal, StoreFull, TooLong, NoMemory}
 
 -- the files of a run: the scenario's, and the subscribers' if one is named
 pub record Files : Type 0 where
@@ -28,5 +28,8 @@ number_of_status SubscribersRefused = 2
 number_of_status ScenarioRefused = 3
 number_of_status ReadFault = 4
 number_of_status WriteFault = 5
+number_of_status StoreFault = 6
+number_of_status NotJournal = 7
+number_of_status StoreFull = 8
 number_of_status TooLong = 9
 number_of_status NoMemory = 10

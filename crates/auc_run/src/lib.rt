@@ -15,10 +15,10 @@
 //! started, and the call waits for them.
 #![tactic(auto)]
 
-mod algorithm;
 mod forms;
 mod input;
 mod load;
+mod opening;
 mod refusal;
 mod refusing;
 mod rounds;

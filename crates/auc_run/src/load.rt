@@ -1,17 +1,22 @@
-//! The form `load KEY SUBSCRIBERS JOBS WORKERS`: one round of draws, and the digest of its vectors.
+//! The form `load KEY SUBSCRIBERS JOBS WORKERS`: one round of draws over a journal in memory, and the digest of its vectors.
 
 ghost use Rattle.std.specs.Prelude.{◌≡◌, ◌≢◌, OnOk, IfOk, IfErr, IsErrOf, Err};
 ghost use Rattle.auc_edge.specs.Faults.{Rose};
 ghost use Rattle.auc_edge.specs.Sink.{Appends};
+ghost use Rattle.auc_jobs.specs.Round.{IsJournalOf};
 ghost use Rattle.auc_load.specs.Input.{load_rows};
 ghost use Rattle.auc_load.specs.Summary.{load_closings, load_text};
 ghost use Rattle.auc_load.specs.Words.{IsLoad};
+ghost use Rattle.auc_subs.specs.Subscriber.{AreSubscribers};
 ghost use Rattle.auc_run.specs.Inner.{LoadStops, OutputStops};
 ghost use Rattle.auc_run.specs.Outcome.{RunsLoad};
 
+use crate::opening::open_journal;
 use crate::refusal::Refusal;
+use auc_disk::{FailList, MemDisk};
 use auc_edge::{Gate, NoMemory, Octets, Sink, write_whole};
 use auc_jobs::{Served, State, serve};
+use auc_journal::Journal;
 use auc_load::{LoadWords, jobs, key_of, load_words, subscribers, summary};
 use auc_subs::Subscribers;
 use auc_vector::Rands;
@@ -81,6 +86,7 @@ fn serve_load<R: Threads + Wait + Sync, G: Gate + Sync>(
     };
     let jobs = jobs(alloc, load)?;
     let state = State::new(alloc, subs)?;
+    let journal = empty_journal(alloc, subs)?;
     let Served { result, .. } = serve(
         rt,
         alloc,
@@ -89,9 +95,26 @@ fn serve_load<R: Threads + Wait + Sync, G: Gate + Sync>(
         &set,
         false,
         state,
+        journal,
         load.workers,
         gate,
     );
     let ran = result?;
-    Ok(ran.round)
+    match ran.stop {
+        None => Ok(ran.round),
+        Some(_) => Err(NoMemory),
+    }
+}
+
+/// The journal of an empty disk in memory. A call of this disk fails only if memory runs out.
+fn empty_journal(alloc: Global, subs: &Subscribers) -> Result<Journal<MemDisk>, NoMemory>
+    ensures journal { IfOk result (IsJournalOf subs.now) }
+    ensures subscribers { AreSubscribers subs.now }
+{
+    let _count = subs.len();
+    let disk = MemDisk::new(alloc, Octets::new(alloc), FailList::new(alloc))?;
+    match open_journal(alloc, disk, subs) {
+        Ok(journal) => Ok(journal),
+        Err(_) => Err(NoMemory),
+    }
 }

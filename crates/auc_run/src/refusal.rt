@@ -1,12 +1,14 @@
 //! Why a run is refused.
 
-ghost use Rattle.std.specs.Prelude.{◌≡◌};
-ghost use Rattle.auc_run.specs.Inner.{read_refusal, subs_refusal, script_refusal};
+ghost use Rattle.std.specs.Prelude.{◌≡◌, Err};
+ghost use Rattle.auc_run.specs.Inner.{open_refusal, read_refusal, script_refusal, subs_refusal};
 ghost use Rattle.auc_run.specs.Refusal.{status_of};
 ghost use Rattle.auc_run.specs.declared.refusal.Refusal.TheVariants as refused;
 
 use crate::status::Status;
+use auc_disk::Disk;
 use auc_edge::{Failed, NoMemory, ReadRefusal};
+use auc_journal::{Journal, OpenWhy};
 use auc_script::{ScriptRefusal, ScriptWhy};
 use auc_subs::{SubsRefusal, SubsWhy};
 
@@ -23,10 +25,34 @@ pub enum Refusal {
     ReadFault,
     /// The output could not be written.
     WriteFault,
+    /// A call of the journal's disk failed.
+    StoreFault,
+    /// The journal's file is none, which this place shows.
+    NotJournal(u64),
+    /// The journal has no room for another limit.
+    StoreFull,
     /// An input file has more than 67108864 bytes.
     TooLong,
     /// Memory ran out.
     NoMemory,
+}
+
+/// What a form of the words did, and its disk.
+#[derive(Drop)]
+pub(crate) struct Performed<D: Drop> {
+    pub(crate) disk: D,
+    pub(crate) result: Result<(), Refusal>,
+}
+
+/// What is left of a journal if a refusal ends the run.
+pub(crate) fn refused<D: Disk + Drop>(journal: Journal<D>, refusal: Refusal) -> Performed<D>
+    ensures disk { result.disk ≡ journal.disk }
+    ensures refused { result.result ≡ Err refusal }
+{
+    Performed {
+        disk: journal.into_disk(),
+        result: Err(refusal),
+    }
 }
 
 impl Refusal {
@@ -40,6 +66,9 @@ impl Refusal {
             Refusal::Scenario(_, _) => Status::ScenarioRefused,
             Refusal::ReadFault => Status::ReadFault,
             Refusal::WriteFault => Status::WriteFault,
+            Refusal::StoreFault => Status::StoreFault,
+            Refusal::NotJournal(_) => Status::NotJournal,
+            Refusal::StoreFull => Status::StoreFull,
             Refusal::TooLong => Status::TooLong,
             Refusal::NoMemory => Status::NoMemory,
         }
@@ -76,6 +105,18 @@ impl From<ScriptRefusal> for Refusal {
         match script {
             ScriptRefusal::Line(line, why) => Refusal::Scenario(line, why),
             ScriptRefusal::NoMemory => Refusal::NoMemory,
+        }
+    }
+}
+
+impl From<OpenWhy> for Refusal {
+    ghost from_gives = { λ unopened e. e ≡ open_refusal unopened };
+
+    fn from(unopened: OpenWhy) -> Refusal {
+        match unopened {
+            OpenWhy::StoreFault => Refusal::StoreFault,
+            OpenWhy::NotJournal(place) => Refusal::NotJournal(place),
+            OpenWhy::NoMemory => Refusal::NoMemory,
         }
     }
 }

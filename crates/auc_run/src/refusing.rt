@@ -2,7 +2,7 @@
 
 ghost use Rattle.std.specs.Prelude.{◌≡◌, ◌≢◌, ◌++◌, OnOk, IfOk, IfErr, IsErrOf, Err, codes, decimal};
 ghost use Rattle.auc_edge.specs.Faults.{Rose};
-ghost use Rattle.auc_edge.specs.Sink.{Appends};
+ghost use Rattle.auc_edge.specs.Sink.{Appends, AppendsFront};
 ghost use Rattle.auc_run.specs.Inner.{IsUntold, Tells};
 ghost use Rattle.auc_run.specs.Refusal.{line_of, status_of, why_word, subs_why_word};
 
@@ -17,6 +17,7 @@ use std::alloc::Global;
 /// line.
 pub(crate) fn tell<K: Sink>(alloc: Global, refusal: Refusal, out: &mut K) -> Status
     ensures told { Tells refusal result (K.written out.old) (K.written out.new) }
+    ensures front { AppendsFront (K.written out.old) (K.written out.new) (line_of refusal) }
     ensures fault { refusal ≢ Refusal.WriteFault → result ≡ Status.WriteFault
         → Rose (K.faults out.old) (K.faults out.new) }
     ensures quiet { result ≢ Status.WriteFault → K.faults out.new ≡ K.faults out.old }
@@ -29,8 +30,10 @@ pub(crate) fn tell<K: Sink>(alloc: Global, refusal: Refusal, out: &mut K) -> Sta
 }
 
 /// Writes the line of a refusal, if it has one.
+#[tactic(auto, using(crate::proofs::TopLemmas::front_whole, crate::proofs::TopLemmas::front_none))]
 fn write_refusal<K: Sink>(alloc: Global, refusal: Refusal, out: &mut K) -> Result<(), Refusal>
     ensures written { OnOk result (Appends (K.written out.old) (K.written out.new) (line_of refusal)) }
+    ensures front { AppendsFront (K.written out.old) (K.written out.new) (line_of refusal) }
     ensures refused { IfErr result (λ stop. IsUntold refusal (status_of stop)) }
     ensures fault { IsErrOf result Refusal.WriteFault → Rose (K.faults out.old) (K.faults out.new) }
     ensures quiet { result ≢ Err Refusal.WriteFault → K.faults out.new ≡ K.faults out.old }
@@ -45,7 +48,16 @@ fn write_refusal<K: Sink>(alloc: Global, refusal: Refusal, out: &mut K) -> Resul
             let text = refused_line(alloc, b"refused scenario ", line, why_text(why))?;
             write_whole(out, text.as_slice())?
         }
-        Refusal::ReadFault | Refusal::WriteFault | Refusal::TooLong | Refusal::NoMemory => {}
+        Refusal::NotJournal(place) => {
+            let text = journal_line(alloc, place)?;
+            write_whole(out, text.as_slice())?
+        }
+        Refusal::ReadFault
+        | Refusal::WriteFault
+        | Refusal::StoreFault
+        | Refusal::StoreFull
+        | Refusal::TooLong
+        | Refusal::NoMemory => {}
     }
     Ok(())
 }
@@ -65,6 +77,17 @@ fn refused_line(
     text.append_number(u64::from(number))?;
     text.append(b" ")?;
     text.append(fault)?;
+    text.append(b"\n")?;
+    Ok(text)
+}
+
+/// The line of a journal that is none: the place that shows it.
+fn journal_line(alloc: Global, place: u64) -> Result<Octets, NoMemory>
+    ensures { IfOk result (λ text. text ≡ codes "refused journal " ++ decimal place ++ codes "\n") }
+{
+    let mut text = Octets::new(alloc);
+    text.append(b"refused journal ")?;
+    text.append_number(place)?;
     text.append(b"\n")?;
     Ok(text)
 }

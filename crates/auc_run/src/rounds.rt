@@ -1,22 +1,33 @@
-//! The rounds of a scenario, each written when it has ended.
+//! The rounds and restarts of a scenario. A round is written when it has ended, and a restart with the round after it, or
+//! at the end.
 
-ghost use Rattle.std.specs.Prelude.{◌≡◌, ◌≢◌, ◌≤◌, ◌<◌, ◌^◌, List, [], All, map, length, OnOk, IfOk, IfErr, IsErrOf, Err, if◌then◌else◌};
+ghost use Rattle.std.specs.Prelude.{◌≡◌, ◌≢◌, ◌≤◌, ◌<◌, ◌+◌, ◌^◌, ◌++◌, ℕ, List, [], All, map, length, slice_index, OnOk, IfOk, IfErr, IsErrOf, Err, if◌then◌else◌};
 ghost use Rattle.auc_edge.specs.Faults.{Rose};
-ghost use Rattle.auc_edge.specs.Sink.{Appends};
-ghost use Rattle.auc_print.specs.Text.{round_text};
-ghost use Rattle.auc_script.specs.Numbers.{most_workers};
+ghost use Rattle.auc_jobs.specs.State.{StandsAt};
+ghost use Rattle.auc_journal.specs.Journal.{limits_of};
 ghost use Rattle.auc_lines.specs.declared.part.Part.TheVariants as part;
+ghost use Rattle.auc_print.specs.Text.{restart_text, round_text};
+ghost use Rattle.auc_script.specs.Numbers.{most_workers};
+ghost use Rattle.auc_sqn.specs.Number.{max_seq};
 ghost use Rattle.auc_subs.specs.Subscriber.{AreSubscribers};
+ghost use Rattle.auc_world.specs.Limits.{opened};
 ghost use Rattle.auc_world.specs.Record.{NamesBelow};
-ghost use Rattle.auc_world.specs.Transcript.{Course};
+ghost use Rattle.auc_world.specs.Transcript.{Course, beginning};
 ghost use Rattle.auc_world.specs.Vectors.{vectors_in};
-ghost use Rattle.auc_run.specs.Inner.{Continues, IsKnownPart, OutputStops, StandsOn, WritesScript};
+ghost use Rattle.auc_world.specs.declared.record.LineRecord.{LineRecord};
+ghost use Rattle.auc_run.specs.Inner.{Begins, EndsIn, GoesOn, HasWritten, IsKnownPart, RoundsStop, RunsParts, StandsOn, status_in};
+ghost use Rattle.auc_run.specs.Outcome.{IsQuiet};
+ghost use Rattle.auc_run.specs.Output.{setting_of};
+ghost use Rattle.auc_run.specs.Refusal.{status_of};
 
-use crate::refusal::Refusal;
-use auc_edge::{Gate, Octets, Sink, write_whole};
+use crate::opening::openings;
+use crate::refusal::{Performed, Refusal, refused};
+use auc_disk::Disk;
+use auc_edge::{Failed, Gate, NoMemory, Octets, Sink, Stop, write_whole};
 use auc_jobs::{Ran, Served, State, serve};
+use auc_journal::Journal;
 use auc_lines::{Part, RoundPart};
-use auc_print::print_round;
+use auc_print::{print_restart, print_round};
 use auc_script::Script;
 use auc_subs::Subscribers;
 use auc_vector::Rands;
@@ -33,117 +44,306 @@ pub(crate) struct Settings<'a> {
     pub(crate) workers: u32,
 }
 
-/// Writes the text of a round.
+/// What a part of a scenario leaves to the next one.
+#[derive(Drop)]
+pub(crate) struct Stand<D: Disk + Drop> {
+    /// The number of the next round.
+    pub(crate) number: u32,
+    /// What the next round begins with.
+    pub(crate) state: State,
+    /// The journal.
+    pub(crate) journal: Journal<D>,
+    /// The lines of restarts that aren't written yet.
+    pub(crate) text: Octets,
+}
+
+/// What came of a part, and what it leaves.
+#[derive(Drop)]
+pub(crate) struct Step<D: Disk + Drop> {
+    pub(crate) stand: Stand<D>,
+    pub(crate) result: Result<(), Refusal>,
+}
+
+/// Writes the text of a round after a text that isn't written yet. If reservations ended in the round, it is refused with
+/// why after it was written.
 fn write_round<K: Sink>(
     alloc: Global,
     settings: &Settings,
     ran: &Ran,
+    text: &mut Octets,
     out: &mut K,
 ) -> Result<(), Refusal>
     requires named { NamesBelow (length settings.now.set.rows) ran.now.round }
     requires vectors { ran.now.vectors
         ≡ (if settings.now.full then map (vectors_in settings.now.set) ran.now.round.jobs else []) }
 
-    ensures written { OnOk result (Appends (K.written out.old) (K.written out.new)
-        (round_text settings.now.set settings.now.full ran.now.round)) }
-    ensures refused { IfErr result OutputStops }
+    ensures written { HasWritten ran.now.stop (status_in result) (K.written out.old) (K.written out.new)
+        (text.old ++ round_text settings.now.set settings.now.full ran.now.round) }
+    ensures refused { IfErr result RoundsStop }
+    ensures done { OnOk result (text.new ≡ []) }
     ensures quiet { result ≢ Err Refusal.WriteFault → K.faults out.new ≡ K.faults out.old }
     ensures fault { IsErrOf result Refusal.WriteFault → Rose (K.faults out.old) (K.faults out.new) }
 {
-    let mut text = Octets::new(alloc);
     let vectors = ran.vectors.as_slice();
-    print_round(&ran.round, vectors, &settings.set, settings.full, &mut text)?;
+    print_round(&ran.round, vectors, &settings.set, settings.full, text)?;
     write_whole(out, text.as_slice())?;
-    Ok(())
+    *text = Octets::new(alloc);
+    match ran.stop {
+        None => Ok(()),
+        Some(Stop::Fault) => Err(Refusal::StoreFault),
+        Some(Stop::Full) => Err(Refusal::StoreFull),
+    }
 }
 
-/// Serves the jobs of a round from the state in which the previous round left the subscribers, and writes its
-/// text. It answers the state for the next round.
-fn serve_and_write<R: Threads + Wait + Sync, K: Sink, G: Gate + Sync>(
+/// Serves the jobs of a round, and writes its text. If reservations ended in the round, it is refused with why after it
+/// was written.
+fn serve_round<R: Threads + Wait + Sync, K: Sink, D: Disk + Drop + Send, G: Gate + Sync>(
     rt: &R,
     alloc: Global,
     settings: &Settings,
-    number: u32,
     jobs: &RoundPart,
-    state: State,
+    stand: Stand<D>,
     out: &mut K,
     gate: &G,
-) -> Result<State, Refusal>
+) -> Step<D>
     requires subscribers { AreSubscribers settings.now.set.rows }
     requires known { IsKnownPart (length settings.now.set.rows) (part.Round jobs.now) }
     requires workers { (1 ≤ settings.now.workers) × (settings.now.workers ≤ most_workers) }
-    requires stands { (at : Course) × StandsOn settings.now.set number at state }
+    requires number { stand.number + 1 < 2 ^ 32 }
+    requires stands { (from : D) × (reserved : List ℕ) × (at : Course) × StandsOn D.seen D.may_leave settings.now.set
+        from reserved at stand.number stand.state stand.journal }
 
-    ensures written { IfOk result (λ next. Continues settings.now.set settings.now.full number state
-        (part.Round jobs.now) next (K.written out.old) (K.written out.new)) }
-    ensures refused { IfErr result OutputStops }
-    ensures quiet { result ≢ Err Refusal.WriteFault → K.faults out.new ≡ K.faults out.old }
-    ensures fault { IsErrOf result Refusal.WriteFault → Rose (K.faults out.old) (K.faults out.new) }
+    ensures goes { OnOk result.result ((from : D) (reserved : List ℕ) (at : Course)
+        → StandsOn D.seen D.may_leave settings.now.set from reserved at stand.number stand.state stand.journal
+        → GoesOn D.seen D.may_leave settings.now.set settings.now.full from reserved at (part.Round jobs.now)
+        result.stand.number result.stand.state result.stand.journal stand.text result.stand.text
+        (K.written out.old) (K.written out.new)) }
+    ensures ends { IfErr result.result (λ refusal. (from : D) (reserved : List ℕ) (at : Course)
+        → StandsOn D.seen D.may_leave settings.now.set from reserved at stand.number stand.state stand.journal
+        → EndsIn D.seen D.may_leave settings.now.set settings.now.full from reserved at (part.Round jobs.now)
+        (status_of refusal) result.stand.journal stand.text (K.written out.old) (K.written out.new)) }
+    ensures number { result.stand.number ≤ stand.number + 1 }
+    ensures refused { IfErr result.result RoundsStop }
+
+    // A fault comes only with a risen count.
+    ensures quiet { result.result ≢ Err Refusal.WriteFault → K.faults out.new ≡ K.faults out.old }
+    ensures fault { IsErrOf result.result Refusal.WriteFault → Rose (K.faults out.old) (K.faults out.new) }
+    ensures store_fault { IsErrOf result.result Refusal.StoreFault
+        → Rose (D.faults stand.journal.disk) (D.faults result.stand.journal.disk) }
+    ensures quiet_store { IsQuiet (status_in result.result)
+        → D.faults result.stand.journal.disk ≡ D.faults stand.journal.disk }
 {
-    let set = &settings.set;
-    let Served { state, result } = serve(
+    let Stand {
+        number,
+        state,
+        journal,
+        mut text,
+    } = stand;
+    let Served {
+        journal,
+        state,
+        result,
+    } = serve(
         rt,
         alloc,
         number,
         jobs.as_slice(),
-        set,
+        &settings.set,
         settings.full,
         state,
+        journal,
         settings.workers,
         gate,
     );
-    let ran = result?;
-    write_round(alloc, settings, &ran, out)?;
-    Ok(state)
+    let Ok(ran) = result else {
+        let stand = Stand {
+            number,
+            state,
+            journal,
+            text,
+        };
+        return Step {
+            stand,
+            result: Err(Refusal::NoMemory),
+        };
+    };
+    let result = write_round(alloc, settings, &ran, &mut text, out);
+    let stand = Stand {
+        number: number + 1,
+        state,
+        journal,
+        text,
+    };
+    Step { stand, result }
 }
 
-/// Serves a part of a scenario and writes it. It answers the state for the next part.
-fn serve_part<R: Threads + Wait + Sync, K: Sink, G: Gate + Sync>(
+/// Opens each subscriber anew at its limit, and appends the line of a restart to the text that isn't written yet. It makes
+/// no call of the disk.
+fn restart<D: Disk + Drop>(
+    alloc: Global,
+    subs: &Subscribers,
+    stand: &mut Stand<D>,
+) -> Result<(), Refusal>
+    requires subscribers { stand.old.journal.imsis ≡ map (λ row. row.imsi) subs.now }
+    requires size { length stand.old.state.words ≡ length subs.now }
+    ensures opened { OnOk result (stand.new.state.words ≡ opened subs.now (limits_of stand.old.journal)) }
+    ensures stands { OnOk result ((set : Setting) (early : List LineRecord)
+        → StandsAt set early stand.old.state → StandsAt set early stand.new.state) }
+    ensures limits { OnOk result ((sub : ℕ) → sub < length subs.now
+        → slice_index (limits_of stand.old.journal) sub ≤ max_seq) }
+    ensures text { OnOk result (stand.new.text ≡ stand.old.text ++ restart_text) }
+    ensures kept { (stand.new.journal ≡ stand.old.journal) × (stand.new.number ≡ stand.old.number) }
+    ensures refused { IfErr result (λ refusal. refusal ≡ Refusal.NoMemory) }
+{
+    let words = openings(alloc, subs, &stand.journal)?;
+    print_restart(&mut stand.text)?;
+    stand.state.open_at(words);
+    Ok(())
+}
+
+/// Serves a part of a scenario.
+fn serve_part<R: Threads + Wait + Sync, K: Sink, D: Disk + Drop + Send, G: Gate + Sync>(
     rt: &R,
     alloc: Global,
     settings: &Settings,
-    number: u32,
     part: &Part,
-    state: State,
+    mut stand: Stand<D>,
     out: &mut K,
     gate: &G,
-) -> Result<State, Refusal>
+) -> Step<D>
     requires subscribers { AreSubscribers settings.now.set.rows }
     requires known { IsKnownPart (length settings.now.set.rows) part.now }
     requires workers { (1 ≤ settings.now.workers) × (settings.now.workers ≤ most_workers) }
-    requires stands { (at : Course) × StandsOn settings.now.set number at state }
+    requires number { stand.number + 1 < 2 ^ 32 }
+    requires stands { (from : D) × (reserved : List ℕ) × (at : Course) × StandsOn D.seen D.may_leave settings.now.set
+        from reserved at stand.number stand.state stand.journal }
 
-    ensures written { IfOk result (λ next. Continues settings.now.set settings.now.full number state
-        part.now next (K.written out.old) (K.written out.new)) }
-    ensures refused { IfErr result OutputStops }
-    ensures quiet { result ≢ Err Refusal.WriteFault → K.faults out.new ≡ K.faults out.old }
-    ensures fault { IsErrOf result Refusal.WriteFault → Rose (K.faults out.old) (K.faults out.new) }
+    ensures goes { OnOk result.result ((from : D) (reserved : List ℕ) (at : Course)
+        → StandsOn D.seen D.may_leave settings.now.set from reserved at stand.number stand.state stand.journal
+        → GoesOn D.seen D.may_leave settings.now.set settings.now.full from reserved at part.now
+        result.stand.number result.stand.state result.stand.journal stand.text result.stand.text
+        (K.written out.old) (K.written out.new)) }
+    ensures ends { IfErr result.result (λ refusal. (from : D) (reserved : List ℕ) (at : Course)
+        → StandsOn D.seen D.may_leave settings.now.set from reserved at stand.number stand.state stand.journal
+        → EndsIn D.seen D.may_leave settings.now.set settings.now.full from reserved at part.now
+        (status_of refusal) result.stand.journal stand.text (K.written out.old) (K.written out.new)) }
+    ensures number { result.stand.number ≤ stand.number + 1 }
+    ensures refused { IfErr result.result RoundsStop }
+
+    // A fault comes only with a risen count.
+    ensures quiet { result.result ≢ Err Refusal.WriteFault → K.faults out.new ≡ K.faults out.old }
+    ensures fault { IsErrOf result.result Refusal.WriteFault → Rose (K.faults out.old) (K.faults out.new) }
+    ensures store_fault { IsErrOf result.result Refusal.StoreFault
+        → Rose (D.faults stand.journal.disk) (D.faults result.stand.journal.disk) }
+    ensures quiet_store { IsQuiet (status_in result.result)
+        → D.faults result.stand.journal.disk ≡ D.faults stand.journal.disk }
 {
     match part {
-        Part::Round(jobs) => serve_and_write(rt, alloc, settings, number, jobs, state, out, gate),
-        Part::Restart => unreachable!(),
+        Part::Round(jobs) => serve_round(rt, alloc, settings, jobs, stand, out, gate),
+        Part::Restart => {
+            let result = restart(alloc, settings.set.subs, &mut stand);
+            Step { stand, result }
+        }
     }
 }
 
-/// Serves the parts of a scenario and writes each when it has ended.
-pub(crate) fn serve_parts<R: Threads + Wait + Sync, K: Sink, G: Gate + Sync>(
+/// Serves parts of a scenario one after the other, up to the first that is refused, and writes what isn't written yet at the
+/// end.
+fn serve_all<R: Threads + Wait + Sync, K: Sink, D: Disk + Drop + Send, G: Gate + Sync>(
+    rt: &R,
+    alloc: Global,
+    settings: &Settings,
+    parts: &[Part],
+    mut stand: Stand<D>,
+    out: &mut K,
+    gate: &G,
+) -> Performed<D>
+    requires subscribers { AreSubscribers settings.now.set.rows }
+    requires known { All (IsKnownPart (length settings.now.set.rows)) parts.now }
+    requires workers { (1 ≤ settings.now.workers) × (settings.now.workers ≤ most_workers) }
+    requires number { stand.number + length parts.now < 2 ^ 32 }
+    requires text { stand.text ≡ [] }
+    requires stands { (from : D) × (reserved : List ℕ) × (at : Course) × StandsOn D.seen D.may_leave settings.now.set
+        from reserved at stand.number stand.state stand.journal }
+
+    ensures ran { (from : D) (reserved : List ℕ) (at : Course)
+        → StandsOn D.seen D.may_leave settings.now.set from reserved at stand.number stand.state stand.journal
+        → RunsParts D.seen D.may_leave settings.now.set settings.now.full from reserved at parts.now
+        (status_in result.result) result.disk (K.written out.old) (K.written out.new) }
+    ensures refused { IfErr result.result RoundsStop }
+
+    // A fault comes only with a risen count.
+    ensures quiet { result.result ≢ Err Refusal.WriteFault → K.faults out.new ≡ K.faults out.old }
+    ensures fault { IsErrOf result.result Refusal.WriteFault → Rose (K.faults out.old) (K.faults out.new) }
+    ensures store_fault { IsErrOf result.result Refusal.StoreFault
+        → Rose (D.faults stand.journal.disk) (D.faults result.disk) }
+    ensures quiet_store { IsQuiet (status_in result.result) → D.faults result.disk ≡ D.faults stand.journal.disk }
+{
+    for part in parts {
+        let Step {
+            stand: next,
+            result,
+        } = serve_part(rt, alloc, settings, part, stand, out, gate);
+        match result {
+            Ok(()) => stand = next,
+            Err(refusal) => return refused(next.journal, refusal),
+        }
+    }
+    let Stand { journal, text, .. } = stand;
+    match write_whole(out, text.as_slice()) {
+        Ok(()) => Performed {
+            disk: journal.into_disk(),
+            result: Ok(()),
+        },
+        Err(Failed) => refused(journal, Refusal::WriteFault),
+    }
+}
+
+/// Where the first round stands: each subscriber is opened at its limit.
+fn first_state<D: Disk + Drop>(
+    alloc: Global,
+    subs: &Subscribers,
+    journal: &Journal<D>,
+) -> Result<State, NoMemory>
+    requires { journal.now.imsis ≡ map (λ row. row.imsi) subs.now }
+    ensures opened { IfOk result (λ state. state.words ≡ opened subs.now (limits_of journal.now)) }
+    ensures stands { IfOk result (λ state. (set : Setting) → set.rows ≡ subs.now → StandsAt set [] state) }
+    ensures limits { OnOk result ((sub : ℕ) → sub < length subs.now
+        → slice_index (limits_of journal.now) sub ≤ max_seq) }
+{
+    let mut state = State::new(alloc, subs)?;
+    state.open_at(openings(alloc, subs, journal)?);
+    Ok(state)
+}
+
+/// Serves the parts of a scenario and writes each round when it has ended. It hands the disk back.
+pub(crate) fn serve_parts<R: Threads + Wait + Sync, K: Sink, D: Disk + Drop + Send, G: Gate + Sync>(
     rt: &R,
     alloc: Global,
     script: &Script,
     subs: &Subscribers,
+    journal: Journal<D>,
     out: &mut K,
     gate: &G,
-) -> Result<(), Refusal>
+) -> Performed<D>
     requires subscribers { AreSubscribers subs.now }
     requires known { All (IsKnownPart (length subs.now)) script.now.parts }
-    requires count { length script.now.parts < 2 ^ 32 }
+    requires count { length script.now.parts + 1 < 2 ^ 32 }
     requires workers { (1 ≤ script.now.workers) × (script.now.workers ≤ most_workers) }
+    requires journal { (from : D) × Begins D.seen D.may_leave D.faults subs.now from journal }
 
-    ensures written { OnOk result
-        (WritesScript subs.now script.now (K.written out.old) (K.written out.new)) }
-    ensures refused { IfErr result OutputStops }
-    ensures quiet { result ≢ Err Refusal.WriteFault → K.faults out.new ≡ K.faults out.old }
-    ensures fault { IsErrOf result Refusal.WriteFault → Rose (K.faults out.old) (K.faults out.new) }
+    ensures ran { (from : D) → Begins D.seen D.may_leave D.faults subs.now from journal
+        → RunsParts D.seen D.may_leave (setting_of subs.now script.now) script.now.full from (limits_of journal)
+        (beginning subs.now (limits_of journal)) script.now.parts
+        (status_in result.result) result.disk (K.written out.old) (K.written out.new) }
+    ensures refused { IfErr result.result RoundsStop }
+
+    // A fault comes only with a risen count.
+    ensures quiet { result.result ≢ Err Refusal.WriteFault → K.faults out.new ≡ K.faults out.old }
+    ensures fault { IsErrOf result.result Refusal.WriteFault → Rose (K.faults out.old) (K.faults out.new) }
+    ensures store_fault { IsErrOf result.result Refusal.StoreFault
+        → Rose (D.faults journal.disk) (D.faults result.disk) }
+    ensures quiet_store { IsQuiet (status_in result.result) → D.faults result.disk ≡ D.faults journal.disk }
 {
     let rands = Rands::new(script.key);
     let settings = Settings {
@@ -155,12 +355,22 @@ pub(crate) fn serve_parts<R: Threads + Wait + Sync, K: Sink, G: Gate + Sync>(
         full: script.full,
         workers: script.workers,
     };
-    let parts = script.parts.as_slice();
-    let mut state = State::new(alloc, subs)?;
-    let mut number = 0;
-    for part in parts {
-        number += 1;
-        state = serve_part(rt, alloc, &settings, number, part, state, out, gate)?;
-    }
-    Ok(())
+    let Ok(state) = first_state(alloc, subs, &journal) else {
+        return refused(journal, Refusal::NoMemory);
+    };
+    let stand = Stand {
+        number: 1,
+        state,
+        journal,
+        text: Octets::new(alloc),
+    };
+    serve_all(
+        rt,
+        alloc,
+        &settings,
+        script.parts.as_slice(),
+        stand,
+        out,
+        gate,
+    )
 }

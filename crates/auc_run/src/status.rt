@@ -6,7 +6,7 @@ ghost use Rattle.auc_run.specs.Words.{number_of_status};
 /// How a run ends.
 #[derive(Clone, Copy, Debug, PartialEq, Eq)]
 pub enum Status {
-    /// What the words ask for was written: the lines of the scenario's rounds, or the functions of Milenage.
+    /// What the words ask for was written.
     Done,
     /// The words have none of the program's forms.
     Usage,
@@ -18,6 +18,12 @@ pub enum Status {
     ReadFault,
     /// The output could not be written.
     WriteFault,
+    /// A call of the journal's disk failed.
+    StoreFault,
+    /// The journal's file is none.
+    NotJournal,
+    /// The journal has no room for another limit.
+    StoreFull,
     /// An input file has more than 67108864 bytes.
     TooLong,
     /// Memory ran out.
@@ -36,6 +42,9 @@ impl Status {
             Status::ScenarioRefused => 3,
             Status::ReadFault => 4,
             Status::WriteFault => 5,
+            Status::StoreFault => 6,
+            Status::NotJournal => 7,
+            Status::StoreFull => 8,
             Status::TooLong => 9,
             Status::NoMemory => 10,
         }
@@ -43,7 +52,10 @@ impl Status {
 }
 
 /// What a run leaves.
-#[derive(Clone, Copy, Debug, PartialEq, Eq)]
-pub struct Ended {
+#[derive(Drop)]
+pub struct Ended<D: Drop> {
+    /// How it ended.
     pub status: Status,
+    /// The disk, as the last call left it.
+    pub disk: D,
 }

@@ -1,62 +1,88 @@
 //! The top call.
 
-ghost use Rattle.std.specs.Prelude.{◌≡◌, ◌≢◌, ◌⊎◌, ℕ, List, [], Some, None, Ok, Err, OnOk, IfErr, IsErrOf};
+ghost use Rattle.std.specs.Prelude.{◌≡◌, ◌≢◌, ◌⊎◌, ℕ, true, false, Option, List, [], Some, None, Ok, Err, OnOk, IfOk, IfErr, IsErrOf};
 ghost use Rattle.auc_edge.specs.Faults.{Rose};
 ghost use Rattle.auc_edge.specs.Shelf.{File};
 ghost use Rattle.auc_edge.specs.Sink.{Appends};
+ghost use Rattle.auc_forms.specs.Algorithm.{values_named, algorithm_text};
+ghost use Rattle.auc_forms.specs.Reserved.{IsReservedText, asks_reserved};
+ghost use Rattle.auc_journal.specs.Durable.{IsTold};
+ghost use Rattle.auc_journal.specs.Image.{Frame, Reading, read_image};
+ghost use Rattle.auc_load.specs.Words.{load_named};
+ghost use Rattle.auc_load.specs.declared.words.LoadWords.{LoadWords};
+ghost use Rattle.auc_script.specs.Limits.{IsWithin};
 ghost use Rattle.auc_script.specs.Reading.{script_of};
 ghost use Rattle.auc_script.specs.declared.script.Script.{Script};
 ghost use Rattle.auc_subs.specs.declared.row.Row.{Row};
-ghost use Rattle.auc_run.specs.Algorithm.{values_named, algorithm_text};
-ghost use Rattle.auc_run.specs.Inner.{FilesStop, IsSilent, OutputStops, Stops, files_seen};
-ghost use Rattle.auc_run.specs.Outcome.{AreRead, BeginsWith, IsCause, IsReadNext, IsStop, MayPrint, MayRun, PrintsAlgorithm, Refuses, RunsFiles, RunsLoad, RunsScenario};
-ghost use Rattle.auc_load.specs.Words.{load_named};
-ghost use Rattle.auc_load.specs.declared.words.LoadWords.{LoadWords};
+ghost use Rattle.auc_run.specs.Crash.{IsFound, IsFull, MayLeave};
+ghost use Rattle.auc_run.specs.Inner.{FilesLeave, FilesStop, InputStops, IsBeforeJournal, IsRead, IsSilent, OutputStops, ReadingStops, ReservedStops, Stops, files_seen, status_in};
+ghost use Rattle.auc_run.specs.Outcome.{AreRead, EndsBefore, IsCause, IsQuiet, IsReadNext, IsStop, MayPrint, MayRun, MayTell, NeedsNoJournal, PrintsAlgorithm, PrintsReserved, Refuses, RunsFiles, RunsLoad, RunsScenario};
 ghost use Rattle.auc_run.specs.Refusal.{MayRefuse};
 ghost use Rattle.auc_run.specs.Words.{Files, files_named};
 
-use crate::algorithm::{AlgorithmWords, algorithm_lines, algorithm_words};
 use crate::forms::{InputFiles, input_files};
 use crate::input::{read_script, read_subscribers};
 use crate::load::run_load;
-use crate::refusal::Refusal;
+use crate::opening::open_journal;
+use crate::refusal::{Performed, Refusal};
 use crate::refusing::tell;
 use crate::rounds::serve_parts;
 use crate::status::{Ended, Status};
+use auc_disk::Disk;
 use auc_edge::{Gate, Octets, Shelf, Sink, write_whole};
+use auc_forms::{AlgorithmWords, algorithm_lines, algorithm_words, is_reserved, reserved_lines};
+use auc_journal::{Journal, LimitList, OpenRefused};
+use auc_script::Script;
+use auc_subs::Subscribers;
 use std::alloc::Global;
 use std::sync::Wait;
 use std::thread::Threads;
 
-/// Runs the program with its words. What the clauses say of contents holds for a shelf and an output that reveal
-/// what they hold, as those in memory do.
+/// Runs the program with its words, and hands the disk back. What the clauses say of contents holds for a shelf, a disk
+/// and an output that reveal what they hold, as those in memory do.
 ///
-/// The words `run SCENARIO SUBSCRIBERS` read the subscribers and then the scenario from these files of the
-/// shelf, serve the scenario's rounds, and write the text of each round when it has ended; `run SCENARIO` begins
-/// with no subscribers. The words `vector K OPC RAND SQN AMF` write the seven functions of Milenage at these
-/// values. The words `load KEY SUBSCRIBERS JOBS WORKERS` serve one round of draws, and then write five lines, which
-/// are a function of the words. Any other words are answered by `usage`.
+/// The words `run SCENARIO SUBSCRIBERS` read the subscribers and then the scenario from these files of the shelf, open the
+/// journal of the disk, serve the scenario's rounds and restarts, and write the text of each round when it has ended;
+/// `run SCENARIO` begins with no subscribers. If the journal fails or is full in a round, the round is written and the run
+/// ends. The word `reserved` opens the journal and writes its limits. The words `vector K OPC RAND SQN AMF` write the seven
+/// functions of Milenage at these values. The words `load KEY SUBSCRIBERS JOBS WORKERS` serve one round of draws over a
+/// journal in memory, and then write five lines, which are a function of the words. Any other words are answered by `usage`.
 ///
 /// As many workers as the scenario or the words say serve the jobs of a round. Each passes the gate as it begins a job
 /// and after the job's last line. The clauses hold for every number of workers and however their steps interleave; none
 /// says that a worker gets on, or that `run` returns.
-pub fn run<R: Threads + Wait + Sync, H: Shelf, K: Sink, G: Gate + Sync>(
+pub fn run<R: Threads + Wait + Sync, H: Shelf, K: Sink, D: Disk + Drop + Send, G: Gate + Sync>(
     rt: &R,
     alloc: Global,
     words: &[Octets],
     shelf: &mut H,
     out: &mut K,
+    disk: D,
     gate: &G,
-) -> Ended
+) -> Ended<D>
     // A run does what its words ask for, is stopped, or is refused with its cause and that cause's line.
     ensures done { result.status ≡ Status.Done
-        → RunsScenario words.now (H.files shelf.old) (K.written out.old) (K.written out.new)
+        → RunsScenario words.now (H.files shelf.old) (D.seen disk) (MayLeave D.seen D.may_leave disk result.disk) Status.Done
+        (K.written out.old) (K.written out.new)
         ⊎ PrintsAlgorithm words.now (K.written out.old) (K.written out.new)
+        ⊎ PrintsReserved words.now (D.seen disk) (K.written out.old) (K.written out.new)
         ⊎ RunsLoad words.now (K.written out.old) (K.written out.new) }
     ensures refused { (result.status ≡ Status.Done) ⊎ IsStop result.status
-        ⊎ Refuses words.now (H.files shelf.old) result.status (K.written out.old) (K.written out.new) }
+        ⊎ Refuses words.now (H.files shelf.old) (D.seen disk) result.status (K.written out.old) (K.written out.new) }
 
-    // A fault comes only with a risen count: that of the file to be read next, or of the output.
+    // However a run of a scenario ends: the rounds that were written are a lawful transcript of its first parts, and a
+    // crash leaves a journal that reserves each number of their vectors.
+    ensures ran { (files : Files) → files_named words.now ≡ Some files
+        → RunsFiles (H.files shelf.old) files (D.seen disk) (MayLeave D.seen D.may_leave disk result.disk) result.status
+        (K.written out.old) (K.written out.new)
+        ⊎ EndsBefore result.status (K.written out.old) (K.written out.new) }
+    ensures store_full { result.status ≡ Status.StoreFull
+        → RunsScenario words.now (H.files shelf.old) (D.seen disk) (MayLeave D.seen D.may_leave disk result.disk) Status.StoreFull
+        (K.written out.old) (K.written out.new)
+        × (IsTold D.seen D.may_leave disk → IsFull (D.seen result.disk)) }
+    ensures untouched { NeedsNoJournal words.now result.status → result.disk ≡ disk }
+
+    // A fault comes only with a risen count: that of the file to be read next, of the output, or of the disk.
     ensures read_fault { result.status ≡ Status.ReadFault → (files : Files) × (files_named words.now ≡ Some files)
         × (name : List ℕ) × IsReadNext (H.files shelf.old) files name × Rose (H.faults shelf.old name) (H.faults shelf.new name)
         × Appends (K.written out.old) (K.written out.new) [] }
@@ -64,82 +90,224 @@ pub fn run<R: Threads + Wait + Sync, H: Shelf, K: Sink, G: Gate + Sync>(
         → (name : List ℕ) → H.faults shelf.new name ≡ H.faults shelf.old name }
     ensures write_fault { result.status ≡ Status.WriteFault → Rose (K.faults out.old) (K.faults out.new) }
     ensures quiet_output { result.status ≢ Status.WriteFault → K.faults out.new ≡ K.faults out.old }
+    ensures store_fault { result.status ≡ Status.StoreFault → Rose (D.faults disk) (D.faults result.disk) }
+    ensures quiet_disk { IsQuiet result.status → D.faults result.disk ≡ D.faults disk }
 
-    // On a shelf that tells its files, each input comes to its status, unless a fault or want of memory comes before.
+    // If the shelf tells its files and the disk its bytes, each input comes to its status, unless a fault, a full journal or
+    // want of memory comes before.
     ensures usage_comes { files_named words.now ≡ None → values_named words.now ≡ None → load_named words.now ≡ None
-        → MayRefuse Refusal.Usage result.status }
-    ensures refused_comes { (there : List File) (cause : Refusal) → H.files shelf.old ≡ Some there
-        → IsCause words.now (Some there) cause → MayRefuse cause result.status }
-    ensures done_comes { (there : List File) (files : Files) (rows after : List Row) (text : List ℕ) (script : Script)
-        → H.files shelf.old ≡ Some there → files_named words.now ≡ Some files → AreRead (Some there) files rows text
-        → script_of rows text ≡ Ok (script, after) → MayRun result.status }
+        → asks_reserved words.now ≡ false → MayRefuse Refusal.Usage result.status }
+    ensures refused_comes { (there : List File) (found : List ℕ) (cause : Refusal) → H.files shelf.old ≡ Some there
+        → D.seen disk ≡ Some found → IsCause words.now (Some there) (Some found) cause → MayRefuse cause result.status }
+    ensures done_comes { (there : List File) (found : List ℕ) (files : Files) (rows after : List Row) (text : List ℕ)
+        (script : Script) (reading : Reading) → H.files shelf.old ≡ Some there → D.seen disk ≡ Some found
+        → files_named words.now ≡ Some files → AreRead (Some there) files rows text
+        → script_of rows text ≡ Ok (script, after) → read_image found ≡ Ok reading → MayRun result.status }
     ensures algorithm_comes { (values : AlgorithmWords) → values_named words.now ≡ Some values → MayPrint result.status }
     ensures load_comes { (load : LoadWords) → load_named words.now ≡ Some load → MayPrint result.status }
+    ensures reserved_comes { (found : List ℕ) (reading : Reading) → asks_reserved words.now ≡ true
+        → D.seen disk ≡ Some found → read_image found ≡ Ok reading → MayTell result.status }
 {
-    let status = match perform(rt, alloc, words, shelf, out, gate) {
-        Ok(()) => Status::Done,
-        Err(refusal) => tell(alloc, refusal, out),
-    };
-    Ended { status }
+    let Performed { disk, result } = perform(rt, alloc, words, shelf, out, disk, gate);
+    match result {
+        Ok(()) => Ended {
+            status: Status::Done,
+            disk,
+        },
+        Err(refusal) => Ended {
+            status: tell(alloc, refusal, out),
+            disk,
+        },
+    }
 }
 
 /// Does what the words ask for.
-fn perform<R: Threads + Wait + Sync, H: Shelf, K: Sink, G: Gate + Sync>(
+fn perform<R: Threads + Wait + Sync, H: Shelf, K: Sink, D: Disk + Drop + Send, G: Gate + Sync>(
     rt: &R,
     alloc: Global,
     words: &[Octets],
     shelf: &mut H,
     out: &mut K,
+    disk: D,
     gate: &G,
-) -> Result<(), Refusal>
-    ensures done { OnOk result (RunsScenario words.now (H.files shelf.old) (K.written out.old) (K.written out.new)
+) -> Performed<D>
+    ensures done { OnOk result.result (RunsScenario words.now (H.files shelf.old) (D.seen disk)
+        (MayLeave D.seen D.may_leave disk result.disk) Status.Done (K.written out.old) (K.written out.new)
         ⊎ PrintsAlgorithm words.now (K.written out.old) (K.written out.new)
+        ⊎ PrintsReserved words.now (D.seen disk) (K.written out.old) (K.written out.new)
         ⊎ RunsLoad words.now (K.written out.old) (K.written out.new)) }
-    ensures refused { IfErr result (Stops words.now (H.files shelf.old)) }
-    ensures silent { IfErr result (λ refusal. IsSilent refusal (K.written out.old) (K.written out.new)) }
+    ensures refused { IfErr result.result (Stops words.now (H.files shelf.old) (D.seen disk)) }
+    ensures ran { (files : Files) → files_named words.now ≡ Some files → FilesLeave (H.files shelf.old) files (D.seen disk)
+        (MayLeave D.seen D.may_leave disk result.disk) (status_in result.result) (K.written out.old) (K.written out.new) }
+    ensures silent { IfErr result.result (λ refusal. IsSilent refusal (K.written out.old) (K.written out.new)) }
+    ensures store_full { IsErrOf result.result Refusal.StoreFull → IsTold D.seen D.may_leave disk
+        → IsFull (D.seen result.disk) }
+    ensures untouched { NeedsNoJournal words.now (status_in result.result) → result.disk ≡ disk }
 
-    ensures read_fault { IsErrOf result Refusal.ReadFault → (files : Files) × (files_named words.now ≡ Some files)
-        × (name : List ℕ) × IsReadNext (H.files shelf.old) files name × Rose (H.faults shelf.old name) (H.faults shelf.new name) }
-    ensures quiet_shelf { result ≢ Err Refusal.ReadFault
+    // A fault comes only with a risen count.
+    ensures read_fault { IsErrOf result.result Refusal.ReadFault → (files : Files)
+        × (files_named words.now ≡ Some files) × (name : List ℕ) × IsReadNext (H.files shelf.old) files name
+        × Rose (H.faults shelf.old name) (H.faults shelf.new name) }
+    ensures quiet_shelf { result.result ≢ Err Refusal.ReadFault
         → (name : List ℕ) → H.faults shelf.new name ≡ H.faults shelf.old name }
-    ensures write_fault { IsErrOf result Refusal.WriteFault → Rose (K.faults out.old) (K.faults out.new) }
-    ensures quiet_output { result ≢ Err Refusal.WriteFault → K.faults out.new ≡ K.faults out.old }
+    ensures write_fault { IsErrOf result.result Refusal.WriteFault → Rose (K.faults out.old) (K.faults out.new) }
+    ensures quiet_output { result.result ≢ Err Refusal.WriteFault → K.faults out.new ≡ K.faults out.old }
+    ensures store_fault { IsErrOf result.result Refusal.StoreFault → Rose (D.faults disk) (D.faults result.disk) }
+    ensures quiet_disk { IsQuiet (status_in result.result) → D.faults result.disk ≡ D.faults disk }
 {
     if let Some(files) = input_files(words) {
-        return run_files(rt, alloc, &files, shelf, out, gate);
+        return run_files(rt, alloc, &files, shelf, out, disk, gate);
     }
-    match algorithm_words(words) {
-        Some(values) => print_algorithm(alloc, &values, out),
-        None => run_load(rt, alloc, words, out, gate),
+    if let Some(values) = algorithm_words(words) {
+        let result = print_algorithm(alloc, &values, out);
+        return Performed { disk, result };
     }
+    if is_reserved(words) {
+        return print_reserved(alloc, out, disk);
+    }
+    let result = run_load(rt, alloc, words, out, gate);
+    Performed { disk, result }
 }
 
-/// Reads the subscribers, if a file of them is named, and then the scenario, and serves its rounds.
-#[tactic(auto, using(crate::proofs::RefusalLemmas::subscribers_stop, crate::proofs::RefusalLemmas::scenario_stops))]
-fn run_files<R: Threads + Wait + Sync, H: Shelf, K: Sink, G: Gate + Sync>(
+/// Reads the subscribers, if a file of them is named, and then the scenario, opens the journal, and serves the rounds.
+#[tactic(auto, using(crate::proofs::RefusalLemmas::reading_stops, crate::proofs::RefusalLemmas::input_stops, crate::proofs::RefusalLemmas::right_read, crate::proofs::RefusalLemmas::leave_unread))]
+fn run_files<R: Threads + Wait + Sync, H: Shelf, K: Sink, D: Disk + Drop + Send, G: Gate + Sync>(
     rt: &R,
     alloc: Global,
     files: &InputFiles,
     shelf: &mut H,
     out: &mut K,
+    disk: D,
     gate: &G,
-) -> Result<(), Refusal>
-    ensures done { OnOk result
-        (RunsFiles (H.files shelf.old) (files_seen files.now) (K.written out.old) (K.written out.new)) }
-    ensures refused { IfErr result (FilesStop (H.files shelf.old) (files_seen files.now)) }
-    ensures silent { IfErr result (λ refusal. IsSilent refusal (K.written out.old) (K.written out.new)) }
+) -> Performed<D>
+    ensures refused { IfErr result.result (FilesStop (H.files shelf.old) (files_seen files.now) (D.seen disk)) }
+    ensures ran { FilesLeave (H.files shelf.old) (files_seen files.now) (D.seen disk)
+        (MayLeave D.seen D.may_leave disk result.disk) (status_in result.result) (K.written out.old) (K.written out.new) }
+    ensures silent { IfErr result.result (λ refusal. IsSilent refusal (K.written out.old) (K.written out.new)) }
+    ensures store_full { IsErrOf result.result Refusal.StoreFull → IsTold D.seen D.may_leave disk
+        → IsFull (D.seen result.disk) }
+    ensures untouched { IsBeforeJournal (status_in result.result) → result.disk ≡ disk }
 
+    // A fault comes only with a risen count.
+    ensures read_fault { IsErrOf result.result Refusal.ReadFault → (name : List ℕ)
+        × IsReadNext (H.files shelf.old) (files_seen files.now) name
+        × Rose (H.faults shelf.old name) (H.faults shelf.new name) }
+    ensures quiet_shelf { result.result ≢ Err Refusal.ReadFault
+        → (name : List ℕ) → H.faults shelf.new name ≡ H.faults shelf.old name }
+    ensures write_fault { IsErrOf result.result Refusal.WriteFault → Rose (K.faults out.old) (K.faults out.new) }
+    ensures quiet_output { result.result ≢ Err Refusal.WriteFault → K.faults out.new ≡ K.faults out.old }
+    ensures store_fault { IsErrOf result.result Refusal.StoreFault → Rose (D.faults disk) (D.faults result.disk) }
+    ensures quiet_disk { IsQuiet (status_in result.result) → D.faults result.disk ≡ D.faults disk }
+{
+    match read_input(alloc, files, shelf) {
+        Ok(input) => run_input(rt, alloc, &input, out, disk, gate),
+        Err(refusal) => Performed {
+            disk,
+            result: Err(refusal),
+        },
+    }
+}
+
+/// Opens the journal for the subscribers of a run, and serves the rounds of its script.
+#[tactic(auto, using(crate::proofs::RefusalLemmas::leave_unopened))]
+fn run_input<R: Threads + Wait + Sync, K: Sink, D: Disk + Drop + Send, G: Gate + Sync>(
+    rt: &R,
+    alloc: Global,
+    input: &Input,
+    out: &mut K,
+    disk: D,
+    gate: &G,
+) -> Performed<D>
+    requires { IsWithin input.now.subs input.now.script }
+    ensures ran { (told : Option (List File)) (files : Files) → IsRead told files input.now.subs input.now.script
+        → FilesLeave told files (D.seen disk) (MayLeave D.seen D.may_leave disk result.disk) (status_in result.result)
+        (K.written out.old) (K.written out.new) }
+    ensures refused { IfErr result.result (InputStops (D.seen disk)) }
+    ensures silent { IfErr result.result (λ refusal. IsSilent refusal (K.written out.old) (K.written out.new)) }
+    ensures store_full { IsErrOf result.result Refusal.StoreFull → IsTold D.seen D.may_leave disk
+        → IsFull (D.seen result.disk) }
+
+    // A fault comes only with a risen count.
+    ensures write_fault { IsErrOf result.result Refusal.WriteFault → Rose (K.faults out.old) (K.faults out.new) }
+    ensures quiet_output { result.result ≢ Err Refusal.WriteFault → K.faults out.new ≡ K.faults out.old }
+    ensures store_fault { IsErrOf result.result Refusal.StoreFault → Rose (D.faults disk) (D.faults result.disk) }
+    ensures quiet_disk { IsQuiet (status_in result.result) → D.faults result.disk ≡ D.faults disk }
+{
+    match open_journal(alloc, disk, &input.subs) {
+        Ok(journal) => serve_parts(rt, alloc, &input.script, &input.subs, journal, out, gate),
+        Err(OpenRefused { disk, why }) => Performed {
+            disk,
+            result: Err(Refusal::from(why)),
+        },
+    }
+}
+
+/// The subscribers and the script of the files of a run.
+#[derive(Drop)]
+struct Input {
+    subs: Subscribers,
+    script: Script,
+}
+
+/// Reads the subscribers, if a file of them is named, and then the scenario.
+#[tactic(auto, using(crate::proofs::RefusalLemmas::subscribers_stop, crate::proofs::RefusalLemmas::scenario_stops))]
+fn read_input<H: Shelf>(alloc: Global, files: &InputFiles, shelf: &mut H) -> Result<Input, Refusal>
+    ensures read { IfOk result (λ input. IsRead (H.files shelf.old) (files_seen files.now) input.subs input.script) }
+    ensures within { IfOk result (λ input. IsWithin input.subs input.script) }
+    ensures refused { IfErr result (ReadingStops (H.files shelf.old) (files_seen files.now)) }
+
+    // A fault comes only with a risen count.
     ensures read_fault { IsErrOf result Refusal.ReadFault
         → (name : List ℕ) × IsReadNext (H.files shelf.old) (files_seen files.now) name
         × Rose (H.faults shelf.old name) (H.faults shelf.new name) }
     ensures quiet_shelf { result ≢ Err Refusal.ReadFault
         → (name : List ℕ) → H.faults shelf.new name ≡ H.faults shelf.old name }
-    ensures write_fault { IsErrOf result Refusal.WriteFault → Rose (K.faults out.old) (K.faults out.new) }
-    ensures quiet_output { result ≢ Err Refusal.WriteFault → K.faults out.new ≡ K.faults out.old }
 {
     let mut subs = read_subscribers(alloc, files.subscribers, shelf)?;
     let script = read_script(alloc, files.scenario, shelf, &mut subs)?;
-    serve_parts(rt, alloc, &script, &subs, out, gate)
+    Ok(Input { subs, script })
+}
+
+/// Writes the limits of a disk's journal.
+fn print_reserved<K: Sink, D: Disk + Drop>(alloc: Global, out: &mut K, disk: D) -> Performed<D>
+    ensures done { OnOk result.result ((found : List Frame) × IsFound (D.seen disk) found
+        × (text : List ℕ) × IsReservedText found text × Appends (K.written out.old) (K.written out.new) text) }
+    ensures refused { IfErr result.result (ReservedStops (D.seen disk)) }
+    ensures silent { IfErr result.result (λ refusal. refusal ≢ Refusal.WriteFault
+        → K.written out.new ≡ K.written out.old) }
+    ensures write_fault { IsErrOf result.result Refusal.WriteFault → Rose (K.faults out.old) (K.faults out.new) }
+    ensures quiet_output { result.result ≢ Err Refusal.WriteFault → K.faults out.new ≡ K.faults out.old }
+    ensures store_fault { IsErrOf result.result Refusal.StoreFault → Rose (D.faults disk) (D.faults result.disk) }
+    ensures quiet_disk { result.result ≢ Err Refusal.StoreFault → D.faults result.disk ≡ D.faults disk }
+{
+    match Journal::open(alloc, disk, &[]) {
+        Ok(journal) => {
+            let result = write_limits(alloc, journal.listed(), out);
+            Performed {
+                disk: journal.into_disk(),
+                result,
+            }
+        }
+        Err(OpenRefused { disk, why }) => Performed {
+            disk,
+            result: Err(Refusal::from(why)),
+        },
+    }
+}
+
+/// Writes limits, a line for each.
+fn write_limits<K: Sink>(alloc: Global, limits: &LimitList, out: &mut K) -> Result<(), Refusal>
+    ensures written { OnOk result ((text : List ℕ) × IsReservedText limits.now.written text
+        × Appends (K.written out.old) (K.written out.new) text) }
+    ensures refused { IfErr result OutputStops }
+    ensures silent { IfErr result (λ refusal. refusal ≢ Refusal.WriteFault
+        → K.written out.new ≡ K.written out.old) }
+    ensures fault { IsErrOf result Refusal.WriteFault → Rose (K.faults out.old) (K.faults out.new) }
+    ensures quiet { result ≢ Err Refusal.WriteFault → K.faults out.new ≡ K.faults out.old }
+{
+    let text = reserved_lines(alloc, limits)?;
+    write_whole(out, text.as_slice())?;
+    Ok(())
 }
 
 /// Writes the functions of Milenage at some values.

@@ -1,8 +1,9 @@
-use Rattle.std.proofs.Common.{◌≡◌, ◌∙◌, ℕ, List, [], AllPairs, None, length, map, ap, subst, sym, refl, arith}
+use Rattle.std.proofs.Common.{◌∙◌, ℕ, List, [], AllPairs, Option, None, length, map, ap, subst, sym, refl, arith}
+use Rattle.auc_edge.specs.declared.stop.Stop.{Stop}
 use Rattle.auc_jobs.specs.Serving.{AreAllKnown}
 use Rattle.auc_lines.specs.Part.{AreApart}
 use Rattle.auc_lines.specs.declared.part.Line.{Line}
-use Rattle.auc_load.specs.Input.{load_jobs, load_rows}
+use Rattle.auc_load.specs.Input.{load_jobs}
 use Rattle.auc_subs.specs.declared.row.Row.{Row}
 use Rattle.auc_world.specs.Round.{IsLawfulRound}
 use Rattle.auc_world.specs.Setting.{Setting}
@@ -31,15 +32,16 @@ serve-result-requires-clause-few g c = λ κs within.
     let few = load_few c.args.load.now c.requires.load in
     omega (arith, same, few)
 
-pub returns : goal.returns
-returns g c =
+pub returns-in-None : goal.returns-in-None
+returns-in-None g c =
     let load = c.args.load.now in
     let set : Setting = record { key = c.new-rands.result; rows = c.args.subs.now; realm = c.as_slice.result.now } in
     let round = c.in_ok-ran.ran.round in
     let stands = c.in_ok-state.ensures.stands set refl in
-    let served = IfOk-ok c.serve-result.result.result c.in_ok-ran.ran _ c.in_ok-ran.was c.serve-result.ensures.lawful [] stands in
-    let of_jobs = subst (λ (js : List (List Line)). IsLawfulRound set None [] c.in_ok-state.state.words js round served.0)
-    (c.as_slice-2.ensures ∙ c.in_ok-jobs.ensures) served.1 in
+    let served = IfOk-ok c.serve-result.result.result c.in_ok-ran.ran _ c.in_ok-ran.was c.serve-result.ensures.served [] stands in
+    let whole = subst (λ (stop : Option Stop). IsLawfulRound set stop [] c.in_ok-state.state.words c.as_slice-2.result.now round served.words) (cc c.in-None.is) served.lawful in
+    let of_jobs = subst (λ (js : List (List Line)). IsLawfulRound set None [] c.in_ok-state.state.words js round served.words)
+    (c.as_slice-2.ensures ∙ c.in_ok-jobs.ensures) whole in
     let opens = c.in_ok-state.ensures.words ∙ ap (λ (rows : List Row). map (λ (row : Row). row.seq) rows) c.requires.subscribers in
-    load_round_closes load set round served.0 c.requires.load
-    (subst (λ (os : List ℕ). IsLawfulRound set None [] os (load_jobs load) round served.0) opens of_jobs)
+    load_round_closes load set round served.words c.requires.load
+    (subst (λ (os : List ℕ). IsLawfulRound set None [] os (load_jobs load) round served.words) opens of_jobs)

@@ -1,42 +1,45 @@
-use Rattle.std.proofs.Common.{ℕ, ◌+◌, List, ◌∷◌, drop, ◌∙◌, sym, ap, subst, refl}
-use Rattle.std.proofs.lemmas.List.{drop_more, drop_all}
+use Rattle.std.proofs.Common.{ℕ, List, refl, subst}
+use Rattle.auc_journal.specs.Journal.{limits_of}
 use Rattle.auc_lines.specs.declared.part.Part.{Part}
-use Rattle.auc_run.proofs.OutputLemmas.{Serving, Serving-none, Serving-part, Serving-all}
+use Rattle.auc_world.specs.Setting.{Setting}
+use Rattle.auc_world.specs.Transcript.{beginning}
+use Rattle.auc_run.specs.Inner.{RunsParts, status_in}
+use Rattle.auc_run.specs.Output.{setting_of}
+use Rattle.auc_run.proofs.OutputLemmas.{Serving-nothing}
+use Rattle.auc_run.proofs.StandLemmas.{begins_stand}
 use Rattle.auc_run.proofs.rounds.serve_parts.Goals as goal
 
-pub loop-part-init : goal.loop-part-init
-loop-part-init g c = record {
-  number = refl;
-  quiet = refl;
-  serving = Serving-none _ _ _ _ _ c.in_ok-state.ensures.words (c.in_ok-state.ensures.stands (record { key = c.new-rands.result; rows = c.args.subs.now; realm = c.as_slice.result.now }) refl);
-}
+pub returns-in_default-clause-ran : goal.returns-in_default-clause-ran
+returns-in_default-clause-ran g c = λ from begins.
+    rw c.refused.ensures.refused
+    (Serving-nothing g.D.Disk.seen g.D.Disk.may_leave g.D.Disk.faults (setting_of c.args.subs.now c.args.script.now) c.args.script.now.full from c.args.journal c.args.script.now.parts
+    c.refused.result.disk (g.K.Sink.written c.args.out.now) begins c.refused.ensures.disk)
 
-pub loop-part-preserved : goal.loop-part-preserved
-loop-part-preserved g c =
-    let serving = c.loop-part.invariant.serving in
-    record {
-      number = ap (λ (n : ℕ). n + 1) c.loop-part.invariant.number;
-      quiet = c.in_ok-state-2.ensures.quiet (λ same. cc) ∙ c.loop-part.invariant.quiet;
-      serving = Serving-part _ _ _ _ _ _ _ _ _ _ _ _ _
-          (drop_more _ _ c.part-item.result c.loop-part-test.true
-          ∙ ap (λ (part : Part). part ∷ drop (c.loop-part.part-index + 1) c.as_slice-parts.result.now) (sym c.part-item.is))
-          refl serving (c.in_ok-state-2.ensures.written serving.course serving.on);
-    }
+pub serve_all-requires-clause-stands : goal.serve_all-requires-clause-stands
+serve_all-requires-clause-stands g c = λ κs within.
+    let set : Setting = record { key = c.new-rands.result; rows = c.args.subs.now; realm = c.as_slice.result.now } in
+    let reserved = limits_of c.args.journal in (
+      c.requires.journal.0,
+      reserved,
+      beginning c.args.subs.now reserved,
+      begins_stand g.D.Disk.seen g.D.Disk.may_leave g.D.Disk.faults set c.requires.journal.0 c.in-Ok.state c.args.journal c.requires.journal.1 c.in-Ok.ensures.opened (c.in-Ok.ensures.stands set refl) c.in-Ok.ensures.limits,
+    )
 
-pub returns-clause-written : goal.returns-clause-written
-returns-clause-written g c =
-    let left = drop c.loop-part.part-index c.as_slice-parts.result.now in
-    let full = c.args.script.now.full in
-    let number = c.loop-part.number + 1 in
-    let old = g.K.Sink.written c.args.out.now in
-    let new = g.K.Sink.written c.loop-part.out in
+pub returns-clause-ran : goal.returns-clause-ran
+returns-clause-ran g c = λ from begins.
     let rows = c.args.subs.now in
-    let state = c.loop-part.state in
-    let realm = c.as_slice.result.now in
-    let of_script = subst (λ (parts : List Part). Serving (record { key = c.new-rands.result; rows = rows; realm = realm }) full number state left parts old new)
-    c.as_slice-parts.ensures c.loop-part.invariant.serving in
-    let of_key = subst (λ (key : List ℕ). Serving (record { key = key; rows = rows; realm = realm }) full number state left c.args.script.now.parts old new)
+    let script = c.args.script.now in
+    let full = script.full in
+    let set : Setting = record { key = c.new-rands.result; rows = rows; realm = c.as_slice.result.now } in
+    let reserved = limits_of c.args.journal in
+    let begin = beginning rows reserved in
+    let ended = status_in c.serve_all.result.result in
+    let disk = c.serve_all.result.disk in
+    let old = g.K.Sink.written c.args.out.now in
+    let new = g.K.Sink.written c.serve_all.new.out in
+    let ran = c.serve_all.ensures.ran from reserved begin
+    (begins_stand g.D.Disk.seen g.D.Disk.may_leave g.D.Disk.faults set from c.in-Ok.state c.args.journal begins c.in-Ok.ensures.opened (c.in-Ok.ensures.stands set refl) c.in-Ok.ensures.limits) in
+    let of_script = subst (λ (parts : List Part). RunsParts g.D.Disk.seen g.D.Disk.may_leave set full from reserved begin parts ended disk old new) c.as_slice-2.ensures ran in
+    let of_key = subst (λ (key : List ℕ). RunsParts g.D.Disk.seen g.D.Disk.may_leave (record { key = key; rows = rows; realm = c.as_slice.result.now }) full from reserved begin script.parts ended disk old new)
     c.new-rands.ensures of_script in
-    Serving-all rows c.args.script.now number state left old new (drop_all _ _ c.loop-part-test.false)
-    (subst (λ (r : List ℕ). Serving (record { key = c.args.script.now.key; rows = rows; realm = r }) full number state left c.args.script.now.parts old new)
-    c.as_slice.ensures of_key)
+    subst (λ (r : List ℕ). RunsParts g.D.Disk.seen g.D.Disk.may_leave (record { key = script.key; rows = rows; realm = r }) full from reserved begin script.parts ended disk old new) c.as_slice.ensures of_key

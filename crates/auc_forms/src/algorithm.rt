@@ -1,7 +1,7 @@
 //! The form `vector K OPC RAND SQN AMF`: the seven functions of Milenage at these values.
 
 ghost use Rattle.std.specs.Prelude.{◌≡◌, ◌++◌, OnOk, IfOk};
-ghost use Rattle.auc_run.specs.Algorithm.{values_in, values_named, value_line, algorithm_text};
+ghost use Rattle.auc_forms.specs.Algorithm.{values_in, values_named, value_line, algorithm_text};
 
 use auc_edge::{NoMemory, Octets};
 use auc_milenage::{Milenage, Secret, f1_star, f5_star};

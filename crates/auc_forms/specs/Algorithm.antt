@@ -5,7 +5,7 @@ use Rattle.std.specs.Str.{bytes_eq}
 use Rattle.hex.specs.Hex.{encode_lower}
 use Rattle.auc_milenage.specs.Milenage.{f1, f1_star, f2, f3, f4, f5, f5_star}
 use Rattle.auc_text.specs.Field.{octets_in}
-use Rattle.auc_run.specs.declared.algorithm.AlgorithmWords.{AlgorithmWords}
+use Rattle.auc_forms.specs.declared.algorithm.AlgorithmWords.{AlgorithmWords}
 
 -- the values that five texts spell
 abbrev pub values_in : List ℕ → List ℕ → List ℕ → List ℕ → List ℕ → Option AlgorithmWords

@@ -1,0 +1,207 @@
+-- For a part of a scenario: where it begins, and where a round or a restart leads.
+use Rattle.std.proofs.Common.{◌≡◌, ◌≢◌, ℕ, ◌+◌, ◌<◌, ◌≤◌, max, List, [], ◌∷◌, ◌++◌, length, map, All, Option, refl, sym, ◌∙◌, ap, subst, arith}
+use Rattle.std.specs.Prelude.{slice_index}
+use Rattle.std.proofs.Math.ListN.{length-map}
+use Rattle.std.proofs.lemmas.List.Concat.{flat_map-append}
+use Rattle.std.proofs.lemmas.List.Elements.{All-nil, All-cons, All-head, All-tail, All-weaker}
+use Rattle.auc_edge.specs.declared.stop.Stop.{Stop}
+use Rattle.auc_journal.specs.Durable.{IsDurable}
+use Rattle.auc_journal.specs.Image.{Frame, reserved_in}
+use Rattle.auc_journal.specs.Journal.{JournalState, imsi_at, limits_of, reserved_at}
+use Rattle.auc_journal.proofs.Facts.{durable_more, limits_at}
+use Rattle.auc_jobs.specs.Round.{LeavesMore, Serves}
+use Rattle.auc_jobs.specs.State.{Standing, StandsAt}
+use Rattle.auc_lines.specs.declared.part.Line.{Line}
+use Rattle.auc_sqn.specs.Number.{max_seq}
+use Rattle.auc_subs.specs.declared.row.Row.{Row}
+use Rattle.auc_transcript.proofs.Facts.{raises_again, raises_first, raises_round}
+use Rattle.auc_world.proofs.Facts.{get_or-greater}
+use Rattle.auc_world.specs.Limits.{least_step, opened}
+use Rattle.auc_world.specs.Lines.{all_lines, numbers_of, released_by}
+use Rattle.auc_world.specs.Round.{IsLawfulRound}
+use Rattle.auc_world.specs.Setting.{Setting}
+use Rattle.auc_world.specs.Transcript.{Course, Restarts, ServesRound, after_restart, after_round, beginning}
+use Rattle.auc_world.specs.declared.record.LineRecord.{LineRecord}
+use Rattle.auc_world.specs.declared.record.RoundRecord.{RoundRecord}
+use Rattle.auc_run.specs.Crash.{IsKept, MayLeave, limits_in}
+use Rattle.auc_run.specs.Inner.{Begins, Covers, Reserves, StandsOn, most_at}
+use Rattle.auc_run.specs.declared.status.Status.{Status}
+use Rattle.auc_run.specs.declared.status.Status.TheVariants.{NoMemory}
+
+-- what holds of the lines of two lists holds of the first
+front_numbers : (sub : ℕ) (P : ℕ → Type 0) (early lines : List LineRecord) → All P (numbers_of sub (early ++ lines)) → All P (numbers_of sub early)
+front_numbers sub P early lines all =
+    left (numbers_of sub early) (numbers_of sub lines) (subst (λ (numbers : List ℕ). All P numbers) (flat_map-append (released_by sub) early lines) all)
+  where
+    left : (xs ys : List ℕ) → All P (xs ++ ys) → All P xs
+    left [] ys all = All-nil P
+    left (x ∷ xs) ys all = All-cons P x xs (All-head P x (xs ++ ys) all) (left xs ys (All-tail P x (xs ++ ys) all))
+
+-- there are as many identities as rows
+count_of : {D : Type 0} (rows : List Row) (journal : JournalState D) → journal.imsis ≡ map (λ row. row.imsi) rows → length journal.imsis ≡ length rows
+count_of rows journal is = ap length is ∙ length-map rows (λ (row : Row). row.imsi)
+
+-- the limit of a subscriber by other frames
+limit_in : {D : Type 0} (rows : List Row) (journal : JournalState D) (frames : List Frame) (sub : ℕ) → journal.imsis ≡ map (λ row. row.imsi) rows → sub < length rows
+    → slice_index (limits_in rows frames) sub ≡ reserved_in frames (imsi_at journal.imsis sub)
+limit_in {D} rows journal frames sub is inside =
+    let other : JournalState D = record journal { limits = frames } in
+    let count = count_of rows journal is in
+    ap (λ imsis. slice_index (map (λ imsi. reserved_in frames imsi) imsis) sub) (sym is) ∙ limits_at other sub (omega (arith, count, inside))
+
+-- ---- what a crash leaves
+
+kept_between : {D : Type 0} (seen : D → Option (List ℕ)) (may_leave : D → List ℕ → Type 0) (status : Status) (rows : List Row) (from disk : D) (reserved : List ℕ) (end : Course) (most : ℕ → ℕ) (journal : JournalState D)
+    → journal.imsis ≡ map (λ row. row.imsi) rows → ((sub : ℕ) → sub < length rows → All (λ n. n ≤ slice_index (limits_of journal) sub) (numbers_of sub end.early))
+    → IsDurable seen may_leave from most journal → (status ≢ NoMemory → (sub : ℕ) → sub < length rows → most sub ≤ most_at reserved end sub) → disk ≡ journal.disk
+    → (image : List ℕ) → MayLeave seen may_leave from disk image → IsKept status rows reserved end image
+kept_between {D} seen may_leave status rows from disk reserved end most journal subscribers covers durable near same image (told, leaves) =
+    let between = durable.images told image (subst (λ (d : D). may_leave d image) same leaves) in
+    let count = count_of rows journal subscribers in
+    record {
+      reading = between.0;
+      is_read = between.1;
+      covers = λ sub inside.
+          let within : sub < length journal.imsis = omega (arith, count, inside) in
+          let at = limit_in rows journal between.0.frames sub subscribers inside in
+          let here = limits_at journal sub within in
+          let low = (between.2 sub within).0 in
+          All-weaker (λ n. n ≤ slice_index (limits_of journal) sub) (λ n. n ≤ slice_index (limits_in rows between.0.frames) sub)
+          (λ n under. omega (arith, at, here, low, under)) (numbers_of sub end.early) (covers sub inside);
+      near = λ whole sub inside.
+          let within : sub < length journal.imsis = omega (arith, count, inside) in
+          let at = limit_in rows journal between.0.frames sub subscribers inside in
+          let high = (between.2 sub within).1 in
+          let bound = near whole sub inside in
+          omega (arith, at, high, bound);
+    }
+
+-- after rounds whose limits are such as a restart may have
+pub kept_reserves : {D : Type 0} (seen : D → Option (List ℕ)) (may_leave : D → List ℕ → Type 0) (status : Status) (rows : List Row) (from disk : D) (reserved : List ℕ) (end : Course) (journal : JournalState D)
+    → Reserves seen may_leave rows from reserved end journal → disk ≡ journal.disk → (image : List ℕ) → MayLeave seen may_leave from disk image → IsKept status rows reserved end image
+kept_reserves seen may_leave status rows from disk reserved end journal reserves same =
+    kept_between seen may_leave status rows from disk reserved end (most_at reserved end) journal reserves.subscribers reserves.raises.covers reserves.durable
+    (λ whole sub inside. omega arith) same
+
+-- if memory ran out
+pub kept_covers : {D : Type 0} (seen : D → Option (List ℕ)) (may_leave : D → List ℕ → Type 0) (rows : List Row) (from disk : D) (reserved : List ℕ) (end : Course) (journal : JournalState D)
+    → Covers seen may_leave rows from end.early journal → disk ≡ journal.disk → (image : List ℕ) → MayLeave seen may_leave from disk image → IsKept NoMemory rows reserved end image
+kept_covers seen may_leave rows from disk reserved end journal covers same =
+    kept_between seen may_leave NoMemory rows from disk reserved end covers.most journal covers.subscribers covers.covers covers.durable
+    (λ whole sub inside. absurd (whole refl)) same
+
+-- limits that a restart may have cover what was released, and what was released before its last lines
+pub covers_of : {D : Type 0} (seen : D → Option (List ℕ)) (may_leave : D → List ℕ → Type 0) (rows : List Row) (from : D) (reserved : List ℕ) (at : Course) (journal : JournalState D)
+    → Reserves seen may_leave rows from reserved at journal → Covers seen may_leave rows from at.early journal
+covers_of seen may_leave rows from reserved at journal reserves =
+    record { subscribers = reserves.subscribers; covers = reserves.raises.covers; most = most_at reserved at; durable = reserves.durable }
+
+pub covers_before : {D : Type 0} (seen : D → Option (List ℕ)) (may_leave : D → List ℕ → Type 0) (rows : List Row) (from : D) (reserved : List ℕ) (early lines : List LineRecord) (at : Course) (journal : JournalState D)
+    → at.early ≡ early ++ lines → Reserves seen may_leave rows from reserved at journal → Covers seen may_leave rows from early journal
+covers_before seen may_leave rows from reserved early lines at journal is reserves = record {
+  subscribers = reserves.subscribers;
+  covers = λ sub inside.
+      front_numbers sub (λ n. n ≤ slice_index (limits_of journal) sub) early lines
+      (subst (λ (ls : List LineRecord). All (λ n. n ≤ slice_index (limits_of journal) sub) (numbers_of sub ls)) is (reserves.raises.covers sub inside));
+  most = most_at reserved at;
+  durable = reserves.durable;
+}
+
+-- so do limits that are no lower
+pub covers_more : {D : Type 0} (seen : D → Option (List ℕ)) (may_leave : D → List ℕ → Type 0) (rows : List Row) (from : D) (reserved : List ℕ) (at : Course) (journal after : JournalState D)
+    → Reserves seen may_leave rows from reserved at journal → after.imsis ≡ journal.imsis → LeavesMore seen may_leave journal after → Covers seen may_leave rows from at.early after
+covers_more seen may_leave rows from reserved at journal after reserves same more =
+    let leaves = more.durable from (most_at reserved at) reserves.durable in
+    let count = count_of rows journal reserves.subscribers in
+    let counts = ap length same in
+    record {
+      subscribers = same ∙ reserves.subscribers;
+      covers = λ sub inside.
+          let within : sub < length journal.imsis = omega (arith, count, inside) in
+          let here = limits_at journal sub within in
+          let there = limits_at after sub (omega (arith, counts, within)) in
+          let up = more.rises sub within in
+          All-weaker (λ n. n ≤ slice_index (limits_of journal) sub) (λ n. n ≤ slice_index (limits_of after) sub)
+          (λ n under. omega (arith, here, there, up, under)) (numbers_of sub at.early) (reserves.raises.covers sub inside);
+      most = leaves.0;
+      durable = leaves.1;
+    }
+
+-- ---- from part to part
+
+-- where the first part begins
+pub begins_stand : {D : Type 0} (seen : D → Option (List ℕ)) (may_leave : D → List ℕ → Type 0) (faults : D → ℕ) (set : Setting) (from : D) (state : Standing) (journal : JournalState D)
+    → Begins seen may_leave faults set.rows from journal → state.words ≡ opened set.rows (limits_of journal) → StandsAt set [] state
+    → ((sub : ℕ) → sub < length set.rows → slice_index (limits_of journal) sub ≤ max_seq)
+    → StandsOn seen may_leave set from (limits_of journal) (beginning set.rows (limits_of journal)) 1 state journal
+begins_stand seen may_leave faults set from state journal begins opens stands within =
+    let reserved = limits_of journal in
+    record {
+      numbered = refl;
+      stands = stands;
+      opens = opens;
+      ready = begins.ready;
+      reserves = record {
+        subscribers = begins.subscribers;
+        raises = raises_first set.rows reserved [] within;
+        durable = durable_more seen may_leave from (λ sub. reserved_at journal sub) (most_at reserved (beginning set.rows reserved)) journal
+            (λ sub inside. let here = limits_at journal sub inside in omega (arith, here)) begins.durable;
+      };
+    }
+
+-- where a restart leads
+pub restart_stands : {D : Type 0} (seen : D → Option (List ℕ)) (may_leave : D → List ℕ → Type 0) (set : Setting) (from : D) (reserved : List ℕ) (at : Course) (number : ℕ) (state next : Standing) (journal : JournalState D)
+    → StandsOn seen may_leave set from reserved at number state journal → next.words ≡ opened set.rows (limits_of journal) → StandsAt set at.early next
+    → Restarts set at (after_restart set.rows at (limits_of journal))
+    × StandsOn seen may_leave set from reserved (after_restart set.rows at (limits_of journal)) number next journal
+restart_stands seen may_leave set from reserved at number state next journal on opens stands = (
+  record { limits = limits_of journal; raises = on.reserves.raises; leads = refl },
+  record {
+    numbered = on.numbered;
+    stands = stands;
+    opens = opens;
+    ready = on.ready;
+    reserves = record {
+      subscribers = on.reserves.subscribers;
+      raises = raises_again set.rows at.early at.limits at.highs (limits_of journal) on.reserves.raises;
+      durable = on.reserves.durable;
+    };
+  },
+)
+
+-- a round that was served leads on
+pub record RoundLeads {D : Type 0} (seen : D → Option (List ℕ)) (may_leave : D → List ℕ → Type 0) (set : Setting) (from : D) (reserved : List ℕ) (at : Course) (jobs : List (List Line)) (round : RoundRecord)
+    (stop : Option Stop) (state : Standing) (journal : JournalState D) : Type 0 where
+  pub next : Course
+  pub served : ServesRound set stop at jobs round next
+  pub early : next.early ≡ at.early ++ all_lines round.jobs
+  pub number : next.number ≡ at.number + 1
+  pub opens : state.words ≡ next.openings
+  pub reserves : Reserves seen may_leave set.rows from reserved next journal
+
+pub round_leads : {D : Type 0} (seen : D → Option (List ℕ)) (may_leave : D → List ℕ → Type 0) (set : Setting) (from : D) (reserved : List ℕ) (at : Course) (number : ℕ) (state next : Standing) (journal after : JournalState D)
+    (jobs : List (List Line)) (round : RoundRecord) (stop : Option Stop)
+    → StandsOn seen may_leave set from reserved at number state journal → round.number ≡ number → after.imsis ≡ journal.imsis
+    → Serves seen may_leave set at.early state jobs round stop journal next after → RoundLeads seen may_leave set from reserved at jobs round stop next after
+round_leads seen may_leave set from reserved at number state next journal after jobs round stop on numbered same serves =
+    let words = serves.words in
+    let lawful : IsLawfulRound set stop at.early at.openings jobs round words =
+    subst (λ (openings : List ℕ). IsLawfulRound set stop at.early openings jobs round words) on.opens serves.lawful in
+    let sizes = serves.lawful.sizes in
+    let size = on.stands.subscribers.size in
+    let count = count_of set.rows journal on.reserves.subscribers in
+    let counts = ap length same in
+    record {
+      next = after_round at round words;
+      served = record { numbered = numbered ∙ sym on.numbered; words = words; lawful = lawful; leads = refl };
+      early = refl;
+      number = refl;
+      opens = serves.opens;
+      reserves = record {
+        subscribers = same ∙ on.reserves.subscribers;
+        raises = raises_round set.rows at.early (all_lines round.jobs) at.limits at.highs (limits_of journal) words (limits_of after) (sizes ∙ size) on.reserves.raises serves.limits;
+        durable = durable_more seen may_leave from (λ i. max (most_at reserved at i) (slice_index words i + least_step)) (most_at reserved (after_round at round words)) after
+            (λ i inside. let greatest = get_or-greater words at.highs i (omega (arith, inside, counts, count, sizes, size)) in omega (arith, greatest))
+            (serves.durable from (most_at reserved at) on.reserves.durable);
+      };
+    }

@@ -1,0 +1,177 @@
+-- For a part of a scenario: what came of it, by what its calls answer.
+use Rattle.std.proofs.Common.{◌≡◌, ◌≢◌, ℕ, ◌+◌, ◌<◌, ◌^◌, Bool, true, false, List, [], ◌++◌, Option, Some, None, Result, Ok, Err, OnOk, IfErr, refl, sym, ◌∙◌, ap, subst, arith}
+use Rattle.std.specs.Prelude.{◌↔◌}
+use Rattle.auc_edge.specs.declared.stop.Stop.{Stop}
+use Rattle.auc_edge.specs.declared.stop.Stop.TheVariants.{Fault, Full}
+use Rattle.auc_journal.specs.Durable.{IsTold}
+use Rattle.auc_journal.specs.Journal.{JournalState, limits_of}
+use Rattle.auc_jobs.specs.State.{Standing, StandsAt}
+use Rattle.auc_lines.specs.declared.part.Line.{Line}
+use Rattle.auc_lines.specs.declared.part.Part.TheVariants.{Round, Restart}
+use Rattle.auc_print.specs.Text.{restart_text, round_text}
+use Rattle.auc_world.specs.Limits.{opened}
+use Rattle.auc_world.specs.Lines.{all_lines}
+use Rattle.auc_world.specs.Setting.{Setting}
+use Rattle.auc_world.specs.Transcript.{Course, ServesRound, after_restart}
+use Rattle.auc_world.specs.declared.record.LineRecord.{LineRecord}
+use Rattle.auc_world.specs.declared.record.PartRecord.TheVariants as record_of
+use Rattle.auc_world.specs.declared.record.RoundRecord.{RoundRecord}
+use Rattle.auc_run.specs.Crash.{IsFull}
+use Rattle.auc_run.specs.Inner.{Covers, EndsIn, GoesOn, HasWritten, Reserves, ServesLast, StandsOn, status_in}
+use Rattle.auc_run.specs.Outcome.{IsQuiet, IsStopOf, IsWritten}
+use Rattle.auc_run.specs.Refusal.{status_of}
+use Rattle.auc_run.specs.declared.refusal.Refusal.{Refusal}
+use Rattle.auc_run.specs.declared.refusal.Refusal.TheVariants as refused
+use Rattle.auc_run.specs.declared.status.Status.{Status}
+use Rattle.auc_run.specs.declared.status.Status.TheVariants as status
+use Rattle.auc_run.proofs.StandLemmas.{RoundLeads, covers_before, covers_of, restart_stands}
+
+-- a journal that didn't fail in a round whose reservations ended otherwise, or not
+ready_if : (failed : Bool) (stop : Option Stop) → (failed ≡ true) ↔ (stop ≡ Some Fault) → stop ≢ Some Fault → failed ≡ false
+ready_if true stop iff not_fault = absurd (not_fault (iff.0 refl))
+ready_if false stop iff not_fault = refl
+
+not_none : (stop : Option Stop) → stop ≡ None → stop ≢ Some Fault
+not_none stop is fault = apart (sym is ∙ fault)
+  where
+    apart : None ≡ Some Fault → ⊥
+    apart same = cc
+
+not_full : (stop : Option Stop) → stop ≡ Some Full → stop ≢ Some Fault
+not_full stop is fault = apart (sym is ∙ fault)
+  where
+    apart : Some Full ≡ Some Fault → ⊥
+    apart same = cc
+
+-- ---- a round
+
+-- wherever it began, it leads on
+abbrev pub EachLeads : {D : Type 0} → (D → Option (List ℕ)) → (D → List ℕ → Type 0) → Setting → ℕ → Standing → JournalState D → List (List Line) → RoundRecord → Option Stop → Standing → JournalState D → Type 0
+EachLeads {D} seen may_leave set number state journal jobs round stop next after =
+    (from : D) (reserved : List ℕ) (at : Course) → StandsOn seen may_leave set from reserved at number state journal → RoundLeads seen may_leave set from reserved at jobs round stop next after
+
+-- it was served and written, and the next part goes on
+pub round_goes : {D : Type 0} (seen : D → Option (List ℕ)) (may_leave : D → List ℕ → Type 0) (set : Setting) (full : Bool) (number : ℕ) (state next : Standing) (journal after : JournalState D)
+    (jobs : List (List Line)) (round : RoundRecord) (stop : Option Stop) (result : Result (Unit {0}) Refusal) (waits left : List ℕ) (old new : Option (List ℕ))
+    → ((early : List LineRecord) → StandsAt set early state → StandsAt set (early ++ all_lines round.jobs) next) → (after.failed ≡ true) ↔ (stop ≡ Some Fault)
+    → EachLeads seen may_leave set number state journal jobs round stop next after → HasWritten stop (status_in result) old new (waits ++ round_text set full round)
+    → OnOk result (left ≡ []) → OnOk result ((from : D) (reserved : List ℕ) (at : Course) → StandsOn seen may_leave set from reserved at number state journal
+    → GoesOn seen may_leave set full from reserved at (Round jobs) (number + 1) next after waits left old new)
+round_goes seen may_leave set full number state next journal after jobs round stop (Err refusal) waits left old new stands failed each writes none = tt
+round_goes seen may_leave set full number state next journal after jobs round stop (Ok done) waits left old new stands failed each writes none = λ from reserved at on.
+    let leads = each from reserved at on in
+    record {
+      made = record_of.Round round;
+      next = leads.next;
+      served = subst (λ (s : Option Stop). ServesRound set s at jobs round leads.next) writes.0 leads.served;
+      on = record {
+        numbered = leads.number ∙ ap (λ (n : ℕ). n + 1) on.numbered;
+        stands = subst (λ (early : List LineRecord). StandsAt set early next) (sym leads.early) (stands at.early on.stands);
+        opens = leads.opens;
+        ready = ready_if after.failed stop failed (not_none stop writes.0);
+        reserves = leads.reserves;
+      };
+      put = (writes.1, none);
+    }
+
+-- a journal that is full
+full_journal : {D : Type 0} (seen : D → Option (List ℕ)) (may_leave : D → List ℕ → Type 0) (set : Setting) (from : D) (reserved : List ℕ) (end : Course) (after : JournalState D)
+    → Reserves seen may_leave set.rows from reserved end after → after.failed ≡ false → 2 ^ 30 < after.place + 20 → IsTold seen may_leave from → IsFull (seen after.disk)
+full_journal seen may_leave set from reserved end after reserves ready full told file is =
+    let at = reserves.durable.ready told ready in
+    (record { frames = at.frames; end = after.place }, (at.settled.at_rest file is).read, omega (arith, full))
+
+-- it was the last, and it was written
+last_round : {D : Type 0} (seen : D → Option (List ℕ)) (may_leave : D → List ℕ → Type 0) (set : Setting) (full : Bool) (from : D) (reserved : List ℕ) (at : Course) (next : Standing) (after : JournalState D)
+    (jobs : List (List Line)) (round : RoundRecord) (stop : Option Stop) (waits : List ℕ) (old new : Option (List ℕ)) (ended : Status)
+    → RoundLeads seen may_leave set from reserved at jobs round stop next after → IsStopOf ended stop → IsWritten ended old new (waits ++ round_text set full round)
+    → (ended ≡ status.StoreFull → IsTold seen may_leave from → IsFull (seen after.disk)) → ServesLast seen may_leave set full from reserved at (Round jobs) ended after waits old new
+last_round seen may_leave set full from reserved at next after jobs round stop waits old new ended leads stopped written full_at = record {
+  stop = stop;
+  stopped = stopped;
+  made = record_of.Round round;
+  next = leads.next;
+  served = leads.served;
+  reserves = leads.reserves;
+  written = written;
+  full_at = full_at;
+}
+
+not_at : status.WriteFault ≡ status.StoreFull → ⊥
+not_at same = cc
+
+fault_at : status.StoreFault ≡ status.StoreFull → ⊥
+fault_at same = cc
+
+-- a run ends in it
+pub round_ends : {D : Type 0} (seen : D → Option (List ℕ)) (may_leave : D → List ℕ → Type 0) (set : Setting) (full : Bool) (number : ℕ) (state next : Standing) (journal after : JournalState D)
+    (jobs : List (List Line)) (round : RoundRecord) (stop : Option Stop) (result : Result (Unit {0}) Refusal) (waits : List ℕ) (old new : Option (List ℕ))
+    → (after.failed ≡ true) ↔ (stop ≡ Some Fault) → (stop ≡ Some Full → 2 ^ 30 < after.place + 20)
+    → EachLeads seen may_leave set number state journal jobs round stop next after → HasWritten stop (status_in result) old new (waits ++ round_text set full round)
+    → IfErr result (λ refusal. (from : D) (reserved : List ℕ) (at : Course) → StandsOn seen may_leave set from reserved at number state journal
+    → EndsIn seen may_leave set full from reserved at (Round jobs) (status_of refusal) after waits old new)
+round_ends seen may_leave set full number state next journal after jobs round stop (Ok done) waits old new failed is_full each writes = tt
+round_ends seen may_leave set full number state next journal after jobs round stop (Err refused.WriteFault) waits old new failed is_full each writes = λ from reserved at on.
+    last_round seen may_leave set full from reserved at next after jobs round stop waits old new status.WriteFault (each from reserved at on) tt writes.1 (λ is told. absurd (not_at is))
+round_ends seen may_leave set full number state next journal after jobs round stop (Err refused.StoreFault) waits old new failed is_full each writes = λ from reserved at on.
+    last_round seen may_leave set full from reserved at next after jobs round stop waits old new status.StoreFault (each from reserved at on) writes.0 writes.1 (λ is told. absurd (fault_at is))
+round_ends seen may_leave set full number state next journal after jobs round stop (Err refused.StoreFull) waits old new failed is_full each writes = λ from reserved at on.
+    let leads = each from reserved at on in
+    last_round seen may_leave set full from reserved at next after jobs round stop waits old new status.StoreFull leads writes.0 writes.1
+    (λ is. full_journal seen may_leave set from reserved leads.next after leads.reserves (ready_if after.failed stop failed (not_full stop writes.0)) (is_full writes.0))
+round_ends seen may_leave set full number state next journal after jobs round stop (Err refused.NoMemory) waits old new failed is_full each writes = λ from reserved at on.
+    let leads = each from reserved at on in
+    (covers_before seen may_leave set.rows from reserved at.early (all_lines round.jobs) leads.next after leads.early leads.reserves, writes)
+round_ends seen may_leave set full number state next journal after jobs round stop (Err refused.Usage) waits old new failed is_full each writes = absurd writes.0
+round_ends seen may_leave set full number state next journal after jobs round stop (Err (refused.Subscribers row fault)) waits old new failed is_full each writes = absurd writes.0
+round_ends seen may_leave set full number state next journal after jobs round stop (Err (refused.Scenario line fault)) waits old new failed is_full each writes = absurd writes.0
+round_ends seen may_leave set full number state next journal after jobs round stop (Err refused.ReadFault) waits old new failed is_full each writes = absurd writes.0
+round_ends seen may_leave set full number state next journal after jobs round stop (Err (refused.NotJournal place)) waits old new failed is_full each writes = absurd writes.0
+round_ends seen may_leave set full number state next journal after jobs round stop (Err refused.TooLong) waits old new failed is_full each writes = absurd writes.0
+
+-- if it ends without a fault, reservations didn't end by one
+pub quiet_round : (stop : Option Stop) (result : Result (Unit {0}) Refusal) (text : List ℕ) (old new : Option (List ℕ))
+    → HasWritten stop (status_in result) old new text → IsQuiet (status_in result) → stop ≢ Some Fault
+quiet_round stop (Ok done) text old new writes quiet = not_none stop writes.0
+quiet_round stop (Err refused.StoreFull) text old new writes quiet = not_full stop writes.0
+quiet_round stop (Err refused.WriteFault) text old new writes quiet = absurd quiet
+quiet_round stop (Err refused.StoreFault) text old new writes quiet = absurd quiet
+quiet_round stop (Err refused.NoMemory) text old new writes quiet = absurd quiet
+quiet_round stop (Err refused.Usage) text old new writes quiet = absurd writes.0
+quiet_round stop (Err (refused.Subscribers row fault)) text old new writes quiet = absurd writes.0
+quiet_round stop (Err (refused.Scenario line fault)) text old new writes quiet = absurd writes.0
+quiet_round stop (Err refused.ReadFault) text old new writes quiet = absurd writes.0
+quiet_round stop (Err (refused.NotJournal place)) text old new writes quiet = absurd writes.0
+quiet_round stop (Err refused.TooLong) text old new writes quiet = absurd writes.0
+
+-- ---- a restart
+
+-- the next part goes on from a restart
+pub restart_goes : {D : Type 0} (seen : D → Option (List ℕ)) (may_leave : D → List ℕ → Type 0) (set : Setting) (full : Bool) (number later : ℕ) (state next : Standing) (journal after : JournalState D)
+    (result : Result (Unit {0}) Refusal) (waits left : List ℕ) (old : Option (List ℕ))
+    → after ≡ journal → later ≡ number
+    → OnOk result (next.words ≡ opened set.rows (limits_of journal)) → OnOk result ((set : Setting) (early : List LineRecord) → StandsAt set early state → StandsAt set early next)
+    → OnOk result (left ≡ waits ++ restart_text)
+    → OnOk result ((from : D) (reserved : List ℕ) (at : Course) → StandsOn seen may_leave set from reserved at number state journal
+    → GoesOn seen may_leave set full from reserved at Restart later next after waits left old old)
+restart_goes seen may_leave set full number later state next journal after (Err refusal) waits left old same count words stands text = tt
+restart_goes {D} seen may_leave set full number later state next journal after (Ok done) waits left old same count words stands text = λ from reserved at on.
+    let leads = restart_stands seen may_leave set from reserved at number state next journal on words (stands set at.early on.stands) in
+    record {
+      made = record_of.Restart;
+      next = after_restart set.rows at (limits_of journal);
+      served = leads.0;
+      on = subst (λ (n : ℕ). StandsOn seen may_leave set from reserved (after_restart set.rows at (limits_of journal)) n next after) (sym count)
+          (subst (λ (j : JournalState D). StandsOn seen may_leave set from reserved (after_restart set.rows at (limits_of journal)) number next j) (sym same) leads.1);
+      put = (refl, text);
+    }
+
+-- a run ends in it if memory runs out
+pub restart_ends : {D : Type 0} (seen : D → Option (List ℕ)) (may_leave : D → List ℕ → Type 0) (set : Setting) (full : Bool) (number : ℕ) (state : Standing) (journal after : JournalState D)
+    (result : Result (Unit {0}) Refusal) (waits : List ℕ) (old : Option (List ℕ)) → after ≡ journal → IfErr result (λ refusal. refusal ≡ refused.NoMemory)
+    → IfErr result (λ refusal. (from : D) (reserved : List ℕ) (at : Course) → StandsOn seen may_leave set from reserved at number state journal
+    → EndsIn seen may_leave set full from reserved at Restart (status_of refusal) after waits old old)
+restart_ends seen may_leave set full number state journal after (Ok done) waits old same none = tt
+restart_ends {D} seen may_leave set full number state journal after (Err refusal) waits old same none = λ from reserved at on.
+    subst (λ (r : Refusal). EndsIn seen may_leave set full from reserved at Restart (status_of r) after waits old old) (sym none)
+    (subst (λ (j : JournalState D). Covers seen may_leave set.rows from at.early j) (sym same) (covers_of seen may_leave set.rows from reserved at journal on.reserves), refl)

@@ -1,0 +1,67 @@
+use Rattle.std.proofs.Common.{◌+◌, ◌∷◌, ◌∙◌, drop, ap, subst, sym, refl, arith}
+use Rattle.std.proofs.lemmas.List.{drop_more, drop_all}
+use Rattle.auc_lines.specs.declared.part.Part.{Part}
+use Rattle.auc_edge.specs.Sink.{Appends, AppendsFront}
+use Rattle.auc_run.specs.Refusal.{status_of}
+use Rattle.auc_run.specs.declared.status.Status.TheVariants as status
+use Rattle.auc_run.proofs.OutputLemmas.{IfErr-at, OnOk-at, Serving-all, Serving-none, Serving-part, Serving-stops, done_full, not_done, write_full}
+use Rattle.auc_run.proofs.rounds.serve_all.Goals as goal
+
+pub loop-part-init : goal.loop-part-init
+loop-part-init g c = record {
+  number = omega arith;
+  quiet = refl;
+  quiet_store = refl;
+  serving = λ from reserved at on.
+      Serving-none g.D.Disk.seen g.D.Disk.may_leave c.args.settings.now.set c.args.settings.now.full from reserved at c.args.stand.number c.args.stand.state c.args.stand.journal c.args.stand.text
+      c.args.parts.now (g.K.Sink.written c.args.out.now) on c.requires.text;
+}
+
+pub serve_part-next-requires-clause-stands : goal.serve_part-next-requires-clause-stands
+serve_part-next-requires-clause-stands g c = λ κs within.
+    let begin = c.requires.stands in
+    let serving = c.loop-part.invariant.serving begin.0 begin.1 begin.2 begin.3 in
+    (begin.0, begin.1, serving.mid, serving.on)
+
+pub loop-part-preserved : goal.loop-part-preserved
+loop-part-preserved g c =
+    let before = c.loop-part.invariant in
+    let number = c.serve_part-next.ensures.number in
+    record {
+      number = omega (arith, before.number, number);
+      quiet = c.serve_part-next.ensures.quiet (λ same. cc (same, c.in-Ok.is)) ∙ before.quiet;
+      quiet_store = c.serve_part-next.ensures.quiet_store (rw c.in-Ok.is tt) ∙ before.quiet_store;
+      serving = λ from reserved at on.
+          let serving = before.serving from reserved at on in
+          Serving-part g.D.Disk.seen g.D.Disk.may_leave c.args.settings.now.set c.args.settings.now.full from reserved at c.loop-part.stand.number c.serve_part-next.result.stand.number
+          c.loop-part.stand.state c.serve_part-next.result.stand.state c.loop-part.stand.journal c.serve_part-next.result.stand.journal c.loop-part.stand.text c.serve_part-next.result.stand.text
+          c.part-item.result (drop c.loop-part.part-index c.args.parts.now) (drop (c.loop-part.part-index + 1) c.args.parts.now) c.args.parts.now
+          (g.K.Sink.written c.args.out.now) (g.K.Sink.written c.loop-part.out) (g.K.Sink.written c.serve_part-next.new.out)
+          (drop_more _ _ c.part-item.result c.loop-part-test.true ∙ ap (λ (part : Part). part ∷ drop (c.loop-part.part-index + 1) c.args.parts.now) (sym c.part-item.is)) serving
+          (OnOk-at c.serve_part-next.result.result c.in-Ok.field-0 _ (cc c.in-Ok.is) c.serve_part-next.ensures.goes from reserved serving.mid serving.on);
+    }
+
+pub returns-in-Err-clause-ran : goal.returns-in-Err-clause-ran
+returns-in-Err-clause-ran g c = λ from reserved at on.
+    let serving = c.loop-part.invariant.serving from reserved at on in
+    rw c.refused.ensures.refused
+    (Serving-stops g.D.Disk.seen g.D.Disk.may_leave c.args.settings.now.set c.args.settings.now.full from reserved at c.loop-part.stand.number c.loop-part.stand.state c.loop-part.stand.journal
+    c.serve_part-next.result.stand.journal c.loop-part.stand.text c.part-item.result (drop c.loop-part.part-index c.args.parts.now) (drop (c.loop-part.part-index + 1) c.args.parts.now) c.args.parts.now
+    (status_of c.in-Err.refusal) c.refused.result.disk (g.K.Sink.written c.args.out.now) (g.K.Sink.written c.loop-part.out) (g.K.Sink.written c.serve_part-next.new.out)
+    (drop_more _ _ c.part-item.result c.loop-part-test.true ∙ ap (λ (part : Part). part ∷ drop (c.loop-part.part-index + 1) c.args.parts.now) (sym c.part-item.is)) serving (not_done c.in-Err.refusal)
+    (IfErr-at c.serve_part-next.result.result c.in-Err.refusal _ (cc c.in-Err.is) c.serve_part-next.ensures.ends from reserved serving.mid serving.on) c.refused.ensures.disk)
+
+pub returns-in-Ok-write_whole-clause-ran : goal.returns-in-Ok-write_whole-clause-ran
+returns-in-Ok-write_whole-clause-ran g c = λ from reserved at on.
+    let serving = c.loop-part.invariant.serving from reserved at on in
+    Serving-all g.D.Disk.seen g.D.Disk.may_leave c.args.settings.now.set c.args.settings.now.full from reserved at c.loop-part.stand.number c.loop-part.stand.state c.loop-part.stand.journal c.loop-part.stand.text
+    (drop c.loop-part.part-index c.args.parts.now) c.args.parts.now status.Done c.into_disk.result (g.K.Sink.written c.args.out.now) (g.K.Sink.written c.loop-part.out) (g.K.Sink.written c.write_whole.new.out)
+    (drop_all _ _ c.loop-part-test.false) serving (subst (Appends (g.K.Sink.written c.loop-part.out) (g.K.Sink.written c.write_whole.new.out)) c.as_slice.ensures c.in-Ok-write_whole.ensures.written) refl done_full c.into_disk.ensures
+
+pub returns-clause-ran : goal.returns-clause-ran
+returns-clause-ran g c = λ from reserved at on.
+    let serving = c.loop-part.invariant.serving from reserved at on in
+    rw c.refused-in-Err-write_whole.ensures.refused
+    (Serving-all g.D.Disk.seen g.D.Disk.may_leave c.args.settings.now.set c.args.settings.now.full from reserved at c.loop-part.stand.number c.loop-part.stand.state c.loop-part.stand.journal c.loop-part.stand.text
+    (drop c.loop-part.part-index c.args.parts.now) c.args.parts.now status.WriteFault c.refused-in-Err-write_whole.result.disk (g.K.Sink.written c.args.out.now) (g.K.Sink.written c.loop-part.out) (g.K.Sink.written c.write_whole.new.out)
+    (drop_all _ _ c.loop-part-test.false) serving (subst (AppendsFront (g.K.Sink.written c.loop-part.out) (g.K.Sink.written c.write_whole.new.out)) c.as_slice.ensures c.in-Err-write_whole.ensures.front) tt write_full c.refused-in-Err-write_whole.ensures.disk)

@@ -1,0 +1,25 @@
+use Rattle.std.proofs.Common.{◌≡◌, OnOk, subst}
+use Rattle.auc_journal.specs.Journal.{limits_of}
+use Rattle.auc_world.specs.Limits.{opened}
+use Rattle.auc_run.specs.declared.rounds.Settings.{Settings}
+use Rattle.auc_run.proofs.StepLemmas.{restart_ends, restart_goes}
+use Rattle.auc_run.proofs.rounds.serve_part.Goals as goal
+
+pub returns-in-Round-clause-goes : goal.returns-in-Round-clause-goes
+returns-in-Round-clause-goes g c = rw c.in-Round.is c.serve_round.ensures.goes
+
+pub returns-in-Round-clause-ends : goal.returns-in-Round-clause-ends
+returns-in-Round-clause-ends g c = rw c.in-Round.is c.serve_round.ensures.ends
+
+pub returns-in-Restart-clause-goes : goal.returns-in-Restart-clause-goes
+returns-in-Restart-clause-goes g c =
+    rw c.in-Restart.is (restart_goes g.D.Disk.seen g.D.Disk.may_leave c.args.settings.now.set c.args.settings.now.full c.args.stand.number c.restart-result.new.stand.number
+    c.args.stand.state c.restart-result.new.stand.state c.args.stand.journal c.restart-result.new.stand.journal c.restart-result.result c.args.stand.text c.restart-result.new.stand.text
+    (g.K.Sink.written c.args.out.now) c.restart-result.ensures.kept.0 c.restart-result.ensures.kept.1
+    (subst (λ (settings : Settings). OnOk c.restart-result.result (c.restart-result.new.stand.state.words ≡ opened settings.set.rows (limits_of c.args.stand.journal))) c.settings.view_is c.restart-result.ensures.opened)
+    c.restart-result.ensures.stands c.restart-result.ensures.text)
+
+pub returns-in-Restart-clause-ends : goal.returns-in-Restart-clause-ends
+returns-in-Restart-clause-ends g c =
+    rw c.in-Restart.is (restart_ends g.D.Disk.seen g.D.Disk.may_leave c.args.settings.now.set c.args.settings.now.full c.args.stand.number c.args.stand.state c.args.stand.journal c.restart-result.new.stand.journal
+    c.restart-result.result c.args.stand.text (g.K.Sink.written c.args.out.now) c.restart-result.ensures.kept.0 c.restart-result.ensures.refused)

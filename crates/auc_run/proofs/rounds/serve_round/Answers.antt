@@ -1,0 +1,73 @@
+use Rattle.std.proofs.Common.{◌<◌, ◌^◌, List, AllPairs, refl, subst, sym, arith}
+use Rattle.auc_jobs.specs.Round.{Serves}
+use Rattle.auc_lines.specs.Part.{AreApart}
+use Rattle.auc_lines.specs.declared.part.Line.{Line}
+use Rattle.auc_world.specs.Round.{IsLawfulRound}
+use Rattle.auc_run.proofs.OutputLemmas.{IfOk-ok, OnErr-at}
+use Rattle.auc_run.proofs.PrintableLemmas.{round_prints}
+use Rattle.auc_run.proofs.StandLemmas.{covers_more, round_leads}
+use Rattle.auc_run.proofs.StepLemmas.{EachLeads, quiet_round, round_ends, round_goes}
+use Rattle.auc_run.proofs.rounds.serve_round.Goals as goal
+
+pub serve-journal-requires-clause-apart : goal.serve-journal-requires-clause-apart
+serve-journal-requires-clause-apart g c = λ κs within. subst (λ (jobs : List (List Line)). AllPairs AreApart jobs) (sym c.as_slice.ensures) c.requires.known.apart
+
+pub returns-in_default-clause-ends : goal.returns-in_default-clause-ends
+returns-in_default-clause-ends g c = λ from reserved at on.
+    let still = OnErr-at c.serve-journal.result.result c.in_default.field-0 _ (cc c.in_default.is) c.serve-journal.ensures.still in
+    (covers_more g.D.Disk.seen g.D.Disk.may_leave c.args.settings.now.set.rows from reserved at c.args.stand.journal c.serve-journal.result.journal on.reserves c.serve-journal.ensures.subscribers still, refl)
+
+pub write_round-result-requires-clause-named : goal.write_round-result-requires-clause-named
+write_round-result-requires-clause-named g c =
+    let set = c.args.settings.now.set in
+    let round = c.in-Ok.ran.round in
+    let at = c.requires.stands.2 in
+    let on = c.requires.stands.3 in
+    let serves = IfOk-ok c.serve-journal.result.result c.in-Ok.ran _ (cc c.in-Ok.is) c.serve-journal.ensures.served at.early on.stands in
+    let lawful : IsLawfulRound set c.in-Ok.ran.stop at.early c.args.stand.state.words c.args.jobs.now round serves.words =
+    subst (λ (jobs : List (List Line)). IsLawfulRound set c.in-Ok.ran.stop at.early c.args.stand.state.words jobs round serves.words) c.as_slice.ensures serves.lawful in
+    let number : round.number < 2 ^ 64 = omega (arith, IfOk-ok c.serve-journal.result.result c.in-Ok.ran _ (cc c.in-Ok.is) c.serve-journal.ensures.number, c.requires.number) in
+    (round_prints set c.in-Ok.ran.stop at.early c.args.stand.state.words c.args.jobs.now round serves.words c.requires.subscribers on.stands.subscribers.size c.requires.known number lawful).named
+
+pub returns-clause-goes : goal.returns-clause-goes
+returns-clause-goes g c =
+    let set = c.args.settings.now.set in
+    let round = c.in-Ok.ran.round in
+    let stop = c.in-Ok.ran.stop in
+    let state = c.args.stand.state in
+    let next = c.serve-journal.result.state in
+    let journal = c.args.stand.journal in
+    let after = c.serve-journal.result.journal in
+    let each : EachLeads g.D.Disk.seen g.D.Disk.may_leave set c.args.stand.number state journal c.args.jobs.now round stop next after = λ from reserved at on.
+    round_leads g.D.Disk.seen g.D.Disk.may_leave set from reserved at c.args.stand.number state next journal after c.args.jobs.now round stop on
+    (IfOk-ok c.serve-journal.result.result c.in-Ok.ran _ (cc c.in-Ok.is) c.serve-journal.ensures.number) c.serve-journal.ensures.subscribers
+    (subst (λ (jobs : List (List Line)). Serves g.D.Disk.seen g.D.Disk.may_leave set at.early state jobs round stop journal next after) c.as_slice.ensures
+    (IfOk-ok c.serve-journal.result.result c.in-Ok.ran _ (cc c.in-Ok.is) c.serve-journal.ensures.served at.early on.stands)) in
+    round_goes g.D.Disk.seen g.D.Disk.may_leave set c.args.settings.now.full c.args.stand.number state next journal after c.args.jobs.now round stop c.write_round-result.result c.args.stand.text c.write_round-result.new.text
+    (g.K.Sink.written c.args.out.now) (g.K.Sink.written c.write_round-result.new.out)
+    (IfOk-ok c.serve-journal.result.result c.in-Ok.ran _ (cc c.in-Ok.is) c.serve-journal.ensures.next) (IfOk-ok c.serve-journal.result.result c.in-Ok.ran _ (cc c.in-Ok.is) c.serve-journal.ensures.ready)
+    each c.write_round-result.ensures.written c.write_round-result.ensures.done
+
+pub returns-clause-ends : goal.returns-clause-ends
+returns-clause-ends g c =
+    let set = c.args.settings.now.set in
+    let round = c.in-Ok.ran.round in
+    let stop = c.in-Ok.ran.stop in
+    let state = c.args.stand.state in
+    let next = c.serve-journal.result.state in
+    let journal = c.args.stand.journal in
+    let after = c.serve-journal.result.journal in
+    let each : EachLeads g.D.Disk.seen g.D.Disk.may_leave set c.args.stand.number state journal c.args.jobs.now round stop next after = λ from reserved at on.
+    round_leads g.D.Disk.seen g.D.Disk.may_leave set from reserved at c.args.stand.number state next journal after c.args.jobs.now round stop on
+    (IfOk-ok c.serve-journal.result.result c.in-Ok.ran _ (cc c.in-Ok.is) c.serve-journal.ensures.number) c.serve-journal.ensures.subscribers
+    (subst (λ (jobs : List (List Line)). Serves g.D.Disk.seen g.D.Disk.may_leave set at.early state jobs round stop journal next after) c.as_slice.ensures
+    (IfOk-ok c.serve-journal.result.result c.in-Ok.ran _ (cc c.in-Ok.is) c.serve-journal.ensures.served at.early on.stands)) in
+    round_ends g.D.Disk.seen g.D.Disk.may_leave set c.args.settings.now.full c.args.stand.number state next journal after c.args.jobs.now round stop c.write_round-result.result c.args.stand.text
+    (g.K.Sink.written c.args.out.now) (g.K.Sink.written c.write_round-result.new.out)
+    (IfOk-ok c.serve-journal.result.result c.in-Ok.ran _ (cc c.in-Ok.is) c.serve-journal.ensures.ready) (IfOk-ok c.serve-journal.result.result c.in-Ok.ran _ (cc c.in-Ok.is) c.serve-journal.ensures.full)
+    each c.write_round-result.ensures.written
+
+pub returns-clause-quiet_store : goal.returns-clause-quiet_store
+returns-clause-quiet_store g c = λ quiet.
+    IfOk-ok c.serve-journal.result.result c.in-Ok.ran _ (cc c.in-Ok.is) c.serve-journal.ensures.quiet
+    (quiet_round c.in-Ok.ran.stop c.write_round-result.result _ (g.K.Sink.written c.args.out.now) (g.K.Sink.written c.write_round-result.new.out) c.write_round-result.ensures.written quiet)

@@ -1,0 +1,42 @@
+use Rattle.std.proofs.Common.{◌≡◌, inl, inr, refl, subst}
+use Rattle.auc_run.specs.Inner.{Tells}
+use Rattle.auc_run.specs.declared.refusal.Refusal.{Refusal}
+use Rattle.auc_run.specs.declared.refusal.Refusal.TheVariants as refused
+use Rattle.auc_run.proofs.CauseLemmas.{comes_at}
+use Rattle.auc_run.specs.Crash.{MayLeave}
+use Rattle.auc_run.proofs.TopLemmas.{full_runs, full_told, ran_told, read_told, refused_told}
+use Rattle.auc_run.proofs.top_call.run.Goals as goal
+
+pub returns-in-Ok-clause-ran : goal.returns-in-Ok-clause-ran
+returns-in-Ok-clause-ran g c = λ files named. inl (rw c.in-Ok.is at (c.perform-disk.ensures.ran files named))
+
+pub returns-in-Err-clause-ran : goal.returns-in-Err-clause-ran
+returns-in-Err-clause-ran g c = λ files named.
+    ran_told (g.H.Shelf.files c.args.shelf.now) files (g.D.Disk.seen c.args.disk) (MayLeave g.D.Disk.seen g.D.Disk.may_leave c.args.disk c.perform-disk.result.disk) c.in-Err.refusal c.tell.result
+    (g.K.Sink.written c.args.out.now) (g.K.Sink.written c.perform-disk.new.out) (g.K.Sink.written c.tell.new.out) (rw c.in-Err.is at (c.perform-disk.ensures.ran files named)) c.tell.ensures.told c.tell.ensures.front
+
+pub returns-in-Err-clause-refused : goal.returns-in-Err-clause-refused
+returns-in-Err-clause-refused g c =
+    inr (refused_told c.args.words.now (g.H.Shelf.files c.args.shelf.now) (g.D.Disk.seen c.args.disk) c.in-Err.refusal c.tell.result
+    (g.K.Sink.written c.args.out.now) (g.K.Sink.written c.perform-disk.new.out) (g.K.Sink.written c.tell.new.out)
+    (rw c.in-Err.is at c.perform-disk.ensures.refused) (rw c.in-Err.is at c.perform-disk.ensures.silent) c.tell.ensures.told)
+
+pub returns-in-Err-clause-store_full : goal.returns-in-Err-clause-store_full
+returns-in-Err-clause-store_full g c = λ full.
+    let is = full_told c.in-Err.refusal c.tell.result (g.K.Sink.written c.perform-disk.new.out) (g.K.Sink.written c.tell.new.out) c.tell.ensures.told full in (
+      full_runs c.args.words.now (g.H.Shelf.files c.args.shelf.now) (g.D.Disk.seen c.args.disk) (MayLeave g.D.Disk.seen g.D.Disk.may_leave c.args.disk c.perform-disk.result.disk) c.in-Err.refusal c.tell.result
+          (g.K.Sink.written c.args.out.now) (g.K.Sink.written c.perform-disk.new.out) (g.K.Sink.written c.tell.new.out)
+          (rw c.in-Err.is at c.perform-disk.ensures.refused) (rw c.in-Err.is at c.perform-disk.ensures.ran) c.tell.ensures.told is,
+      (rw (c.in-Err.is, is) at c.perform-disk.ensures.store_full) refl,
+    )
+
+pub returns-in-Err-clause-quiet_shelf : goal.returns-in-Err-clause-quiet_shelf
+returns-in-Err-clause-quiet_shelf g c = λ not_read.
+    c.perform-disk.ensures.quiet_shelf (λ is. let same : c.in-Err.refusal ≡ refused.ReadFault = cc (is, c.in-Err.is) in not_read (read_told c.tell.result (g.K.Sink.written c.perform-disk.new.out) (g.K.Sink.written c.tell.new.out)
+    (subst (λ (r : Refusal). Tells r c.tell.result (g.K.Sink.written c.perform-disk.new.out) (g.K.Sink.written c.tell.new.out)) same c.tell.ensures.told)))
+
+pub returns-in-Err-clause-refused_comes : goal.returns-in-Err-clause-refused_comes
+returns-in-Err-clause-refused_comes g c = λ there found cause told_is seen_is is.
+    comes_at c.args.words.now (g.H.Shelf.files c.args.shelf.now) (g.D.Disk.seen c.args.disk) there found (MayLeave g.D.Disk.seen g.D.Disk.may_leave c.args.disk c.perform-disk.result.disk)
+    cause c.in-Err.refusal c.tell.result (g.K.Sink.written c.args.out.now) (g.K.Sink.written c.perform-disk.new.out) (g.K.Sink.written c.tell.new.out)
+    told_is seen_is is (rw c.in-Err.is at c.perform-disk.ensures.refused) (rw c.in-Err.is at c.perform-disk.ensures.ran) c.tell.ensures.told

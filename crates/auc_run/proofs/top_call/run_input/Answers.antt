@@ -1,0 +1,27 @@
+use Rattle.std.proofs.Common.{inl}
+use Rattle.auc_run.specs.Crash.{MayLeave}
+use Rattle.auc_run.specs.Inner.{status_in}
+use Rattle.auc_run.proofs.KnownLemmas.{known}
+use Rattle.auc_run.proofs.OutcomeLemmas.{files_run}
+use Rattle.auc_run.proofs.RefusalLemmas.{leave_runs}
+use Rattle.auc_run.proofs.TopLemmas.{journal_stops}
+use Rattle.auc_run.proofs.top_call.run_input.Goals as goal
+
+pub returns-in-Ok-clause-ran : goal.returns-in-Ok-clause-ran
+returns-in-Ok-clause-ran g c = λ told files read.
+    let rows = c.args.input.now.subs in
+    let script = c.args.input.now.script in
+    let ended = status_in c.serve_parts.result.result in
+    let old = g.K.Sink.written c.args.out.now in
+    let new = g.K.Sink.written c.serve_parts.new.out in
+    let begins = c.in-Ok.ensures.opened in
+    leave_runs told files (g.D.Disk.seen c.args.disk) (MayLeave g.D.Disk.seen g.D.Disk.may_leave c.args.disk c.serve_parts.result.disk) ended old new
+    (files_run g.D.Disk.seen g.D.Disk.may_leave g.D.Disk.faults told files script rows c.args.disk c.serve_parts.result.disk c.in-Ok.journal ended old new
+    read (known rows script c.requires) begins (c.serve_parts.ensures.ran c.args.disk begins))
+
+pub serve_parts-requires-clause-known : goal.serve_parts-requires-clause-known
+serve_parts-requires-clause-known g c = λ κs within. (known c.args.input.now.subs c.args.input.now.script c.requires).parts
+
+pub returns-in-Err-clause-refused : goal.returns-in-Err-clause-refused
+returns-in-Err-clause-refused g c =
+    rw c.from.ensures (inl (journal_stops (g.D.Disk.seen c.args.disk) c.in-Err.field-0.why c.in-Err.ensures.not_journal))

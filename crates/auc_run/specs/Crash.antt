@@ -1,0 +1,39 @@
+-- What a crash leaves of the journal after a run.
+use Rattle.std.specs.Prelude.{◌≡◌, ◌≢◌, ℕ, ◌+◌, ◌<◌, ◌≤◌, ◌^◌, max, List, length, map, All, slice_index, Option, Some, Ok, Err}
+use Rattle.auc_journal.specs.Durable.{IsTold}
+use Rattle.auc_journal.specs.Image.{Frame, Reading, read_image, reserved_in}
+use Rattle.auc_subs.specs.declared.row.Row.{Row}
+use Rattle.auc_world.specs.Limits.{least_step}
+use Rattle.auc_world.specs.Lines.{numbers_of}
+use Rattle.auc_world.specs.Transcript.{Course}
+use Rattle.auc_run.specs.declared.status.Status.{Status}
+use Rattle.auc_run.specs.declared.status.Status.TheVariants.{NoMemory}
+
+-- the limits of subscribers by some frames, in the order of their rows; 0 if there is none
+abbrev pub limits_in : List Row → List Frame → List ℕ
+limits_in rows frames = map (λ imsi. reserved_in frames imsi) (map (λ row. row.imsi) rows)
+
+-- the bytes of a journal are read as these frames, if the disk reveals the bytes
+abbrev pub IsFound : Option (List ℕ) → List Frame → Type 0
+IsFound seen frames = (file : List ℕ) → seen ≡ Some file → (end : ℕ) × (read_image file ≡ Ok (record { frames = frames; end = end }))
+
+-- they are no journal, which this place shows, if the disk reveals them
+abbrev pub IsNoJournal : Option (List ℕ) → ℕ → Type 0
+IsNoJournal seen place = (file : List ℕ) → seen ≡ Some file → read_image file ≡ Err place
+
+-- they are a journal, in which one more frame would end after the greatest length, if the disk reveals them
+abbrev pub IsFull : Option (List ℕ) → Type 0
+IsFull seen = (file : List ℕ) → seen ≡ Some file → (reading : Reading) × (read_image file ≡ Ok reading) × (2 ^ 30 < reading.end + 1 + 19)
+
+-- a crash may leave this image of a disk whose bytes were known and durable before
+abbrev pub MayLeave : {D : Type 0} → (D → Option (List ℕ)) → (D → List ℕ → Type 0) → D → D → List ℕ → Type 0
+MayLeave seen may_leave old new image = IsTold seen may_leave old × may_leave new image
+
+-- an image is read as a journal that reserves for each subscriber at least each number that was released, and, unless
+-- memory ran out, at most the greater of what was reserved at first and a step above its greatest word
+pub record IsKept (status : Status) (rows : List Row) (reserved : List ℕ) (end : Course) (image : List ℕ) : Type 0 where
+  pub reading : Reading
+  pub is_read : read_image image ≡ Ok reading
+  pub covers : (sub : ℕ) → sub < length rows → All (λ n. n ≤ slice_index (limits_in rows reading.frames) sub) (numbers_of sub end.early)
+  pub near : status ≢ NoMemory → (sub : ℕ) → sub < length rows
+      → slice_index (limits_in rows reading.frames) sub ≤ max (slice_index reserved sub) (slice_index end.highs sub + least_step)

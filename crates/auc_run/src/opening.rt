@@ -1,0 +1,73 @@
+//! The journal as it is opened for a scenario's subscribers, and the words that its limits open.
+
+ghost use Rattle.std.specs.Prelude.{◌≡◌, ◌≢◌, ◌≤◌, ◌<◌, ℕ, List, [], false, All, length, map, IfOk, IfErr, OnOk, OnErr, slice_index};
+ghost use Rattle.auc_edge.specs.Faults.{Rose};
+ghost use Rattle.auc_journal.specs.Durable.{IsDurable};
+ghost use Rattle.auc_journal.specs.Image.{Frame};
+ghost use Rattle.auc_journal.specs.Journal.{limits_of, reserved_at};
+ghost use Rattle.auc_journal.specs.declared.open_why.OpenWhy.TheVariants as why;
+ghost use Rattle.auc_sqn.specs.Number.{max_seq};
+ghost use Rattle.auc_subs.specs.Subscriber.{AreSubscribers};
+ghost use Rattle.auc_world.specs.Limits.{opened};
+ghost use Rattle.auc_run.specs.Crash.{IsFound, IsNoJournal, limits_in};
+ghost use Rattle.auc_run.specs.Inner.{Begins};
+
+use auc_disk::Disk;
+use auc_edge::{Imsi, Items, NoMemory};
+use auc_journal::{Journal, OpenRefused, OpenWhy};
+use auc_subs::Subscribers;
+use std::alloc::Global;
+
+/// Opens the journal of a disk for some subscribers. A refusal hands the disk back.
+pub(crate) fn open_journal<D: Disk + Drop>(
+    alloc: Global,
+    disk: D,
+    subs: &Subscribers,
+) -> Result<Journal<D>, OpenRefused<D>>
+    ensures opened { IfOk result (Begins D.seen D.may_leave D.faults subs.now disk) }
+    ensures not_journal { IfErr result (λ refused. (place : ℕ) → refused.why ≡ why.NotJournal place
+        → IsNoJournal (D.seen disk) place) }
+    ensures fault { IfErr result (λ refused. refused.why ≡ why.StoreFault
+        → Rose (D.faults disk) (D.faults refused.disk)) }
+    ensures stands { IfErr result (λ refused. refused.why ≢ why.StoreFault
+        → D.faults refused.disk ≡ D.faults disk) }
+{
+    match identities(alloc, subs) {
+        Ok(imsis) => Journal::open(alloc, disk, imsis.as_slice()),
+        Err(NoMemory) => Err(OpenRefused {
+            disk,
+            why: OpenWhy::NoMemory,
+        }),
+    }
+}
+
+/// The identities of some subscribers, in their order.
+fn identities(alloc: Global, subs: &Subscribers) -> Result<Items<Imsi>, NoMemory>
+    ensures { IfOk result (λ imsis. imsis ≡ map (λ row. row.imsi) subs.now) }
+{
+    let mut imsis = Items::new(alloc);
+    for sub in 0..subs.len() {
+        imsis.push(subs.row(sub).imsi)?;
+    }
+    Ok(imsis)
+}
+
+/// The words at which the limits of a journal open its subscribers: each at its row's number or at its limit, whichever is
+/// greater. It makes no call of the disk.
+pub(crate) fn openings<D: Disk + Drop>(
+    alloc: Global,
+    subs: &Subscribers,
+    journal: &Journal<D>,
+) -> Result<Items<u64>, NoMemory>
+    requires { journal.now.imsis ≡ map (λ row. row.imsi) subs.now }
+    ensures words { IfOk result (λ words. words ≡ opened subs.now (limits_of journal.now)) }
+    ensures numbers { IfOk result (λ words. All (λ word. word ≤ max_seq) words) }
+    ensures limits { OnOk result ((sub : ℕ) → sub < length subs.now
+        → slice_index (limits_of journal.now) sub ≤ max_seq) }
+{
+    let mut words = Items::new(alloc);
+    for sub in 0..subs.len() {
+        words.push(subs.row(sub).seq.max(journal.reserved(sub)))?;
+    }
+    Ok(words)
+}
