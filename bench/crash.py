@@ -1,0 +1,159 @@
+#!/usr/bin/env python3
+"""Kills the program at random moments, and starts it again on the journal that is left: no number may come twice.
+
+    bench/crash.py [PROGRAM [KILLS [SEED]]]     PROGRAM: crates/auc_cli/out/auc_cli, unless it is given; KILLS: 2000
+
+Kills. Each run has 4 workers and many rounds. It is killed by SIGKILL at a random moment between its start and its
+usual end, so also while it opens the journal. What it printed in whole lines counts. A short run follows on what is
+left. Over all runs no number of a subscriber may be printed twice, and each run that isn't killed ends with status 0.
+From time to time the journal is taken away together with all that was printed, so that first openings are killed too.
+SIGKILL leaves what the system has in memory, so this tests the order of the program's calls, and not the disk.
+
+Images. A journal is recorded, frame by frame. Each front of it, and each frame or gate of it with torn bytes in it, is
+the input of a run. The status is 0 or 7 by the format in docs/journal.md, which this script reads by itself; a run of
+status 0 draws above the limit that the image reserves, and one of status 7 tells the place.
+
+Two processes. While a run is stopped, a second one in its folder ends with status 6 and prints nothing.
+
+The exit status is 0 only if each rule holds.
+"""
+import random
+import signal
+import subprocess
+import sys
+import tempfile
+import time
+from pathlib import Path
+
+from journal import FRAME, NAME, NotJournal, imsi, limits_of, run, subscriber, vectors_in, write_scenario
+from measure import program
+
+SUBSCRIBERS, ROUNDS, JOBS, COUNT = 8, 40, 8, 20
+FRESH = 100
+
+
+def long_scenario():
+    jobs = [line for sub in range(JOBS) for line in ("job", f"draw {imsi(sub % SUBSCRIBERS)} {COUNT}")]
+    return ["workers 4", *map(subscriber, range(SUBSCRIBERS)), *["round", *jobs] * ROUNDS]
+
+
+def short_scenario():
+    return [*map(subscriber, range(SUBSCRIBERS)), "round", "job", *[f"draw {imsi(sub)} 1" for sub in range(SUBSCRIBERS)]]
+
+
+def killed(folder, delay):
+    """The lines that a run printed until it was killed, and whether it was; a line that isn't whole doesn't count."""
+    with open(Path(folder) / "printed", "w+") as out:
+        child = subprocess.Popen([program(), "run", "scenario"], cwd=folder, stdout=out)
+        try:
+            status = child.wait(delay)
+        except subprocess.TimeoutExpired:
+            child.kill()
+            status = child.wait()
+        out.seek(0)
+        text = out.read()
+    assert status in (0, -signal.SIGKILL), status
+    return [line.split() for line in text[:text.rfind("\n") + 1].splitlines()], status != 0
+
+
+def note(seen, lines):
+    for vector in vectors_in(lines):
+        assert vector not in seen, f"{vector} comes twice"
+        seen.add(vector)
+
+
+def usual_time(folder):
+    """How long a whole run takes."""
+    begun = time.monotonic()
+    status, _ = run(program(), folder)
+    assert status == 0, status
+    return time.monotonic() - begun
+
+
+def kills(folder, count, rng):
+    write_scenario(folder, long_scenario())
+    write_scenario(folder, short_scenario(), "short")
+    whole = usual_time(folder)
+    journal, seen, hits, printed = Path(folder) / NAME, set(), 0, 0
+    for turn in range(count):
+        if turn % FRESH == 0:
+            journal.unlink(missing_ok=True)
+            seen.clear()
+        # One of ten is killed while it starts and opens the journal.
+        lines, hit = killed(folder, rng.uniform(0, whole / 20 if turn % 10 == 0 else whole))
+        note(seen, lines)
+        status, after = run(program(), folder, "run", "short")
+        assert status == 0, status
+        note(seen, after)
+        hits, printed = hits + hit, printed + len(lines)
+    print(f"kills: {hits} of {count} runs were killed, {printed} lines were printed, no number came twice")
+
+
+def recorded(folder):
+    """The bytes of a journal after some frames."""
+    write_scenario(folder, [*map(subscriber, range(3)), "round", "job", *[f"draw {imsi(sub)} 150" for sub in range(3)]])
+    (Path(folder) / NAME).unlink(missing_ok=True)
+    status, _ = run(program(), folder)
+    assert status == 0, status
+    return (Path(folder) / NAME).read_bytes()
+
+
+def torn(data, rng):
+    """The bytes with one write of an append torn: the body with the next gate, or a gate alone."""
+    for at in range(16, len(data) - 1, FRAME):
+        whole = data[:at] + b"\0" + data[at + 1:at + FRAME + 1]
+        for place in range(at + 1, at + FRAME + 1):
+            yield whole[:place] + bytes([rng.randrange(256)]) + whole[place + 1:]
+            yield whole[:place]
+        for gate in (0, 1, 2, 255):
+            yield whole[:at] + bytes([gate]) + whole[at + 1:]
+        yield data[:at + 1] + rng.randbytes(FRAME - 1) + b"\0"
+
+
+def image_is_answered(folder, data):
+    (Path(folder) / NAME).write_bytes(data)
+    status, lines = run(program(), folder, "run", "short")
+    try:
+        limits = limits_of(data)
+    except NotJournal as wrong:
+        assert (status, lines) == (7, [["refused", "journal", str(wrong.place)]]), (status, lines, wrong.place)
+        return 7
+    assert status == 0, (status, data.hex())
+    assert vectors_in(lines) == [(imsi(sub), limits.get(imsi(sub), 0) + 1) for sub in range(SUBSCRIBERS)], lines
+    return 0
+
+
+def images(folder, rng):
+    data = recorded(folder)
+    write_scenario(folder, short_scenario(), "short")
+    cases = [data[:size] for size in range(len(data) + 1)] + list(torn(data, rng))
+    answers = [image_is_answered(folder, case) for case in cases]
+    print(f"images: {len(cases)} images, {answers.count(7)} of them no journal, each answered by the format")
+
+
+def two_processes(folder):
+    write_scenario(folder, long_scenario())
+    (Path(folder) / NAME).unlink(missing_ok=True)
+    first = subprocess.Popen([program(), "run", "scenario"], cwd=folder, stdout=subprocess.DEVNULL)
+    while not (Path(folder) / NAME).exists() or not (Path(folder) / NAME).stat().st_size:
+        time.sleep(0.0005)
+    first.send_signal(signal.SIGSTOP)
+    assert first.poll() is None, "the first run has ended already"
+    answer = run(program(), folder)
+    first.send_signal(signal.SIGCONT)
+    assert answer == (6, []), answer
+    assert first.wait() == 0
+    print("two processes: the second one ends with status 6 and prints nothing")
+
+
+def main():
+    count = int(sys.argv[2]) if len(sys.argv) > 2 else 2000
+    rng = random.Random(int(sys.argv[3]) if len(sys.argv) > 3 else 1)
+    with tempfile.TemporaryDirectory() as folder:
+        two_processes(folder)
+        images(folder, rng)
+    with tempfile.TemporaryDirectory() as folder:
+        kills(folder, count, rng)
+
+
+main()
