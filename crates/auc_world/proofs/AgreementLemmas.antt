@@ -47,7 +47,7 @@ use Rattle.auc_world.specs.declared.event.End.TheVariants as end
 use Rattle.auc_world.specs.declared.event.Event.{Event}
 use Rattle.auc_world.specs.declared.event.Event.TheVariants as event
 use Rattle.auc_world.specs.declared.net.Inputs.{Inputs}
-use Rattle.auc_world.specs.declared.net.Released.{Released}
+use Rattle.auc_released.specs.declared.numbers.Number.{Number}
 use Rattle.auc_world.specs.declared.net.SentPacket.{SentPacket}
 use Rattle.auc_world.specs.declared.net.Session.{Session}
 use Rattle.auc_world.proofs.PremiseLemmas.{honest_run}
@@ -73,22 +73,22 @@ none_some : {X : Type 0} (o : Option X) (a : X) → o ≡ None → o ≡ Some a 
 none_some o a e f = cc
 
 -- the first numbers of numbers that were released once
-once_front : (xs ys : List Released) → AreReleasedOnce (xs ++ ys) → AreReleasedOnce xs
+once_front : (xs ys : List Number) → AreReleasedOnce (xs ++ ys) → AreReleasedOnce xs
 once_front xs ys o =
     let long = length-append xs ys in record {
       once = λ i j d before within. λ same. o.once i j d before (omega arith) (get_or_append_left xs ys d i (omega arith) ∙ same ∙ sym (get_or_append_left xs ys d j within));
-      numbers = λ k d within. subst (λ (r : Released). r.n ≤ max_seq) (get_or_append_left xs ys d k within) (o.numbers k d (omega arith));
+      numbers = λ k d within. subst (λ (r : Number). r.n ≤ max_seq) (get_or_append_left xs ys d k within) (o.numbers k d (omega arith));
     }
 
 -- the last of them isn't among those before
-not_before : (xs : List Released) (x : Released) → AreReleasedOnce (xs ++ x ∷ []) → Contains xs x → ⊥
+not_before : (xs : List Number) (x : Number) → AreReleasedOnce (xs ++ x ∷ []) → Contains xs x → ⊥
 not_before xs x o c =
     let long = length_push xs x in
     let (place, within, is) = c in
     o.once place (length xs) x within (omega arith) (get_or_append_left xs (x ∷ []) x place within ∙ is ∙ sym (get_or_push xs x x (length xs) refl))
 
-number_fits : (released : List Released) (x : Released) → AreReleasedOnce released → Contains released x → x.n ≤ max_seq
-number_fits released x o c = let (place, within, is) = c in subst (λ (r : Released). r.n ≤ max_seq) is (o.numbers place x within)
+number_fits : (released : List Number) (x : Number) → AreReleasedOnce released → Contains released x → x.n ≤ max_seq
+number_fits released x o c = let (place, within, is) = c in subst (λ (r : Number). r.n ≤ max_seq) is (o.numbers place x within)
 
 -- ---- what is posted
 
@@ -132,7 +132,7 @@ peer_posts packets inputs (Some bytes) i p =
 -- ---- what holds of a network
 
 -- inputs are those of the vector of a released number
-pub record IsDrawn (set : Setting) (released : List Released) (i : Inputs) : Type 0 where
+pub record IsDrawn (set : Setting) (released : List Number) (i : Inputs) : Type 0 where
   pub n : ℕ
   pub vector : Vector
   pub is_in : Contains released (record { sub = i.sub; n = n })
@@ -176,7 +176,7 @@ pub record SessionFine (set : Setting) (devices : List Subscription) (packets : 
   pub live : Live devices packets a.device a.sub a.peer
   pub done : AllDone devices packets a.device a.sub a.peer a.peer_keys
 
-pub record Holds (set : Setting) (devices : List Subscription) (packets : List SentPacket) (sessions : List Session) (released : List Released) : Type 0 where
+pub record Holds (set : Setting) (devices : List Subscription) (packets : List SentPacket) (sessions : List Session) (released : List Number) : Type 0 where
   pub secrets : HaveSecrets set devices
   pub drawn : (i : Inputs) → IsPosted packets i → IsDrawn set released i
   pub alike : (i j : Inputs) → IsPosted packets i → IsPosted packets j → AreOfOneChallenge i j → i ≡ j
@@ -222,7 +222,7 @@ session_later set devices packets from inputs sent a f = record {
   done = λ keys e. done_later devices packets from inputs sent a.device a.sub a.peer keys (f.done keys e);
 }
 
-drawn_later : (set : Setting) (released more : List Released) (i : Inputs) → IsDrawn set released i → IsDrawn set (released ++ more) i
+drawn_later : (set : Setting) (released more : List Number) (i : Inputs) → IsDrawn set released i → IsDrawn set (released ++ more) i
 drawn_later set released more i d = record {
   n = d.n;
   vector = d.vector;
@@ -274,7 +274,7 @@ set_server set devices packets sessions place session s sent all there fine =
     (All-weaker (SessionFine set devices packets) (SessionFine set devices after') (λ a f. session_later set devices packets end.Server (inputs_of_server s) sent a f) sessions all)
 
 -- a turn after which the server's inputs are posted already
-server_kept : (set : Setting) (w : Net) (place : ℕ) (session : Session) (s : ServerEnd) (did : Step ServerWhy) (more : List Released) → HoldsOf set w → slice_get w.sessions place ≡ Some session
+server_kept : (set : Setting) (w : Net) (place : ℕ) (session : Session) (s : ServerEnd) (did : Step ServerWhy) (more : List Number) → HoldsOf set w → slice_get w.sessions place ≡ Some session
     → ServerFine set w.packets s → HoldsOf set (with_server w place session more s did)
 server_kept set w place session s did more h there fine =
     let back : (i : Inputs) → IsPosted (posted w.packets end.Server (inputs_of_server s) (sent_by did)) i → IsPosted w.packets i =
@@ -299,13 +299,13 @@ posts packets inputs bytes i e = record {
 abbrev pub inputs_new : ServerEnd → ℕ → Vector → Inputs
 inputs_new s sub v = record { sub = sub; rand = v.rand; autn = v.autn; identity = s.identity }
 
-same_number : (sub m n : ℕ) → m ≡ n → ◌≡◌ {A = Released} (record { sub = sub; n = m }) (record { sub = sub; n = n })
+same_number : (sub m n : ℕ) → m ≡ n → ◌≡◌ {A = Number} (record { sub = sub; n = m }) (record { sub = sub; n = n })
 same_number sub m n e = cc
 
-same_subscriber : (sub other n : ℕ) → sub ≡ other → ◌≡◌ {A = Released} (record { sub = sub; n = n }) (record { sub = other; n = n })
+same_subscriber : (sub other n : ℕ) → sub ≡ other → ◌≡◌ {A = Number} (record { sub = sub; n = n }) (record { sub = other; n = n })
 same_subscriber sub other n e = cc
 
-contains_same : (xs : List Released) (x y : Released) → x ≡ y → Contains xs x → Contains xs y
+contains_same : (xs : List Number) (x y : Number) → x ≡ y → Contains xs x → Contains xs y
 contains_same xs x y e c = subst (Contains xs) e c
 
 -- no inputs that were posted before are those of a number that is released now
@@ -313,7 +313,7 @@ fresh : Laws → (set : Setting) (w : Net) (sub n : ℕ) (v : Vector) (i : Input
     → vector_at set sub n ≡ Some v → IsPosted w.packets i → i.sub ≡ sub → i.rand ≡ v.rand → i.autn ≡ v.autn → ⊥
 fresh laws set w sub n v i subscribers h once of p is rand autn =
     let d = h.drawn i p in
-    let x : Released = record { sub = sub; n = n } in
+    let x : Number = record { sub = sub; n = n } in
     let front = once_front w.released (x ∷ []) once in
     let mm = number_fits w.released (record { sub = i.sub; n = d.n }) front d.is_in in
     let nn = number_fits (w.released ++ x ∷ []) x once (Contains-push w.released x) in
@@ -327,7 +327,7 @@ server_new : Laws → (set : Setting) (w : Net) (place : ℕ) (session : Session
     → AreSubscribers set.rows → HoldsOf set w → slice_get w.sessions place ≡ Some session → Fits s → vector_at set sub n ≡ Some v → s.challenged ≡ Some (challenge_of s sub v)
     → did ≡ step.Sent bytes → AreReleasedOnce (w.released ++ record { sub = sub; n = n } ∷ []) → HoldsOf set (with_server w place session (record { sub = sub; n = n } ∷ []) s did)
 server_new laws set w place session s did sub n v bytes subscribers h there fits of sent_is did_is once =
-    let x : Released = record { sub = sub; n = n } in
+    let x : Number = record { sub = sub; n = n } in
     let j = inputs_new s sub v in
     let after' = posted w.packets end.Server (inputs_of_server s) (sent_by did) in
     let own : inputs_of_server s ≡ Some j = ap (inputs_sent s.identity) sent_is in
@@ -433,7 +433,7 @@ agreed set w h a b k l i j ina inb won other alike =
 
 -- a network after something that happened
 pub record Next (set : Setting) (w next : Net) : Type 0 where
-  pub more : List Released
+  pub more : List Number
   pub grows : next.released ≡ w.released ++ more
   pub holds : HoldsOf set w → AreReleasedOnce next.released → HoldsOf set next
 
@@ -485,9 +485,9 @@ to_server_next laws set w d told (Some s) subscribers is there =
           ⊎_elim
           (λ kept. server_kept set w d.place d.session turn.0 turn.1.step more h there (kept_fine set w.packets s turn.0 old kept fits))
           (λ (new : SendsChallenge set asked turn.0 turn.1).
-          let x : Released = record { sub = new.request.sub; n = new.n } in
+          let x : Number = record { sub = new.request.sub; n = new.n } in
           let is_more : more ≡ x ∷ [] = ap (λ (a : Option Asking). released_by a turn.1.notes.number) new.of ∙ ap (released_by (Some new.request)) new.drawn in
-          subst (λ (r : List Released). AreReleasedOnce (w.released ++ r) → HoldsOf set (with_server w d.place d.session r turn.0 turn.1.step)) (sym is_more)
+          subst (λ (r : List Number). AreReleasedOnce (w.released ++ r) → HoldsOf set (with_server w d.place d.session r turn.0 turn.1.step)) (sym is_more)
           (λ once. server_new laws set w d.place d.session turn.0 turn.1.step new.request.sub new.n new.vector turn.0.last subscribers h there fits new.of_number new.challenge new.sent once) o)
           (laws.server_moves set w.homes s told.seen told.notes old.fits);
     }
@@ -748,12 +748,12 @@ one_next laws set w (Noted released) subscribers honest = record {
   };
 }
 
-run_grows : Laws → (set : Setting) (w : Net) (hs : List Happening) → AreSubscribers set.rows → IsHonest set w hs → (more : List Released) × ((after set w hs).released ≡ w.released ++ more)
+run_grows : Laws → (set : Setting) (w : Net) (hs : List Happening) → AreSubscribers set.rows → IsHonest set w hs → (more : List Number) × ((after set w hs).released ≡ w.released ++ more)
 run_grows laws set w [] subscribers honest = ([], sym (append-nil w.released))
 run_grows laws set w (h ∷ hs) subscribers honest =
     let first = one_next laws set w h subscribers honest.0 in
     let rest = run_grows laws set (after_one set w h) hs subscribers honest.1 in
-    (first.more ++ rest.0, rest.1 ∙ ap (λ (l : List Released). l ++ rest.0) first.grows ∙ append_assoc w.released first.more rest.0)
+    (first.more ++ rest.0, rest.1 ∙ ap (λ (l : List Number). l ++ rest.0) first.grows ∙ append_assoc w.released first.more rest.0)
 
 run_holds : Laws → (set : Setting) (w : Net) (hs : List Happening) → AreSubscribers set.rows → IsHonest set w hs → HoldsOf set w → AreReleasedOnce (after set w hs).released
     → HoldsOf set (after set w hs)

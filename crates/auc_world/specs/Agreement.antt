@@ -15,7 +15,7 @@ use Rattle.auc_world.specs.declared.event.End.{End}
 use Rattle.auc_world.specs.declared.event.Event.{Event}
 use Rattle.auc_world.specs.declared.net.Breach.{Breach}
 use Rattle.auc_world.specs.declared.net.Inputs.{Inputs}
-use Rattle.auc_world.specs.declared.net.Released.{Released}
+use Rattle.auc_released.specs.declared.numbers.Number.{Number}
 use Rattle.auc_world.specs.declared.net.SentPacket.{SentPacket}
 use Rattle.auc_world.specs.declared.net.Session.{Session}
 
@@ -24,7 +24,7 @@ use Rattle.auc_world.specs.declared.net.Session.{Session}
 -- what befalls a network: an event, or the release of a number outside the sessions
 pub data Happening : Type 0 where
   Occurs : Event → Told → Happening
-  Noted : Released → Happening
+  Noted : Number → Happening
 
 abbrev pub after_one : Setting → Net → Happening → Net
 after_one set w (Occurs e told) = happened set w e told
@@ -99,7 +99,7 @@ HaveSecrets set devices = (sub place : ℕ) (device : Subscription) (row : Row) 
     → slice_get devices place ≡ Some device → slice_get set.rows sub ≡ Some row → device.secret ≡ row.secret
 
 -- no number was released twice, and each is one that a vector may have
-pub record AreReleasedOnce (released : List Released) : Type 0 where
+pub record AreReleasedOnce (released : List Number) : Type 0 where
   pub once : AllPairs ◌≢◌ released
   pub numbers : All (λ number. number.n ≤ max_seq) released
 

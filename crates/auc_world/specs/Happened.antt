@@ -26,7 +26,7 @@ use Rattle.auc_world.specs.declared.event.End.TheVariants as end
 use Rattle.auc_world.specs.declared.event.Event.{Event}
 use Rattle.auc_world.specs.declared.event.Event.TheVariants as event
 use Rattle.auc_world.specs.declared.net.Breach.{Breach}
-use Rattle.auc_world.specs.declared.net.Released.{Released}
+use Rattle.auc_released.specs.declared.numbers.Number.{Number}
 use Rattle.auc_world.specs.declared.net.SentPacket.{SentPacket}
 use Rattle.auc_world.specs.declared.net.Session.{Session}
 
@@ -54,12 +54,12 @@ keys_won before (step.Sent bytes) = before
 keys_won before (step.Ignored cause) = before
 
 -- the number that a turn drew for the subscriber that it asked for
-abbrev pub released_by : Option Asking → Option NumberNote → List Released
+abbrev pub released_by : Option Asking → Option NumberNote → List Number
 released_by (Some asked) (Some (number.Drew n)) = record { sub = asked.sub; n = n } ∷ []
 released_by _ _ = []
 
 -- a server that took a step
-abbrev pub with_server : Net → ℕ → Session → List Released → ServerEnd → Step ServerWhy → Net
+abbrev pub with_server : Net → ℕ → Session → List Number → ServerEnd → Step ServerWhy → Net
 with_server w place session released s did = record w {
   packets = posted w.packets end.Server (inputs_of_server s) (sent_by did);
   sessions = slice_set w.sessions place (record session { server = Some s });

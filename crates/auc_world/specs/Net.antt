@@ -15,7 +15,7 @@ use Rattle.auc_world.specs.declared.event.End.{End}
 use Rattle.auc_world.specs.declared.event.End.TheVariants as end
 use Rattle.auc_world.specs.declared.net.Breach.{Breach}
 use Rattle.auc_world.specs.declared.net.Inputs.{Inputs}
-use Rattle.auc_world.specs.declared.net.Released.{Released}
+use Rattle.auc_released.specs.declared.numbers.Number.{Number}
 use Rattle.auc_world.specs.declared.net.SentPacket.{SentPacket}
 use Rattle.auc_world.specs.declared.net.Session.{Session}
 
@@ -25,7 +25,7 @@ pub record Net : Type 0 where
   -- the sessions that were opened so far
   pub sessions : List Session
   -- the numbers that were released so far
-  pub released : List Released
+  pub released : List Number
   -- the subscribers that the servers serve
   pub homes : List HomeRow
   -- what the peers take from the devices

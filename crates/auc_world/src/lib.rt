@@ -41,7 +41,7 @@ pub use law::{
     jobs_give_after_all_lines, past_has_each_accepted_sqn, pieces_split_the_round,
     restart_opens_above_released_numbers,
 };
-pub use net::{Breach, Inputs, Released, SentPacket, Session};
+pub use net::{Breach, Inputs, SentPacket, Session};
 pub use noting::{note, note_all};
 pub use record::{
     Closing, GiveVerdict, JobRecord, JobVectors, LineRecord, PartRecord, RoundRecord, SyncVerdict,

@@ -48,10 +48,3 @@ pub struct Breach {
     pub end: End,
     pub packet: u32,
 }
-
-/// A number that was released for a subscriber.
-#[derive(Clone, Copy, Debug, PartialEq, Eq)]
-pub struct Released {
-    pub sub: u32,
-    pub n: u64,
-}
