@@ -1,9 +1,9 @@
 //! Runs over files, a disk and an output in memory, which fail or run side by side. Further runs stand in `examples/`, and
 //! one in the crate `auc_cli`.
 
-use crate::{MAX_FILE, Status, run};
 use auc_disk::{DiskCall, FailList, MemDisk};
 use auc_edge::{Gate, Items, MemShelf, MemSink, NoMemory, Octets, OpenGate, TurnGate};
+use auc_run::{MAX_FILE, Status, run};
 use std::alloc::Global;
 use std::process::Abort;
 use std::sync::Wait;

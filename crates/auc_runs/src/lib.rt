@@ -1,0 +1,8 @@
+//! Tests of `auc_run::run` over ends in memory: disks and outputs that fail, and jobs that run beside each other.
+//!
+//! They stand in a crate of their own, since the tests of a crate are proved together with it, and the proof of `auc_run`
+//! is dear.
+#![tactic(auto)]
+
+#[cfg(test)]
+mod tests;
