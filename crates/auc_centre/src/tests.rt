@@ -18,6 +18,7 @@ use auc_sqn::MAX_SEQ;
 use auc_vector::{Centre, CentreRefusal, Resynced};
 use std::alloc::Global;
 use std::marker::Brand;
+use std::process::Abort;
 use std::sync::{Mutex, Wait};
 use std::test::Fail;
 
@@ -88,7 +89,7 @@ fn draw_three_times<L: Naming<D>, D: Disk + Drop, R: Wait>(
 
 /// The answers in a round of one subscriber whose number stands at this opening, with a journal on this disk; and the
 /// subscriber's limit after the round.
-fn play<R: Wait>(
+fn play<R: Abort + Wait>(
     rt: &R,
     alloc: Global,
     disk: MemDisk,
@@ -103,8 +104,8 @@ fn play<R: Wait>(
     };
     let limits = [journal.reserved(0)];
     let (book, mut passes, keeper) = Book::open(alloc, &[opening], &limits, 2)?;
-    let mut second = passes.pop().ok_or(NoMemory)?;
-    let mut first = passes.pop().ok_or(NoMemory)?;
+    let mut second = passes.pop().expect(rt, "a pass");
+    let mut first = passes.pop().expect(rt, "a pass");
     let (answers, journal, _keeper) = draw_three_times::<Brand, MemDisk, R>(
         rt,
         &book,
