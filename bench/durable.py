@@ -7,18 +7,21 @@ A number is released only after its limit is on the disk; a limit is 64 numbers,
 synced. So the disk allows 64 draws for two syncs. The rate of two syncs is measured on a file in the same folder right
 before and after each run, by the same writes. A ratio of 1 says that the program adds nothing to the disk's own time.
 
-With one subscriber and one worker, then with 64 subscribers and 4 workers, which wait for one another at the journal.
+With one subscriber and one worker, then with 64 subscribers and 4 workers, which wait for one another at the journal. Each
+row is the median of five runs of 2,000 appends. On a disk that syncs twice in about 110 microseconds three calls showed
+0.90 to 0.93 with one subscriber, and 0.89 to 0.92 with 64.
 """
 import os
 import statistics
+import subprocess
 import tempfile
 import time
 from pathlib import Path
 
-from journal import NAME, imsi, run, subscriber, write_scenario
+from journal import NAME, imsi, subscriber, write_scenario
 from measure import program
 
-APPENDS, TIMES = 400, 5
+APPENDS, PROBES, TIMES = 2000, 400, 5
 
 
 def appends_a_second(folder, count):
@@ -34,16 +37,17 @@ def appends_a_second(folder, count):
 
 
 def draws_a_second(folder, subscribers, workers):
-    """The rate of a run that draws 64 numbers an append."""
+    """The rate of a run that draws 64 numbers an append. Its output isn't read while the time goes."""
     each = APPENDS // subscribers or 1
     draws = [line for sub in range(subscribers) for line in ("job", *[f"draw {imsi(sub)} 64"] * each)]
     write_scenario(folder, [f"workers {workers}", *map(subscriber, range(subscribers)), "round", *draws])
     (Path(folder) / NAME).unlink(missing_ok=True)
-    begun = time.monotonic()
-    status, lines = run(program(), folder)
-    took = time.monotonic() - begun
-    assert status == 0, status
-    return sum(line[0] == "vector" for line in lines) / took
+    with open(Path(folder) / "printed", "w+") as out:
+        begun = time.monotonic()
+        subprocess.run([program(), "run", "scenario"], cwd=folder, stdout=out, check=True)
+        took = time.monotonic() - begun
+        out.seek(0)
+        return sum(line.startswith("vector ") for line in out) / took
 
 
 def main():
@@ -52,9 +56,9 @@ def main():
         for subscribers, workers in ((1, 1), (64, 4)):
             rows = []
             for _ in range(TIMES):
-                before = appends_a_second(folder, APPENDS)
+                before = appends_a_second(folder, PROBES)
                 draws = draws_a_second(folder, subscribers, workers)
-                disk = 64 * (before + appends_a_second(folder, APPENDS)) / 2
+                disk = 64 * (before + appends_a_second(folder, PROBES)) / 2
                 rows.append((draws / disk, draws, disk))
             ratio, draws, disk = (statistics.median(column) for column in zip(*rows))
             print(f"{subscribers:11} {workers:7} {draws:9.0f} {disk:9.0f} {ratio:5.2f}")
