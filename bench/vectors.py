@@ -7,9 +7,10 @@ in the full one.
 
 Each count is drawn in jobs of 1000 vectors over 100 subscribers. The figures are those of one run: the program's
 own processor time, its greatest resident size, and both as ratios: of the time to the row before, and of the size to
-the count. At a million vectors, two runs on a busy machine gave 0.15 and 0.16 seconds and 63 bytes a vector for the
-brief print, in which no vector is made, and 1.00 and 1.12 seconds and 300 bytes for the full one. The program of version
-0.3.0 gave 0.98 to 1.06 seconds and 152 bytes, and 1.03 to 1.42 seconds and 307 bytes, in the same minutes.
+the count. The time includes the calls that sync the journal, so with TMPDIR=/dev/shm, where a sync is free, it shows what
+the vectors cost. There a million vectors took 0.17 seconds and 63 bytes a vector for the brief print, in which no vector
+is made, and 1.03 seconds and 300 bytes for the full one; on a disk 0.7 and 1.9 seconds, on a busy machine. The program of
+version 0.3.0, which had no journal, gave 0.98 to 1.06 seconds and 152 bytes, and 1.03 to 1.42 seconds and 307 bytes.
 """
 import sys
 import tempfile
