@@ -163,12 +163,10 @@ impl MemDisk {
     {
         let alloc = *self.bytes.allocator();
         let copy = Octets::copied_from(alloc, bytes)?;
-        if done {
-            let next = put(alloc, 0, &self.bytes, at as usize, bytes)?;
-            self.calls.push_front(Call::Wrote(at, copy, done))?;
-            self.bytes = next;
-        } else {
-            self.calls.push_front(Call::Wrote(at, copy, done))?;
+        self.calls.push_front(Call::Wrote(at, copy, done))?;
+        if done && put(0, &mut self.bytes, at as usize, bytes).is_err() {
+            self.calls.pop_front();
+            return Err(NoMemory);
         }
         Ok(())
     }

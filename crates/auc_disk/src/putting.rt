@@ -1,6 +1,6 @@
 //! Writes into a file's bytes, and recorded calls that are replayed.
 
-ghost use Rattle.std.specs.Prelude.{◌≡◌, ◌≤◌, ◌+◌, ◌^◌, [], ◌∷◌, length, IfOk, OnOk};
+ghost use Rattle.std.specs.Prelude.{◌≡◌, ◌≤◌, ◌+◌, ◌^◌, [], ◌∷◌, length, OnOk, OnErr};
 ghost use Rattle.auc_disk.specs.Disk.{put_over};
 ghost use Rattle.auc_disk.specs.InnerReplay.{AreInRange};
 ghost use Rattle.auc_disk.specs.Replay.{image_by, left_by, seen_after};
@@ -23,9 +23,9 @@ pub(crate) fn replay(
 {
     match call {
         Call::Wrote(at, bytes, done) => {
-            *image = left(alloc, choice, image, at as usize, bytes.as_slice())?;
+            leave(alloc, choice, image, at as usize, bytes.as_slice())?;
             if done {
-                *seen = put(alloc, 0, seen, at as usize, bytes.as_slice())?;
+                put(0, seen, at as usize, bytes.as_slice())?;
             }
         }
         Call::Synced => *image = seen.to_vec(alloc)?,
@@ -33,42 +33,37 @@ pub(crate) fn replay(
     Ok(())
 }
 
-// What a crash leaves of a write by a choice.
-fn left(
+// Changes a file to what a crash leaves of a write by a choice.
+fn leave(
     alloc: Global,
     choice: u32,
-    file: &[u8],
+    file: &mut Vec<u8>,
     at: usize,
     bytes: &[u8],
-) -> Result<Vec<u8>, NoMemory>
+) -> Result<(), NoMemory>
     requires { at + length bytes.now ≤ 2 ^ 30 }
-    ensures { IfOk result (λ next. next.items ≡ left_by choice file.now at bytes.now) }
+    ensures { OnOk result (file.new.items ≡ left_by choice file.old.items at bytes.now) }
 {
     match choice {
-        0 => Ok(file.to_vec(alloc)?),
-        1 => put(alloc, 0, file, at, bytes),
+        0 => Ok(()),
+        1 => put(0, file, at, bytes),
         _ => {
             let filler = (choice % 256) as u8;
             let filled = vec![in alloc; filler; bytes.len()]?;
-            put(alloc, filler, file, at, &filled)
+            put(filler, file, at, &filled)
         }
     }
 }
 
-// A file after bytes were written at a place; a gap before the place is filled with a byte.
-pub(crate) fn put(
-    alloc: Global,
-    filler: u8,
-    file: &[u8],
-    at: usize,
-    bytes: &[u8],
-) -> Result<Vec<u8>, NoMemory>
+// Writes bytes into a file at a place; a gap before the place is filled with a byte. If memory runs out,
+// the file stays as it was.
+pub(crate) fn put(filler: u8, file: &mut Vec<u8>, at: usize, bytes: &[u8]) -> Result<(), NoMemory>
     requires { at + length bytes.now ≤ 2 ^ 30 }
-    ensures { IfOk result (λ next. next.items ≡ put_over filler file.now at bytes.now) }
+    ensures put { OnOk result (file.new.items ≡ put_over filler file.old.items at bytes.now) }
+    ensures kept { OnErr result (file.new.items ≡ file.old.items) }
 {
-    let mut next = file[..at.min(file.len())].to_vec(alloc)?;
-    next.resize(at, filler)?;
-    next.extend_from_slice(bytes)?;
-    next.extend_from_slice(&file[file.len().min(at + bytes.len())..])?;
-    Ok(next)
+    let end = at + bytes.len();
+    file.resize(file.len().max(end), filler)?;
+    file[at..end].copy_from_slice(bytes);
+    Ok(())
 }
