@@ -39,7 +39,7 @@ use Rattle.auc_jobs.specs.InnerServing.{before_at}
 use Rattle.auc_jobs.specs.InnerSharing.{Shared, Begins, IsServable}
 use Rattle.auc_jobs.specs.InnerUsims.{OwnUsims, usim_in}
 use Rattle.auc_jobs.specs.Serving.{AreAllKnown, AreKnown}
-use Rattle.auc_jobs.proofs.LimitLemmas.{AreLimited, flat_limited, flat_lines, withholds_by}
+use Rattle.auc_jobs.proofs.LimitLemmas.{AreLimited, above_limit, flat_limited, flat_lines, withholds_by}
 use Rattle.auc_jobs.proofs.LineLemmas.{all_at}
 use Rattle.auc_jobs.proofs.OrderLemmas.{up, places_of, places, Placed, placed, sorted_up, all_front, all_back}
 use Rattle.auc_jobs.proofs.PieceLemmas.{not_given}
@@ -574,6 +574,7 @@ module _ (shared : Shared) (early : List LineRecord) (openings : List ℕ) (book
       within = λ sub known. a.closes.closes.within sub (in_book sub known);
     };
     withholds = withholds_by keeper.stop (length shared.set.rows) (all_lines (map (λ c. c.served.lines) sorted)) (slice_index keeper.limits) own limited;
+    above = λ sub known. above_limit sub (slice_index keeper.limits sub) keeper.stop (all_lines (map (λ c. c.served.lines) sorted)) (limited sub known);
   }
 
   -- the printed vectors of the sorted jobs

@@ -1,6 +1,7 @@
 -- For the keeper of a round: the journal after it.
-use Rattle.std.proofs.Common.{◌≡◌, ◌≢◌, ℕ, ◌+◌, ◌<◌, ◌≤◌, List, [], ◌∷◌, length, map, max, slice_index, AllPairs, Option, Some, Result, Ok, Err, arith, refl, sym, ap, subst}
+use Rattle.std.proofs.Common.{◌≡◌, ◌≢◌, ℕ, zero, suc, ◌+◌, ◌<◌, ◌≤◌, List, [], ◌∷◌, length, map, max, slice_get, slice_index, All, AllPairs, Option, Some, Result, Ok, Err, arith, refl, sym, ap, ◌∙◌, subst}
 use Rattle.std.specs.Prelude.{IfOk, OnOk}
+use Rattle.std.proofs.lemmas.Option.{slice_get_within}
 use Rattle.std.proofs.lemmas.List.Elements.{All-map}
 use Rattle.auc_draw.specs.Book.{Opens}
 use Rattle.auc_draw.specs.Values.{BookValue, KeeperValue, PassValue}
@@ -8,6 +9,7 @@ use Rattle.auc_edge.specs.Identity.{Identity}
 use Rattle.auc_edge.specs.declared.no_memory.NoMemory.{NoMemory}
 use Rattle.auc_edge.specs.declared.stop.Stop.{Stop}
 use Rattle.auc_history.proofs.Facts.{AllPairs-cons, AllPairs-head, AllPairs-tail}
+use Rattle.auc_journal.specs.Image.{reserved_in}
 use Rattle.auc_journal.specs.Journal.{JournalState, limits_of}
 use Rattle.auc_journal.proofs.Facts.{durable_more}
 use Rattle.auc_keeper.specs.Keeper.{Since}
@@ -16,7 +18,7 @@ use Rattle.auc_subs.specs.Subscriber.{AreSubscribers}
 use Rattle.auc_subs.specs.declared.row.Row.{Row}
 use Rattle.auc_world.specs.declared.record.LineRecord.{LineRecord}
 use Rattle.auc_world.specs.Limits.{Raises, least_step}
-use Rattle.auc_world.specs.Lines.{all_lines}
+use Rattle.auc_world.specs.Lines.{all_lines, withheld_of}
 use Rattle.auc_world.specs.Round.{IsLawfulRound}
 use Rattle.auc_world.specs.Setting.{Setting}
 use Rattle.auc_world.specs.Transcript.{reopened}
@@ -71,20 +73,37 @@ can_keep rows openings workers journal book passes pass subscribers is opens = r
   running = opens.running;
 }
 
+-- the limit at a row's place is what is reserved for its identity
+limit_of_row : {D : Type 0} (rows : List Row) (journal : JournalState D) (sub : ℕ) (row : Row) → journal.imsis ≡ map (λ row. row.imsi) rows → slice_get rows sub ≡ Some row
+    → slice_index (limits_of journal) sub ≡ reserved_in journal.limits row.imsi
+limit_of_row rows journal sub row is there = ap (λ imsis. slice_index (map (λ imsi. reserved_in journal.limits imsi) imsis) sub) is ∙ by rows sub there
+  where
+    some_row : (a b : Row) → Some a ≡ Some b → a ≡ b
+    some_row a b e = cc
+
+    by : (rows : List Row) (sub : ℕ) → slice_get rows sub ≡ Some row → slice_index (map (λ imsi. reserved_in journal.limits imsi) (map (λ row. row.imsi) rows)) sub ≡ reserved_in journal.limits row.imsi
+    by [] sub there = let bad : ⊥ = cc in absurd bad
+    by (first ∷ rows) zero there = ap (λ (r : Row). reserved_in journal.limits r.imsi) (some_row first row there)
+    by (first ∷ rows) (suc sub) there = by rows sub there
+
 -- a round whose pieces go by the limits is served
 pub served_round : {D : Type 0} (seen : D → Option (List ℕ)) (may_leave : D → List ℕ → Type 0) (set : Setting) (state next : Standing) (jobs : List (List Line)) (journal after : JournalState D)
     (done : RoundPieces) (result : Result Ran NoMemory) → IfOk result (λ ran. (early : List LineRecord) → StandsAt set early state → IsLawfulRound set done.stop early state.words jobs ran.round done.words)
     → OnOk result (next.words ≡ reopened done.words) → IfOk result (λ ran. (ran.round.jobs ≡ done.jobs.records) × (ran.vectors ≡ done.jobs.vectors) × (ran.stop ≡ done.stop))
-    → GoesByLimits set done.stop done.jobs.records (limits_of journal) done.words (limits_of after) → StaysNear seen may_leave journal done.words after
+    → after.imsis ≡ map (λ row. row.imsi) set.rows → GoesByLimits set done.stop done.jobs.records (limits_of journal) done.words (limits_of after) → StaysNear seen may_leave journal done.words after
     → IfOk result (λ ran. (early : List LineRecord) → StandsAt set early state → Serves seen may_leave set early state jobs ran.round ran.stop journal next after)
-served_round seen may_leave set state next jobs journal after done (Ok ran) lawful opens parts limits near = λ early stands. record {
+served_round seen may_leave set state next jobs journal after done (Ok ran) lawful opens parts subscribers limits near = λ early stands. record {
   words = done.words;
   lawful = subst (λ (stop : Option Stop). IsLawfulRound set stop early state.words jobs ran.round done.words) (sym parts.2) (lawful early stands);
   opens = opens;
   limits = subst (λ (records : List (List LineRecord)). Raises set.rows (all_lines records) (limits_of journal) done.words (limits_of after)) (sym parts.0) limits.raises;
+  withheld = λ sub row there.
+      subst (λ (records : List (List LineRecord)). All (λ n. reserved_in after.limits row.imsi < n) (withheld_of sub (all_lines records))) (sym parts.0)
+      (subst (λ (limit : ℕ). All (λ n. limit < n) (withheld_of sub (all_lines done.jobs.records))) (limit_of_row set.rows after sub row subscribers there)
+      (limits.above sub (slice_get_within set.rows sub row there)));
   durable = near;
 }
-served_round seen may_leave set state next jobs journal after done (Err e) lawful opens parts limits near = tt
+served_round seen may_leave set state next jobs journal after done (Err e) lawful opens parts subscribers limits near = tt
 
 -- what holds where a result is Ok holds of what it has
 pub if_ok_at : {A E : Type 0} (P : A → Type 0) (result : Result A E) (x : A) → result ≡ Ok x → IfOk result P → P x

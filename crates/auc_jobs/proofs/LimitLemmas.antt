@@ -44,6 +44,12 @@ flat_limited sub limit stop (c ∷ jobs) each =
 
 -- ---- what is withheld
 
+-- what some lines withhold of a subscriber is above its limit
+pub above_limit : (sub limit : ℕ) (stop : Option Stop) (lines : List LineRecord) → AreLimited sub limit stop lines → All (λ n. limit < n) (withheld_of sub lines)
+above_limit sub limit stop lines limited =
+    subst (All (λ n. limit < n)) (sym (withheld_of-held_of sub lines))
+    (All-map (λ n. limit < n) (λ (h : ℕ × Stop). h.0) (held_of sub lines) (λ k h within. (limited.withholds k h within).0))
+
 -- each number is on one side of a count
 side : (sub count : ℕ) → (sub < count) ⊎ (count ≤ sub)
 side sub zero = inr (omega arith)

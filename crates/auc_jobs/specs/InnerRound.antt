@@ -13,7 +13,7 @@ use Rattle.auc_world.specs.declared.record.LineRecord.{LineRecord}
 use Rattle.auc_world.specs.Entries.{entries_of_lines}
 use Rattle.auc_world.specs.Given.{JobGives}
 use Rattle.auc_world.specs.Limits.{Raises}
-use Rattle.auc_world.specs.Lines.{accepted, held_of, all_lines}
+use Rattle.auc_world.specs.Lines.{accepted, held_of, withheld_of, all_lines}
 use Rattle.auc_world.specs.Pieces.{Piece, lines_of_pieces, entries_of_pieces, ReportsAreEarlier, IsQuiet, PiecesGive}
 use Rattle.auc_world.specs.Round.{Withholds}
 use Rattle.auc_world.specs.Setting.{Setting}
@@ -79,6 +79,8 @@ pub record AreServed (set : Setting) (early : List LineRecord) (openings : List 
 pub record GoesByLimits (set : Setting) (stop : Option Stop) (records : List (List LineRecord)) (limits words next : List ℕ) : Type 0 where
   pub raises : Raises set.rows (all_lines records) limits words next
   pub withholds : Withholds stop (all_lines records)
+  -- each withheld number is above its subscriber's limit
+  pub above : (sub : ℕ) → sub < length set.rows → All (λ n. slice_index next sub < n) (withheld_of sub (all_lines records))
 
 -- the state after a round: where the round's words lead, with the jobs' USIMs put back and the released numbers noted
 pub record IsAdvanced (old : Standing) (jobs : List (List Line)) (records : List (List LineRecord)) (usims : List OwnUsims) (words : List ℕ) (new : Standing) : Type 0 where

@@ -1,12 +1,13 @@
 -- A round that is served with a journal.
-use Rattle.std.specs.Prelude.{◌≡◌, ℕ, ◌+◌, ◌<◌, ◌≤◌, max, false, List, length, map, slice_index, Option}
+use Rattle.std.specs.Prelude.{◌≡◌, ℕ, ◌+◌, ◌<◌, ◌≤◌, max, false, List, All, length, map, slice_get, slice_index, Option, Some}
 use Rattle.auc_edge.specs.declared.stop.Stop.{Stop}
 use Rattle.auc_journal.specs.Durable.{IsDurable}
+use Rattle.auc_journal.specs.Image.{reserved_in}
 use Rattle.auc_journal.specs.Journal.{JournalState, limits_of, reserved_at}
 use Rattle.auc_lines.specs.declared.part.Line.{Line}
 use Rattle.auc_subs.specs.declared.row.Row.{Row}
 use Rattle.auc_world.specs.Limits.{Raises, least_step}
-use Rattle.auc_world.specs.Lines.{all_lines}
+use Rattle.auc_world.specs.Lines.{all_lines, withheld_of}
 use Rattle.auc_world.specs.Round.{IsLawfulRound}
 use Rattle.auc_world.specs.Setting.{Setting}
 use Rattle.auc_world.specs.Transcript.{reopened}
@@ -28,6 +29,8 @@ pub record Serves {D : Type 0} (seen : D → Option (List ℕ)) (may_leave : D �
   pub opens : next.words ≡ reopened words
   -- each released number is within the limits of the journal
   pub limits : Raises set.rows (all_lines round.jobs) (limits_of journal) words (limits_of after)
+  -- each withheld number is above what the journal reserves for its subscriber, by the identity
+  pub withheld : (sub : ℕ) (row : Row) → slice_get set.rows sub ≡ Some row → All (λ n. reserved_in after.limits row.imsi < n) (withheld_of sub (all_lines round.jobs))
   -- a crash leaves these limits at least, and none above that of before and a step above the word
   pub durable : (from : D) (most : ℕ → ℕ) → IsDurable seen may_leave from most journal → IsDurable seen may_leave from (λ i. max (most i) (slice_index words i + least_step)) after
 

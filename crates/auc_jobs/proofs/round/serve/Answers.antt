@@ -1,3 +1,4 @@
+use Rattle.std.proofs.Common.{◌∙◌}
 use Rattle.auc_journal.specs.Journal.{limits_of}
 use Rattle.auc_jobs.specs.declared.workers.RoundPieces.{RoundPieces}
 use Rattle.auc_jobs.specs.InnerKeeping.{StaysNear}
@@ -12,6 +13,7 @@ returns-clause-served g c = elim c.match-result.branch [
       rw (w.result-is, w.state-is)
       (served_round g.D.Disk.seen g.D.Disk.may_leave c.args.set.now c.args.state w.finish-result.new.state c.args.jobs.now c.args.journal c.pieces-pieces.result.journal w.in-Ok.done w.finish-result.result
       w.finish-result.ensures.lawful w.finish-result.ensures.opens w.finish-result.ensures.parts
+      (c.pieces-pieces.ensures.subscribers ∙ c.requires.journal.subscribers)
       (if_ok_at (λ (done : RoundPieces). GoesByLimits c.args.set.now done.stop done.jobs.records (limits_of c.args.journal) done.words (limits_of c.pieces-pieces.result.journal))
       c.pieces-pieces.result.result w.in-Ok.done w.in-Ok.is c.pieces-pieces.ensures.limits)
       (if_ok_at (λ (done : RoundPieces). StaysNear g.D.Disk.seen g.D.Disk.may_leave c.args.journal done.words c.pieces-pieces.result.journal)
