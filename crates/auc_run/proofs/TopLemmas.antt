@@ -3,7 +3,8 @@ use Rattle.std.proofs.Common.{◌≡◌, ◌⊎◌, ℕ, List, [], Option, Some,
 use Rattle.auc_edge.specs.Shelf.{File}
 use Rattle.auc_edge.specs.Sink.{Appends, AppendsFront}
 use Rattle.auc_run.specs.Inner.{FilesLeave, IsSilent, JournalStops, ReservedStops, Stops, Tells, open_refusal}
-use Rattle.auc_run.specs.Outcome.{EndsBefore, IsCause, IsQuiet, IsStop, NeedsNoJournal, Refuses, RunsFiles, RunsScenario}
+use Rattle.auc_load.specs.declared.words.LoadWords.{LoadWords}
+use Rattle.auc_run.specs.Outcome.{EndsBefore, EndsLoad, IsCause, IsQuiet, IsStop, NeedsNoJournal, Refuses, RunsFiles, RunsScenario}
 use Rattle.auc_run.specs.Refusal.{line_of, status_of}
 use Rattle.auc_forms.specs.Reserved.{IsReservedText}
 use Rattle.auc_journal.specs.Image.{Frame, reserved_in}
@@ -45,6 +46,10 @@ ends_so s ended old new is ends = subst (λ (e : Status). EndsBefore e old new) 
 
 from_old : (old mid new : Option (List ℕ)) (bytes : List ℕ) → mid ≡ old → AppendsFront mid new bytes → AppendsFront old new bytes
 from_old old mid new bytes same front = subst (λ (o : Option (List ℕ)). AppendsFront o new bytes) same front
+
+load_still : (load : LoadWords) (s ended : Status) (old mid new : Option (List ℕ)) → ended ≡ s → Appends mid new [] → EndsLoad load s old mid → EndsLoad load ended old new
+load_still load s ended old mid new is none ends =
+    subst (λ (e : Status). EndsLoad load e old new) (sym is) (subst (λ (o : Option (List ℕ)). EndsLoad load s old o) (sym (Appends-nothing mid new none)) ends)
 
 pub ran_told : (told : Option (List File)) (files : Files) (seen : Option (List ℕ)) (leaves : List ℕ → Type 0) (refusal : Refusal) (ended : Status) (old mid new : Option (List ℕ))
     → FilesLeave told files seen leaves (status_of refusal) old mid → Tells refusal ended mid new → AppendsFront mid new (line_of refusal)
@@ -97,6 +102,21 @@ ran_told told files seen leaves refused.TooLong ended old mid new (inl runs) tel
 ran_told told files seen leaves refused.TooLong ended old mid new (inr still) (inl (is, line)) front =
     inr (ends_so status.TooLong ended old new is (refused.TooLong, from_old old mid new [] still front))
 ran_told told files seen leaves refused.TooLong ended old mid new (inr still) (inr untold) front = absurd untold
+
+-- a load that ended early, and whose refusal was told
+pub load_told : (load : LoadWords) (refusal : Refusal) (ended : Status) (old mid new : Option (List ℕ)) → EndsLoad load (status_of refusal) old mid → Tells refusal ended mid new → EndsLoad load ended old new
+load_told load refused.WriteFault ended old mid new ends (inl (is, none)) = load_still load status.WriteFault ended old mid new is none ends
+load_told load refused.WriteFault ended old mid new ends (inr untold) = absurd untold
+load_told load refused.NoMemory ended old mid new ends (inl (is, none)) = load_still load status.NoMemory ended old mid new is none ends
+load_told load refused.NoMemory ended old mid new ends (inr untold) = absurd untold
+load_told load refused.Usage ended old mid new ends tells = absurd ends
+load_told load (refused.Subscribers row fault) ended old mid new ends tells = absurd ends
+load_told load (refused.Scenario row fault) ended old mid new ends tells = absurd ends
+load_told load refused.ReadFault ended old mid new ends tells = absurd ends
+load_told load refused.StoreFault ended old mid new ends tells = absurd ends
+load_told load (refused.NotJournal place) ended old mid new ends tells = absurd ends
+load_told load refused.StoreFull ended old mid new ends tells = absurd ends
+load_told load refused.TooLong ended old mid new ends tells = absurd ends
 
 -- ---- which refusal it was
 

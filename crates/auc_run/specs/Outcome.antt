@@ -128,6 +128,14 @@ PrintsAlgorithm words old new = (values : AlgorithmWords) × (values_named words
 abbrev pub RunsLoad : List (List ℕ) → Option (List ℕ) → Option (List ℕ) → Type 0
 RunsLoad words old new = (load : LoadWords) × (load_named words ≡ Some load) × Appends old new (load_text load)
 
+-- how a load ends, and what was written then: its five lines, or some first bytes of them if the output failed, or nothing if
+-- memory ran out. It has no other end: that its journal in memory stops counts as want of memory
+abbrev pub EndsLoad : LoadWords → Status → Option (List ℕ) → Option (List ℕ) → Type 0
+EndsLoad load Done old new = Appends old new (load_text load)
+EndsLoad load WriteFault old new = AppendsFront old new (load_text load)
+EndsLoad load NoMemory old new = new ≡ old
+EndsLoad load _ old new = ⊥
+
 -- the word is `reserved`, and the limits of the journal that was found were written
 pub record PrintsReserved (words : List (List ℕ)) (seen : Option (List ℕ)) (old new : Option (List ℕ)) : Type 0 where
   pub asks : asks_reserved words ≡ true

@@ -1,15 +1,16 @@
 //! The form `load KEY SUBSCRIBERS JOBS WORKERS`: one round of draws over a journal in memory, and the digest of its vectors.
 
-ghost use Rattle.std.specs.Prelude.{◌≡◌, ◌≢◌, OnOk, IfOk, IfErr, IsErrOf, Err};
+ghost use Rattle.std.specs.Prelude.{◌≡◌, ◌≢◌, Some, OnOk, IfOk, IfErr, IsErrOf, Err};
 ghost use Rattle.auc_edge.specs.Faults.{Rose};
 ghost use Rattle.auc_edge.specs.Sink.{Appends};
 ghost use Rattle.auc_jobs.specs.Round.{IsJournalOf};
 ghost use Rattle.auc_load.specs.Input.{load_rows};
 ghost use Rattle.auc_load.specs.Summary.{load_closings, load_text};
-ghost use Rattle.auc_load.specs.Words.{IsLoad};
+ghost use Rattle.auc_load.specs.Words.{IsLoad, load_named};
+ghost use Rattle.auc_load.specs.declared.words.LoadWords.{LoadWords};
 ghost use Rattle.auc_subs.specs.Subscriber.{AreSubscribers};
-ghost use Rattle.auc_run.specs.Inner.{LoadStops, OutputStops};
-ghost use Rattle.auc_run.specs.Outcome.{RunsLoad};
+ghost use Rattle.auc_run.specs.Inner.{LoadStops, OutputStops, status_in};
+ghost use Rattle.auc_run.specs.Outcome.{EndsLoad, RunsLoad};
 
 use crate::opening::open_journal;
 use crate::refusal::Refusal;
@@ -35,6 +36,8 @@ pub(crate) fn run_load<R: Threads + Wait + Sync, K: Sink, G: Gate + Sync>(
 ) -> Result<(), Refusal>
     ensures done { OnOk result (RunsLoad words.now (K.written out.old) (K.written out.new)) }
     ensures refused { IfErr result (LoadStops words.now) }
+    ensures ran { (load : LoadWords) → load_named words.now ≡ Some load
+        → EndsLoad load (status_in result) (K.written out.old) (K.written out.new) }
     ensures silent { result ≡ Err Refusal.Usage → K.written out.new ≡ K.written out.old }
     ensures fault { IsErrOf result Refusal.WriteFault → Rose (K.faults out.old) (K.faults out.new) }
     ensures quiet { result ≢ Err Refusal.WriteFault → K.faults out.new ≡ K.faults out.old }
@@ -56,6 +59,7 @@ fn write_load<R: Threads + Wait + Sync, K: Sink, G: Gate + Sync>(
     requires { IsLoad load.now }
     ensures written { OnOk result (Appends (K.written out.old) (K.written out.new) (load_text load.now)) }
     ensures refused { IfErr result OutputStops }
+    ensures ran { EndsLoad load.now (status_in result) (K.written out.old) (K.written out.new) }
     ensures fault { IsErrOf result Refusal.WriteFault → Rose (K.faults out.old) (K.faults out.new) }
     ensures quiet { result ≢ Err Refusal.WriteFault → K.faults out.new ≡ K.faults out.old }
 {

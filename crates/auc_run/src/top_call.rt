@@ -16,7 +16,7 @@ ghost use Rattle.auc_script.specs.declared.script.Script.{Script};
 ghost use Rattle.auc_subs.specs.declared.row.Row.{Row};
 ghost use Rattle.auc_run.specs.Crash.{IsFound, IsFull, MayLeave};
 ghost use Rattle.auc_run.specs.Inner.{FilesLeave, FilesStop, InputStops, IsBeforeJournal, IsRead, IsSilent, OutputStops, ReadingStops, ReservedStops, Stops, files_seen, status_in};
-ghost use Rattle.auc_run.specs.Outcome.{AreRead, EndsBefore, IsCause, IsQuiet, IsReadNext, IsStop, MayPrint, MayRun, MayTell, NeedsNoJournal, PrintsAlgorithm, PrintsReserved, Refuses, RunsFiles, RunsLoad, RunsScenario};
+ghost use Rattle.auc_run.specs.Outcome.{AreRead, EndsBefore, EndsLoad, IsCause, IsQuiet, IsReadNext, IsStop, MayPrint, MayRun, MayTell, NeedsNoJournal, PrintsAlgorithm, PrintsReserved, Refuses, RunsFiles, RunsLoad, RunsScenario};
 ghost use Rattle.auc_run.specs.Refusal.{MayRefuse};
 ghost use Rattle.auc_run.specs.Words.{Files, files_named};
 
@@ -82,6 +82,10 @@ pub fn run<R: Threads + Wait + Sync, H: Shelf, K: Sink, D: Disk + Drop + Send, G
         × (IsTold D.seen D.may_leave disk → IsFull (D.seen result.disk)) }
     ensures untouched { NeedsNoJournal words.now result.status → result.disk ≡ disk }
 
+    // However a load ends: its lines were written, or some first bytes of them if the output failed, or nothing.
+    ensures load_ran { (load : LoadWords) → load_named words.now ≡ Some load
+        → EndsLoad load result.status (K.written out.old) (K.written out.new) }
+
     // A fault comes only with a risen count: that of the file to be read next, of the output, or of the disk.
     ensures read_fault { result.status ≡ Status.ReadFault → (files : Files) × (files_named words.now ≡ Some files)
         × (name : List ℕ) × IsReadNext (H.files shelf.old) files name × Rose (H.faults shelf.old name) (H.faults shelf.new name)
@@ -143,6 +147,8 @@ fn perform<R: Threads + Wait + Sync, H: Shelf, K: Sink, D: Disk + Drop + Send, G
     ensures store_full { IsErrOf result.result Refusal.StoreFull → IsTold D.seen D.may_leave disk
         → IsFull (D.seen result.disk) }
     ensures untouched { NeedsNoJournal words.now (status_in result.result) → result.disk ≡ disk }
+    ensures load_ran { (load : LoadWords) → load_named words.now ≡ Some load
+        → EndsLoad load (status_in result.result) (K.written out.old) (K.written out.new) }
 
     // A fault comes only with a risen count.
     ensures read_fault { IsErrOf result.result Refusal.ReadFault → (files : Files)

@@ -4,7 +4,7 @@ use Rattle.auc_run.specs.declared.refusal.Refusal.{Refusal}
 use Rattle.auc_run.specs.declared.refusal.Refusal.TheVariants as refused
 use Rattle.auc_run.proofs.CauseLemmas.{comes_at}
 use Rattle.auc_run.specs.Crash.{MayLeave}
-use Rattle.auc_run.proofs.TopLemmas.{full_runs, full_told, ran_told, read_told, refused_told}
+use Rattle.auc_run.proofs.TopLemmas.{full_runs, full_told, load_told, ran_told, read_told, refused_told}
 use Rattle.auc_run.proofs.top_call.run.Goals as goal
 
 pub returns-in-Ok-clause-ran : goal.returns-in-Ok-clause-ran
@@ -29,6 +29,14 @@ returns-in-Err-clause-store_full g c = λ full.
           (rw c.in-Err.is at c.perform-disk.ensures.refused) (rw c.in-Err.is at c.perform-disk.ensures.ran) c.tell.ensures.told is,
       (rw (c.in-Err.is, is) at c.perform-disk.ensures.store_full) refl,
     )
+
+pub returns-in-Ok-clause-load_ran : goal.returns-in-Ok-clause-load_ran
+returns-in-Ok-clause-load_ran g c = λ load named. rw c.in-Ok.is at (c.perform-disk.ensures.load_ran load named)
+
+pub returns-in-Err-clause-load_ran : goal.returns-in-Err-clause-load_ran
+returns-in-Err-clause-load_ran g c = λ load named.
+    load_told load c.in-Err.refusal c.tell.result (g.K.Sink.written c.args.out.now) (g.K.Sink.written c.perform-disk.new.out) (g.K.Sink.written c.tell.new.out)
+    (rw c.in-Err.is at (c.perform-disk.ensures.load_ran load named)) c.tell.ensures.told
 
 pub returns-in-Err-clause-quiet_shelf : goal.returns-in-Err-clause-quiet_shelf
 returns-in-Err-clause-quiet_shelf g c = λ not_read.
