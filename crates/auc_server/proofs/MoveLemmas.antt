@@ -1,5 +1,5 @@
 -- What a turn does to the last challenge of a server.
-use Rattle.std.proofs.Common.{◌≡◌, ◌⊎◌, ℕ, Bool, true, false, List, [], Option, Some, None, refl, inl, inr}
+use Rattle.std.proofs.Common.{◌≡◌, ◌⊎◌, ℕ, List, Option, Some, None, refl, inl, inr}
 use Rattle.auc_packet.specs.Received.{Seen}
 use Rattle.auc_vector.specs.Notes.{Asking}
 use Rattle.auc_vector.specs.declared.notes.Notes.{Notes}
@@ -19,7 +19,6 @@ use Rattle.auc_server.specs.declared.rows.Row.{Row}
 use Rattle.auc_server.specs.declared.rows.Row.TheVariants as row
 use Rattle.auc_server.specs.declared.server.Challenged.{Challenged}
 use Rattle.auc_server.specs.declared.server.ServerState.TheVariants as state
-use Rattle.auc_server.specs.declared.setting.HomeRow.{HomeRow}
 use Rattle.auc_server.specs.declared.why.ServerWhy.{ServerWhy}
 use Rattle.auc_server.proofs.FitsLemmas.{no_sent}
 use Rattle.auc_server.proofs.LawLemmas.{Says, says_row}

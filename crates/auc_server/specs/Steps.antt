@@ -1,11 +1,15 @@
 -- A turn of a server: what it needs, and what it comes to.
-use Rattle.std.specs.Prelude.{◌≡◌, ℕ, ◌<◌, true, List, length, Option, Some, None, All}
+use Rattle.std.specs.Prelude.{◌≡◌, ℕ, ◌<◌, Bool, true, false, List, length, Option, Some, None, All}
+use Rattle.std.specs.Option.{is_some}
 use Rattle.auc_edge.specs.declared.stop.Stop.{Stop}
 use Rattle.auc_history.specs.declared.entry.Entry.{Entry}
 use Rattle.auc_packet.specs.Received.{Seen, IsReceived}
 use Rattle.auc_sqn.specs.Number.{max_seq}
 use Rattle.auc_subs.specs.declared.row.Row as rows
 use Rattle.auc_vector.specs.Notes.{Asking, Asked}
+use Rattle.auc_vector.specs.declared.notes.Notes.{Notes}
+use Rattle.auc_vector.specs.declared.notes.ResyncNote.{ResyncNote}
+use Rattle.auc_vector.specs.declared.notes.ResyncNote.TheVariants as resync
 use Rattle.auc_vector.specs.declared.turn.Turn.{Turn}
 use Rattle.auc_server.specs.Rows.{is_held, server_row}
 use Rattle.auc_server.specs.Server.{ServerEnd}
@@ -39,11 +43,30 @@ asking (row.Challenge sub) = Some (record { sub = sub; reported = None })
 asking (row.Resynchronise sub seq) = Some (record { sub = sub; reported = Some seq })
 asking other = None
 
--- bytes are received as something, new state and turn are those of the table, and the centre answered what the row
--- asked, as the notes say
+-- whether a new challenge follows a resynchronisation: the centre's number moved or is in range, and isn't too far above
+-- the SEQ that the USIM reported (TS 33.102 §6.3.5)
+abbrev pub challenges_again : Option ResyncNote → Bool
+challenges_again (Some (resync.Moved seen seq)) = true
+challenges_again (Some (resync.InRange seen seq)) = true
+challenges_again other = false
+
+-- whether a turn needs a number: its row challenges a subscriber, at first or after a resynchronisation (RFC 4187 §3 and
+-- §9.6)
+abbrev pub needs_number : Row → Notes → Bool
+needs_number (row.Challenge sub) notes = true
+needs_number (row.Resynchronise sub seq) notes = challenges_again notes.resync
+needs_number other notes = false
+
+-- a number was asked for exactly if the turn needs one
+abbrev pub AsksAsNeeded : Row → Notes → Type 0
+AsksAsNeeded r notes = is_some notes.number ≡ needs_number r notes
+
+-- bytes are received as something, new state and turn are those of the table, the centre answered what the row asked, as
+-- the notes say, and a number was asked for exactly if the turn needs one
 pub record Steps {S : Type 0} (goes : S → ℕ → List Entry → List (ℕ × Stop) → S → Type 0) (kept : S → ℕ → Option ℕ) (top : S → ℕ → ℕ) (set : Setting) (homes : List HomeRow) (old : ServerEnd) (bytes : List ℕ) (before : S) (new : ServerEnd) (turn : Turn ServerWhy) (after : S) : Type 0 where
   pub seen : Seen
   pub received : IsReceived seen
   pub of : seen.bytes ≡ bytes
   pub same : (new, turn) ≡ server_step set homes old seen turn.notes
   pub asked : Asked goes kept top (asking (server_row set homes old seen)) turn.notes before after
+  pub drawn : AsksAsNeeded (server_row set homes old seen) turn.notes

@@ -1,10 +1,11 @@
 //! A challenge: a number of the centre, its vector, and the message.
 
 ghost use Rattle.std.specs.Prelude.{◌≡◌, ◌≢◌, ◌≤◌, ◌<◌, ℕ, true, List, [], length, None, Some};
+ghost use Rattle.std.specs.Option.{is_some};
 ghost use Rattle.auc_sqn.specs.Number.{max_seq};
 ghost use Rattle.auc_vector.specs.Notes.{AnswersNumber, AskedOf, entries_noted, kept_noted, withheld_noted};
 ghost use Rattle.auc_server.specs.Rows.{is_held};
-ghost use Rattle.auc_server.specs.Steps.{IsHeld, IsHome};
+ghost use Rattle.auc_server.specs.Steps.{IsHeld, IsHome, challenges_again};
 ghost use Rattle.auc_server.specs.declared.setting.HomeRow.{HomeRow};
 ghost use Rattle.auc_server.specs.Table.{challenged, first_challenge, resynchronised, sent_with, vector_at};
 
@@ -60,6 +61,7 @@ impl Server {
 
         ensures step { (self.new, result) ≡ challenged set.now self.old sub resynced result.notes.number }
         ensures resync { result.notes.resync ≡ resynced }
+        ensures drawn { is_some result.notes.number ≡ true }
 
         ensures number { AnswersNumber (C.top centre.old sub) (C.kept centre.old sub) result.notes.number }
         ensures goes { C.goes centre.old sub (entries_noted (C.kept centre.old sub) result.notes.number)
@@ -111,6 +113,7 @@ impl Server {
 
         ensures step { (self.new, result) ≡ first_challenge set.now self.old text sub result.notes.number }
         ensures asked { AskedOf C.goes C.kept C.top (record { sub = sub; reported = None }) result.notes centre.old centre.new }
+        ensures drawn { is_some result.notes.number ≡ true }
 
         // A home stays one, also if it is challenged now.
         ensures held { (homes : List HomeRow) → IsHeld homes self.old.challenged → is_held homes sub ≡ true
@@ -140,6 +143,7 @@ impl Server {
 
         ensures step { (self.new, result) ≡ resynchronised set.now self.old sub result.notes.resync result.notes.number }
         ensures asked { AskedOf C.goes C.kept C.top (record { sub = sub; reported = Some seq }) result.notes centre.old centre.new }
+        ensures drawn { is_some result.notes.number ≡ challenges_again result.notes.resync }
 
         // A home stays one, also if it is challenged now.
         ensures held { (homes : List HomeRow) → IsHeld homes self.old.challenged → is_held homes sub ≡ true

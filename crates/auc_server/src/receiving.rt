@@ -6,7 +6,7 @@ ghost use Rattle.auc_vector.specs.Notes.{Asked, AskedOf};
 ghost use Rattle.auc_server.specs.InnerRows.{IsHeldRow};
 ghost use Rattle.auc_server.specs.Rows.{server_row, text_in};
 ghost use Rattle.auc_server.specs.Server.{started};
-ghost use Rattle.auc_server.specs.Steps.{IsHeld, IsHome, IsServed, Steps, asking};
+ghost use Rattle.auc_server.specs.Steps.{AsksAsNeeded, IsHeld, IsHome, IsServed, Steps, asking};
 ghost use Rattle.auc_server.specs.Table.{first_challenge, resynchronised, server_does, server_step};
 
 use crate::rooms::Rooms;
@@ -68,6 +68,7 @@ impl Server {
 
         ensures step { (self.new, result) ≡ server_step set.now homes.now self.old (seen_of received.now) result.notes }
         ensures asked { Asked C.goes C.kept C.top (asking (server_row set.now homes.now self.old (seen_of received.now))) result.notes centre.old centre.new }
+        ensures drawn { AsksAsNeeded (server_row set.now homes.now self.old (seen_of received.now)) result.notes }
         ensures served { IsServed set.now.rows (C.subs centre.new) (C.top centre.new) homes.now self.new }
         ensures subs { C.subs centre.new ≡ C.subs centre.old }
         ensures top { (i : ℕ) → C.top centre.new i ≡ C.top centre.old i }
@@ -93,6 +94,7 @@ impl Server {
 
         ensures step { (self.new, result) ≡ server_does set.now self.old text row result.notes }
         ensures asked { Asked C.goes C.kept C.top (asking row) result.notes centre.old centre.new }
+        ensures drawn { AsksAsNeeded row result.notes }
         ensures served { IsServed set.now.rows (C.subs centre.new) (C.top centre.new) homes.now self.new }
         ensures subs { C.subs centre.new ≡ C.subs centre.old }
         ensures top { (i : ℕ) → C.top centre.new i ≡ C.top centre.old i }
