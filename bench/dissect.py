@@ -1,12 +1,13 @@
 #!/usr/bin/env python3
-"""Passes the packets that auc_packet_cli writes through tshark's EAP dissector: none is malformed, and each has the
+"""Passes packets through tshark's EAP dissector: none is malformed, and each has the Code, Identifier, Length, Subtype and
 attribute types that we wrote, in their order.
 
-    bench/dissect.py [FILE]      FILE: crates/auc_packet_cli/stdout, unless it is given
+    bench/dissect.py [PROGRAM]      PROGRAM: crates/auc_cli/out/auc_cli, unless it is given
 
-FILE is what the program printed; its lines 'written HEX' are the packets. A packet with an AT_IDENTITY of no bytes is
-left out, because tshark calls it malformed. The script needs tshark and text2pcap (Debian's package tshark); if they are
-missing, it says so and ends.
+The packets are those that auc_packet_cli writes (the lines 'written HEX' of crates/auc_packet_cli/stdout), and each packet
+of each example with a session, which is run with `print full`; these also in the captures that tools/pcap makes. A packet
+with an AT_IDENTITY of no bytes is left out, because tshark calls it malformed. The script needs tshark and text2pcap
+(apt-get install tshark); if they are missing, it says so and ends.
 """
 import shutil
 import subprocess
@@ -14,14 +15,23 @@ import sys
 import tempfile
 from pathlib import Path
 
-TOP = Path(__file__).resolve().parent.parent
+from measure import TOP, program
+
+sys.path.append(str(TOP / "examples"))
+from full import transcripts
+
 METHODS = (23, 50)
 AT_IDENTITY = 14
+FIELDS = ["eap.code", "eap.id", "eap.len", "eap.aka.subtype", "eap.aka.subtype.type", "_ws.malformed"]
 
 
 def written(path):
-    lines = Path(path).read_text().splitlines()
-    return [bytes.fromhex(line.split()[1]) for line in lines if line.startswith("written ")]
+    """The packets that auc_packet_cli wrote."""
+    return [bytes.fromhex(line.split()[1]) for line in path.read_text().splitlines() if line.startswith("written ")]
+
+
+def sent(transcript):
+    return [bytes.fromhex(line.split()[2]) for line in transcript.splitlines() if line.startswith("packet ")]
 
 
 def attributes(packet):
@@ -37,18 +47,53 @@ def has_empty_identity(packet):
     return (AT_IDENTITY, b"\0\0") in attributes(packet)
 
 
+def expected(packet):
+    """What tshark has to show of a packet, field by field."""
+    subtype = str(packet[5]) if len(packet) > 5 and packet[4] in METHODS else ""
+    types = ",".join(str(kind) for kind, _ in attributes(packet))
+    return [str(packet[0]), str(packet[1]), str(int.from_bytes(packet[2:4], "big")), subtype, types, ""]
+
+
 def dump(packet):
     rows = [packet[start : start + 16] for start in range(0, len(packet), 16)]
     return "".join(f"{16 * place:06x} {row.hex(' ')}\n" for place, row in enumerate(rows)) + "\n"
 
 
-def dissected(packets, folder):
-    text, capture = Path(folder) / "packets.txt", Path(folder) / "packets.pcap"
-    text.write_text("".join(dump(packet) for packet in packets))
-    subprocess.run(["text2pcap", "-q", "-P", "eap", text, capture], check=True, capture_output=True)
-    fields = ["-T", "fields", "-E", "separator=;", "-e", "eap.aka.subtype.type", "-e", "_ws.malformed"]
-    shown = subprocess.run(["tshark", "-r", capture, *fields], check=True, capture_output=True, text=True)
-    return [line.split(";") for line in shown.stdout.splitlines()]
+def shown(capture):
+    """What tshark shows of each frame of a capture, field by field."""
+    asked = [word for field in FIELDS for word in ("-e", field)]
+    command = ["tshark", "-r", capture, "-T", "fields", "-E", "separator=;", *asked]
+    lines = subprocess.run(command, check=True, capture_output=True, text=True).stdout.splitlines()
+    return [line.split(";") for line in lines]
+
+
+def dissected(packets):
+    with tempfile.TemporaryDirectory() as folder:
+        text, capture = Path(folder) / "packets.txt", Path(folder) / "packets.pcap"
+        text.write_text("".join(dump(packet) for packet in packets))
+        subprocess.run(["text2pcap", "-q", "-P", "eap", text, capture], check=True, capture_output=True)
+        return shown(capture)
+
+
+def captured(transcript):
+    """The same of the capture that tools/pcap makes of a transcript."""
+    with tempfile.TemporaryDirectory() as folder:
+        text, capture = Path(folder) / "transcript", Path(folder) / "capture.pcapng"
+        text.write_text(transcript)
+        subprocess.run([TOP / "tools/pcap", text, capture], check=True)
+        return shown(capture)
+
+
+def judge(name, packets):
+    """Ends the script if tshark shows another packet than one that we wrote."""
+    tried = [packet for packet in packets if not has_empty_identity(packet)]
+    frames = dissected(tried)
+    if len(frames) != len(tried):
+        sys.exit(f"{name}: {len(tried)} packets were written, and {len(frames)} dissected")
+    for packet, frame in zip(tried, frames):
+        if frame != expected(packet):
+            sys.exit(f"{name}: {packet.hex()} is shown as {dict(zip(FIELDS, frame))}")
+    print(f"{name}: {len(tried)} packets of {len(packets)} dissected: none malformed, each attribute found")
 
 
 def main():
@@ -56,18 +101,14 @@ def main():
         if shutil.which(tool) is None:
             print(f"{tool} is missing: nothing was dissected")
             return
-    packets = written(sys.argv[1] if len(sys.argv) > 1 else TOP / "crates/auc_packet_cli/stdout")
-    tried = [packet for packet in packets if not has_empty_identity(packet)]
-    with tempfile.TemporaryDirectory() as folder:
-        frames = dissected(tried, folder)
-    if len(frames) != len(tried):
-        sys.exit(f"{len(tried)} packets were written, and {len(frames)} dissected")
-    for packet, (types, malformed) in zip(tried, frames):
-        if malformed:
-            sys.exit(f"malformed: {packet.hex()}")
-        if types != ",".join(str(kind) for kind, _ in attributes(packet)):
-            sys.exit(f"attributes {types} were found in {packet.hex()}")
-    print(f"{len(tried)} packets of {len(packets)} dissected: none malformed, each attribute found")
+    judge("auc_packet_cli", written(TOP / "crates/auc_packet_cli/stdout"))
+    for name, transcript in transcripts(program()):
+        packets = sent(transcript)
+        judge(name, packets)
+        # Each packet is in the capture at least once, and nothing else is.
+        frames = captured(transcript)
+        if len(frames) < len(packets) or set(map(tuple, frames)) != set(map(tuple, map(expected, packets))):
+            sys.exit(f"{name}: the capture has other packets")
 
 
 main()

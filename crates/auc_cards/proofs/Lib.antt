@@ -1,3 +1,3 @@
-mod CopyLemmas
+mod DeviceLemmas
 mod RowLemmas
 pub mod Facts

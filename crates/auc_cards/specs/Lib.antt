@@ -1,3 +1,3 @@
-pub mod JobUsims
+pub mod Devices
 pub mod Usims
 pub mod Known

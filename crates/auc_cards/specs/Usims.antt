@@ -1,11 +1,9 @@
 -- The USIMs of the subscribers, in the subscribers' order.
-use Rattle.std.specs.Prelude.{◌≡◌, ℕ, ◌<◌, Bool, true, false, List, [], ◌∷◌, length, Option, Some, None, slice_get}
-use Rattle.auc_lines.specs.declared.part.Line.{Line}
-use Rattle.auc_lines.specs.Part.{gives_to}
+use Rattle.std.specs.Prelude.{◌≡◌, ℕ, ◌<◌, List, [], ◌∷◌, length, Option, Some, None, slice_get}
 use Rattle.auc_sqn.specs.Past.{Remembers, opening_past}
 use Rattle.auc_subs.specs.declared.row.Row.{Row}
 use Rattle.auc_usim.specs.Usim.{Memory}
-use Rattle.auc_cards.specs.JobUsims.{OwnUsims, usim_in}
+use Rattle.auc_cards.specs.Devices.{OwnDevices, usim_in}
 
 -- each USIM has the secret of its subscriber's row
 abbrev pub HaveSecrets : List Row → (ℕ → Option Memory) → Type 0
@@ -20,19 +18,17 @@ pub record AreOfRows (rows : List Row) (usims : List Memory) : Type 0 where
 abbrev pub AreFresh : List Row → List Memory → Type 0
 AreFresh rows usims = (sub : ℕ) (row : Row) (usim : Memory) → slice_get rows sub ≡ Some row → slice_get usims sub ≡ Some usim → Remembers usim.array (opening_past row.usim)
 
--- what a place has after a job's own USIMs were put back: the job's, if it gives there
-abbrev pub put_at : Bool → Option Memory → Option Memory → Option Memory
-put_at false own old = old
-put_at true None old = old
-put_at true (Some usim) old = Some usim
+-- what a place has after a job's own USIMs were put back: the job's, if it has one of the place
+abbrev pub put_at : Option Memory → Option Memory → Option Memory
+put_at None old = old
+put_at (Some usim) old = Some usim
 
--- the USIMs to which a job's lines give were put back in their places
-pub record ArePut (old : List Memory) (job : List Line) (own : ℕ → Option Memory) (new : List Memory) : Type 0 where
+-- a job's own USIMs were put back in their places
+pub record ArePut (old : List Memory) (own : ℕ → Option Memory) (new : List Memory) : Type 0 where
   pub sizes : length new ≡ length old
-  pub each : (sub : ℕ) → sub < length old → slice_get new sub ≡ put_at (gives_to sub job) (own sub) (slice_get old sub)
+  pub each : (sub : ℕ) → sub < length old → slice_get new sub ≡ put_at (own sub) (slice_get old sub)
 
 -- the same of the jobs of a round, one job after the other
-abbrev pub ArePutBack : List Memory → List (List Line) → List OwnUsims → List Memory → Type 0
-ArePutBack old [] own new = new ≡ old
-ArePutBack old (job ∷ jobs) [] new = new ≡ old
-ArePutBack old (job ∷ jobs) (usims ∷ own) new = (mid : List Memory) × ArePut old job (usim_in usims) mid × ArePutBack mid jobs own new
+abbrev pub ArePutBack : List Memory → List OwnDevices → List Memory → Type 0
+ArePutBack old [] new = new ≡ old
+ArePutBack old (own ∷ others) new = (mid : List Memory) × ArePut old (usim_in own) mid × ArePutBack mid others new

@@ -1,12 +1,11 @@
 //! The USIMs of the subscribers.
 
-ghost use Rattle.std.specs.Prelude.{◌≡◌, ◌<◌, Some, [], ◌∷◌, length, slice_get, IfOk};
-ghost use Rattle.auc_cards.specs.JobUsims.{usim_in};
+ghost use Rattle.std.specs.Prelude.{◌≡◌, ◌<◌, Some, length, slice_get, slice_set, IfOk};
+ghost use Rattle.auc_cards.specs.Devices.{usim_in};
 ghost use Rattle.auc_cards.specs.Usims.{AreFresh, AreOfRows, ArePut, ArePutBack};
 
-use crate::job_usims::JobUsims;
+use crate::devices::JobDevices;
 use auc_edge::NoMemory;
-use auc_lines::{JobPart, Line};
 use auc_subs::Subscribers;
 use auc_usim::Usim;
 use std::alloc::Global;
@@ -49,37 +48,37 @@ impl Usims {
         self.all[sub as usize]
     }
 
-    /// Puts the USIM to which a line gives in its place, if it gives to one that is there.
-    fn put_for(&mut self, line: &Line, own: &JobUsims)
-        ensures { ArePut self.old (line.now ∷ []) (usim_in own.now) self.new }
+    /// Puts a USIM in a subscriber's place, if there is one.
+    fn set(&mut self, sub: u32, usim: Usim)
+        ensures { self.new ≡ slice_set self.old sub usim }
     {
-        let Line::Give { sub, .. } = *line else {
-            return;
-        };
         let place = sub as usize;
-        if let Some(usim) = own.get(sub) {
-            if place < self.all.len() {
-                self.all[place] = *usim;
+        if place < self.all.len() {
+            self.all[place] = usim;
+        }
+    }
+
+    /// Puts the USIMs of a job's own devices back in their places.
+    fn put(&mut self, own: &JobDevices)
+        ensures { ArePut self.old (usim_in own.now) self.new }
+    {
+        let homes = own.homes();
+        let devices = own.devices();
+        let mut left = homes.len();
+        while left > 0 {
+            left -= 1;
+            if let Some(device) = devices.get(left) {
+                self.set(homes[left].sub, device.usim);
             }
         }
     }
 
-    /// Puts a job's own USIMs back in their places.
-    fn put(&mut self, job: &[Line], own: &JobUsims)
-        ensures { ArePut self.old job.now (usim_in own.now) self.new }
+    /// Puts the USIMs of the own devices of a round's jobs back in their places.
+    pub fn put_back(&mut self, jobs: &[JobDevices])
+        ensures { ArePutBack self.old jobs.now self.new }
     {
-        for line in job {
-            self.put_for(line, own);
-        }
-    }
-
-    /// Puts the own USIMs of a round's jobs back in their places.
-    pub fn put_back(&mut self, jobs: &[JobPart], own: &[JobUsims])
-        requires { length own.now ≡ length jobs.now }
-        ensures { ArePutBack self.old jobs.now own.now self.new }
-    {
-        for place in 0..jobs.len() {
-            self.put(jobs[place].as_slice(), &own[place]);
+        for own in jobs {
+            self.put(own);
         }
     }
 }

@@ -28,6 +28,10 @@ use Rattle.auc_world.specs.Entries.{reports, is_reported}
 use Rattle.auc_world.specs.Given.{JobGives}
 use Rattle.auc_world.specs.Lines.{accepted, all_lines}
 use Rattle.auc_world.specs.Pieces.{Piece, IsQuiet, PiecesGive, ReportsAreEarlier, entries_of_pieces, lines_of_pieces}
+use Rattle.auc_world.specs.Net.{Net}
+use Rattle.auc_world.specs.Sessions.{job_sessions}
+use Rattle.auc_world.specs.Start.{start_of}
+use Rattle.auc_world.specs.declared.record.JobSessions.{JobSessions}
 use Rattle.auc_world.specs.Vectors.{vectors_in}
 use Rattle.auc_world.proofs.Facts.{accepted-append, job_quiet}
 use Rattle.auc_vector.specs.declared.parts.Vector.{Vector as AuthVector}
@@ -37,7 +41,7 @@ use Rattle.auc_jobs.specs.InnerClaims.{Turn, turns, entries_of_turn, IsGiven, Is
 use Rattle.auc_jobs.specs.InnerRound.{AreSettled, AreServed, GoesByLimits, IsSettled}
 use Rattle.auc_jobs.specs.InnerServing.{before_at}
 use Rattle.auc_jobs.specs.InnerSharing.{Shared, Begins, IsServable}
-use Rattle.auc_jobs.specs.InnerUsims.{OwnUsims, usim_in}
+use Rattle.auc_jobs.specs.InnerUsims.{OwnDevices, usim_in}
 use Rattle.auc_jobs.specs.Serving.{AreAllKnown, AreKnown}
 use Rattle.auc_jobs.proofs.LimitLemmas.{AreLimited, above_limit, flat_limited, flat_lines, withholds_by}
 use Rattle.auc_jobs.proofs.LineLemmas.{all_at}
@@ -264,7 +268,7 @@ quiet_from shared early earlier (c ∷ done) apart rising below given quiet =
     (All-tail (IsGiven shared early) t (turns (earlier ++ c.served.lines) done) given)
     (both (λ b. (c.job < b.job) × (b.job < length shared.jobs)) (λ b. IsQuietAt shared.jobs earlier b.job) (λ b. IsQuietAt shared.jobs (earlier ++ c.served.lines) b.job) done
     (λ b between before job there sub gives. accepted-append sub earlier c.served.lines ∙ ap (λ (ns : List (List ℕ)). ns ++ accepted sub c.served.lines) (before job there sub gives)
-    ∙ job_quiet shared.set (before_at early earlier []) here.asked sub c.served.lines here.given
+    ∙ job_quiet shared.set (before_at early earlier []) here.asked sub c.served.lines here.net here.given
     (not_given sub here.asked job (apart_at shared.jobs c.job b.job here.asked job apart between.0 between.1 here.there there) gives))
     (both (λ b. c.job < b.job) (λ b. b.job < length shared.jobs) (λ b. (c.job < b.job) × (b.job < length shared.jobs)) done (λ b low high. (low, high)) (AllPairs-head (λ a b. a.job < b.job) c done rising)
     (All-tail (λ b. b.job < length shared.jobs) c done below))
@@ -287,30 +291,36 @@ jobs_on : (all jobs : List (List Line)) (job : List Line) (from : ℕ) → AreJo
 jobs_on all jobs job from reads i next at = reads (suc i) next (ap (slice_get all) (let there : from + suc i ≡ from + 1 + i = omega arith in there) ∙ at)
 
 pieces_give : (shared : Shared) (early : List LineRecord) (jobs : List (List Line)) (ts : List Turn) (from : ℕ) → places_of ts ≡ up from (length jobs) → AreJobsFrom shared.jobs jobs from
-    → All (IsGiven shared early) ts → All (λ t. IsQuietAt shared.jobs t.earlier t.claimed.job) ts → PiecesGive shared.set early jobs (pieces_in ts)
-pieces_give shared early [] [] from placed reads given quiet = refl
+    → All (IsGiven shared early) ts → All (λ t. IsQuietAt shared.jobs t.earlier t.claimed.job) ts
+    → (nets : List Net) × PiecesGive shared.set early jobs (pieces_in ts) nets × (map (λ t. t.claimed.served.sessions) ts ≡ map job_sessions nets)
+pieces_give shared early [] [] from placed reads given quiet = ([], (refl, refl), refl)
 pieces_give shared early [] (t ∷ ts) from placed reads given quiet = let no : ⊥ = cc in absurd no
 pieces_give shared early (job ∷ jobs) [] from placed reads given quiet = let no : ⊥ = cc in absurd no
 pieces_give shared early (job ∷ jobs) (t ∷ ts) from placed reads given quiet =
     let here = All-head (IsGiven shared early) t ts given in
-    let same : job ≡ here.asked = first_job shared.jobs jobs job here.asked from t.claimed.job reads (place_first t ts from (length jobs) placed) here.there in (
-      subst (λ (x : List Line). IsQuiet t.earlier x) (sym same) (All-head (λ x. IsQuietAt shared.jobs x.earlier x.claimed.job) t ts quiet here.asked here.there),
-      subst (λ (x : List Line). JobGives shared.set (before_at early t.earlier []) x t.claimed.served.lines) (sym same) here.given,
-      pieces_give shared early jobs ts (from + 1) (place_rest t ts from (length jobs) placed) (jobs_on shared.jobs jobs job from reads)
-          (All-tail (IsGiven shared early) t ts given) (All-tail (λ x. IsQuietAt shared.jobs x.earlier x.claimed.job) t ts quiet),
+    let same : job ≡ here.asked = first_job shared.jobs jobs job here.asked from t.claimed.job reads (place_first t ts from (length jobs) placed) here.there in
+    let (nets, more, ends) = pieces_give shared early jobs ts (from + 1) (place_rest t ts from (length jobs) placed) (jobs_on shared.jobs jobs job from reads)
+    (All-tail (IsGiven shared early) t ts given) (All-tail (λ x. IsQuietAt shared.jobs x.earlier x.claimed.job) t ts quiet) in (
+      here.net ∷ nets,
+      (
+        subst (λ (x : List Line). IsQuiet t.earlier x) (sym same) (All-head (λ x. IsQuietAt shared.jobs x.earlier x.claimed.job) t ts quiet here.asked here.there),
+        subst (λ (x : List Line). JobGives shared.set (before_at early t.earlier []) (start_of shared.set x) x t.claimed.served.lines here.net) (sym same) here.given,
+        more,
+      ),
+      ap (λ (j : JobSessions). j ∷ map (λ (x : Turn). x.claimed.served.sessions) ts) here.ends ∙ ap (λ (js : List JobSessions). job_sessions here.net ∷ js) ends,
     )
 
 -- ---- and its USIMs are settled
 
 settled_all : (shared : Shared) (early : List LineRecord) (jobs : List (List Line)) (done : List ClaimedJob) (from : ℕ) → places done ≡ up from (length jobs) → AreJobsFrom shared.jobs jobs from
-    → All (IsSettledAt shared early) done → AreSettled shared.set.rows early jobs (map (λ c. c.served.lines) done) (map (λ c. c.served.usims) done)
+    → All (IsSettledAt shared early) done → AreSettled shared.set.rows early jobs (map (λ c. c.served.lines) done) (map (λ c. c.served.devices) done)
 settled_all shared early [] [] from placed reads settled = (refl, refl)
 settled_all shared early [] (c ∷ done) from placed reads settled = let no : ⊥ = cc in absurd no
 settled_all shared early (job ∷ jobs) [] from placed reads settled = let no : ⊥ = cc in absurd no
 settled_all shared early (job ∷ jobs) (c ∷ done) from placed reads settled =
     let here = All-head (IsSettledAt shared early) c done settled in
     let same : job ≡ here.asked = first_job shared.jobs jobs job here.asked from c.job reads (job_first c done from (length jobs) placed) here.there in (
-      subst (λ (x : List Line). IsSettled shared.set.rows early x c.served.lines (usim_in c.served.usims)) (sym same) here.settled,
+      subst (λ (x : List Line). IsSettled shared.set.rows early x c.served.lines (usim_in c.served.devices)) (sym same) here.settled,
       settled_all shared early jobs done (from + 1) (job_rest c done from (length jobs) placed) (jobs_on shared.jobs jobs job from reads) (All-tail (IsSettledAt shared early) c done settled),
     )
 
@@ -320,22 +330,22 @@ counts : (j : ℕ) (done : List ClaimedJob) → sum_by (λ c. cond (c.job == j) 
 counts j [] = refl
 counts j (c ∷ done) = sum_by-cons (λ x. cond (x.job == j) 1 0) c done ∙ ap (λ k. cond (c.job == j) 1 0 + k) (counts j done) ∙ sym (times-cons j c.job (places done))
 
-same_lines : (all : List ClaimedJob) (ts : List Turn) (done : List ClaimedJob) (from count : ℕ) → ((j : ℕ) → times j (places all) ≤ 1) → places_of ts ≡ up from count → places done ≡ up from count
-    → All (λ t. Contains all t.claimed) ts → All (Contains all) done → map (λ t. t.claimed.served.lines) ts ≡ map (λ c. c.served.lines) done
-same_lines all [] [] from count once placed sorted has in_all = refl
-same_lines all [] (c ∷ done) from zero once placed sorted has in_all = let no : ⊥ = cc in absurd no
-same_lines all [] (c ∷ done) from (suc count) once placed sorted has in_all = let no : ⊥ = cc in absurd no
-same_lines all (t ∷ ts) [] from zero once placed sorted has in_all = let no : ⊥ = cc in absurd no
-same_lines all (t ∷ ts) [] from (suc count) once placed sorted has in_all = let no : ⊥ = cc in absurd no
-same_lines all (t ∷ ts) (c ∷ done) from zero once placed sorted has in_all = let no : ⊥ = cc in absurd no
-same_lines all (t ∷ ts) (c ∷ done) from (suc count) once placed sorted has in_all =
+same_jobs : {X : Type 0} (f : ClaimedJob → X) (all : List ClaimedJob) (ts : List Turn) (done : List ClaimedJob) (from count : ℕ) → ((j : ℕ) → times j (places all) ≤ 1) → places_of ts ≡ up from count → places done ≡ up from count
+    → All (λ t. Contains all t.claimed) ts → All (Contains all) done → map (λ t. f t.claimed) ts ≡ map f done
+same_jobs f all [] [] from count once placed sorted has in_all = refl
+same_jobs f all [] (c ∷ done) from zero once placed sorted has in_all = let no : ⊥ = cc in absurd no
+same_jobs f all [] (c ∷ done) from (suc count) once placed sorted has in_all = let no : ⊥ = cc in absurd no
+same_jobs f all (t ∷ ts) [] from zero once placed sorted has in_all = let no : ⊥ = cc in absurd no
+same_jobs f all (t ∷ ts) [] from (suc count) once placed sorted has in_all = let no : ⊥ = cc in absurd no
+same_jobs f all (t ∷ ts) (c ∷ done) from zero once placed sorted has in_all = let no : ⊥ = cc in absurd no
+same_jobs {X = X} f all (t ∷ ts) (c ∷ done) from (suc count) once placed sorted has in_all =
     let key : t.claimed.job ≡ from = place_first t ts from count placed in
     let other : c.job ≡ from = job_first c done from count sorted in
     let same : t.claimed ≡ c = alone (λ b. cond (b.job == from) 1 0) all t.claimed c (omega (arith, once from, counts from all))
     (All-head (λ x. Contains all x.claimed) t ts has) (All-head (Contains all) c done in_all)
     (omega (arith, ap {B = ℕ} (λ b. cond b 1 0) (eq-eqb t.claimed.job from key))) (omega (arith, ap {B = ℕ} (λ b. cond b 1 0) (eq-eqb c.job from other))) in
-    ap (λ (b : ClaimedJob). b.served.lines ∷ map (λ x. x.claimed.served.lines) ts) same
-    ∙ ap (λ (ls : List (List LineRecord)). c.served.lines ∷ ls) (same_lines all ts done (from + 1) count once (place_rest t ts from count placed) (job_rest c done from count sorted)
+    ap (λ (b : ClaimedJob). f b ∷ map (λ x. f x.claimed) ts) same
+    ∙ ap (λ (ls : List X). f c ∷ ls) (same_jobs f all ts done (from + 1) count once (place_rest t ts from count placed) (job_rest c done from count sorted)
     (All-tail (λ x. Contains all x.claimed) t ts has) (All-tail (Contains all) c done in_all))
 
 -- ---- the entries
@@ -424,7 +434,7 @@ own_turns shared early earlier (c ∷ done) known given =
     let t : Turn = record { earlier = earlier; claimed = c } in
     let here = All-head (IsGiven shared early) t (turns (earlier ++ c.served.lines) done) given in
     All-cons (λ c. All (IsOwn (length shared.set.rows)) c.served.lines) c done
-    (job_own shared.set (before_at early earlier []) here.asked c.served.lines (all_at (AreKnown (length shared.set.rows)) shared.jobs c.job here.asked known here.there) here.given)
+    (job_own shared.set (before_at early earlier []) (start_of shared.set here.asked) here.net here.asked c.served.lines (all_at (AreKnown (length shared.set.rows)) shared.jobs c.job here.asked known here.there) here.given)
     (own_turns shared early (earlier ++ c.served.lines) done known (All-tail (IsGiven shared early) t (turns (earlier ++ c.served.lines) done) given))
 
 -- a book that was closed, by its openings
@@ -512,7 +522,7 @@ module _ (shared : Shared) (early : List LineRecord) (openings : List ℕ) (book
           (contain_in ds (all_back (Contains (all_jobs all)) d.jobs.items (all_jobs ds) within))
 
   lines_same : map (λ c. c.served.lines) sorted ≡ lines_of_pieces (pieces_in os)
-  lines_same = sym (lines_pieces os ∙ same_lines sorted os sorted 0 n at_most in_place.keyed sorted_places turns_sorted (all_has sorted))
+  lines_same = sym (lines_pieces os ∙ same_jobs (λ c. c.served.lines) sorted os sorted 0 n at_most in_place.keyed sorted_places turns_sorted (all_has sorted))
 
   given : All (IsGiven shared early) os
   given = All-permutation (IsGiven shared early) ts os in_place.same (of_all_turns (IsGiven shared early) (λ d s. s.given))
@@ -532,12 +542,17 @@ module _ (shared : Shared) (early : List LineRecord) (openings : List ℕ) (book
       (subst (λ (es : List Entry). IsPermutation (flat_map (entries_of_turn sub) ts) es) (entries_in sub os) (in_place.flat (entries_of_turn sub))))
       (orders_in sub os (All-permutation (λ t. IsInOrder (entries_of_turn sub t)) ts os in_place.same (of_all_turns (λ t. IsInOrder (entries_of_turn sub t)) (λ d s. s.ordered sub))))
 
-  pub assembled : AreServed shared.set early openings shared.jobs (map (λ c. c.served.lines) sorted) (map (λ c. c.served.usims) sorted) closed.words
+  gave : (nets : List Net) × PiecesGive shared.set early shared.jobs (pieces_in os) nets × (map (λ t. t.claimed.served.sessions) os ≡ map job_sessions nets)
+  gave = pieces_give shared early shared.jobs os 0 in_place.keyed jobs_first given quiet
+
+  pub assembled : AreServed shared.set early openings shared.jobs (map (λ c. c.served.lines) sorted) (map (λ c. c.served.devices) sorted) (map (λ c. c.served.sessions) sorted) closed.words
   assembled = record {
     pieces = record {
       pieces = pieces_in os;
       lines = lines_same;
-      give = pieces_give shared early shared.jobs os 0 in_place.keyed jobs_first given quiet;
+      nets = gave.0;
+      give = gave.1;
+      ends = sym (same_jobs (λ c. c.served.sessions) sorted os sorted 0 n at_most in_place.keyed sorted_places turns_sorted (all_has sorted)) ∙ gave.2;
       reports = λ sub. reports_earlier sub [] os 0 n in_place.keyed (λ word. lower sub word);
       split = split;
     };
@@ -617,14 +632,15 @@ assembles id shared openings book keeper all passes closed done sorted c early b
     }
 
 -- the round is served
-pub served_by_workers : (id : TableId) (shared : Shared) (openings : List ℕ) (book : BookValue) (keeper : KeeperValue) (all : List WorkerJobs) (passes : List PassValue) (closed : ClosedValue) (done sorted : List ClaimedJob) (records : List (List LineRecord)) (usims : List OwnUsims) (words : List ℕ)
-    → Closing id shared openings book keeper all passes closed done sorted → records ≡ map (λ c. c.served.lines) sorted → usims ≡ map (λ c. c.served.usims) sorted → words ≡ closed.words
-    → (early : List LineRecord) → Begins shared early → AreServed shared.set early openings shared.jobs records usims words
-served_by_workers id shared openings book keeper all passes closed done sorted records usims words c lines own ends early begins =
-    subst (λ (ws : List ℕ). AreServed shared.set early openings shared.jobs records usims ws) (sym ends)
-    (subst (λ (us : List OwnUsims). AreServed shared.set early openings shared.jobs records us closed.words) (sym own)
-    (subst (λ (rs : List (List LineRecord)). AreServed shared.set early openings shared.jobs rs (map (λ c. c.served.usims) sorted) closed.words) (sym lines)
-    (assembled shared early openings book keeper all closed sorted (assembles id shared openings book keeper all passes closed done sorted c early begins))))
+pub served_by_workers : (id : TableId) (shared : Shared) (openings : List ℕ) (book : BookValue) (keeper : KeeperValue) (all : List WorkerJobs) (passes : List PassValue) (closed : ClosedValue) (done sorted : List ClaimedJob) (records : List (List LineRecord)) (usims : List OwnDevices) (sessions : List JobSessions) (words : List ℕ)
+    → Closing id shared openings book keeper all passes closed done sorted → records ≡ map (λ c. c.served.lines) sorted → usims ≡ map (λ c. c.served.devices) sorted → sessions ≡ map (λ c. c.served.sessions) sorted → words ≡ closed.words
+    → (early : List LineRecord) → Begins shared early → AreServed shared.set early openings shared.jobs records usims sessions words
+served_by_workers id shared openings book keeper all passes closed done sorted records usims sessions words c lines own came ends early begins =
+    subst (λ (ws : List ℕ). AreServed shared.set early openings shared.jobs records usims sessions ws) (sym ends)
+    (subst (λ (js : List JobSessions). AreServed shared.set early openings shared.jobs records usims js closed.words) (sym came)
+    (subst (λ (us : List OwnDevices). AreServed shared.set early openings shared.jobs records us (map (λ c. c.served.sessions) sorted) closed.words) (sym own)
+    (subst (λ (rs : List (List LineRecord)). AreServed shared.set early openings shared.jobs rs (map (λ c. c.served.devices) sorted) (map (λ c. c.served.sessions) sorted) closed.words) (sym lines)
+    (assembled shared early openings book keeper all closed sorted (assembles id shared openings book keeper all passes closed done sorted c early begins)))))
 
 -- the limits that its lines go by
 pub limited_by_workers : (id : TableId) (shared : Shared) (openings : List ℕ) (book : BookValue) (keeper : KeeperValue) (all : List WorkerJobs) (passes : List PassValue) (closed : ClosedValue) (done sorted : List ClaimedJob) (records : List (List LineRecord)) (words : List ℕ) (stop : Option Stop)

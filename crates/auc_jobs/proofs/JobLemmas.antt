@@ -8,7 +8,8 @@ use Rattle.auc_lines.specs.declared.part.Line.{Line}
 use Rattle.auc_sqn.specs.Past.{Remembers}
 use Rattle.auc_subs.specs.declared.row.Row.{Row}
 use Rattle.auc_world.specs.Entries.{entries_of_lines}
-use Rattle.auc_world.specs.Given.{is_in, is_released, past_of, GiveGives, LineGives, JobGives}
+use Rattle.auc_world.specs.Given.{Before, is_in, is_released, past_of, GiveGives, LineGives, JobGives}
+use Rattle.auc_world.specs.Net.{Net}
 use Rattle.auc_world.specs.Setting.{Setting}
 use Rattle.auc_world.specs.Lines.{numbers_of, held_of, accepted_by, accepted}
 use Rattle.auc_usim.specs.Usim.{Memory}
@@ -144,59 +145,66 @@ serves_give goes set early beside own new kept released old usims sub n stays s 
 -- ---- a job
 
 -- with some lines of a job left, the records so far and what the rest gives are what the job gives
-abbrev pub JobGoesOn : Setting → List LineRecord → List LineRecord → List Line → List Line → List LineRecord → Type 0
-JobGoesOn set early beside left job front =
-    (rest : List LineRecord) → JobGives set (before_at early beside front) left rest → JobGives set (before_at early beside []) job (front ++ rest)
+abbrev pub JobGoesOn : Setting → List LineRecord → List LineRecord → Net → List Line → List Line → List LineRecord → Net → Type 0
+JobGoesOn set early beside start left job front net =
+    (rest : List LineRecord) (last : Net) → JobGives set (before_at early beside front) net left rest last → JobGives set (before_at early beside []) start job (front ++ rest) last
 
 -- what a job has given so far
 pub record ServingLines (goes : ℕ → List Entry → List (ℕ × Stop) → Type 0) (set : Setting) (early beside : List LineRecord) (kept : ℕ → Option ℕ) (released : Released) (usims : ℕ → Option Memory)
-    (left job : List Line) (lines : List LineRecord) : Type 0 where
-  pub goes_on : JobGoesOn set early beside left job lines
+    (start : Net) (left job : List Line) (lines : List LineRecord) (net : Net) : Type 0 where
+  pub goes_on : JobGoesOn set early beside start left job lines net
   pub made : (sub : ℕ) → goes sub (entries_of_lines sub beside lines) (held_of sub lines)
   pub stands : Stands set.rows (before_at early beside lines) kept released usims
 
 pub job_none : (goes : ℕ → List Entry → List (ℕ × Stop) → Type 0) (set : Setting) (early beside : List LineRecord) (kept : ℕ → Option ℕ) (released : Released) (usims : ℕ → Option Memory)
-    (left job : List Line) → left ≡ job → ((i : ℕ) → goes i [] []) → Stands set.rows (before_at early beside []) kept released usims
-    → ServingLines goes set early beside kept released usims left job []
-job_none goes set early beside kept released usims left job is stays s = record {
-  goes_on = λ rest given. subst (λ (lines : List Line). JobGives set (before_at early beside []) lines rest) is given;
+    (net : Net) (left job : List Line) → left ≡ job → ((i : ℕ) → goes i [] []) → Stands set.rows (before_at early beside []) kept released usims
+    → ServingLines goes set early beside kept released usims net left job [] net
+job_none goes set early beside kept released usims net left job is stays s = record {
+  goes_on = λ rest last given. subst (λ (lines : List Line). JobGives set (before_at early beside []) net lines rest last) is given;
   made = stays;
   stands = s;
 }
 
 pub job_line : (goes more whole : ℕ → List Entry → List (ℕ × Stop) → Type 0) (set : Setting) (early beside : List LineRecord) (mid kept : ℕ → Option ℕ) (released : Released) (old usims : ℕ → Option Memory)
-    (line : Line) (left next job : List Line) (front after : List LineRecord)
+    (start net moved : Net) (line : Line) (left next job : List Line) (front after : List LineRecord)
     → ((i : ℕ) (es fs : List Entry) (ws vs : List (ℕ × Stop)) → goes i es ws → more i fs vs → whole i (es ++ fs) (ws ++ vs))
-    → left ≡ line ∷ next → ServingLines goes set early beside mid released old left job front
+    → left ≡ line ∷ next → ServingLines goes set early beside mid released old start left job front net
     → (Stands set.rows (before_at early beside front) mid released old
-    → Serves more set.rows (before_at early beside front) kept released usims (LineGives set (before_at early beside front) line) after)
-    → ServingLines whole set early beside kept released usims next job after
-job_line goes more whole set early beside mid kept released old usims line left next job front after joins cut serving serves = record {
-  goes_on = λ rest given.
-      let behind : JobGives set (before_at early beside (front ++ line_is.lines)) next rest =
-      subst (λ (lines : List LineRecord). JobGives set (before_at early beside lines) next rest) line_is.added given in
-      let both : JobGives set (before_at early beside front) (line ∷ next) (line_is.lines ++ rest) = (line_is.lines, rest, refl, line_is.given, behind) in
-      let joined : JobGives set (before_at early beside []) job (front ++ (line_is.lines ++ rest)) =
-      serving.goes_on (line_is.lines ++ rest) (subst (λ (lines : List Line). JobGives set (before_at early beside front) lines (line_is.lines ++ rest)) (sym cut) both) in
+    → Serves more set.rows (before_at early beside front) kept released usims (λ lines. LineGives set (before_at early beside front) net line lines moved) after)
+    → ServingLines whole set early beside kept released usims start next job after moved
+job_line goes more whole set early beside mid kept released old usims start net moved line left next job front after joins cut serving serves = record {
+  goes_on = λ rest last given.
+      let behind : JobGives set (before_at early beside (front ++ line_is.lines)) moved next rest last =
+      subst (λ (lines : List LineRecord). JobGives set (before_at early beside lines) moved next rest last) line_is.added given in
+      let both : JobGives set (before_at early beside front) net (line ∷ next) (line_is.lines ++ rest) last = (line_is.lines, rest, moved, refl, line_is.given, behind) in
+      let joined : JobGives set (before_at early beside []) start job (front ++ (line_is.lines ++ rest)) last =
+      serving.goes_on (line_is.lines ++ rest) last (subst (λ (lines : List Line). JobGives set (before_at early beside front) net lines (line_is.lines ++ rest) last) (sym cut) both) in
       rw line_is.added (rw append_assoc joined);
   made = λ i. rw line_is.added (rw (entries_of_lines-append i beside front line_is.lines, held_of-append i front line_is.lines)
       (joins i (entries_of_lines i beside front) (entries_of_lines i (beside ++ front) line_is.lines) (held_of i front) (held_of i line_is.lines) (serving.made i) (line_is.made i)));
   stands = line_is.stands;
 }
   where
-    line_is : Serves more set.rows (before_at early beside front) kept released usims (LineGives set (before_at early beside front) line) after
+    line_is : Serves more set.rows (before_at early beside front) kept released usims (λ lines. LineGives set (before_at early beside front) net line lines moved) after
     line_is = serves serving.stands
 
 pub job_all : (goes : ℕ → List Entry → List (ℕ × Stop) → Type 0) (set : Setting) (early beside : List LineRecord) (kept : ℕ → Option ℕ) (released : Released) (usims : ℕ → Option Memory)
-    (left job : List Line) (lines : List LineRecord) → left ≡ [] → ServingLines goes set early beside kept released usims left job lines
-    → ServesLines goes set early beside kept released usims job lines
-job_all goes set early beside kept released usims left job lines none serving = record {
+    (start : Net) (left job : List Line) (lines : List LineRecord) (net : Net) → left ≡ [] → ServingLines goes set early beside kept released usims start left job lines net
+    → ServesLines goes set early beside kept released usims start job lines net
+job_all goes set early beside kept released usims start left job lines net none serving = record {
   given =
-      let nothing : JobGives set (before_at early beside lines) [] [] = refl in
-      subst (λ (records : List LineRecord). JobGives set (before_at early beside []) job records) (append-nil lines)
-      (serving.goes_on [] (subst (λ (l : List Line). JobGives set (before_at early beside lines) l []) (sym none) nothing));
+      let nothing : JobGives set (before_at early beside lines) net [] [] net = (refl, refl) in
+      subst (λ (records : List LineRecord). JobGives set (before_at early beside []) start job records net) (append-nil lines)
+      (serving.goes_on [] net (subst (λ (l : List Line). JobGives set (before_at early beside lines) net l [] net) (sym none) nothing));
   made = serving.made;
   stands = serving.stands;
 }
 
 -- ---- the jobs
+
+-- ---- lines of which another thing is known
+
+pub serves_as : (goes : ℕ → List Entry → List (ℕ × Stop) → Type 0) (rows : List Row) (before : Before) (kept : ℕ → Option ℕ) (released : Released) (usims : ℕ → Option Memory)
+    (Gives Also : List LineRecord → Type 0) (new : List LineRecord) → ((lines : List LineRecord) → Gives lines → Also lines) → Serves goes rows before kept released usims Gives new
+    → Serves goes rows before kept released usims Also new
+serves_as goes rows before kept released usims Gives Also new also s = record { lines = s.lines; added = s.added; given = also s.lines s.given; made = s.made; stands = s.stands }

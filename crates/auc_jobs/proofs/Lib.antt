@@ -3,7 +3,14 @@ mod SayingLemmas
 mod DrawingLemmas
 mod UsimLemmas
 mod JobLemmas
+mod SilentLemmas
+mod EventLemmas
+mod PlaceLemmas
+mod HandLemmas
+mod HappenLemmas
+mod PlayLemmas
 mod SyncLemmas
+mod CopyLemmas
 mod SettleLemmas
 mod PieceLemmas
 mod PutLemmas

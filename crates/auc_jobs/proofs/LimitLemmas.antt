@@ -4,13 +4,19 @@ use Rattle.std.specs.Prelude.{if◌then◌else◌}
 use Rattle.std.proofs.lemmas.List.Elements.{All-append, All-cons, All-head, All-map, All-nil, All-tail}
 use Rattle.auc_edge.specs.declared.stop.Stop.{Stop}
 use Rattle.auc_world.specs.declared.record.LineRecord.{LineRecord}
-use Rattle.auc_world.specs.declared.record.LineRecord.TheVariants.{Vector, Withheld, Exhausted, Sync, Give}
+use Rattle.auc_world.specs.declared.record.LineRecord.TheVariants.{Vector, Withheld, Exhausted, Sync, Give, Event as Happening}
 use Rattle.auc_world.specs.Lines.{numbers_of, withheld_of, held_by, held_of, all_lines}
-use Rattle.auc_world.specs.Round.{NamesStop, Withholds}
+use Rattle.auc_lines.specs.Part.{is_that}
+use Rattle.auc_vector.specs.Notes.{withheld_noted}
+use Rattle.auc_vector.specs.declared.notes.NumberNote.{NumberNote}
+use Rattle.auc_vector.specs.declared.notes.NumberNote.TheVariants as number
+use Rattle.auc_world.specs.Event.{asked_in, number_in}
+use Rattle.auc_world.specs.Round.{NamesStop, NotesStop, Withholds}
 use Rattle.auc_world.proofs.Facts.{none_held, withheld_of-held_of}
 use Rattle.auc_jobs.specs.declared.claiming.ClaimedJob.{ClaimedJob}
 use Rattle.auc_jobs.proofs.LineLemmas.{held_of-append, numbers_of-append}
-use Rattle.auc_jobs.proofs.OrderLemmas.{all_back}
+use Rattle.auc_jobs.proofs.EventLemmas.{IsOwnEvent}
+use Rattle.auc_jobs.proofs.OrderLemmas.{all_back, all_front}
 use Rattle.auc_jobs.proofs.TellingLemmas.{IsOwn, held_beyond}
 
 -- what some lines release of a subscriber is within its limit, and what they withhold is above it and has the cause of the
@@ -77,6 +83,18 @@ names stop count (line ∷ lines) limit own held =
     (names stop count lines limit (All-tail (IsOwn count) line lines own)
     (λ sub known. all_back (λ h. (limit sub < h.0) × (Some stop ≡ Some h.1)) (held_by sub line) (held_of sub lines) (held sub known)))
   where
+    of_number : (s : ℕ) (o : Option NumberNote) → All (λ h. (limit s < h.0) × (Some stop ≡ Some h.1)) (withheld_noted o) → NotesStop stop o
+    of_number s None each = tt
+    of_number s (Some (number.Drew n)) each = tt
+    of_number s (Some (number.Exhausted word)) each = tt
+    of_number s (Some (number.Withheld n cause)) each = some_same stop cause (All-head (λ h. (limit s < h.0) × (Some stop ≡ Some h.1)) (n, cause) [] each).1
+
+    of_event : (a : Option ℕ) (o : Option NumberNote) → IsOwnEvent count a o → ((sub : ℕ) → sub < count → All (λ h. (limit sub < h.0) × (Some stop ≡ Some h.1)) (withheld_noted (if is_that sub a then o else None)))
+        → NotesStop stop o
+    of_event None o own each = subst (NotesStop stop) (sym own) tt
+    of_event (Some s) o own each =
+        of_number s o (subst (λ (b : Bool). All (λ h. (limit s < h.0) × (Some stop ≡ Some h.1)) (withheld_noted (if b then o else None))) (eq-eqb s s refl) (each s own.0))
+
     here : (line : LineRecord) → IsOwn count line → ((sub : ℕ) → sub < count → All (λ h. (limit sub < h.0) × (Some stop ≡ Some h.1)) (held_of sub (line ∷ lines))) → NamesStop stop line
     here (Vector s n) is held = tt
     here (Withheld s n cause) is held =
@@ -87,6 +105,7 @@ names stop count (line ∷ lines) limit own held =
     here (Exhausted s word) is held = tt
     here (Sync s answer) is held = tt
     here (Give s n answer) is held = tt
+    here (Happening r) is held = of_event (asked_in r.result) (number_in r.result) is (λ sub known. all_front (λ h. (limit sub < h.0) × (Some stop ≡ Some h.1)) (held_by sub (Happening r)) (held_of sub lines) (held sub known))
 
 -- what some lines withhold, if what they name is so by the limits
 pub withholds_by : (stop : Option Stop) (count : ℕ) (lines : List LineRecord) (limit : ℕ → ℕ) → All (IsOwn count) lines → ((sub : ℕ) → sub < count → AreLimited sub (limit sub) stop lines) → Withholds stop lines

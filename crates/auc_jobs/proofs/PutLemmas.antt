@@ -6,7 +6,7 @@ use Rattle.std.proofs.lemmas.Option.{slice_get_within}
 use Rattle.auc_history.proofs.Facts.{AllPairs-tail}
 use Rattle.std.proofs.lemmas.List.Elements.{All-head}
 use Rattle.auc_lines.specs.declared.part.Line.{Line}
-use Rattle.auc_lines.specs.Part.{AreApart, gives_to}
+use Rattle.auc_lines.specs.Part.{AreApart, holds}
 use Rattle.auc_sqn.specs.Past.{Remembers}
 use Rattle.auc_subs.specs.declared.row.Row.{Row}
 use Rattle.auc_usim.specs.Usim.{Memory}
@@ -17,7 +17,7 @@ use Rattle.auc_world.specs.Pieces.{IsQuiet}
 use Rattle.auc_world.proofs.Facts.{accepted-append}
 use Rattle.auc_jobs.specs.Usims.{AreOfRows, AreBehind}
 use Rattle.auc_jobs.specs.InnerRound.{IsSettled, AreSettled}
-use Rattle.auc_jobs.specs.InnerUsims.{OwnUsims, usim_in, put_at, ArePut, ArePutBack}
+use Rattle.auc_jobs.specs.InnerUsims.{OwnDevices, usim_in, put_at, ArePut, ArePutBack}
 use Rattle.auc_jobs.proofs.PieceLemmas.{quiet_rest}
 
 -- the subscribers' USIMs after some lines
@@ -26,16 +26,17 @@ pub record ArePlaced (rows : List Row) (lines : List LineRecord) (usims : List M
   pub behind : AreBehind rows lines (slice_get usims)
 
 -- what a place has is the job's USIM, if the job gives there, or what it had
-put_is : (b : Bool) (own old : Option Memory) (usim : Memory) → is_some own ≡ b → put_at b own old ≡ Some usim → ((b ≡ true) × (own ≡ Some usim)) ⊎ ((b ≡ false) × (old ≡ Some usim))
+put_is : (b : Bool) (own old : Option Memory) (usim : Memory) → is_some own ≡ b → put_at own old ≡ Some usim → ((b ≡ true) × (own ≡ Some usim)) ⊎ ((b ≡ false) × (old ≡ Some usim))
 put_is true None old usim has is = absurd (false≢true has)
 put_is true (Some kept) old usim has is = inl (refl, is)
-put_is false own old usim has is = inr (refl, is)
+put_is false None old usim has is = inr (refl, is)
+put_is false (Some kept) old usim has is = absurd (false≢true (sym has))
 
 put_cases : (rows : List Row) (early lines : List LineRecord) (old new : List Memory) (job : List Line) (own : ℕ → Option Memory) (sub : ℕ) (usim : Memory) → IsSettled rows early job lines own
-    → ArePut old job own new → slice_get new sub ≡ Some usim → ((gives_to sub job ≡ true) × (own sub ≡ Some usim)) ⊎ ((gives_to sub job ≡ false) × (slice_get old sub ≡ Some usim))
+    → ArePut old own new → slice_get new sub ≡ Some usim → ((holds sub job ≡ true) × (own sub ≡ Some usim)) ⊎ ((holds sub job ≡ false) × (slice_get old sub ≡ Some usim))
 put_cases rows early lines old new job own sub usim settled put there =
     let inside : sub < length old = subst (λ (n : ℕ). sub < n) put.sizes (slice_get_within new sub usim there) in
-    put_is (gives_to sub job) (own sub) (slice_get old sub) usim (settled.keyed sub) (sym (put.each sub inside) ∙ there)
+    put_is (holds sub job) (own sub) (slice_get old sub) usim (settled.keyed sub) (sym (put.each sub inside) ∙ there)
 
 -- what it accepted
 own_accepted : (sub : ℕ) (early front lines : List LineRecord) → accepted sub front ≡ [] → accepted sub (early ++ lines) ≡ accepted sub (early ++ (front ++ lines))
@@ -53,19 +54,19 @@ old_accepted sub early front lines quiet =
 
 -- a job's own USIMs were put back
 placed_job : (rows : List Row) (early front lines : List LineRecord) (old new : List Memory) (job : List Line) (own : ℕ → Option Memory) → IsQuiet front job
-    → IsSettled rows early job lines own → ArePut old job own new → ArePlaced rows (early ++ front) old → ArePlaced rows (early ++ (front ++ lines)) new
+    → IsSettled rows early job lines own → ArePut old own new → ArePlaced rows (early ++ front) old → ArePlaced rows (early ++ (front ++ lines)) new
 placed_job rows early front lines old new job own quiet settled put placed = record {
   of_rows = record { sizes = put.sizes ∙ placed.of_rows.sizes; secrets = λ sub row usim at there. secret sub row usim at (put_cases rows early lines old new job own sub usim settled put there) };
   behind = λ sub row usim at there. remember sub row usim at (put_cases rows early lines old new job own sub usim settled put there);
 }
   where
     secret : (sub : ℕ) (row : Row) (usim : Memory) → slice_get rows sub ≡ Some row
-        → ((gives_to sub job ≡ true) × (own sub ≡ Some usim)) ⊎ ((gives_to sub job ≡ false) × (slice_get old sub ≡ Some usim)) → usim.secret ≡ row.secret
+        → ((holds sub job ≡ true) × (own sub ≡ Some usim)) ⊎ ((holds sub job ≡ false) × (slice_get old sub ≡ Some usim)) → usim.secret ≡ row.secret
     secret sub row usim at (inl (gives, is)) = settled.secrets sub row usim at is
     secret sub row usim at (inr (other, is)) = placed.of_rows.secrets sub row usim at is
 
     remember : (sub : ℕ) (row : Row) (usim : Memory) → slice_get rows sub ≡ Some row
-        → ((gives_to sub job ≡ true) × (own sub ≡ Some usim)) ⊎ ((gives_to sub job ≡ false) × (slice_get old sub ≡ Some usim))
+        → ((holds sub job ≡ true) × (own sub ≡ Some usim)) ⊎ ((holds sub job ≡ false) × (slice_get old sub ≡ Some usim))
         → Remembers usim.array (past_of row.usim (accepted sub (early ++ (front ++ lines))))
     remember sub row usim at (inl (gives, is)) =
         subst (λ (sqns : List (List ℕ)). Remembers usim.array (past_of row.usim sqns)) (own_accepted sub early front lines (quiet sub gives)) (settled.behind sub row usim at is)
@@ -73,11 +74,11 @@ placed_job rows early front lines old new job own quiet settled put placed = rec
         subst (λ (sqns : List (List ℕ)). Remembers usim.array (past_of row.usim sqns)) (old_accepted sub early front lines (settled.quiet sub other)) (placed.behind sub row usim at is)
 
 -- those of all jobs were
-pub placed_jobs : (rows : List Row) (early front : List LineRecord) (old new : List Memory) (jobs : List (List Line)) (records : List (List LineRecord)) (own : List OwnUsims)
-    → AllPairs AreApart jobs → All (IsQuiet front) jobs → AreSettled rows early jobs records own → ArePutBack old jobs own new → ArePlaced rows (early ++ front) old
+pub placed_jobs : (rows : List Row) (early front : List LineRecord) (old new : List Memory) (jobs : List (List Line)) (records : List (List LineRecord)) (own : List OwnDevices)
+    → AllPairs AreApart jobs → All (IsQuiet front) jobs → AreSettled rows early jobs records own → ArePutBack old own new → ArePlaced rows (early ++ front) old
     → ArePlaced rows (early ++ (front ++ all_lines records)) new
 placed_jobs rows early front old new [] records own apart quiet settled put placed =
-    subst (λ (usims : List Memory). ArePlaced rows (early ++ (front ++ all_lines records)) usims) (sym put)
+    subst (λ (usims : List Memory). ArePlaced rows (early ++ (front ++ all_lines records)) usims) (sym (subst (λ (os : List OwnDevices). ArePutBack old os new) settled.1 put))
     (subst (λ (lines : List LineRecord). ArePlaced rows (early ++ lines) old) (sym (ap (λ (rs : List (List LineRecord)). front ++ all_lines rs) settled.0 ∙ append-nil front)) placed)
 placed_jobs rows early front old new (job ∷ jobs) [] own apart quiet settled put placed = absurd settled
 placed_jobs rows early front old new (job ∷ jobs) (lines ∷ records) [] apart quiet settled put placed = absurd settled

@@ -1,6 +1,6 @@
 -- For a round: what its pieces make of its record, and of the state after it.
 use Rattle.std.proofs.Common.{◌≡◌, ℕ, zero, suc, ◌+◌, ◌-◌, ◌<◌, ◌≤◌, min, Bool, true, false, List, [], ◌∷◌, ◌++◌, length, get_or, refl, sym, ◌∙◌, ap, subst, arith, append-nil}
-use Rattle.std.specs.Prelude.{All, AllPairs, Option, Some, slice_get, slice_index, if◌then◌else◌, ◌==◌}
+use Rattle.std.specs.Prelude.{All, AllPairs, Option, Some, None, slice_get, slice_index, if◌then◌else◌, ◌==◌}
 use Rattle.std.proofs.lemmas.List.{length-append, length-map}
 use Rattle.std.proofs.lemmas.Grind.{flat_map-append}
 use Rattle.std.proofs.lemmas.List.Sums.{sum_by-append, sum_by-cons}
@@ -14,22 +14,33 @@ use Rattle.auc_history.proofs.Facts.{split_counts_its_numbers}
 use Rattle.auc_lines.specs.declared.part.Line.{Line}
 use Rattle.auc_lines.specs.Part.{AreApart}
 use Rattle.auc_sqn.specs.Number.{max_seq}
-use Rattle.auc_world.specs.Entries.{is_reported, entries_of_line, entries_of_lines, entries_of_jobs, entries_of_verdict}
+use Rattle.auc_vector.specs.declared.notes.NumberNote.{NumberNote}
+use Rattle.auc_vector.specs.declared.notes.NumberNote.TheVariants as number
+use Rattle.auc_vector.specs.declared.notes.ResyncNote.{ResyncNote}
+use Rattle.auc_vector.specs.declared.notes.ResyncNote.TheVariants as resync
+use Rattle.auc_world.specs.Event.{number_for, number_passed, number_released, number_withheld, resync_for}
+use Rattle.auc_world.specs.Entries.{is_reported, entries_of_line, entries_of_lines, entries_of_jobs, entries_of_number, entries_of_resync, entries_of_verdict}
 use Rattle.auc_world.specs.Given.{JobsGive}
 use Rattle.auc_world.specs.Setting.{Setting}
 use Rattle.auc_world.proofs.Facts.{jobs_give_after_all_lines, pieces_split_the_round}
+use Rattle.auc_world.specs.Net.{Net}
+use Rattle.auc_world.specs.Pieces.{Piece, PiecesGive}
 use Rattle.auc_world.specs.Lines.{numbers_of, released_by, withheld_by, withheld_of, all_lines}
 use Rattle.auc_world.specs.Round.{closing_of, closings_from, IsLawfulRound, Withholds}
+use Rattle.auc_world.specs.Sessions.{AreVerdicts, job_sessions, premise_from}
+use Rattle.auc_world.specs.declared.record.JobSessions.{JobSessions}
+use Rattle.auc_world.specs.declared.record.Premise.{Premise}
+use Rattle.auc_world.specs.declared.record.SessionVerdict.{SessionVerdict}
 use Rattle.auc_world.specs.declared.record.Closing.{Closing}
 use Rattle.auc_world.specs.declared.record.LineRecord.{LineRecord}
-use Rattle.auc_world.specs.declared.record.LineRecord.TheVariants.{Vector, Withheld, Exhausted, Sync, Give}
+use Rattle.auc_world.specs.declared.record.LineRecord.TheVariants.{Vector, Withheld, Exhausted, Sync, Give, Event as Happening}
 use Rattle.auc_world.specs.declared.record.SyncVerdict.{SyncVerdict}
 use Rattle.auc_world.specs.declared.record.SyncVerdict.TheVariants as verdict
 use Rattle.auc_world.specs.declared.counting.Count.{Count}
 use Rattle.auc_world.specs.Counts.{passed, passed_by, passed_in, capped, counted_in, AreCounted, counted_closing, counted_closings}
 use Rattle.auc_jobs.specs.Usims.{AreBehind}
 use Rattle.auc_jobs.specs.InnerRound.{ArePieces, AreServed, IsAdvanced}
-use Rattle.auc_jobs.specs.InnerUsims.{OwnUsims}
+use Rattle.auc_jobs.specs.InnerUsims.{OwnDevices}
 use Rattle.auc_jobs.specs.State.{Standing, StandsAt}
 use Rattle.auc_jobs.proofs.PutLemmas.{ArePlaced, placed_jobs}
 use Rattle.auc_jobs.proofs.LineLemmas.{entries_of_lines-append}
@@ -72,6 +83,19 @@ passes_verdict sub before (verdict.InRange seen seq_ms) = passes_unless (is_repo
 passes_verdict sub before (verdict.Beyond seen seq_ms) = passes_unless (is_reported sub seen before) (Look seen) refl
 passes_verdict sub before verdict.WrongMac = refl
 
+passes_resync : (sub : ℕ) (before : List LineRecord) (o : Option ResyncNote) → skipped (entries_of_resync sub before o) ≡ number_passed o
+passes_resync sub before None = refl
+passes_resync sub before (Some (resync.Moved from to)) = let e = sum_by-cons skipped_by (moved from to) [] in omega (arith, e)
+passes_resync sub before (Some (resync.InRange seen seq)) = passes_unless (is_reported sub seen before) (Look seen) refl
+passes_resync sub before (Some (resync.Beyond seen seq)) = passes_unless (is_reported sub seen before) (Look seen) refl
+passes_resync sub before (Some resync.BadAuts) = refl
+
+passes_number : (sub : ℕ) (before : List LineRecord) (o : Option NumberNote) → skipped (entries_of_number sub before o) ≡ 0
+passes_number sub before None = refl
+passes_number sub before (Some (number.Drew n)) = passes_unless false (Drawn n) refl
+passes_number sub before (Some (number.Exhausted word)) = passes_unless (is_reported sub word before) (Drawn (word + 1)) refl
+passes_number sub before (Some (number.Withheld n stop)) = passes_unless false (Drawn n) refl
+
 passes_line : (sub : ℕ) (before : List LineRecord) (line : LineRecord) → skipped (entries_of_line sub before line) ≡ passed_by sub line
 passes_line sub before (Vector s n) = passes_if (s == sub) (Drawn n) ∙ nothing_if (s == sub)
 passes_line sub before (Withheld s n stop) = passes_if (s == sub) (Drawn n) ∙ nothing_if (s == sub)
@@ -79,6 +103,11 @@ passes_line sub before (Exhausted s word) =
     none_if (s == sub) (if is_reported sub word before then [] else Drawn (word + 1) ∷ []) (passes_unless (is_reported sub word before) (Drawn (word + 1)) refl)
 passes_line sub before (Sync s answer) = these_if (s == sub) (entries_of_verdict sub before answer) (passed answer) (passes_verdict sub before answer)
 passes_line sub before (Give s n answer) = refl
+passes_line sub before (Happening r) =
+    let cut = sum_by-append skipped_by (entries_of_resync sub before (resync_for sub r)) (entries_of_number sub before (number_for sub r)) in
+    let first = passes_resync sub before (resync_for sub r) in
+    let second = passes_number sub before (number_for sub r) in
+    omega (arith, cut, first, second)
 
 pub passes_lines : (sub : ℕ) (before lines : List LineRecord) → skipped (entries_of_lines sub before lines) ≡ passed_in sub lines
 passes_lines sub before [] = refl
@@ -100,6 +129,19 @@ draws_line sub before (Withheld s n stop) = let here = draws_if (s == sub) n in 
 draws_line sub before (Exhausted s word) = omega arith
 draws_line sub before (Sync s answer) = omega arith
 draws_line sub before (Give s n answer) = omega arith
+draws_line sub before (Happening r) =
+    let cut : drawn (entries_of_resync sub before (resync_for sub r) ++ entries_of_number sub before (number_for sub r))
+    ≡ drawn (entries_of_resync sub before (resync_for sub r)) ++ drawn (entries_of_number sub before (number_for sub r)) =
+    flat_map-append drawn_by (entries_of_resync sub before (resync_for sub r)) (entries_of_number sub before (number_for sub r)) in
+    let both = ap (λ (ns : List ℕ). length ns) cut ∙ length-append (drawn (entries_of_resync sub before (resync_for sub r))) (drawn (entries_of_number sub before (number_for sub r))) in
+    let here = by (number_for sub r) in
+    omega (arith, both, here)
+  where
+    by : (o : Option NumberNote) → length (number_released o) + length (number_withheld o) ≤ length (drawn (entries_of_number sub before o))
+    by None = omega arith
+    by (Some (number.Drew n)) = omega arith
+    by (Some (number.Exhausted word)) = omega arith
+    by (Some (number.Withheld n stop)) = omega arith
 
 draws_lines : (sub : ℕ) (before lines : List LineRecord) → length (numbers_of sub lines) + length (withheld_of sub lines) ≤ length (drawn (entries_of_lines sub before lines))
 draws_lines sub before [] = omega arith
@@ -189,21 +231,21 @@ below_at (word ∷ words) zero bound within = within 0 0 (omega arith)
 below_at (word ∷ words) (suc sub) bound within = below_at words sub bound (λ k d lt. within (suc k) d (omega arith))
 
 -- the pieces of a round split each subscriber's history by its jobs
-pub pieces_make : (set : Setting) (early : List LineRecord) (openings words : List ℕ) (jobs : List (List Line)) (records : List (List LineRecord)) (sub : ℕ)
-    → ArePieces set early openings jobs records words → All (λ word. word ≤ max_seq + 64) words → sub < length openings → Makes sub (slice_index openings sub) (slice_index words sub) records
-pieces_make set early openings words jobs records sub p bound known = record {
+pub pieces_make : (set : Setting) (early : List LineRecord) (openings words : List ℕ) (jobs : List (List Line)) (records : List (List LineRecord)) (sessions : List JobSessions) (sub : ℕ)
+    → ArePieces set early openings jobs records sessions words → All (λ word. word ≤ max_seq + 64) words → sub < length openings → Makes sub (slice_index openings sub) (slice_index words sub) records
+pieces_make set early openings words jobs records sessions sub p bound known = record {
   split = subst (λ (rs : List (List LineRecord)). Splits max_seq (slice_index openings sub) (slice_index words sub) (entries_of_jobs sub [] rs)) (sym p.lines)
       (pieces_split_the_round max_seq (slice_index openings sub) (slice_index words sub) sub p.pieces (p.reports sub) (p.split sub known));
   bound = below_at words sub (max_seq + 64) bound;
 }
 
 -- no closing is below the opening and what was passed over
-pub closes_above : (set : Setting) (early : List LineRecord) (openings words : List ℕ) (jobs : List (List Line)) (records : List (List LineRecord)) (counts : List Count) (k : ℕ) (count : Count)
-    → length counts ≡ length openings → ArePieces set early openings jobs records words → All (λ word. word ≤ max_seq + 64) words → AreCounted (all_lines records) counts → slice_get counts k ≡ Some count
+pub closes_above : (set : Setting) (early : List LineRecord) (openings words : List ℕ) (jobs : List (List Line)) (records : List (List LineRecord)) (sessions : List JobSessions) (counts : List Count) (k : ℕ) (count : Count)
+    → length counts ≡ length openings → ArePieces set early openings jobs records sessions words → All (λ word. word ≤ max_seq + 64) words → AreCounted (all_lines records) counts → slice_get counts k ≡ Some count
     → slice_index openings k + count.skipped ≤ slice_index words k
-closes_above set early openings words jobs records counts k count sizes p bound counted there =
+closes_above set early openings words jobs records sessions counts k count sizes p bound counted there =
     let within : k < length counts = slice_get_within counts k count there in
-    let c = counts_made k (slice_index openings k) (slice_index words k) records (pieces_make set early openings words jobs records k p bound (omega (arith, within, sizes))) in
+    let c = counts_made k (slice_index openings k) (slice_index words k) records (pieces_make set early openings words jobs records sessions k p bound (omega (arith, within, sizes))) in
     let is : count ≡ counted_in k (all_lines records) = some_is count (counted_in k (all_lines records)) (sym there ∙ counted.each k within) in
     let whole = c.whole in let skips = c.skips in let same = ap (λ (n : Count). n.skipped) is in
     omega (arith, whole, skips, same)
@@ -212,40 +254,57 @@ closes_above set early openings words jobs records counts k count sizes p bound 
     some_is a b e = cc
 
 -- the round is lawful
-pub lawful_round : (set : Setting) (stop : Option Stop) (early : List LineRecord) (openings words : List ℕ) (jobs : List (List Line)) (records : List (List LineRecord)) (counts : List Count)
-    (number : ℕ) (closings : List Closing) → AllPairs AreApart jobs → ArePieces set early openings jobs records words → All (λ word. word ≤ max_seq + 64) words
+pub lawful_round : (set : Setting) (stop : Option Stop) (early : List LineRecord) (openings words : List ℕ) (jobs : List (List Line)) (records : List (List LineRecord)) (sessions : List JobSessions) (counts : List Count)
+    (number : ℕ) (closings : List Closing) (verdicts : List SessionVerdict) (kept : Premise) → AllPairs AreApart jobs → ArePieces set early openings jobs records sessions words → All (λ word. word ≤ max_seq + 64) words
     → length words ≡ length openings → length counts ≡ length openings → AreCounted (all_lines records) counts → closings ≡ counted_closings 0 openings words counts → Withholds stop (all_lines records)
-    → IsLawfulRound set stop early openings jobs (record { number = number; jobs = records; closings = closings }) words
-lawful_round set stop early openings words jobs records counts number closings apart p bound size sizes counted is withholds = record {
+    → AreVerdicts sessions verdicts → kept ≡ premise_from 1 sessions
+    → IsLawfulRound set stop early openings jobs (record { number = number; jobs = records; closings = closings; sessions = verdicts; premise = kept }) words
+lawful_round set stop early openings words jobs records sessions counts number closings verdicts kept apart p bound size sizes counted is withholds agree holds = record {
+  nets = p.nets;
   sizes = size;
   fits = λ sub inside. let below = below_at words sub (max_seq + 64) bound in omega (arith, below);
-  given = subst (JobsGive set early [] jobs) (sym p.lines) (jobs_give_after_all_lines set early jobs p.pieces apart p.give);
-  split = λ sub inside. (pieces_make set early openings words jobs records sub p bound inside).split;
+  given = subst (λ (rs : List (List LineRecord)). JobsGive set early [] jobs rs p.nets) (sym p.lines) (jobs_give_after_all_lines set early jobs p.pieces p.nets apart p.give);
+  split = λ sub inside. (pieces_make set early openings words jobs records sessions sub p bound inside).split;
   closings = is ∙ sym (closings_counted 0 openings words counts records sizes (λ k count inside there.
       let here : k ≡ 0 + k = omega arith in
       let same : counted_in k (all_lines records) ≡ count = some_is (counted_in k (all_lines records)) count (sym (counted.each k (omega arith)) ∙ there) in
       subst (λ (s : ℕ). closing_of s (get_or openings k 0) (get_or words k 0) records ≡ counted_closing s (get_or openings k 0) (get_or words k 0) count) here
-      (closing_counted k (slice_index openings k) (slice_index words k) records (pieces_make set early openings words jobs records k p bound inside)
+      (closing_counted k (slice_index openings k) (slice_index words k) records (pieces_make set early openings words jobs records sessions k p bound inside)
       ∙ ap (counted_closing k (slice_index openings k) (slice_index words k)) same)));
   withheld = withholds;
+  sessions = subst (λ (ss : List JobSessions). AreVerdicts ss verdicts) p.ends agree;
+  premise = holds ∙ ap (premise_from 1) p.ends;
 }
   where
     some_is : (a b : Count) → Some a ≡ Some b → a ≡ b
     some_is a b e = cc
 
+-- each job has a network
+as_many_nets : (set : Setting) (early : List LineRecord) (jobs : List (List Line)) (pieces : List Piece) (nets : List Net) → PiecesGive set early jobs pieces nets → length nets ≡ length jobs
+as_many_nets set early [] pieces nets (none, is) = ap (λ (ns : List Net). length ns) is
+as_many_nets set early (job ∷ jobs) [] nets give = absurd give
+as_many_nets set early (job ∷ jobs) (piece ∷ pieces) [] give = absurd give
+as_many_nets set early (job ∷ jobs) (piece ∷ pieces) (net ∷ nets) (quiet, gives, more) = ap suc (as_many_nets set early jobs pieces nets more)
+
+-- what the sessions came to is told of each job
+pub as_many_sessions : (set : Setting) (early : List LineRecord) (openings words : List ℕ) (jobs : List (List Line)) (records : List (List LineRecord)) (sessions : List JobSessions)
+    → ArePieces set early openings jobs records sessions words → length sessions ≡ length jobs
+as_many_sessions set early openings words jobs records sessions p =
+    ap (λ (ss : List JobSessions). length ss) p.ends ∙ length-map p.nets job_sessions ∙ as_many_nets set early jobs p.pieces p.nets p.give
+
 -- the state after the round, by equal parts
-pub advanced_as : (a b : Standing) (jobs : List (List Line)) (records others : List (List LineRecord)) (own same : List OwnUsims) (words ends : List ℕ) (new : Standing) → a ≡ b → records ≡ others
-    → own ≡ same → words ≡ ends → IsAdvanced a jobs records own words new → IsAdvanced b jobs others same ends new
-advanced_as a b jobs records others own same words ends new p q r s is =
-    subst (λ (x : Standing). IsAdvanced x jobs others same ends new) p
-    (subst (λ (x : List (List LineRecord)). IsAdvanced a jobs x same ends new) q
-    (subst (λ (x : List OwnUsims). IsAdvanced a jobs records x ends new) r (subst (λ (x : List ℕ). IsAdvanced a jobs records own x new) s is)))
+pub advanced_as : (a b : Standing) (records others : List (List LineRecord)) (own same : List OwnDevices) (words ends : List ℕ) (new : Standing) → a ≡ b → records ≡ others
+    → own ≡ same → words ≡ ends → IsAdvanced a records own words new → IsAdvanced b others same ends new
+advanced_as a b records others own same words ends new p q r s is =
+    subst (λ (x : Standing). IsAdvanced x others same ends new) p
+    (subst (λ (x : List (List LineRecord)). IsAdvanced a x same ends new) q
+    (subst (λ (x : List OwnDevices). IsAdvanced a records x ends new) r (subst (λ (x : List ℕ). IsAdvanced a records own x new) s is)))
 
 -- it is the next round's
-pub stands_after : (set : Setting) (early : List LineRecord) (state new : Standing) (jobs : List (List Line)) (records : List (List LineRecord)) (own : List OwnUsims) (words : List ℕ)
-    → AllPairs AreApart jobs → StandsAt set early state → AreServed set early state.words jobs records own words → IsAdvanced state jobs records own words new
+pub stands_after : (set : Setting) (early : List LineRecord) (state new : Standing) (jobs : List (List Line)) (records : List (List LineRecord)) (own : List OwnDevices) (sessions : List JobSessions) (words : List ℕ)
+    → AllPairs AreApart jobs → StandsAt set early state → AreServed set early state.words jobs records own sessions words → IsAdvanced state records own words new
     → StandsAt set (early ++ all_lines records) new
-stands_after set early state new jobs records own words apart stands served advanced = record {
+stands_after set early state new jobs records own sessions words apart stands served advanced = record {
   subscribers = record {
     size = ap (λ (ws : List ℕ). length ws) advanced.opened ∙ length-map words (λ (word : ℕ). min word max_seq) ∙ served.size ∙ stands.subscribers.size;
     numbers = advanced.within;

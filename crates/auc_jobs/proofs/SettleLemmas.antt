@@ -1,17 +1,17 @@
 -- For a job: its lines with its own USIMs, after its worker's earlier lines.
-use Rattle.std.proofs.Common.{◌≡◌, ℕ, zero, suc, true, List, [], ◌∷◌, ◌++◌, length, refl, sym, ◌∙◌, ap, subst, append-nil, arith}
-use Rattle.std.specs.Prelude.{Option, Some, All}
+use Rattle.std.proofs.Common.{◌≡◌, ℕ, zero, suc, ◌<◌, true, List, [], ◌∷◌, ◌++◌, length, refl, sym, ◌∙◌, ap, subst, append-nil, arith}
+use Rattle.std.specs.Prelude.{Option, Some, None, All}
 use Rattle.std.proofs.lemmas.List.Elements.{All-append}
 use Rattle.auc_edge.specs.declared.stop.Stop.{Stop}
 use Rattle.auc_history.specs.declared.entry.Entry.{Entry}
 use Rattle.auc_lines.specs.declared.part.Line.{Line}
 use Rattle.auc_lines.specs.declared.part.Line.TheVariants as line
-use Rattle.auc_lines.specs.Part.{gives_to}
+use Rattle.auc_lines.specs.Part.{holds}
 use Rattle.auc_sqn.specs.Past.{Remembers}
 use Rattle.auc_subs.specs.declared.row.Row.{Row}
 use Rattle.auc_usim.specs.Usim.{Memory}
 use Rattle.auc_world.specs.declared.record.LineRecord.{LineRecord}
-use Rattle.auc_world.specs.declared.record.LineRecord.TheVariants.{Vector, Withheld, Exhausted, Sync, Give}
+use Rattle.auc_world.specs.declared.record.LineRecord.TheVariants.{Vector, Withheld, Exhausted, Sync, Give, Event as Happening}
 use Rattle.auc_world.specs.declared.record.SyncVerdict.{SyncVerdict}
 use Rattle.auc_world.specs.declared.record.SyncVerdict.TheVariants as verdict
 use Rattle.auc_world.specs.Given.{Before, behind, past_of, DrawGives, VectorsFollow, LineGives, JobGives}
@@ -19,13 +19,24 @@ use Rattle.auc_world.specs.Lines.{accepted}
 use Rattle.auc_world.specs.Setting.{Setting}
 use Rattle.auc_world.proofs.Facts.{accepted-append, job_quiet}
 use Rattle.auc_world.specs.Released.{Released}
-use Rattle.auc_world.specs.Vectors.{IsReleasableLine}
+use Rattle.auc_vector.specs.declared.notes.NumberNote.{NumberNote}
+use Rattle.auc_vector.specs.declared.notes.NumberNote.TheVariants as number
+use Rattle.auc_world.specs.Came.{Came}
+use Rattle.auc_world.specs.Event.{asked_in, number_in, number_with}
+use Rattle.auc_world.specs.Net.{Net}
+use Rattle.auc_world.specs.Sessions.{job_sessions}
+use Rattle.auc_world.specs.Start.{start_of}
+use Rattle.auc_world.specs.declared.event.Event.{Event}
+use Rattle.auc_world.specs.declared.event.Event.TheVariants as event
+use Rattle.auc_world.specs.declared.record.JobSessions.{JobSessions}
+use Rattle.auc_world.specs.Vectors.{IsReleasableLine, IsReleasableNumber}
 use Rattle.auc_jobs.specs.Serving.{IsKnownLine}
 use Rattle.auc_jobs.specs.Usims.{HaveSecrets, AreOfRows}
 use Rattle.auc_jobs.specs.InnerRound.{JobBegins, ServesJob}
 use Rattle.auc_jobs.specs.InnerServing.{before_at, Stands, ServesLines}
 use Rattle.auc_jobs.specs.InnerUsims.{has_usim, AreCopies}
-use Rattle.auc_cards.proofs.Facts.{copies_found, copies_keyed}
+use Rattle.auc_jobs.proofs.EventLemmas.{IsOwnEvent, IsOwnNumber, event_lines, plain_lines}
+use Rattle.auc_jobs.proofs.CopyLemmas.{copies_found, copies_keyed}
 
 -- ---- before the job
 
@@ -61,16 +72,19 @@ quiet_beside sub early beside lines quiet =
     ∙ sym (accepted-append sub early lines)
 
 -- a USIM that is there is among those of its job
-given_there : (job : List Line) (own : ℕ → Option Memory) (sub : ℕ) (usim : Memory) → has_usim own sub ≡ gives_to sub job → own sub ≡ Some usim → gives_to sub job ≡ true
+given_there : (job : List Line) (own : ℕ → Option Memory) (sub : ℕ) (usim : Memory) → has_usim own sub ≡ holds sub job → own sub ≡ Some usim → holds sub job ≡ true
 given_there job own sub usim keyed there = sym keyed ∙ rw there refl
 
 -- the job's lines and its own USIMs
 pub job_settles : (goes : ℕ → List Entry → List (ℕ × Stop) → Type 0) (set : Setting) (early beside : List LineRecord) (old kept : ℕ → Option ℕ) (released : Released) (usims : List Memory)
     (job : List Line) (lines : List LineRecord) (copies own : ℕ → Option Memory) → length usims ≡ length set.rows → All (IsKnownLine (length set.rows)) job → AreCopies usims job copies
     → ((sub : ℕ) → has_usim own sub ≡ has_usim copies sub) → HaveSecrets set.rows own → JobBegins set.rows early beside old released usims job
-    → ServesLines goes set early beside kept released own job lines → ServesJob goes set early beside kept job lines own
-job_settles goes set early beside old kept released usims job lines copies own size known are same secrets begins s = record {
+    → (net : Net) (sessions : JobSessions) → sessions ≡ job_sessions net
+    → ServesLines goes set early beside kept released own (start_of set job) job lines net → ServesJob goes set early beside kept job lines own sessions
+job_settles goes set early beside old kept released usims job lines copies own size known are same secrets begins net sessions ends s = record {
+  net = net;
   given = s.given;
+  ends = ends;
   made = s.made;
   told = s.stands.told;
   settled = record {
@@ -79,11 +93,11 @@ job_settles goes set early beside old kept released usims job lines copies own s
     behind = λ sub row usim at there.
         subst (λ (sqns : List (List ℕ)). Remembers usim.array (past_of row.usim sqns))
         (quiet_beside sub early beside lines (begins.quiet sub (given_there job own sub usim (keyed sub) there))) (s.stands.pasts sub row usim at there);
-    quiet = λ sub other. job_quiet set (before_at early beside []) job sub lines s.given other;
+    quiet = λ sub other. job_quiet set (before_at early beside []) job sub lines net s.given other;
   };
 }
   where
-    keyed : (sub : ℕ) → has_usim own sub ≡ gives_to sub job
+    keyed : (sub : ℕ) → has_usim own sub ≡ holds sub job
     keyed sub = same sub ∙ copies_keyed (length set.rows) usims job copies sub size known are
 
 -- ---- the vectors that a job's lines release
@@ -110,6 +124,7 @@ draw_releasable set sub (suc count) (Withheld s n stop ∷ lines) (same, first, 
 draw_releasable set sub (suc count) (Exhausted s word ∷ lines) (same, spent, none) = one_releasable set (Exhausted s word) lines tt (none_releasable set lines none)
 draw_releasable set sub (suc count) (Sync s answer ∷ lines) gives = absurd gives
 draw_releasable set sub (suc count) (Give s n answer ∷ lines) gives = absurd gives
+draw_releasable set sub (suc count) (Happening r ∷ lines) gives = absurd gives
 
 follows_releasable : (set : Setting) (sub count : ℕ) (answer : SyncVerdict) (lines : List LineRecord) → VectorsFollow set sub count answer lines → All (IsReleasableLine set) lines
 follows_releasable set sub count (verdict.Moved seen seq_ms) lines follows = draw_releasable set sub count lines follows
@@ -118,15 +133,34 @@ follows_releasable set sub count (verdict.Beyond seen seq_ms) lines follows = no
 follows_releasable set sub count verdict.WrongMac lines follows = none_releasable set lines follows
 
 -- those of a line
-line_releasable : (set : Setting) (before : Before) (l : Line) (lines : List LineRecord) → LineGives set before l lines → All (IsReleasableLine set) lines
-line_releasable set before (line.Draw sub count) lines gives = draw_releasable set sub count lines gives
-line_releasable set before (line.Sync sub seq bit count) lines gives =
+event_releasable : (set : Setting) (e : Event) (c : Came) → IsOwnEvent (length set.rows) (asked_in c) (number_in c) → IsReleasableLine set (Happening (record { event = e; result = c }))
+event_releasable set e c own = by (asked_in c) (number_in c) own
+  where
+    of_number : (s : ℕ) (o : Option NumberNote) → s < length set.rows → IsOwnNumber o → IsReleasableNumber set (number_with (Some s) o)
+    of_number s None known is = tt
+    of_number s (Some (number.Drew n)) known is = record { known = known; first = is.0; last = is.1 }
+    of_number s (Some (number.Exhausted word)) known is = tt
+    of_number s (Some (number.Withheld n stop)) known is = tt
+
+    by : (a : Option ℕ) (o : Option NumberNote) → IsOwnEvent (length set.rows) a o → IsReleasableNumber set (number_with a o)
+    by None o own = tt
+    by (Some s) o own = of_number s o own.0 own.1
+
+line_releasable : (set : Setting) (before : Before) (net next : Net) (l : Line) (lines : List LineRecord) → LineGives set before net l lines next → All (IsReleasableLine set) lines
+line_releasable set before net next (line.Session session sub) lines gives = event_lines set (IsReleasableLine set) (event_releasable set) before net next (event.Open session sub) lines gives
+line_releasable set before net next (line.Start session) lines gives = event_lines set (IsReleasableLine set) (event_releasable set) before net next (event.Start session) lines gives
+line_releasable set before net next (line.Deliver session at' packet) lines gives = event_lines set (IsReleasableLine set) (event_releasable set) before net next (event.Deliver session at' packet) lines gives
+line_releasable set before net next (line.Repeat session) lines gives = event_lines set (IsReleasableLine set) (event_releasable set) before net next (event.Repeat session) lines gives
+line_releasable set before net next (line.GiveUp session at') lines gives = event_lines set (IsReleasableLine set) (event_releasable set) before net next (event.GiveUp session at') lines gives
+line_releasable set before net next (line.Plain session) lines gives = plain_lines set (IsReleasableLine set) (event_releasable set) before net next session lines gives
+line_releasable set before net next (line.Draw sub count) lines (gives, is) = draw_releasable set sub count lines gives
+line_releasable set before net next (line.Sync sub seq bit count) lines (gives, is) =
     subst (All (IsReleasableLine set)) (sym gives.lines_are) (one_releasable set (Sync sub gives.answer) gives.more tt (follows_releasable set sub count gives.answer gives.more gives.follows))
-line_releasable set before (line.Give sub n) lines gives =
+line_releasable set before net next (line.Give sub n) lines (gives, is) =
     subst (All (IsReleasableLine set)) (sym gives.lines_are) (one_releasable set (Give sub n gives.answer) [] tt (none_releasable set [] refl))
 
 -- those of a job
-pub job_releasable : (set : Setting) (before : Before) (job : List Line) (lines : List LineRecord) → JobGives set before job lines → All (IsReleasableLine set) lines
-job_releasable set before [] lines gives = none_releasable set lines gives
-job_releasable set before (l ∷ job) lines (front, rest, is, first, more) =
-    subst (All (IsReleasableLine set)) (sym is) (both_releasable set front rest (line_releasable set before l front first) (job_releasable set (behind before front) job rest more))
+pub job_releasable : (set : Setting) (before : Before) (net last : Net) (job : List Line) (lines : List LineRecord) → JobGives set before net job lines last → All (IsReleasableLine set) lines
+job_releasable set before net last [] lines (gives, is) = none_releasable set lines gives
+job_releasable set before net last (l ∷ job) lines (front, rest, next, is, first, more) =
+    subst (All (IsReleasableLine set)) (sym is) (both_releasable set front rest (line_releasable set before net next l front first) (job_releasable set (behind before front) next last job rest more))

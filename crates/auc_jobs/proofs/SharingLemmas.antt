@@ -12,9 +12,15 @@ use Rattle.auc_world.specs.Vectors.{vectors_in}
 use Rattle.auc_jobs.specs.declared.jobs.ServedJob.{ServedJob}
 use Rattle.auc_world.specs.Released.{Released}
 use Rattle.auc_jobs.specs.InnerRound.{JobBegins, ServesJob}
-use Rattle.auc_jobs.specs.InnerSharing.{Shared, BeginsAt, ServesAt}
+use Rattle.auc_jobs.specs.InnerSharing.{Shared, BeginsAt, IsServable, ServesAt}
+use Rattle.auc_jobs.specs.Serving.{AreAllKnown, AreKnown}
+use Rattle.auc_jobs.specs.Usims.{HaveSecrets}
+use Rattle.auc_jobs.proofs.LineLemmas.{all_at}
+use Rattle.auc_world.specs.World.{WorldState, usim_of}
+use Rattle.auc_jobs.specs.InnerWorker.{WorkerState}
+use Rattle.auc_jobs.proofs.WorkerLemmas.{Does, Ends, does_job}
+use Rattle.auc_world.specs.Sessions.{job_sessions}
 use Rattle.auc_jobs.specs.InnerUsims.{usim_in}
-use Rattle.auc_jobs.specs.InnerWorker.{WorkerState, WorkerServesJob}
 
 -- the job of a place
 pub job_at : (inside shared : Shared) (job : ℕ) (item asked : List Line) → inside ≡ shared → job < length shared.jobs → item ≡ get_or inside.jobs job item → asked ≡ get_or inside.jobs job item
@@ -34,27 +40,50 @@ job_begins_at inside shared early beside kept now job set released asked is same
 
 -- and is served
 module _ {C : Type 0} (kept : C → ℕ → Option ℕ) (goes : C → ℕ → List Entry → List (ℕ × Stop) → C → Type 0) where
-  served_one : (inside : Shared) (old new : WorkerState C) (job : ℕ) (asked : List Line) (served : ServedJob) → old.set ≡ inside.set → old.released ≡ inside.released → slice_get inside.jobs job ≡ Some asked
-      → WorkerServesJob kept goes old new inside.usims asked served.lines served.usims → served.vectors ≡ (if inside.full then vectors_in old.set served.lines else [])
-      → ServesAt (λ i es ws. goes old.centre i es ws new.centre) (kept old.centre) (kept new.centre) inside job served
-  served_one inside old new job asked served same_set same_released there serves vectors = record {
+  served_inside : (inside : Shared) (worker after : WorkerState C) (name next : ℕ) (job : ℕ) (asked : List Line) (served : ServedJob) → worker.set ≡ inside.set → worker.released ≡ inside.released
+      → slice_get inside.jobs job ≡ Some asked → Does kept goes name next worker after inside.usims asked → Ends worker after served.devices → served.lines ≡ after.lines
+      → served.sessions ≡ job_sessions after.world.net → served.vectors ≡ (if inside.full then vectors_in inside.set served.lines else [])
+      → ServesAt (λ i es ws. goes worker.centre i es ws after.centre) (kept worker.centre) (kept after.centre) inside job served
+  served_inside inside worker after name next job asked served same_set same_released there does ends lines sessions vectors = record {
     asked = asked;
     there = there;
     serves = λ early beside begins.
-        subst (λ (s : Setting). ServesJob (λ i es ws. goes old.centre i es ws new.centre) s early beside (kept new.centre) asked served.lines (usim_in served.usims)) same_set
-        (serves early beside (subst (λ (s : Setting). JobBegins s.rows early beside (kept old.centre) old.released inside.usims asked) (sym same_set)
-        (subst (λ (rs : Released). JobBegins inside.set.rows early beside (kept old.centre) rs inside.usims asked) (sym same_released) begins)));
-    vectors = vectors ∙ ap (λ (s : Setting). if inside.full then vectors_in s served.lines else []) same_set;
+        subst (λ (s : Setting). ServesJob (λ i es ws. goes worker.centre i es ws after.centre) s early beside (kept after.centre) asked served.lines (usim_in served.devices) served.sessions) same_set
+        (does_job kept goes name next worker after inside.usims asked served.devices served.lines served.sessions does ends lines sessions early beside
+        (subst (λ (s : Setting). JobBegins s.rows early beside (kept worker.centre) worker.released inside.usims asked) (sym same_set)
+        (subst (λ (rs : Released). JobBegins inside.set.rows early beside (kept worker.centre) rs inside.usims asked) (sym same_released) begins)));
+    vectors = vectors;
   }
 
-  pub job_served_at : (inside shared : Shared) (old new : WorkerState C) (first last : C) (job : ℕ) (asked : List Line) (result : Result ServedJob NoMemory) → inside ≡ shared → old.set ≡ inside.set
-      → old.released ≡ inside.released → old.centre ≡ first → new.centre ≡ last → slice_get inside.jobs job ≡ Some asked
-      → IfOk result (λ served. WorkerServesJob kept goes old new inside.usims asked served.lines served.usims)
-      → IfOk result (λ served. served.vectors ≡ (if inside.full then vectors_in old.set served.lines else []))
-      → IfOk result (λ served. ServesAt (λ i es ws. goes first i es ws last) (kept first) (kept last) shared job served)
-  job_served_at inside shared old new first last job asked (Ok served) is same_set same_released begun ended there serves vectors =
+  pub served_at : (inside shared : Shared) (worker after : WorkerState C) (name next : ℕ) (first last : C) (job : ℕ) (asked : List Line) (served : ServedJob) → inside ≡ shared
+      → worker.set ≡ inside.set → worker.released ≡ inside.released → worker.centre ≡ first → after.centre ≡ last → slice_get inside.jobs job ≡ Some asked
+      → Does kept goes name next worker after inside.usims asked → Ends worker after served.devices → served.lines ≡ after.lines → served.sessions ≡ job_sessions after.world.net
+      → served.vectors ≡ (if inside.full then vectors_in inside.set served.lines else []) → ServesAt (λ i es ws. goes first i es ws last) (kept first) (kept last) shared job served
+  served_at inside shared worker after name next first last job asked served is same_set same_released begun ended there does ends lines sessions vectors =
       subst (λ (s : Shared). ServesAt (λ i es ws. goes first i es ws last) (kept first) (kept last) s job served) is
-      (subst (λ (x : C). ServesAt (λ i es ws. goes first i es ws x) (kept first) (kept x) inside job served) ended
-      (subst (λ (x : C). ServesAt (λ i es ws. goes x i es ws new.centre) (kept x) (kept new.centre) inside job served) begun
-      (served_one inside old new job asked served same_set same_released there serves vectors)))
-  job_served_at inside shared old new first last job asked (Err e) is same_set same_released begun ended there serves vectors = tt
+      (subst (λ (x : C). ServesAt (λ i es ws. goes x i es ws last) (kept x) (kept last) inside job served) begun
+      (subst (λ (x : C). ServesAt (λ i es ws. goes worker.centre i es ws x) (kept worker.centre) (kept x) inside job served) ended
+      (served_inside inside worker after name next job asked served same_set same_released there does ends lines sessions vectors)))
+
+  pub served_result : (inside shared : Shared) (worker after : WorkerState C) (name next : ℕ) (first last : C) (job : ℕ) (asked : List Line) (lines : List LineRecord) (world : WorldState)
+      (result : Result ServedJob NoMemory) → inside ≡ shared → worker.set ≡ inside.set → worker.released ≡ inside.released → worker.centre ≡ first → after.centre ≡ last
+      → slice_get inside.jobs job ≡ Some asked → Does kept goes name next worker after inside.usims asked → lines ≡ after.lines → world ≡ after.world
+      → HaveSecrets after.set.rows (usim_of after.set.rows world) → IfOk result (λ s. s.lines ≡ lines) → IfOk result (λ s. s.devices.homes ≡ world.net.homes)
+      → IfOk result (λ s. s.devices.devices ≡ world.devices) → IfOk result (λ s. s.sessions ≡ job_sessions world.net)
+      → IfOk result (λ s. s.vectors ≡ (if inside.full then vectors_in inside.set lines else []))
+      → IfOk result (λ s. ServesAt (λ i es ws. goes first i es ws last) (kept first) (kept last) shared job s)
+  served_result inside shared worker after name next first last job asked lines world (Err why) is same_set same_released begun ended there does own moved secrets a b c d e = tt
+  served_result inside shared worker after name next first last job asked lines world (Ok s) is same_set same_released begun ended there does own moved secrets a b c d e =
+      served_at inside shared worker after name next first last job asked s is same_set same_released begun ended there does
+      (record {
+        homes = b ∙ ap (λ (w : WorldState). w.net.homes) moved;
+        devices = c ∙ ap (λ (w : WorldState). w.devices) moved;
+        secrets = subst (λ (w : WorldState). HaveSecrets after.set.rows (usim_of after.set.rows w)) moved secrets;
+      })
+      (a ∙ own) (d ∙ ap (λ (w : WorldState). job_sessions w.net) moved)
+      (e ∙ ap (λ (ls : List LineRecord). if inside.full then vectors_in inside.set ls else []) (sym a))
+
+-- the lines of the job of a place are known
+pub known_at : (inside shared : Shared) (job : ℕ) (asked : List Line) → inside ≡ shared → IsServable shared → slice_get inside.jobs job ≡ Some asked → AreKnown (length inside.set.rows) asked
+known_at inside shared job asked is servable there =
+    all_at (AreKnown (length inside.set.rows)) inside.jobs job asked (subst (λ (s : Shared). AreAllKnown (length s.set.rows) s.jobs) (sym is) servable.known) there

@@ -1,5 +1,5 @@
 -- For the state: the numbers of the rows, and the released ones.
-use Rattle.std.proofs.Common.{◌≡◌, ℕ, Bool, ◌+◌, ◌<◌, ◌≤◌, List, [], ◌∷◌, ◌++◌, length, map, take, refl, sym, ◌∙◌, ap, subst, arith}
+use Rattle.std.proofs.Common.{◌≡◌, ℕ, Bool, ◌+◌, ◌<◌, ◌≤◌, List, [], ◌∷◌, ◌++◌, length, map, take, refl, sym, ◌∙◌, ap, subst}
 use Rattle.std.specs.Prelude.{All, AllPairs, Some, slice_get}
 use Rattle.std.proofs.lemmas.List.{take_more, take_all, map-append, length-map}
 use Rattle.std.proofs.lemmas.List.Elements.{All-weaker, All-map}
@@ -12,9 +12,7 @@ use Rattle.auc_subs.specs.Subscriber.{AreSubscribers, IsRow}
 use Rattle.auc_world.specs.Setting.{Setting}
 use Rattle.auc_world.specs.declared.record.LineRecord.{LineRecord}
 use Rattle.auc_jobs.specs.Usims.{AreOfRows, AreBehind}
-use Rattle.auc_jobs.specs.InnerRound.{AreSettled}
 use Rattle.auc_jobs.specs.InnerSharing.{Shared, Begins, IsServable}
-use Rattle.auc_jobs.specs.InnerUsims.{OwnUsims}
 use Rattle.auc_jobs.specs.Serving.{AreAllKnown}
 use Rattle.auc_jobs.specs.State.{Standing, StandsAt}
 
@@ -63,10 +61,12 @@ beginning set state jobs full = record { set = set; released = state.released; u
 
 -- its jobs can be served
 pub servable : (set : Setting) (state : Standing) (jobs : List (List Line)) (full : Bool) (shared : Shared) → shared ≡ beginning set state jobs full
-    → ((early : List LineRecord) × StandsAt set early state) → AreAllKnown (length set.rows) jobs → length jobs ≤ 200000 → AllPairs AreApart jobs → IsServable shared
-servable set state jobs full shared is (early, stands) known few apart =
+    → ((early : List LineRecord) × StandsAt set early state) → AreAllKnown (length set.rows) jobs → length jobs ≤ 200000 → AllPairs AreApart jobs → AreSubscribers set.rows → length set.realm ≤ 255 → IsServable shared
+servable set state jobs full shared is (early, stands) known few apart subscribers realm =
     subst IsServable (sym is) (record {
       rows = stands.subscribers.secrets;
+      subscribers = subscribers;
+      realm = realm;
       few = few;
       known = known;
       apart = apart;
@@ -84,10 +84,3 @@ pub openings_fit : (set : Setting) (state : Standing) (words : List ℕ) → wor
 openings_fit set state words is limit (early, stands) =
     subst (λ (ws : List ℕ). (length ws ≡ length set.rows) × (length ws ≤ 65536) × All (λ number. number ≤ max_seq) ws) (sym is)
     (stands.subscribers.size, subst (λ (n : ℕ). n ≤ 65536) (sym stands.subscribers.size) limit, stands.subscribers.numbers)
-
--- each job of a round has its own USIMs
-pub settled_length : (rows : List Row) (early : List LineRecord) (jobs : List (List Line)) (records : List (List LineRecord)) (usims : List OwnUsims) → AreSettled rows early jobs records usims → length usims ≡ length jobs
-settled_length rows early [] records usims settled = ap (λ (us : List OwnUsims). length us) settled.1
-settled_length rows early (job ∷ jobs) [] usims settled = absurd settled
-settled_length rows early (job ∷ jobs) (lines ∷ records) [] settled = absurd settled
-settled_length rows early (job ∷ jobs) (lines ∷ records) (own ∷ usims) (here, rest) = let more = settled_length rows early jobs records usims rest in omega (arith, more)

@@ -1,6 +1,6 @@
 -- For a worker: each number that its jobs' lines release or withhold was released or withheld by its pass.
 use Rattle.std.proofs.Common.{◌≡◌, ℕ, zero, suc, ◌+◌, ◌<◌, ◌≤◌, ◌==◌, Bool, true, false, cond, List, [], ◌∷◌, ◌++◌, length, get_or, All, Contains, flat_map, arith, refl, sym, ap, ◌∙◌, subst, inl, inr}
-use Rattle.std.specs.Prelude.{if◌then◌else◌}
+use Rattle.std.specs.Prelude.{Option, Some, None, if◌then◌else◌}
 use Rattle.std.proofs.lemmas.Bool.{eqb-true, ne_eqb}
 use Rattle.std.proofs.lemmas.Grind.{flat_map-append}
 use Rattle.std.proofs.lemmas.List.Elements.{All-append, All-cons, All-contains_itself, All-head, All-nil, All-tail, Contains-append_left, Contains-append_right}
@@ -16,16 +16,24 @@ use Rattle.auc_lines.specs.declared.part.Line.{Line}
 use Rattle.auc_lines.specs.declared.part.Line.TheVariants as asked
 use Rattle.auc_sqn.specs.Number.{max_seq}
 use Rattle.auc_world.specs.declared.record.LineRecord.{LineRecord}
-use Rattle.auc_world.specs.declared.record.LineRecord.TheVariants.{Vector, Withheld, Exhausted, Sync, Give}
+use Rattle.auc_world.specs.declared.record.LineRecord.TheVariants.{Vector, Withheld, Exhausted, Sync, Give, Event as Happening}
 use Rattle.auc_world.specs.declared.record.SyncVerdict.{SyncVerdict}
 use Rattle.auc_world.specs.declared.record.SyncVerdict.TheVariants as verdict
-use Rattle.auc_world.specs.Entries.{entries_of_line, entries_of_lines}
+use Rattle.auc_lines.specs.Part.{is_that}
+use Rattle.auc_vector.specs.Notes.{withheld_noted}
+use Rattle.auc_vector.specs.declared.notes.NumberNote.{NumberNote}
+use Rattle.auc_vector.specs.declared.notes.NumberNote.TheVariants as number
+use Rattle.auc_world.specs.declared.event.Event.TheVariants as event
+use Rattle.auc_world.specs.Event.{asked_in, number_for, number_in, number_released, number_withheld, resync_for}
+use Rattle.auc_world.specs.Net.{Net}
+use Rattle.auc_world.specs.Entries.{entries_of_line, entries_of_lines, entries_of_number, entries_of_resync}
 use Rattle.auc_world.specs.Given.{Before, DrawGives, VectorsFollow, LineGives, JobGives, behind}
 use Rattle.auc_world.specs.Lines.{released_by, numbers_of, withheld_by, withheld_of, held_by, held_of}
 use Rattle.auc_world.specs.Setting.{Setting}
 use Rattle.auc_world.proofs.Facts.{withheld_of-held_of}
 use Rattle.auc_jobs.specs.declared.claiming.ClaimedJob.{ClaimedJob}
 use Rattle.auc_jobs.specs.Serving.{IsKnownLine, AreKnown}
+use Rattle.auc_jobs.proofs.EventLemmas.{IsOwnEvent, IsOwnNumber, event_lines, plain_lines}
 
 -- ---- what a pass did stays
 
@@ -53,6 +61,7 @@ IsOwn count (Withheld s n stop) = s < count
 IsOwn count (Exhausted s word) = Unit {0}
 IsOwn count (Sync s answer) = Unit {0}
 IsOwn count (Give s n answer) = Unit {0}
+IsOwn count (Happening r) = IsOwnEvent count (asked_in r.result) (number_in r.result)
 
 -- the lines of a draw
 draw_own : (set : Setting) (sub count : ℕ) (lines : List LineRecord) → sub < length set.rows → DrawGives set sub count lines → All (IsOwn (length set.rows)) lines
@@ -66,6 +75,7 @@ draw_own set sub (suc count) (Exhausted s word ∷ lines) known (same, spent, no
     All-cons (IsOwn (length set.rows)) (Exhausted s word) lines tt (subst (All (IsOwn (length set.rows))) (sym none) (All-nil (IsOwn (length set.rows))))
 draw_own set sub (suc count) (Sync s answer ∷ lines) known gives = absurd gives
 draw_own set sub (suc count) (Give s n answer ∷ lines) known gives = absurd gives
+draw_own set sub (suc count) (Happening r ∷ lines) known gives = absurd gives
 
 -- those after a verdict
 follow_own : (set : Setting) (sub count : ℕ) (answer : SyncVerdict) (lines : List LineRecord) → sub < length set.rows → VectorsFollow set sub count answer lines → All (IsOwn (length set.rows)) lines
@@ -75,21 +85,27 @@ follow_own set sub count (verdict.Beyond seen seq_ms) lines known follow = subst
 follow_own set sub count verdict.WrongMac lines known follow = subst (All (IsOwn (length set.rows))) (sym follow) (All-nil (IsOwn (length set.rows)))
 
 -- those of a line
-line_own : (set : Setting) (before : Before) (line : Line) (lines : List LineRecord) → IsKnownLine (length set.rows) line → LineGives set before line lines → All (IsOwn (length set.rows)) lines
-line_own set before (asked.Draw sub count) lines known gives = draw_own set sub count lines known gives
-line_own set before (asked.Sync sub seq bit count) lines known gives =
+line_own : (set : Setting) (before : Before) (net next : Net) (line : Line) (lines : List LineRecord) → IsKnownLine (length set.rows) line → LineGives set before net line lines next → All (IsOwn (length set.rows)) lines
+line_own set before net next (asked.Draw sub count) lines known (gives, is) = draw_own set sub count lines known gives
+line_own set before net next (asked.Sync sub seq bit count) lines known (gives, is) =
     subst (All (IsOwn (length set.rows))) (sym gives.lines_are)
     (All-cons (IsOwn (length set.rows)) (Sync sub gives.answer) gives.more tt (follow_own set sub count gives.answer gives.more known.0 gives.follows))
-line_own set before (asked.Give sub n) lines known gives =
+line_own set before net next (asked.Give sub n) lines known (gives, is) =
     subst (All (IsOwn (length set.rows))) (sym gives.lines_are) (All-cons (IsOwn (length set.rows)) (Give sub n gives.answer) [] tt (All-nil (IsOwn (length set.rows))))
+line_own set before net next (asked.Session session sub) lines known gives = event_lines set (IsOwn (length set.rows)) (λ e c own. own) before net next (event.Open session sub) lines gives
+line_own set before net next (asked.Start session) lines known gives = event_lines set (IsOwn (length set.rows)) (λ e c own. own) before net next (event.Start session) lines gives
+line_own set before net next (asked.Deliver session at' packet) lines known gives = event_lines set (IsOwn (length set.rows)) (λ e c own. own) before net next (event.Deliver session at' packet) lines gives
+line_own set before net next (asked.Repeat session) lines known gives = event_lines set (IsOwn (length set.rows)) (λ e c own. own) before net next (event.Repeat session) lines gives
+line_own set before net next (asked.GiveUp session at') lines known gives = event_lines set (IsOwn (length set.rows)) (λ e c own. own) before net next (event.GiveUp session at') lines gives
+line_own set before net next (asked.Plain session) lines known gives = plain_lines set (IsOwn (length set.rows)) (λ e c own. own) before net next session lines gives
 
 -- and those of a job
-pub job_own : (set : Setting) (before : Before) (job : List Line) (lines : List LineRecord) → AreKnown (length set.rows) job → JobGives set before job lines → All (IsOwn (length set.rows)) lines
-job_own set before [] lines known gives = subst (All (IsOwn (length set.rows))) (sym gives) (All-nil (IsOwn (length set.rows)))
-job_own set before (line ∷ job) lines known (front, rest, is, here, more) =
+pub job_own : (set : Setting) (before : Before) (net last : Net) (job : List Line) (lines : List LineRecord) → AreKnown (length set.rows) job → JobGives set before net job lines last → All (IsOwn (length set.rows)) lines
+job_own set before net last [] lines known (gives, is) = subst (All (IsOwn (length set.rows))) (sym gives) (All-nil (IsOwn (length set.rows)))
+job_own set before net last (line ∷ job) lines known (front, rest, next, is, here, more) =
     subst (All (IsOwn (length set.rows))) (sym is)
-    (All-append (IsOwn (length set.rows)) front rest (line_own set before line front (All-head (IsKnownLine (length set.rows)) line job known) here)
-    (job_own set (behind before front) job rest (All-tail (IsKnownLine (length set.rows)) line job known) more))
+    (All-append (IsOwn (length set.rows)) front rest (line_own set before net next line front (All-head (IsKnownLine (length set.rows)) line job known) here)
+    (job_own set (behind before front) next last job rest (All-tail (IsKnownLine (length set.rows)) line job known) more))
 
 -- the released numbers are such
 numbers_within : (count sub : ℕ) (lines : List LineRecord) → All (IsOwn count) lines → All (λ n. n ≤ max_seq) (numbers_of sub lines)
@@ -101,12 +117,24 @@ numbers_within count sub (line ∷ lines) own =
     by true n low = All-cons (λ m. m ≤ max_seq) n [] low (All-nil (λ m. m ≤ max_seq))
     by false n low = All-nil (λ m. m ≤ max_seq)
 
+    of_number : (b : Bool) (o : Option NumberNote) → IsOwnNumber o → All (λ m. m ≤ max_seq) (number_released (if b then o else None))
+    of_number false o is = All-nil (λ m. m ≤ max_seq)
+    of_number true None is = All-nil (λ m. m ≤ max_seq)
+    of_number true (Some (number.Drew n)) is = All-cons (λ m. m ≤ max_seq) n [] is.1 (All-nil (λ m. m ≤ max_seq))
+    of_number true (Some (number.Exhausted word)) is = All-nil (λ m. m ≤ max_seq)
+    of_number true (Some (number.Withheld n stop)) is = All-nil (λ m. m ≤ max_seq)
+
+    of_event : (a : Option ℕ) (o : Option NumberNote) → IsOwnEvent count a o → All (λ m. m ≤ max_seq) (number_released (if is_that sub a then o else None))
+    of_event None o is = All-nil (λ m. m ≤ max_seq)
+    of_event (Some s) o is = of_number (s == sub) o is.1
+
     here : (line : LineRecord) → IsOwn count line → All (λ n. n ≤ max_seq) (released_by sub line)
     here (Vector s n) is = by (s == sub) n is.1
     here (Withheld s n stop) is = All-nil (λ n. n ≤ max_seq)
     here (Exhausted s word) is = All-nil (λ n. n ≤ max_seq)
     here (Sync s answer) is = All-nil (λ n. n ≤ max_seq)
     here (Give s n answer) is = All-nil (λ n. n ≤ max_seq)
+    here (Happening r) is = of_event (asked_in r.result) (number_in r.result) is
 
 -- nothing is withheld from a subscriber beyond them
 pub held_beyond : (count sub : ℕ) (lines : List LineRecord) → count ≤ sub → All (IsOwn count) lines → held_of sub lines ≡ []
@@ -114,12 +142,17 @@ held_beyond count sub [] high own = refl
 held_beyond count sub (line ∷ lines) high own =
     ap (λ (hs : List (ℕ × Stop)). hs ++ held_of sub lines) (here line (All-head (IsOwn count) line lines own)) ∙ held_beyond count sub lines high (All-tail (IsOwn count) line lines own)
   where
+    of_event : (a : Option ℕ) (o : Option NumberNote) → IsOwnEvent count a o → withheld_noted (if is_that sub a then o else None) ≡ []
+    of_event None o is = refl
+    of_event (Some s) o is = rw (ne_eqb s sub (λ e. omega (arith, e, is.0, high))) refl
+
     here : (line : LineRecord) → IsOwn count line → held_by sub line ≡ []
     here (Vector s n) is = refl
     here (Withheld s n stop) is = rw (ne_eqb s sub (λ e. omega (arith, e, is, high))) refl
     here (Exhausted s word) is = refl
     here (Sync s answer) is = refl
     here (Give s n answer) is = refl
+    here (Happening r) is = of_event (asked_in r.result) (number_in r.result) is
 
 -- ---- no number is drawn twice
 
@@ -169,6 +202,16 @@ told_line n sub before (Withheld s m stop) = by (s == sub)
 told_line n sub before (Exhausted s word) = omega arith
 told_line n sub before (Sync s answer) = omega arith
 told_line n sub before (Give s m answer) = omega arith
+told_line n sub before (Happening r) =
+    let cut = ap (times n) (flat_map-append drawn_by (entries_of_resync sub before (resync_for sub r)) (entries_of_number sub before (number_for sub r)))
+    ∙ times-append n (drawn (entries_of_resync sub before (resync_for sub r))) (drawn (entries_of_number sub before (number_for sub r))) in
+    let here = by (number_for sub r) in omega (arith, cut, here)
+  where
+    by : (o : Option NumberNote) → times n (number_released o) + times n (number_withheld o) ≤ times n (drawn (entries_of_number sub before o))
+    by None = omega arith
+    by (Some (number.Drew m)) = omega arith
+    by (Some (number.Exhausted word)) = omega arith
+    by (Some (number.Withheld m stop)) = omega arith
 
 told_lines : (n sub : ℕ) (before lines : List LineRecord)
     → times n (numbers_of sub lines) + times n (withheld_of sub lines) ≤ times n (drawn (entries_of_lines sub before lines))
@@ -193,6 +236,16 @@ drew_line sub before (Withheld s m stop) = All-nil (Contains (drawn (entries_of_
 drew_line sub before (Exhausted s word) = All-nil (Contains (drawn (entries_of_line sub before (Exhausted s word))))
 drew_line sub before (Sync s answer) = All-nil (Contains (drawn (entries_of_line sub before (Sync s answer))))
 drew_line sub before (Give s m answer) = All-nil (Contains (drawn (entries_of_line sub before (Give s m answer))))
+drew_line sub before (Happening r) = by (number_for sub r)
+  where
+    by : (o : Option NumberNote) → All (Contains (drawn (entries_of_resync sub before (resync_for sub r) ++ entries_of_number sub before o))) (number_released o)
+    by None = All-nil (Contains (drawn (entries_of_resync sub before (resync_for sub r) ++ [])))
+    by (Some (number.Drew m)) =
+        let es = entries_of_resync sub before (resync_for sub r) in
+        subst (λ (ns : List ℕ). All (Contains ns) (m ∷ [])) (sym (flat_map-append drawn_by es (Drawn m ∷ [])))
+        (λ k d within. Contains-append_right (drawn es) (m ∷ []) (get_or (m ∷ []) k d) (All-contains_itself (m ∷ []) k d within))
+    by (Some (number.Exhausted word)) = All-nil (Contains (drawn (entries_of_resync sub before (resync_for sub r) ++ entries_of_number sub before (Some (number.Exhausted word)))))
+    by (Some (number.Withheld m stop)) = All-nil (Contains (drawn (entries_of_resync sub before (resync_for sub r) ++ entries_of_number sub before (Some (number.Withheld m stop)))))
 
 drew_lines : (sub : ℕ) (before lines : List LineRecord) → All (Contains (drawn (entries_of_lines sub before lines))) (numbers_of sub lines)
 drew_lines sub before [] = All-nil (Contains [])

@@ -16,9 +16,10 @@ use Rattle.auc_history.specs.declared.entry.Entry.{Entry}
 use Rattle.auc_history.specs.History.{IsInOrder}
 use Rattle.auc_history.proofs.Facts.{AllPairs-head, AllPairs-tail}
 use Rattle.auc_lines.specs.declared.part.Line.{Line}
-use Rattle.auc_lines.specs.Part.{AreApart, gives_to}
+use Rattle.auc_lines.specs.Part.{AreApart, holds}
 use Rattle.auc_world.specs.declared.record.LineRecord.{LineRecord}
 use Rattle.auc_world.specs.Lines.{accepted, held_of, numbers_of}
+use Rattle.auc_world.specs.Start.{start_of}
 use Rattle.auc_world.proofs.Facts.{accepted-append, job_quiet}
 use Rattle.auc_jobs.specs.declared.claiming.ClaimedJob.{ClaimedJob}
 use Rattle.auc_jobs.specs.InnerClaims.{Turn, turns, lines_done, entries_of_turn, IsGiven, IsSettledAt, IsPrinted, ClaimsAre, HasServed, IsBetween, IsLast, TakesTurn, HasFinished}
@@ -106,13 +107,13 @@ apart_at jobs i j a b apart below within at_i at_j =
 
 -- by the lines of a worker's earlier jobs the USIMs of a later one accepted nothing
 quiet_turns : (shared : Shared) (early earlier : List LineRecord) (done : List ClaimedJob) (job sub : ℕ) (asked : List Line) → AllPairs AreApart shared.jobs → job < length shared.jobs
-    → slice_get shared.jobs job ≡ Some asked → gives_to sub asked ≡ true → All (λ c. c.job < job) done → All (IsGiven shared early) (turns earlier done) → accepted sub (lines_done done) ≡ []
+    → slice_get shared.jobs job ≡ Some asked → holds sub asked ≡ true → All (λ c. c.job < job) done → All (IsGiven shared early) (turns earlier done) → accepted sub (lines_done done) ≡ []
 quiet_turns shared early earlier [] job sub asked apart within at gives below given = refl
 quiet_turns shared early earlier (c ∷ done) job sub asked apart within at gives below given =
     let t : Turn = record { earlier = earlier; claimed = c } in
     let here = All-head (IsGiven shared early) t (turns (earlier ++ c.served.lines) done) given in
     accepted-append sub c.served.lines (lines_done done)
-    ∙ ap (λ (ns : List (List ℕ)). ns ++ accepted sub (lines_done done)) (job_quiet shared.set (before_at early earlier []) here.asked sub c.served.lines here.given
+    ∙ ap (λ (ns : List (List ℕ)). ns ++ accepted sub (lines_done done)) (job_quiet shared.set (before_at early earlier []) here.asked sub c.served.lines here.net here.given
     (not_given sub here.asked asked (apart_at shared.jobs c.job job here.asked asked apart (All-head (λ b. b.job < job) c done below) within here.there at) gives))
     ∙ quiet_turns shared early (earlier ++ c.served.lines) done job sub asked apart within at gives (All-tail (λ b. b.job < job) c done below)
     (All-tail (IsGiven shared early) t (turns (earlier ++ c.served.lines) done) given)
@@ -159,7 +160,7 @@ pub record Serves (shared : Shared) (old mid new : PassValue) (done : List Claim
 
 -- the job that was served in it
 turn_served : (shared : Shared) (early : List LineRecord) (old mid new : PassValue) (done : List ClaimedJob) (c : ClaimedJob) → (s : Serves shared old mid new done c) → IsBetween shared early old done
-    → ServesJob (λ i es ws. Adds mid i es ws new) shared.set early (lines_done done) (kept_of new.deeds) s.serves.asked c.served.lines (usim_in c.served.usims)
+    → ServesJob (λ i es ws. Adds mid i es ws new) shared.set early (lines_done done) (kept_of new.deeds) s.serves.asked c.served.lines (usim_in c.served.devices) c.served.sessions
 turn_served shared early old mid new done c s between =
     s.serves.serves early (lines_done done) ((claimed_begins shared early old mid done c.job s.apart s.claim between).begins s.serves.asked s.serves.there)
 
@@ -178,11 +179,11 @@ between_more shared early old mid new done c s between = record {
     ordered = λ sub. subst (λ (ts : List Turn). All (λ t. IsInOrder (entries_of_turn sub t)) ts) (sym pushed)
         (All-push (λ (t : Turn). IsInOrder (entries_of_turn sub t)) (turns [] done) turn (was.ordered sub) (served.made sub).ordered);
     given = subst (λ (ts : List Turn). All (IsGiven shared early) ts) (sym pushed)
-        (All-push (IsGiven shared early) (turns [] done) turn was.given (record { asked = s.serves.asked; there = s.serves.there; given = served.given }));
+        (All-push (IsGiven shared early) (turns [] done) turn was.given (record { asked = s.serves.asked; there = s.serves.there; net = served.net; given = served.given; ends = served.ends }));
     released = λ sub. All-push (λ (b : ClaimedJob). All (Contains (released_of sub new.deeds)) (numbers_of sub b.served.lines)) done c
         (jobs_grown (released_by sub) (λ (b : ClaimedJob). numbers_of sub b.served.lines) old.deeds more new.deeds done grows (was.released sub))
         (job_released (length shared.set.rows) sub (lines_done done) c.served.lines (released_of sub new.deeds)
-        (job_own shared.set (before_at early (lines_done done) []) s.serves.asked c.served.lines (all_at (AreKnown (length shared.set.rows)) shared.jobs c.job s.serves.asked s.known s.serves.there) served.given)
+        (job_own shared.set (before_at early (lines_done done) []) (start_of shared.set s.serves.asked) served.net s.serves.asked c.served.lines (all_at (AreKnown (length shared.set.rows)) shared.jobs c.job s.serves.asked s.known s.serves.there) served.given)
         (served.made sub).ordered (served.made sub).told);
     withheld = λ sub. All-push (λ (b : ClaimedJob). All (Contains (pass_held sub new.deeds)) (held_of sub b.served.lines)) done c
         (jobs_grown (pass_held_by sub) (λ (b : ClaimedJob). held_of sub b.served.lines) old.deeds more new.deeds done grows (was.withheld sub))
@@ -200,7 +201,7 @@ between_more shared early old mid new done c s between = record {
     was : HasServed shared early old done
     was = between.served
 
-    served : ServesJob (λ i es ws. Adds mid i es ws new) shared.set early (lines_done done) (kept_of new.deeds) s.serves.asked c.served.lines (usim_in c.served.usims)
+    served : ServesJob (λ i es ws. Adds mid i es ws new) shared.set early (lines_done done) (kept_of new.deeds) s.serves.asked c.served.lines (usim_in c.served.devices) c.served.sessions
     served = turn_served shared early old mid new done c s between
 
     more : List Deed

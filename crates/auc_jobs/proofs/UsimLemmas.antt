@@ -106,22 +106,30 @@ fails s past rand autn (Far greatest) auts sqn (sqn_ms, is, e) = (sqn_ms, is, cc
 
 -- ---- the USIMs after a challenge
 
--- each of them is the challenged one, or another as it was
-challenge_cases : (old new : ℕ → Option Memory) (sub : ℕ) (rand autn : List ℕ) (answer : Answer) (i : ℕ) (usim : Memory) (c : Challenges old sub rand autn answer new)
+-- one USIM changed, and keeps its secret
+pub record Changes (old : ℕ → Option Memory) (sub : ℕ) (new : ℕ → Option Memory) : Type 0 where
+  pub before : Memory
+  pub there : old sub ≡ Some before
+  pub after : Memory
+  pub here : new sub ≡ Some after
+  pub others : (i : ℕ) → i ≢ sub → new i ≡ old i
+  pub secret : after.secret ≡ before.secret
+
+-- each of them is the changed one, or another as it was
+pub changed_cases : (old new : ℕ → Option Memory) (sub i : ℕ) (usim : Memory) (c : Changes old sub new)
     → new i ≡ Some usim → ((sub ≡ i) × (c.after ≡ usim)) ⊎ ((sub ≢ i) × (old i ≡ Some usim))
-challenge_cases old new sub rand autn answer i usim c there = step (eqb_tells sub i)
+changed_cases old new sub i usim c there = step (eqb_tells sub i)
   where
     some_is : (a b : Memory) → Some a ≡ Some b → a ≡ b
     some_is a b e = cc
 
     step : ((eqb sub i ≡ true) × (sub ≡ i)) ⊎ ((eqb sub i ≡ false) × (sub ≢ i)) → ((sub ≡ i) × (c.after ≡ usim)) ⊎ ((sub ≢ i) × (old i ≡ Some usim))
     step (inl (e, same)) = inl (same, some_is c.after usim (sym c.here ∙ subst (λ (k : ℕ). new k ≡ Some usim) (sym same) there))
-    step (inr (e, other)) = inr (other, sym (c.others i other) ∙ there)
+    step (inr (e, other)) = inr (other, sym (c.others i (λ same. other (sym same))) ∙ there)
 
 -- they have their rows' secrets
-pub challenged_secrets : (rows : List Row) (old new : ℕ → Option Memory) (sub : ℕ) (rand autn : List ℕ) (answer : Answer)
-    → Challenges old sub rand autn answer new → HaveSecrets rows old → HaveSecrets rows new
-challenged_secrets rows old new sub rand autn answer c are i row usim at there = step (challenge_cases old new sub rand autn answer i usim c there)
+pub changed_secrets : (rows : List Row) (old new : ℕ → Option Memory) (sub : ℕ) → Changes old sub new → HaveSecrets rows old → HaveSecrets rows new
+changed_secrets rows old new sub c are i row usim at there = step (changed_cases old new sub i usim c there)
   where
     step : ((sub ≡ i) × (c.after ≡ usim)) ⊎ ((sub ≢ i) × (old i ≡ Some usim)) → usim.secret ≡ row.secret
     step (inl (same, is)) =
@@ -131,14 +139,29 @@ challenged_secrets rows old new sub rand autn answer c are i row usim at there =
     step (inr (other, is)) = are i row usim at is
 
 -- they are of the same subscribers
-pub challenged_keys : (old new : ℕ → Option Memory) (sub : ℕ) (rand autn : List ℕ) (answer : Answer)
-    → Challenges old sub rand autn answer new → (i : ℕ) → has_usim new i ≡ has_usim old i
-challenged_keys old new sub rand autn answer c i = step (eqb_tells sub i)
+pub changed_keys : (old new : ℕ → Option Memory) (sub : ℕ) → Changes old sub new → (i : ℕ) → has_usim new i ≡ has_usim old i
+changed_keys old new sub c i = step (eqb_tells sub i)
   where
     step : ((eqb sub i ≡ true) × (sub ≡ i)) ⊎ ((eqb sub i ≡ false) × (sub ≢ i)) → has_usim new i ≡ has_usim old i
     step (inl (e, same)) =
         subst (λ (k : ℕ). has_usim new k ≡ has_usim old k) same (ap (λ (m : Option Memory). is_some m) c.here ∙ sym (ap (λ (m : Option Memory). is_some m) c.there))
-    step (inr (e, other)) = ap (λ (m : Option Memory). is_some m) (c.others i other)
+    step (inr (e, other)) = ap (λ (m : Option Memory). is_some m) (c.others i (λ same. other (sym same)))
+
+-- a challenge changes one
+abbrev challenge_changes : (old new : ℕ → Option Memory) (sub : ℕ) (rand autn : List ℕ) (answer : Answer) → Challenges old sub rand autn answer new → Changes old sub new
+challenge_changes old new sub rand autn answer c = record { before = c.before; there = c.there; after = c.after; here = c.here; others = c.others; secret = c.secret }
+
+challenge_cases : (old new : ℕ → Option Memory) (sub : ℕ) (rand autn : List ℕ) (answer : Answer) (i : ℕ) (usim : Memory) (c : Challenges old sub rand autn answer new)
+    → new i ≡ Some usim → ((sub ≡ i) × (c.after ≡ usim)) ⊎ ((sub ≢ i) × (old i ≡ Some usim))
+challenge_cases old new sub rand autn answer i usim c there = changed_cases old new sub i usim (challenge_changes old new sub rand autn answer c) there
+
+pub challenged_secrets : (rows : List Row) (old new : ℕ → Option Memory) (sub : ℕ) (rand autn : List ℕ) (answer : Answer)
+    → Challenges old sub rand autn answer new → HaveSecrets rows old → HaveSecrets rows new
+challenged_secrets rows old new sub rand autn answer c are = changed_secrets rows old new sub (challenge_changes old new sub rand autn answer c) are
+
+pub challenged_keys : (old new : ℕ → Option Memory) (sub : ℕ) (rand autn : List ℕ) (answer : Answer)
+    → Challenges old sub rand autn answer new → (i : ℕ) → has_usim new i ≡ has_usim old i
+challenged_keys old new sub rand autn answer c i = changed_keys old new sub (challenge_changes old new sub rand autn answer c) i
 
 -- the SQNs that a USIM accepted, after a line of its own or of another one's
 accepted_here : (sub n : ℕ) (lines : List LineRecord) → accepted sub (lines ++ Give sub n given.Accepted ∷ []) ≡ accepted sub lines ++ sqn_bytes n ∷ []

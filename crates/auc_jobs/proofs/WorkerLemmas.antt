@@ -1,97 +1,234 @@
 -- For workers: what their calls add, and what stands after them.
-use Rattle.std.proofs.Common.{◌≡◌, ℕ, List, [], length, sym, subst, ap, ◌∙◌}
-use Rattle.std.specs.Prelude.{All, Option}
+use Rattle.std.proofs.Common.{◌≡◌, ℕ, ◌<◌, ◌≤◌, List, [], ◌∷◌, ◌++◌, length, true, All, arith, refl, sym, subst, ap, ◌∙◌}
+use Rattle.std.specs.Prelude.{Option, Some, None, flat_map, map, slice_get, if◌then◌else◌}
+use Rattle.std.proofs.lemmas.List.Elements.{All-append, All-cons, All-head, All-map, All-nil, All-tail}
+use Rattle.std.proofs.lemmas.List.{map-append}
+use Rattle.auc_cards.proofs.Facts.{devices_found, helds_known, holds_held}
+use Rattle.auc_cards.specs.Devices.{OwnDevices, device_of, device_with, job_devices, usim_among, usim_in}
 use Rattle.auc_edge.specs.declared.stop.Stop.{Stop}
 use Rattle.auc_history.specs.declared.entry.Entry.{Entry}
 use Rattle.auc_lines.specs.declared.part.Line.{Line}
-use Rattle.auc_world.specs.Given.{LineGives}
-use Rattle.auc_world.specs.Setting.{Setting}
+use Rattle.auc_lines.specs.Part.{held_subs, holds}
+use Rattle.auc_milenage.specs.declared.secret.Secret.{Secret}
+use Rattle.auc_peer.specs.Subscription.{Subscription, subscription_of}
+use Rattle.auc_peer.specs.declared.device.Device.{Device}
+use Rattle.auc_server.specs.declared.setting.HomeRow.{HomeRow}
+use Rattle.auc_subs.specs.Subscriber.{AreSubscribers}
+use Rattle.auc_subs.specs.declared.row.Row.{Row}
 use Rattle.auc_usim.specs.Usim.{Memory}
+use Rattle.auc_world.specs.Given.{Before}
+use Rattle.auc_world.specs.Net.{Net, device_place}
 use Rattle.auc_world.specs.Released.{Released}
+use Rattle.auc_world.specs.Sessions.{job_sessions}
+use Rattle.auc_world.specs.Setting.{Setting}
+use Rattle.auc_world.specs.Start.{home_of, start_of, subscription_at}
 use Rattle.auc_world.specs.Vectors.{IsReleasableLine}
+use Rattle.auc_world.specs.World.{WorldState, usim_of}
+use Rattle.auc_world.specs.declared.record.JobSessions.{JobSessions}
+use Rattle.auc_world.specs.declared.record.LineRecord.{LineRecord}
+use Rattle.auc_jobs.specs.InnerRound.{JobBegins, ServesJob}
+use Rattle.auc_jobs.specs.InnerServing.{before_at, Stands, Adds, Serves, ServesLines}
+use Rattle.auc_jobs.specs.InnerUsims.{AreCopies, has_usim}
+use Rattle.auc_jobs.specs.InnerWorker.{AreForRows, GoesOnWith, IsCentreOf, WorkerState, WorkerStands, WorkerServes, WorkerServesLines, start_world}
 use Rattle.auc_jobs.specs.Serving.{IsKnownLine}
 use Rattle.auc_jobs.specs.Usims.{HaveSecrets, AreOfRows}
-use Rattle.auc_jobs.specs.InnerRound.{ServesJob}
-use Rattle.auc_jobs.specs.InnerUsims.{OwnUsims, AreCopies, has_usim, usim_in}
-use Rattle.auc_world.specs.declared.record.LineRecord.{LineRecord}
-use Rattle.auc_jobs.specs.InnerServing.{before_at, Stands, Adds, Serves, ServesLines}
-use Rattle.auc_jobs.specs.InnerWorker.{WorkerState, WorkerStands, WorkerServes, WorkerServesLines, WorkerBegins, WorkerServesJob}
-use Rattle.auc_jobs.proofs.JobLemmas.{serves_adds, ServingLines, job_none}
-use Rattle.auc_jobs.proofs.SettleLemmas.{begins_stands, job_releasable, job_settles}
+use Rattle.auc_jobs.proofs.CopyLemmas.{copies_keyed}
+use Rattle.auc_jobs.proofs.JobLemmas.{serves_adds, serves_as, ServingLines, job_none}
+use Rattle.auc_jobs.proofs.LineLemmas.{some_at}
+use Rattle.auc_jobs.proofs.PlaceLemmas.{usim_found}
+use Rattle.auc_jobs.proofs.SettleLemmas.{begins_stands, copies_secrets, job_releasable, job_settles}
+
+-- ---- the network with which a job begins
+
+-- its USIMs are copies
+pub starts_copies : (set : Setting) (usims : List Memory) (job : List Line) (sub : ℕ) → AreSubscribers set.rows → length usims ≡ length set.rows → All (IsKnownLine (length set.rows)) job
+    → usim_of set.rows (start_world set usims job) sub ≡ (if holds sub job then slice_get usims sub else None)
+starts_copies set usims job sub are size known =
+    usim_found set (held_subs job) (start_world set usims job) sub are refl (helds_known (length set.rows) job known)
+    ∙ devices_found set usims (held_subs job) sub size (helds_known (length set.rows) job known)
+    ∙ ap (λ b. if b then slice_get usims sub else None) (holds_held sub job)
+
+-- their realms aren't too long
+pub realms_fit : (set : Setting) (usims : List Memory) (subs : List ℕ) → length set.realm ≤ 255 → All (λ (d : Device). length d.realm ≤ 255) (flat_map (device_of set usims) subs)
+realms_fit set usims [] short = All-nil (λ (d : Device). length d.realm ≤ 255)
+realms_fit set usims (s ∷ subs) short =
+    All-append (λ (d : Device). length d.realm ≤ 255) (device_of set usims s) (flat_map (device_of set usims) subs) (by (slice_get set.rows s) (slice_get usims s)) (realms_fit set usims subs short)
+  where
+    by : (row : Option Row) (usim : Option Memory) → All (λ (d : Device). length d.realm ≤ 255) (device_with set row usim)
+    by None usim = All-nil (λ (d : Device). length d.realm ≤ 255)
+    by (Some row) None = All-nil (λ (d : Device). length d.realm ≤ 255)
+    by (Some row) (Some usim) = All-cons (λ (d : Device). length d.realm ≤ 255) (record { imsi = row.imsi; usim = usim; realm = set.realm }) [] short (All-nil (λ (d : Device). length d.realm ≤ 255))
+
+-- their subscriptions are those of the rows
+subscriptions : (set : Setting) (usims : List Memory) (subs : List ℕ) → AreOfRows set.rows usims → All (λ s. s < length set.rows) subs
+    → map subscription_of (flat_map (device_of set usims) subs) ≡ flat_map (subscription_at set) subs
+subscriptions set usims [] are known = refl
+subscriptions set usims (s ∷ subs) are known =
+    let inside = All-head (λ (k : ℕ). k < length set.rows) s subs known in
+    let size = are.sizes in
+    let (row, at) = some_at set.rows s inside in
+    let (usim, there) = some_at usims s (omega (arith, inside, size)) in
+    map-append subscription_of (device_of set usims s) (flat_map (device_of set usims) subs)
+    ∙ ap (λ (ds : List Subscription). ds ++ map subscription_of (flat_map (device_of set usims) subs)) (one row usim at there)
+    ∙ ap (λ (ds : List Subscription). subscription_at set s ++ ds) (subscriptions set usims subs are (All-tail (λ (k : ℕ). k < length set.rows) s subs known))
+  where
+    one : (row : Row) (usim : Memory) → slice_get set.rows s ≡ Some row → slice_get usims s ≡ Some usim → map subscription_of (device_of set usims s) ≡ subscription_at set s
+    one row usim at there = rw (at, there) (ap (λ (k : Secret). record { imsi = row.imsi; realm = set.realm; secret = k } ∷ []) (are.secrets s row usim at there))
+
+pub starts : (set : Setting) (usims : List Memory) (job : List Line) (w : WorldState) → AreOfRows set.rows usims → All (IsKnownLine (length set.rows)) job
+    → w ≡ record {
+      net = record {
+        packets = [];
+        sessions = [];
+        released = [];
+        homes = (job_devices set usims job).homes;
+        devices = map subscription_of (job_devices set usims job).devices;
+        broken = None;
+      };
+      devices = (job_devices set usims job).devices;
+    }
+    → w ≡ start_world set usims job
+starts set usims job w are known is =
+    is ∙ ap (λ (ds : List Subscription). record {
+      net = record { packets = []; sessions = []; released = []; homes = map home_of (held_subs job); devices = ds; broken = None };
+      devices = (job_devices set usims job).devices;
+    }) (subscriptions set usims (held_subs job) are (helds_known (length set.rows) job known))
+
+-- it is one of the rows
+pub starts_for_rows : (set : Setting) (usims : List Memory) (job : List Line) (subs : ℕ) (top : ℕ → ℕ) → AreSubscribers set.rows → AreOfRows set.rows usims → All (IsKnownLine (length set.rows)) job
+    → IsCentreOf (length set.rows) subs top → AreForRows set.rows subs top (start_world set usims job)
+starts_for_rows set usims job subs top are of_rows known centre = record {
+  is_centre = centre;
+  subscribers = are;
+  secrets = copies_secrets set.rows usims job (usim_of set.rows (start_world set usims job)) of_rows (λ sub. starts_copies set usims job sub are of_rows.sizes known);
+  homes = All-map (λ (home : HomeRow). home.sub < length set.rows) home_of (held_subs job) (helds_known (length set.rows) job known);
+  placed = All-nil (λ s. device_place set.rows (flat_map (subscription_at set) (held_subs job)) s.sub ≡ Some s.device);
+}
+
+-- it holds the USIMs that the job holds
+pub does_hold : (set : Setting) (usims : List Memory) (job : List Line) (world : WorldState) → AreOfRows set.rows usims → AreSubscribers set.rows → All (IsKnownLine (length set.rows)) job
+    → world ≡ start_world set usims job → (sub : ℕ) → holds sub job ≡ true → has_usim (usim_of set.rows world) sub ≡ true
+does_hold set usims job world rows are known begins sub held =
+    copies_keyed (length set.rows) usims job (usim_of set.rows world) sub rows.sizes known
+    (λ i. ap (λ (w : WorldState). usim_of set.rows w i) begins ∙ starts_copies set usims job i are rows.sizes known) ∙ held
 
 module _ {C : Type 0} where
-  -- lines that were drawn add what a worker's request gives, if the USIMs stay
-  pub worker_adds : (goes : ℕ → List Entry → List (ℕ × Stop) → Type 0) (old_kept kept : ℕ → Option ℕ) (early beside : List LineRecord) (old : WorkerState C) (usims : OwnUsims)
-      (new : List LineRecord) (Gives : List LineRecord → Type 0) → usims ≡ old.usims
-      → Stands old.set.rows (before_at early beside old.lines) old_kept old.released (usim_in old.usims) → Adds goes kept beside old.lines new Gives
-      → Serves goes old.set.rows (before_at early beside old.lines) kept old.released (usim_in usims) Gives new
-  worker_adds goes old_kept kept early beside old usims new Gives same stands adds =
-      subst (λ (us : OwnUsims). Serves goes old.set.rows (before_at early beside old.lines) kept old.released (usim_in us) Gives new) (sym same)
-      (serves_adds goes old.set.rows early beside old.lines new old_kept kept old.released (usim_in old.usims) Gives stands adds)
+  -- lines that were drawn add what a worker's request gives, if the network stays
+  pub worker_adds : (goes : ℕ → List Entry → List (ℕ × Stop) → Type 0) (old_kept kept : ℕ → Option ℕ) (early beside : List LineRecord) (old : WorkerState C) (world : WorldState)
+      (new : List LineRecord) (Gives : List LineRecord → Type 0) → world ≡ old.world
+      → Stands old.set.rows (before_at early beside old.lines) old_kept old.released (usim_of old.set.rows old.world) → Adds goes kept beside old.lines new Gives
+      → Serves goes old.set.rows (before_at early beside old.lines) kept old.released (usim_of old.set.rows world) Gives new
+  worker_adds goes old_kept kept early beside old world new Gives same stands adds =
+      subst (λ (w : WorldState). Serves goes old.set.rows (before_at early beside old.lines) kept old.released (usim_of old.set.rows w) Gives new) (sym same)
+      (serves_adds goes old.set.rows early beside old.lines new old_kept kept old.released (usim_of old.set.rows old.world) Gives stands adds)
 
   -- what a worker serves is served with the setting and the released numbers that it began with
-  pub same_line : (kept : C → ℕ → Option ℕ) (goes : C → ℕ → List Entry → List (ℕ × Stop) → C → Type 0) (old new : WorkerState C) (line : Line)
-      (set : Setting) (released : Released) → old.set ≡ set → old.released ≡ released → WorkerServes kept goes old new (λ before. LineGives old.set before line) → (early beside : List LineRecord)
-      → Stands set.rows (before_at early beside old.lines) (kept old.centre) released (usim_in old.usims)
-      → Serves (λ i es ws. goes old.centre i es ws new.centre) set.rows (before_at early beside old.lines) (kept new.centre) released (usim_in new.usims)
-      (LineGives set (before_at early beside old.lines) line) new.lines
-  same_line kept goes old new line set released same_set same_released serves early beside =
-      subst (λ (s : Setting). Stands s.rows (before_at early beside old.lines) (kept old.centre) released (usim_in old.usims)
-      → Serves (λ i es ws. goes old.centre i es ws new.centre) s.rows (before_at early beside old.lines) (kept new.centre) released (usim_in new.usims)
-      (LineGives s (before_at early beside old.lines) line) new.lines) same_set
-      (subst (λ (rs : Released). Stands old.set.rows (before_at early beside old.lines) (kept old.centre) rs (usim_in old.usims)
-      → Serves (λ i es ws. goes old.centre i es ws new.centre) old.set.rows (before_at early beside old.lines) (kept new.centre) rs (usim_in new.usims)
-      (LineGives old.set (before_at early beside old.lines) line) new.lines) same_released (serves early beside))
+  pub same_serves : (kept : C → ℕ → Option ℕ) (goes : C → ℕ → List Entry → List (ℕ × Stop) → C → Type 0) (old new : WorkerState C) (G : Setting → Before → List LineRecord → Type 0)
+      (set : Setting) (released : Released) → old.set ≡ set → old.released ≡ released → WorkerServes kept goes old new (G old.set) → (early beside : List LineRecord)
+      → Stands set.rows (before_at early beside old.lines) (kept old.centre) released (usim_of set.rows old.world)
+      → Serves (λ i es ws. goes old.centre i es ws new.centre) set.rows (before_at early beside old.lines) (kept new.centre) released (usim_of set.rows new.world)
+      (G set (before_at early beside old.lines)) new.lines
+  same_serves kept goes old new G set released same_set same_released serves early beside =
+      subst (λ (s : Setting). Stands s.rows (before_at early beside old.lines) (kept old.centre) released (usim_of s.rows old.world)
+      → Serves (λ i es ws. goes old.centre i es ws new.centre) s.rows (before_at early beside old.lines) (kept new.centre) released (usim_of s.rows new.world)
+      (G s (before_at early beside old.lines)) new.lines) same_set
+      (subst (λ (rs : Released). Stands old.set.rows (before_at early beside old.lines) (kept old.centre) rs (usim_of old.set.rows old.world)
+      → Serves (λ i es ws. goes old.centre i es ws new.centre) old.set.rows (before_at early beside old.lines) (kept new.centre) rs (usim_of old.set.rows new.world)
+      (G old.set (before_at early beside old.lines)) new.lines) same_released (serves early beside))
+
+  -- if the network stays, it also gives that
+  pub still_serves : (kept : C → ℕ → Option ℕ) (goes : C → ℕ → List Entry → List (ℕ × Stop) → C → Type 0) (old new : WorkerState C) (Gives : Before → List LineRecord → Type 0)
+      → new.world.net ≡ old.world.net → WorkerServes kept goes old new Gives → WorkerServes kept goes old new (λ before lines. Gives before lines × (new.world.net ≡ old.world.net))
+  still_serves kept goes old new Gives same serves early beside stands =
+      serves_as (λ i es ws. goes old.centre i es ws new.centre) old.set.rows (before_at early beside old.lines) (kept new.centre) old.released (usim_of old.set.rows new.world)
+      (Gives (before_at early beside old.lines)) (λ lines. Gives (before_at early beside old.lines) lines × (new.world.net ≡ old.world.net)) new.lines (λ lines given. (given, same)) (serves early beside stands)
+
+  -- a worker that goes on twice goes on
+  pub goes_on_more : (first second third : ℕ) (old mid new : WorkerState C) → GoesOnWith first second old mid → GoesOnWith second third mid new → GoesOnWith first third old new
+  goes_on_more first second third old mid new a b = record {
+    worker = record {
+      borrow = b.worker.borrow ∙ a.worker.borrow;
+      lent = b.worker.lent ∙ a.worker.lent;
+      set = b.worker.set ∙ a.worker.set;
+      released = b.worker.released ∙ a.worker.released;
+    };
+    keyed = λ sub. b.keyed sub ∙ a.keyed sub;
+    homes = b.homes ∙ a.homes;
+    devices = b.devices ∙ a.devices;
+  }
 
   -- a job begins
   pub job_begins : (kept : C → ℕ → Option ℕ) (goes : C → ℕ → List Entry → List (ℕ × Stop) → C → Type 0) (w : WorkerState C) (left job : List Line) → w.lines ≡ [] → left ≡ job
       → ((i : ℕ) → goes w.centre i [] [] w.centre) → (early beside : List LineRecord) → WorkerStands kept early beside w
-      → ServingLines (λ i es ws. goes w.centre i es ws w.centre) w.set early beside (kept w.centre) w.released (usim_in w.usims) left job w.lines
+      → ServingLines (λ i es ws. goes w.centre i es ws w.centre) w.set early beside (kept w.centre) w.released (usim_of w.set.rows w.world) w.world.net left job w.lines w.world.net
   job_begins kept goes w left job none is stays early beside stands =
-      subst (λ (own : List LineRecord). ServingLines (λ i es ws. goes w.centre i es ws w.centre) w.set early beside (kept w.centre) w.released (usim_in w.usims) left job own) (sym none)
-      (job_none (λ i es ws. goes w.centre i es ws w.centre) w.set early beside (kept w.centre) w.released (usim_in w.usims) left job is stays
-      (subst (λ (own : List LineRecord). Stands w.set.rows (before_at early beside own) (kept w.centre) w.released (usim_in w.usims)) none stands))
+      subst (λ (own : List LineRecord). ServingLines (λ i es ws. goes w.centre i es ws w.centre) w.set early beside (kept w.centre) w.released (usim_of w.set.rows w.world) w.world.net left job own w.world.net) (sym none)
+      (job_none (λ i es ws. goes w.centre i es ws w.centre) w.set early beside (kept w.centre) w.released (usim_of w.set.rows w.world) w.world.net left job is stays
+      (subst (λ (own : List LineRecord). Stands w.set.rows (before_at early beside own) (kept w.centre) w.released (usim_of w.set.rows w.world)) none stands))
 
-  -- what a worker did for a job: it took up copies of the USIMs, served the lines, and ended the job
-  pub record Does (kept : C → ℕ → Option ℕ) (goes : C → ℕ → List Entry → List (ℕ × Stop) → C → Type 0) (old begun after : WorkerState C) (usims : List Memory) (job : List Line) (copies : OwnUsims) : Type 0 where
+  -- what a worker did for a job: it began with the job's network, and served the lines
+  pub record Does (kept : C → ℕ → Option ℕ) (goes : C → ℕ → List Entry → List (ℕ × Stop) → C → Type 0) (name next : ℕ) (old after : WorkerState C) (usims : List Memory) (job : List Line) : Type 0 where
     pub rows : AreOfRows old.set.rows usims
+    pub subscribers : AreSubscribers old.set.rows
     pub known : All (IsKnownLine (length old.set.rows)) job
     pub none : old.lines ≡ []
-    pub are : AreCopies usims job (usim_in copies)
-    pub begins : begun ≡ record old { usims = copies }
-    pub serves : WorkerServesLines kept goes begun after job
-    pub keyed : (sub : ℕ) → has_usim (usim_in after.usims) sub ≡ has_usim (usim_in begun.usims) sub
+    pub begins : old.world ≡ start_world old.set usims job
+    pub serves : WorkerServesLines kept goes old after job
+    pub goes_on : GoesOnWith name next old after
+
+  -- the USIMs with which it began
+  does_copies : (kept : C → ℕ → Option ℕ) (goes : C → ℕ → List Entry → List (ℕ × Stop) → C → Type 0) (name next : ℕ) (old after : WorkerState C) (usims : List Memory) (job : List Line)
+      → Does kept goes name next old after usims job → AreCopies usims job (usim_of old.set.rows old.world)
+  does_copies kept goes name next old after usims job d sub =
+      ap (λ (w : WorldState). usim_of old.set.rows w sub) d.begins ∙ starts_copies old.set usims job sub d.subscribers d.rows.sizes d.known
 
   -- the lines that it served
-  does_lines : (kept : C → ℕ → Option ℕ) (goes : C → ℕ → List Entry → List (ℕ × Stop) → C → Type 0) (old begun after : WorkerState C) (usims : List Memory) (job : List Line) (copies : OwnUsims)
-      (early beside : List LineRecord) → Does kept goes old begun after usims job copies → WorkerBegins kept early beside old usims job
-      → ServesLines (λ i es ws. goes old.centre i es ws after.centre) old.set early beside (kept after.centre) old.released (usim_in after.usims) job after.lines
-  does_lines kept goes old begun after usims job copies early beside d begins =
-      let from : WorkerServesLines kept goes (record old { usims = copies }) after job =
-      subst (λ (w : WorkerState C). WorkerServesLines kept goes w after job) d.begins d.serves in
-      from early beside
-      (subst (λ (lines : List LineRecord). Stands old.set.rows (before_at early beside lines) (kept old.centre) old.released (usim_in copies)) (sym d.none)
-      (begins_stands old.set.rows early beside (kept old.centre) old.released usims job (usim_in copies) d.are begins))
+  does_lines : (kept : C → ℕ → Option ℕ) (goes : C → ℕ → List Entry → List (ℕ × Stop) → C → Type 0) (name next : ℕ) (old after : WorkerState C) (usims : List Memory) (job : List Line)
+      (early beside : List LineRecord) → Does kept goes name next old after usims job → JobBegins old.set.rows early beside (kept old.centre) old.released usims job
+      → ServesLines (λ i es ws. goes old.centre i es ws after.centre) old.set early beside (kept after.centre) old.released (usim_of old.set.rows after.world) (start_of old.set job) job after.lines after.world.net
+  does_lines kept goes name next old after usims job early beside d begins =
+      subst (λ (n : Net). ServesLines (λ i es ws. goes old.centre i es ws after.centre) old.set early beside (kept after.centre) old.released (usim_of old.set.rows after.world) n job after.lines after.world.net)
+      (ap (λ (w : WorldState). w.net) d.begins)
+      (d.serves early beside
+      (subst (λ (lines : List LineRecord). Stands old.set.rows (before_at early beside lines) (kept old.centre) old.released (usim_of old.set.rows old.world)) (sym d.none)
+      (begins_stands old.set.rows early beside (kept old.centre) old.released usims job (usim_of old.set.rows old.world) (does_copies kept goes name next old after usims job d) begins)))
 
   -- they release vectors that can be made
-  pub does_releasable : (kept : C → ℕ → Option ℕ) (goes : C → ℕ → List Entry → List (ℕ × Stop) → C → Type 0) (old begun after : WorkerState C) (usims : List Memory) (job : List Line) (copies : OwnUsims)
-      (set : Setting) (lines : List LineRecord) → set ≡ old.set → lines ≡ after.lines → Does kept goes old begun after usims job copies
-      → (early : List LineRecord) × (beside : List LineRecord) × WorkerBegins kept early beside old usims job → All (IsReleasableLine set) lines
-  does_releasable kept goes old begun after usims job copies set lines same is d (early, beside, begins) =
-      let s = does_lines kept goes old begun after usims job copies early beside d begins in
+  pub does_releasable : (kept : C → ℕ → Option ℕ) (goes : C → ℕ → List Entry → List (ℕ × Stop) → C → Type 0) (name next : ℕ) (old after : WorkerState C) (usims : List Memory) (job : List Line)
+      (set : Setting) (lines : List LineRecord) → set ≡ old.set → lines ≡ after.lines → Does kept goes name next old after usims job
+      → (early : List LineRecord) × (beside : List LineRecord) × JobBegins old.set.rows early beside (kept old.centre) old.released usims job → All (IsReleasableLine set) lines
+  does_releasable kept goes name next old after usims job set lines same is d (early, beside, begins) =
+      let s = does_lines kept goes name next old after usims job early beside d begins in
       subst (λ (ls : List LineRecord). All (IsReleasableLine set) ls) (sym is)
-      (subst (λ (x : Setting). All (IsReleasableLine x) after.lines) (sym same) (job_releasable old.set (before_at early beside []) job after.lines s.given))
+      (subst (λ (x : Setting). All (IsReleasableLine x) after.lines) (sym same) (job_releasable old.set (before_at early beside []) (start_of old.set job) after.world.net job after.lines s.given))
+
+  -- its own USIMs after the job, among its devices
+  pub record Ends (old after : WorkerState C) (own : OwnDevices) : Type 0 where
+    pub homes : own.homes ≡ after.world.net.homes
+    pub devices : own.devices ≡ after.world.devices
+    pub secrets : HaveSecrets after.set.rows (usim_of after.set.rows after.world)
+
+  ends_same : (kept : C → ℕ → Option ℕ) (goes : C → ℕ → List Entry → List (ℕ × Stop) → C → Type 0) (name next : ℕ) (old after : WorkerState C) (usims : List Memory) (job : List Line) (own : OwnDevices)
+      → Does kept goes name next old after usims job → Ends old after own → (sub : ℕ) → usim_of old.set.rows after.world sub ≡ usim_in own sub
+  ends_same kept goes name next old after usims job own d e sub =
+      usim_found old.set (held_subs job) after.world sub d.subscribers (d.goes_on.devices ∙ ap (λ (w : WorldState). w.net.devices) d.begins) (helds_known (length old.set.rows) job d.known)
+      ∙ ap (λ (hs : List HomeRow). usim_among hs after.world.devices sub) (sym (e.homes ∙ d.goes_on.homes ∙ ap (λ (w : WorldState). w.net.homes) d.begins))
+      ∙ ap (λ (ds : List Device). usim_among own.homes ds sub) (sym e.devices)
 
   -- the job is served
-  pub does_job : (kept : C → ℕ → Option ℕ) (goes : C → ℕ → List Entry → List (ℕ × Stop) → C → Type 0) (old begun after new : WorkerState C) (usims : List Memory) (job : List Line) (copies own : OwnUsims)
-      (lines : List LineRecord) → Does kept goes old begun after usims job copies → new.centre ≡ after.centre → lines ≡ after.lines → own ≡ after.usims → HaveSecrets old.set.rows (usim_in own)
-      → WorkerServesJob kept goes old new usims job lines own
-  does_job kept goes old begun after new usims job copies own lines d centre lines_are own_is secrets early beside begins =
-      let s = does_lines kept goes old begun after usims job copies early beside d begins in
-      let keyed : (sub : ℕ) → has_usim (usim_in own) sub ≡ has_usim (usim_in copies) sub =
-      λ sub. ap (λ (us : OwnUsims). has_usim (usim_in us) sub) own_is ∙ d.keyed sub ∙ ap (λ (w : WorkerState C). has_usim (usim_in w.usims) sub) d.begins in
-      subst (λ (x : C). ServesJob (λ i es ws. goes old.centre i es ws x) old.set early beside (kept x) job lines (usim_in own)) (sym centre)
-      (job_settles (λ i es ws. goes old.centre i es ws after.centre) old.set early beside (kept old.centre) (kept after.centre) old.released usims job lines (usim_in copies) (usim_in own)
-      d.rows.sizes d.known d.are keyed secrets begins
-      (subst (λ (ls : List LineRecord). ServesLines (λ i es ws. goes old.centre i es ws after.centre) old.set early beside (kept after.centre) old.released (usim_in own) job ls) (sym lines_are)
-      (subst (λ (us : OwnUsims). ServesLines (λ i es ws. goes old.centre i es ws after.centre) old.set early beside (kept after.centre) old.released (usim_in us) job after.lines) (sym own_is) s)))
+  pub does_job : (kept : C → ℕ → Option ℕ) (goes : C → ℕ → List Entry → List (ℕ × Stop) → C → Type 0) (name next : ℕ) (old after : WorkerState C) (usims : List Memory) (job : List Line) (own : OwnDevices)
+      (lines : List LineRecord) (sessions : JobSessions) → Does kept goes name next old after usims job → Ends old after own → lines ≡ after.lines → sessions ≡ job_sessions after.world.net
+      → (early beside : List LineRecord) → JobBegins old.set.rows early beside (kept old.centre) old.released usims job
+      → ServesJob (λ i es ws. goes old.centre i es ws after.centre) old.set early beside (kept after.centre) job lines (usim_in own) sessions
+  does_job kept goes name next old after usims job own lines sessions d e lines_are ends early beside begins =
+      let s = does_lines kept goes name next old after usims job early beside d begins in
+      let same : (sub : ℕ) → usim_of old.set.rows after.world sub ≡ usim_in own sub = ends_same kept goes name next old after usims job own d e in
+      let secrets : HaveSecrets old.set.rows (usim_of old.set.rows after.world) =
+      subst (λ (x : Setting). HaveSecrets x.rows (usim_of x.rows after.world)) d.goes_on.worker.set e.secrets in
+      let keyed : (sub : ℕ) → has_usim (usim_in own) sub ≡ has_usim (usim_of old.set.rows old.world) sub =
+      λ sub. ap (λ (m : Option Memory). has_usim (λ (k : ℕ). m) sub) (sym (same sub))
+      ∙ ap (λ (x : Setting). has_usim (usim_of x.rows after.world) sub) (sym d.goes_on.worker.set) ∙ d.goes_on.keyed sub in
+      job_settles (λ i es ws. goes old.centre i es ws after.centre) old.set early beside (kept old.centre) (kept after.centre) old.released usims job lines (usim_of old.set.rows old.world) (usim_in own)
+      d.rows.sizes d.known (does_copies kept goes name next old after usims job d) keyed (λ sub row usim at there. secrets sub row usim at (same sub ∙ there)) begins after.world.net sessions ends
+      (subst (λ (ls : List LineRecord). ServesLines (λ i es ws. goes old.centre i es ws after.centre) old.set early beside (kept after.centre) old.released (usim_in own) (start_of old.set job) job ls after.world.net) (sym lines_are)
+      (record { given = s.given; made = s.made; stands = record { told = s.stands.told; earlier = s.stands.earlier; pasts = λ sub row usim at there. s.stands.pasts sub row usim at (same sub ∙ there) } }))

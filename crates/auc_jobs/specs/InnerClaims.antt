@@ -11,6 +11,9 @@ use Rattle.auc_world.specs.declared.record.LineRecord.{LineRecord}
 use Rattle.auc_world.specs.Entries.{entries_of_lines}
 use Rattle.auc_world.specs.Given.{JobGives}
 use Rattle.auc_world.specs.Lines.{numbers_of, held_of}
+use Rattle.auc_world.specs.Net.{Net}
+use Rattle.auc_world.specs.Sessions.{job_sessions}
+use Rattle.auc_world.specs.Start.{start_of}
 use Rattle.auc_world.specs.Vectors.{vectors_in}
 use Rattle.auc_jobs.specs.declared.claiming.ClaimedJob.{ClaimedJob}
 use Rattle.auc_jobs.specs.declared.claiming.WorkerJobs.{WorkerJobs}
@@ -40,17 +43,19 @@ lines_done done = flat_map (λ c. c.served.lines) done
 abbrev pub entries_of_turn : ℕ → Turn → List Entry
 entries_of_turn sub t = entries_of_lines sub t.earlier t.claimed.served.lines
 
--- a job's lines are what it gives after its worker's earlier ones
+-- a job's lines are what it gives after its worker's earlier ones, and its sessions came to what its network tells
 pub record IsGiven (shared : Shared) (early : List LineRecord) (t : Turn) : Type 0 where
   pub asked : List Line
   pub there : slice_get shared.jobs t.claimed.job ≡ Some asked
-  pub given : JobGives shared.set (before_at early t.earlier []) asked t.claimed.served.lines
+  pub net : Net
+  pub given : JobGives shared.set (before_at early t.earlier []) (start_of shared.set asked) asked t.claimed.served.lines net
+  pub ends : t.claimed.served.sessions ≡ job_sessions net
 
 -- its USIMs after its lines have forgotten who served it
 pub record IsSettledAt (shared : Shared) (early : List LineRecord) (c : ClaimedJob) : Type 0 where
   pub asked : List Line
   pub there : slice_get shared.jobs c.job ≡ Some asked
-  pub settled : IsSettled shared.set.rows early asked c.served.lines (usim_in c.served.usims)
+  pub settled : IsSettled shared.set.rows early asked c.served.lines (usim_in c.served.devices)
 
 -- a full print has the vectors of its lines
 abbrev pub IsPrinted : Shared → ServedJob → Type 0

@@ -1,11 +1,11 @@
 -- Inner facts: what only private contracts of this crate cite. Here: the jobs of a round, each served after its worker's
 -- earlier lines and with its own USIMs, and what their pieces come to.
-use Rattle.std.specs.Prelude.{◌≡◌, ℕ, ◌≤◌, ◌<◌, false, List, [], ◌∷◌, ◌++◌, All, length, Option, slice_get, slice_index}
+use Rattle.std.specs.Prelude.{◌≡◌, ℕ, ◌≤◌, ◌<◌, false, List, [], ◌∷◌, ◌++◌, All, length, map, Option, slice_get, slice_index}
 use Rattle.auc_edge.specs.declared.stop.Stop.{Stop}
 use Rattle.auc_history.specs.declared.entry.Entry.{Entry}
 use Rattle.auc_history.specs.Split.{Splits}
 use Rattle.auc_lines.specs.declared.part.Line.{Line}
-use Rattle.auc_lines.specs.Part.{gives_to}
+use Rattle.auc_lines.specs.Part.{holds}
 use Rattle.auc_sqn.specs.Number.{max_seq}
 use Rattle.auc_subs.specs.declared.row.Row.{Row}
 use Rattle.auc_usim.specs.Usim.{Memory}
@@ -15,20 +15,24 @@ use Rattle.auc_world.specs.Given.{JobGives}
 use Rattle.auc_world.specs.Limits.{Raises}
 use Rattle.auc_world.specs.Lines.{accepted, held_of, withheld_of, all_lines}
 use Rattle.auc_world.specs.Pieces.{Piece, lines_of_pieces, entries_of_pieces, ReportsAreEarlier, IsQuiet, PiecesGive}
+use Rattle.auc_world.specs.Net.{Net}
 use Rattle.auc_world.specs.Round.{Withholds}
+use Rattle.auc_world.specs.Sessions.{job_sessions}
+use Rattle.auc_world.specs.Start.{start_of}
+use Rattle.auc_world.specs.declared.record.JobSessions.{JobSessions}
 use Rattle.auc_world.specs.Setting.{Setting}
 use Rattle.auc_world.specs.Transcript.{reopened}
 use Rattle.auc_world.specs.Released.{Released, AreReleased}
 use Rattle.auc_jobs.specs.State.{Standing}
 use Rattle.auc_jobs.specs.Usims.{HaveSecrets, AreBehind}
 use Rattle.auc_jobs.specs.InnerServing.{before_at, AreTold}
-use Rattle.auc_jobs.specs.InnerUsims.{OwnUsims, usim_in, has_usim, ArePutBack}
+use Rattle.auc_jobs.specs.InnerUsims.{OwnDevices, usim_in, has_usim, ArePutBack}
 
 -- ---- a job
 
 -- what stands before a job: its worker's earlier lines report the words that the centre keeps, the released numbers are
 -- those of the earlier rounds, the subscribers' USIMs are those after the earlier rounds, and by the worker's earlier
--- lines no USIM to which the job gives has accepted a number
+-- lines no USIM that the job holds has accepted a number
 pub record JobBegins (rows : List Row) (early beside : List LineRecord) (kept : ℕ → Option ℕ) (released : Released) (usims : List Memory) (job : List Line) : Type 0 where
   pub told : AreTold kept beside
   pub earlier : AreReleased released early
@@ -37,15 +41,18 @@ pub record JobBegins (rows : List Row) (early beside : List LineRecord) (kept : 
 
 -- a job's own USIMs after its lines. They have forgotten who served the job
 pub record IsSettled (rows : List Row) (early : List LineRecord) (job : List Line) (lines : List LineRecord) (own : ℕ → Option Memory) : Type 0 where
-  pub keyed : (sub : ℕ) → has_usim own sub ≡ gives_to sub job
+  pub keyed : (sub : ℕ) → has_usim own sub ≡ holds sub job
   pub secrets : HaveSecrets rows own
   pub behind : AreBehind rows (early ++ lines) own
-  pub quiet : (sub : ℕ) → gives_to sub job ≡ false → accepted sub lines ≡ []
+  pub quiet : (sub : ℕ) → holds sub job ≡ false → accepted sub lines ≡ []
 
--- what a job gave, after earlier rounds and its worker's earlier lines
+-- what a job gave, after earlier rounds and its worker's earlier lines: its lines, its own USIMs after them, and what its
+-- sessions came to
 pub record ServesJob (goes : ℕ → List Entry → List (ℕ × Stop) → Type 0) (set : Setting) (early beside : List LineRecord) (kept : ℕ → Option ℕ)
-    (job : List Line) (lines : List LineRecord) (own : ℕ → Option Memory) : Type 0 where
-  pub given : JobGives set (before_at early beside []) job lines
+    (job : List Line) (lines : List LineRecord) (own : ℕ → Option Memory) (sessions : JobSessions) : Type 0 where
+  pub net : Net
+  pub given : JobGives set (before_at early beside []) (start_of set job) job lines net
+  pub ends : sessions ≡ job_sessions net
   pub made : (sub : ℕ) → goes sub (entries_of_lines sub beside lines) (held_of sub lines)
   pub told : AreTold kept (beside ++ lines)
   pub settled : IsSettled set.rows early job lines own
@@ -53,7 +60,7 @@ pub record ServesJob (goes : ℕ → List Entry → List (ℕ × Stop) → Type 
 -- ---- the jobs of a round
 
 -- the USIMs of each job
-abbrev pub AreSettled : List Row → List LineRecord → List (List Line) → List (List LineRecord) → List OwnUsims → Type 0
+abbrev pub AreSettled : List Row → List LineRecord → List (List Line) → List (List LineRecord) → List OwnDevices → Type 0
 AreSettled rows early [] records usims = (records ≡ []) × (usims ≡ [])
 AreSettled rows early (job ∷ jobs) [] usims = ⊥
 AreSettled rows early (job ∷ jobs) (lines ∷ records) [] = ⊥
@@ -62,16 +69,19 @@ AreSettled rows early (job ∷ jobs) (lines ∷ records) (own ∷ usims) = IsSet
 -- ---- the pieces of a round
 
 -- the records of a round's jobs are pieces, each of some worker. They lead each subscriber from its opening to its word
-pub record ArePieces (set : Setting) (early : List LineRecord) (openings : List ℕ) (jobs : List (List Line)) (records : List (List LineRecord)) (words : List ℕ) : Type 0 where
+pub record ArePieces (set : Setting) (early : List LineRecord) (openings : List ℕ) (jobs : List (List Line)) (records : List (List LineRecord)) (sessions : List JobSessions) (words : List ℕ) : Type 0 where
   pub pieces : List Piece
+  -- the networks of the jobs' sessions after the last lines
+  pub nets : List Net
   pub lines : records ≡ lines_of_pieces pieces
-  pub give : PiecesGive set early jobs pieces
+  pub give : PiecesGive set early jobs pieces nets
+  pub ends : sessions ≡ map job_sessions nets
   pub reports : (sub : ℕ) → ReportsAreEarlier sub [] pieces
   pub split : (sub : ℕ) → sub < length openings → Splits max_seq (slice_index openings sub) (slice_index words sub) (entries_of_pieces sub pieces)
 
--- a round's pieces, and its jobs' USIMs, after the words at which it opens
-pub record AreServed (set : Setting) (early : List LineRecord) (openings : List ℕ) (jobs : List (List Line)) (records : List (List LineRecord)) (usims : List OwnUsims) (words : List ℕ) : Type 0 where
-  pub pieces : ArePieces set early openings jobs records words
+-- a round's pieces, its jobs' USIMs, and what their sessions came to, after the words at which it opens
+pub record AreServed (set : Setting) (early : List LineRecord) (openings : List ℕ) (jobs : List (List Line)) (records : List (List LineRecord)) (usims : List OwnDevices) (sessions : List JobSessions) (words : List ℕ) : Type 0 where
+  pub pieces : ArePieces set early openings jobs records sessions words
   pub settled : AreSettled set.rows early jobs records usims
   pub size : length words ≡ length openings
 
@@ -83,8 +93,8 @@ pub record GoesByLimits (set : Setting) (stop : Option Stop) (records : List (Li
   pub above : (sub : ℕ) → sub < length set.rows → All (λ n. slice_index next sub < n) (withheld_of sub (all_lines records))
 
 -- the state after a round: where the round's words lead, with the jobs' USIMs put back and the released numbers noted
-pub record IsAdvanced (old : Standing) (jobs : List (List Line)) (records : List (List LineRecord)) (usims : List OwnUsims) (words : List ℕ) (new : Standing) : Type 0 where
+pub record IsAdvanced (old : Standing) (records : List (List LineRecord)) (usims : List OwnDevices) (words : List ℕ) (new : Standing) : Type 0 where
   pub opened : new.words ≡ reopened words
   pub within : All (λ word. word ≤ max_seq) new.words
-  pub put : ArePutBack old.usims jobs usims new.usims
+  pub put : ArePutBack old.usims usims new.usims
   pub noted : (before : List LineRecord) → AreReleased old.released before → AreReleased new.released (before ++ all_lines records)

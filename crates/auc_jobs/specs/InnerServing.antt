@@ -11,13 +11,15 @@ use Rattle.auc_vector.specs.Random.{rand_of}
 use Rattle.auc_world.specs.declared.record.SyncVerdict.{SyncVerdict}
 use Rattle.auc_world.specs.declared.record.SyncVerdict.TheVariants as verdict
 use Rattle.auc_world.specs.Entries.{is_reported, entries_of_line, entries_of_lines}
-use Rattle.auc_world.specs.Given.{Before, IsReleasable, IsGiven, is_released, past_before, GiveGives, JobGives, auts_for}
+use Rattle.auc_world.specs.Given.{Before, EventGives, IsReleasable, IsGiven, is_released, packet_of, past_before, GiveGives, JobGives, auts_for}
+use Rattle.auc_world.specs.Net.{Net}
 use Rattle.auc_world.specs.Setting.{Setting}
 use Rattle.auc_world.specs.Lines.{held_by, held_of, accepted}
 use Rattle.auc_usim.specs.Usim.{Memory}
+use Rattle.auc_world.specs.declared.event.Event.{Event as EventOf}
 use Rattle.auc_world.specs.declared.record.GiveVerdict.{GiveVerdict}
 use Rattle.auc_world.specs.declared.record.LineRecord.{LineRecord}
-use Rattle.auc_world.specs.declared.record.LineRecord.TheVariants.{Vector, Withheld, Exhausted, Sync, Give}
+use Rattle.auc_world.specs.declared.record.LineRecord.TheVariants.{Vector, Withheld, Exhausted, Sync, Give, Event}
 use Rattle.auc_world.specs.Released.{Released, AreReleased}
 use Rattle.auc_jobs.specs.Usims.{AreBehind}
 
@@ -53,6 +55,7 @@ IsDrawn set sub (Withheld s n stop) = (s ≡ sub) × (1 ≤ n) × (n ≤ max_seq
 IsDrawn set sub (Exhausted s word) = (s ≡ sub) × (max_seq ≤ word)
 IsDrawn set sub (Sync s answer) = ⊥
 IsDrawn set sub (Give s n answer) = ⊥
+IsDrawn set sub (Event r) = ⊥
 
 -- whether a line is a vector
 abbrev pub is_vector : LineRecord → Bool
@@ -61,6 +64,7 @@ is_vector (Withheld s n stop) = false
 is_vector (Exhausted s word) = false
 is_vector (Sync s answer) = false
 is_vector (Give s n answer) = false
+is_vector (Event r) = false
 
 -- ---- a resynchronisation
 
@@ -107,12 +111,21 @@ pub record Serves (goes : ℕ → List Entry → List (ℕ × Stop) → Type 0) 
   pub made : (sub : ℕ) → goes sub (entries_of_lines sub (before.beside ++ before.own) lines) (held_of sub lines)
   pub stands : Stands rows (before_at before.early before.beside new) kept released usims
 
--- what the lines of a job gave, after earlier rounds and the worker's earlier lines
+-- what the lines of a job gave in its network, after earlier rounds and the worker's earlier lines
 pub record ServesLines (goes : ℕ → List Entry → List (ℕ × Stop) → Type 0) (set : Setting) (early beside : List LineRecord) (kept : ℕ → Option ℕ) (released : Released) (usims : ℕ → Option Memory)
-    (job : List Line) (lines : List LineRecord) : Type 0 where
-  pub given : JobGives set (before_at early beside []) job lines
+    (net : Net) (job : List Line) (lines : List LineRecord) (last : Net) : Type 0 where
+  pub given : JobGives set (before_at early beside []) net job lines last
   pub made : (sub : ℕ) → goes sub (entries_of_lines sub beside lines) (held_of sub lines)
   pub stands : Stands set.rows (before_at early beside lines) kept released usims
+
+-- ---- an event
+
+-- an event added a line, and made this packet or none
+pub record Happens (set : Setting) (before : Before) (net : Net) (e : EventOf) (packet : Option ℕ) (lines : List LineRecord) (next : Net) : Type 0 where
+  pub line : LineRecord
+  pub is : lines ≡ line ∷ []
+  pub given : EventGives set before net e (line ∷ []) next
+  pub makes : packet_of line ≡ packet
 
 -- ---- a presented vector
 

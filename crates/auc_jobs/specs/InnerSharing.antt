@@ -7,6 +7,7 @@ use Rattle.auc_edge.specs.declared.stop.Stop.{Stop}
 use Rattle.auc_history.specs.declared.entry.Entry.{Entry}
 use Rattle.auc_lines.specs.declared.part.Line.{Line}
 use Rattle.auc_lines.specs.Part.{AreApart}
+use Rattle.auc_subs.specs.Subscriber.{AreSubscribers}
 use Rattle.auc_usim.specs.Usim.{Memory}
 use Rattle.auc_world.specs.declared.record.LineRecord.{LineRecord}
 use Rattle.auc_world.specs.Setting.{Setting}
@@ -35,6 +36,8 @@ pub record Begins (shared : Shared) (early : List LineRecord) : Type 0 where
 -- the jobs can be served
 pub record IsServable (shared : Shared) : Type 0 where
   pub rows : AreOfRows shared.set.rows shared.usims
+  pub subscribers : AreSubscribers shared.set.rows
+  pub realm : length shared.set.realm ≤ 255
   pub few : length shared.jobs ≤ 200000
   pub known : AreAllKnown (length shared.set.rows) shared.jobs
   pub apart : AllPairs AreApart shared.jobs
@@ -55,5 +58,5 @@ pub record ServesAt (goes : ℕ → List Entry → List (ℕ × Stop) → Type 0
   pub asked : List Line
   pub there : slice_get shared.jobs job ≡ Some asked
   pub serves : (early beside : List LineRecord) → JobBegins shared.set.rows early beside old shared.released shared.usims asked
-      → ServesJob goes shared.set early beside kept asked served.lines (usim_in served.usims)
+      → ServesJob goes shared.set early beside kept asked served.lines (usim_in served.devices) served.sessions
   pub vectors : served.vectors ≡ (if shared.full then vectors_in shared.set served.lines else [])

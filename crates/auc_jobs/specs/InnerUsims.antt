@@ -1,5 +1,7 @@
 -- Inner facts: what only private contracts of this crate cite. Here: a job's own USIMs, and a USIM that answers.
-use Rattle.std.specs.Prelude.{◌≡◌, ℕ, ◌%◌, List, [], ◌∷◌, ◌++◌, Option, Some, slice_get}
+use Rattle.std.specs.Prelude.{◌≡◌, ℕ, ◌%◌, List, [], ◌∷◌, ◌++◌, Option, Some, None, slice_get, if◌then◌else◌}
+use Rattle.auc_lines.specs.declared.part.Line.{Line}
+use Rattle.auc_lines.specs.Part.{holds}
 use Rattle.auc_sqn.specs.Past.{verdict_of}
 use Rattle.auc_subs.specs.declared.row.Row.{Row}
 use Rattle.auc_world.specs.Given.{UsimAnswers, past_of}
@@ -9,8 +11,13 @@ use Rattle.auc_world.specs.declared.record.GiveVerdict.{GiveVerdict}
 use Rattle.auc_world.specs.declared.record.LineRecord.{LineRecord}
 use Rattle.auc_world.specs.declared.record.LineRecord.TheVariants.{Give}
 use Rattle.auc_jobs.specs.Usims.{AreBehind}
-pub use Rattle.auc_cards.specs.JobUsims.{OwnUsims, usim_in, has_usim, Copies, AreCopies, Challenges}
+pub use Rattle.auc_cards.specs.Devices.{OwnDevices, usim_in, has_usim}
 pub use Rattle.auc_cards.specs.Usims.{put_at, ArePut, ArePutBack}
+pub use Rattle.auc_world.specs.World.{Challenges, usim_of}
+
+-- copies of the USIMs that a job holds, and no others
+abbrev pub AreCopies : List Memory → List Line → (ℕ → Option Memory) → Type 0
+AreCopies usims job own = (sub : ℕ) → own sub ≡ (if holds sub job then slice_get usims sub else None)
 
 -- the vector of a number is presented to its subscriber's USIM after some lines: what it answers, by all that
 -- it accepted, and the USIMs after the line that says so

@@ -1,28 +1,32 @@
 -- Inner facts: what only private contracts of this crate cite. Here: a worker, and what its calls add to a job.
-use Rattle.std.specs.Prelude.{◌≡◌, ℕ, List, length, Option}
+use Rattle.std.specs.Prelude.{◌≡◌, ℕ, ◌<◌, List, length, All, Option, Some}
 use Rattle.auc_edge.specs.declared.stop.Stop.{Stop}
 use Rattle.auc_history.specs.declared.entry.Entry.{Entry}
 use Rattle.auc_lines.specs.declared.part.Line.{Line}
 use Rattle.auc_sqn.specs.Number.{max_seq}
+use Rattle.auc_subs.specs.Subscriber.{AreSubscribers}
 use Rattle.auc_subs.specs.declared.row.Row.{Row}
+use Rattle.auc_cards.specs.Devices.{job_devices}
 use Rattle.auc_world.specs.Given.{Before}
+use Rattle.auc_world.specs.Net.{Net, device_place}
 use Rattle.auc_world.specs.Setting.{Setting}
+use Rattle.auc_world.specs.Start.{start_of}
+use Rattle.auc_world.specs.World.{WorldState}
 use Rattle.auc_usim.specs.Usim.{Memory}
 use Rattle.auc_world.specs.declared.record.LineRecord.{LineRecord}
 use Rattle.auc_world.specs.Released.{Released}
 use Rattle.auc_jobs.specs.Usims.{HaveSecrets}
-use Rattle.auc_jobs.specs.InnerRound.{JobBegins, ServesJob}
 use Rattle.auc_jobs.specs.InnerServing.{before_at, Stands, Serves, ServesLines}
-use Rattle.auc_jobs.specs.InnerUsims.{OwnUsims, usim_in, has_usim}
+use Rattle.auc_jobs.specs.InnerUsims.{has_usim, usim_of}
 
 -- what a worker has while it serves a job: its centre, the name of the borrow of it, what the job is served with, the numbers that were released in
--- earlier rounds, the job's own USIMs, and the job's lines so far
+-- earlier rounds, the job's network with its devices, and the job's lines so far
 pub record WorkerState (C : Type 0) : Type 0 where
   pub centre : C
   pub lent : ℕ
   pub set : Setting
   pub released : Released
-  pub usims : OwnUsims
+  pub world : WorldState
   pub lines : List LineRecord
 
 -- a centre has so many subscribers, whose greatest number is max_seq
@@ -30,10 +34,21 @@ pub record IsCentreOf (count subs : ℕ) (top : ℕ → ℕ) : Type 0 where
   pub size : subs ≡ count
   pub greatest : (sub : ℕ) → top sub ≡ max_seq
 
--- a centre and USIMs are those of the rows
-pub record AreForRows (rows : List Row) (subs : ℕ) (top : ℕ → ℕ) (usims : ℕ → Option Memory) : Type 0 where
+-- each session is at the device of its subscriber
+abbrev pub AreAtDevices : List Row → Net → Type 0
+AreAtDevices rows net = All (λ s. device_place rows net.devices s.sub ≡ Some s.device) net.sessions
+
+-- a centre and a job's network with its devices are those of the rows
+pub record AreForRows (rows : List Row) (subs : ℕ) (top : ℕ → ℕ) (world : WorldState) : Type 0 where
   pub is_centre : IsCentreOf (length rows) subs top
-  pub secrets : HaveSecrets rows usims
+  pub subscribers : AreSubscribers rows
+  pub secrets : HaveSecrets rows (usim_of rows world)
+  pub homes : All (λ home. home.sub < length rows) world.net.homes
+  pub placed : AreAtDevices rows world.net
+
+-- the network with which a job begins, with the devices of its subscribers
+abbrev pub start_world : Setting → List Memory → List Line → WorldState
+start_world set usims job = record { net = start_of set job; devices = (job_devices set usims job).devices }
 
 module _ {C : Type 0} where
   -- a worker goes on with the same borrow of its centre and with the borrow that the centre holds, by their names, and
@@ -44,33 +59,25 @@ module _ {C : Type 0} where
     pub set : new.set ≡ old.set
     pub released : new.released ≡ old.released
 
-  -- within a job it also goes on with USIMs of the same subscribers
+  -- within a job it also goes on with the devices of the same subscribers
   pub record GoesOnWith (old_name name : ℕ) (old new : WorkerState C) : Type 0 where
     pub worker : IsSameWorker old_name name old new
-    pub keyed : (sub : ℕ) → has_usim (usim_in new.usims) sub ≡ has_usim (usim_in old.usims) sub
+    pub keyed : (sub : ℕ) → has_usim (usim_of new.set.rows new.world) sub ≡ has_usim (usim_of old.set.rows old.world) sub
+    pub homes : new.world.net.homes ≡ old.world.net.homes
+    pub devices : new.world.net.devices ≡ old.world.net.devices
 
   -- what stands after a worker's lines, with the lines of earlier rounds and of its earlier jobs before them
   abbrev pub WorkerStands : (C → ℕ → Option ℕ) → List LineRecord → List LineRecord → WorkerState C → Type 0
-  WorkerStands kept early beside w = Stands w.set.rows (before_at early beside w.lines) (kept w.centre) w.released (usim_in w.usims)
+  WorkerStands kept early beside w = Stands w.set.rows (before_at early beside w.lines) (kept w.centre) w.released (usim_of w.set.rows w.world)
 
   -- what a worker added for a request, by the lines before it, and what stands then
   abbrev pub WorkerServes : (C → ℕ → Option ℕ) → (C → ℕ → List Entry → List (ℕ × Stop) → C → Type 0) → WorkerState C → WorkerState C
       → (Before → List LineRecord → Type 0) → Type 0
   WorkerServes kept goes old new Gives = (early beside : List LineRecord) → WorkerStands kept early beside old
       → Serves (λ i es ws. goes old.centre i es ws new.centre) old.set.rows (before_at early beside old.lines)
-      (kept new.centre) old.released (usim_in new.usims) (Gives (before_at early beside old.lines)) new.lines
+      (kept new.centre) old.released (usim_of old.set.rows new.world) (Gives (before_at early beside old.lines)) new.lines
 
   -- what it gave for the lines of a job, which had none
   abbrev pub WorkerServesLines : (C → ℕ → Option ℕ) → (C → ℕ → List Entry → List (ℕ × Stop) → C → Type 0) → WorkerState C → WorkerState C → List Line → Type 0
   WorkerServesLines kept goes old new job = (early beside : List LineRecord) → WorkerStands kept early beside old
-      → ServesLines (λ i es ws. goes old.centre i es ws new.centre) old.set early beside (kept new.centre) old.released (usim_in new.usims) job new.lines
-
-  -- what stands before it serves a job
-  abbrev pub WorkerBegins : (C → ℕ → Option ℕ) → List LineRecord → List LineRecord → WorkerState C → List Memory → List Line → Type 0
-  WorkerBegins kept early beside w usims job = JobBegins w.set.rows early beside (kept w.centre) w.released usims job
-
-  -- what it gave for a job, after earlier rounds and its earlier jobs
-  abbrev pub WorkerServesJob : (C → ℕ → Option ℕ) → (C → ℕ → List Entry → List (ℕ × Stop) → C → Type 0) → WorkerState C → WorkerState C
-      → List Memory → List Line → List LineRecord → OwnUsims → Type 0
-  WorkerServesJob kept goes old new usims job lines own = (early beside : List LineRecord) → WorkerBegins kept early beside old usims job
-      → ServesJob (λ i es ws. goes old.centre i es ws new.centre) old.set early beside (kept new.centre) job lines (usim_in own)
+      → ServesLines (λ i es ws. goes old.centre i es ws new.centre) old.set early beside (kept new.centre) old.released (usim_of old.set.rows new.world) old.world.net job new.lines new.world.net

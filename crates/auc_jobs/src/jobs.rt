@@ -1,29 +1,31 @@
 //! Serving a job, and what the jobs of a round gave.
 
-ghost use Rattle.std.specs.Prelude.{◌≡◌, ◌++◌, ◌∷◌, [], true, ℕ, List, length, OnOk, IfOk, if◌then◌else◌};
-ghost use Rattle.auc_lines.specs.Part.{gives_to, is_give_to};
-ghost use Rattle.auc_world.specs.declared.record.LineRecord.{LineRecord};
+ghost use Rattle.std.specs.Prelude.{◌≡◌, ◌≤◌, ◌++◌, ◌∷◌, [], true, All, ℕ, length, OnOk, IfOk, if◌then◌else◌};
+ghost use Rattle.auc_lines.specs.Part.{holds, is_held_by};
 ghost use Rattle.auc_world.specs.Given.{LineGives};
-ghost use Rattle.auc_world.specs.Vectors.{vectors_in};
+ghost use Rattle.auc_world.specs.Sessions.{job_sessions};
+ghost use Rattle.auc_world.specs.Vectors.{IsReleasableLine, vectors_in};
 ghost use Rattle.auc_jobs.specs.Serving.{IsKnownLine, AreKnown};
-ghost use Rattle.auc_jobs.specs.InnerUsims.{has_usim, usim_in};
-ghost use Rattle.auc_jobs.specs.InnerWorker.{IsSameWorker, GoesOnWith, WorkerServes, WorkerServesLines, WorkerBegins, WorkerServesJob};
+ghost use Rattle.auc_jobs.specs.InnerUsims.{has_usim, usim_of};
+ghost use Rattle.auc_jobs.specs.InnerWorker.{GoesOnWith, WorkerServes, WorkerServesLines, start_world};
 ghost use Rattle.auc_jobs.specs.Usims.{AreOfRows};
 
 use crate::worker::Worker;
-use auc_cards::{JobUsims, Usims};
+use auc_cards::{JobDevices, Usims};
 use auc_edge::{Items, NoMemory};
 use auc_lines::Line;
 use auc_vector::Centre;
-use auc_world::{JobRecord, JobVectors, printed_vectors};
+use auc_world::{Event, JobRecord, JobSessions, JobVectors, Setting, World, printed_vectors};
 use std::alloc::Global;
 use std::sync::Wait;
 
-/// What a job gave: its lines, its own USIMs after them, and in a full print the vectors of its lines.
+/// What a job gave: its lines, its own devices after them, what its sessions came to, and in a full print the vectors of its
+/// lines.
 #[derive(Drop)]
 pub(crate) struct ServedJob {
     pub(crate) lines: JobRecord,
-    pub(crate) usims: JobUsims,
+    pub(crate) devices: JobDevices,
+    pub(crate) sessions: JobSessions,
     pub(crate) vectors: JobVectors,
 }
 
@@ -31,18 +33,20 @@ pub(crate) struct ServedJob {
 #[derive(Drop)]
 pub(crate) struct ServedJobs {
     pub(crate) records: Items<JobRecord>,
-    pub(crate) usims: Items<JobUsims>,
+    pub(crate) devices: Items<JobDevices>,
+    pub(crate) sessions: Items<JobSessions>,
     pub(crate) vectors: Items<JobVectors>,
 }
 
 impl ServedJobs {
     /// No jobs yet.
     pub(crate) fn new(alloc: Global) -> ServedJobs
-        ensures { result ≡ record { records = []; usims = []; vectors = [] } }
+        ensures { result ≡ record { records = []; devices = []; sessions = []; vectors = [] } }
     {
         ServedJobs {
             records: Items::new(alloc),
-            usims: Items::new(alloc),
+            devices: Items::new(alloc),
+            sessions: Items::new(alloc),
             vectors: Items::new(alloc),
         }
     }
@@ -50,11 +54,13 @@ impl ServedJobs {
     /// Adds what the next job gave.
     pub(crate) fn push(&mut self, job: ServedJob, full: bool) -> Result<(), NoMemory>
         ensures records { OnOk result (self.new.records ≡ self.old.records ++ job.lines ∷ []) }
-        ensures usims { OnOk result (self.new.usims ≡ self.old.usims ++ job.usims ∷ []) }
+        ensures devices { OnOk result (self.new.devices ≡ self.old.devices ++ job.devices ∷ []) }
+        ensures sessions { OnOk result (self.new.sessions ≡ self.old.sessions ++ job.sessions ∷ []) }
         ensures vectors { OnOk result (self.new.vectors ≡ (if full then self.old.vectors ++ job.vectors ∷ [] else self.old.vectors)) }
     {
         self.records.push(job.lines)?;
-        self.usims.push(job.usims)?;
+        self.devices.push(job.devices)?;
+        self.sessions.push(job.sessions)?;
         if full {
             self.vectors.push(job.vectors)?;
         }
@@ -64,12 +70,13 @@ impl ServedJobs {
 
 impl<C: Centre> Worker<'_, C> {
     /// Serves a line of a job.
-    fn serve_line<R: Wait>(&mut self, rt: &R, line: &Line) -> Result<(), NoMemory>
+    fn serve_line<R: Wait>(&mut self, rt: &R, alloc: Global, line: &Line) -> Result<(), NoMemory>
         requires known { IsKnownLine (length self.old.set.rows) line.now }
-        requires own { (sub : ℕ) → is_give_to sub line.now ≡ true → has_usim (usim_in self.old.usims) sub ≡ true }
+        requires own { (sub : ℕ) → is_held_by sub line.now ≡ true
+            → has_usim (usim_of self.old.set.rows self.old.world) sub ≡ true }
 
         ensures served { OnOk result (WorkerServes C.kept C.goes self.old self.new
-            (λ before. LineGives self.old.set before line.now)) }
+            (λ before lines. LineGives self.old.set before self.old.world.net line.now lines self.new.world.net)) }
         ensures same { GoesOnWith (C.name self.old.centre) (C.name self.new.centre) self.old self.new }
     {
         match *line {
@@ -81,51 +88,95 @@ impl<C: Centre> Worker<'_, C> {
                 count,
             } => self.sync(rt, sub, seq, bit, count),
             Line::Give { sub, n } => self.give(sub, n),
+            Line::Session { session, sub } => self.happen_alone(
+                rt,
+                alloc,
+                Event::Open { session, sub },
+            ),
+            Line::Start(session) => self.happen_alone(rt, alloc, Event::Start(session)),
+            Line::Deliver {
+                session,
+                end,
+                packet,
+            } => self.happen_alone(
+                rt,
+                alloc,
+                Event::Deliver {
+                    session,
+                    end,
+                    packet,
+                },
+            ),
+            Line::Repeat(session) => self.happen_alone(rt, alloc, Event::Repeat(session)),
+            Line::GiveUp { session, end } => self.happen_alone(
+                rt,
+                alloc,
+                Event::GiveUp { session, end },
+            ),
+            Line::Plain(session) => self.play(rt, alloc, session),
         }
     }
 
     /// Serves the lines of a job.
-    fn serve_lines<R: Wait>(&mut self, rt: &R, job: &[Line]) -> Result<(), NoMemory>
+    pub(crate) fn serve_lines<R: Wait>(
+        &mut self,
+        rt: &R,
+        alloc: Global,
+        job: &[Line],
+    ) -> Result<(), NoMemory>
         requires known { AreKnown (length self.old.set.rows) job.now }
-        requires own { (sub : ℕ) → gives_to sub job.now ≡ true → has_usim (usim_in self.old.usims) sub ≡ true }
+        requires own { (sub : ℕ) → holds sub job.now ≡ true
+            → has_usim (usim_of self.old.set.rows self.old.world) sub ≡ true }
         requires none { self.old.lines ≡ [] }
 
         ensures served { OnOk result (WorkerServesLines C.kept C.goes self.old self.new job.now) }
         ensures same { GoesOnWith (C.name self.old.centre) (C.name self.new.centre) self.old self.new }
     {
         for line in job {
-            self.serve_line(rt, line)?;
+            self.serve_line(rt, alloc, line)?;
         }
         Ok(())
     }
+}
 
-    /// Serves a job with its own copies of the USIMs to which it gives.
-    pub(crate) fn serve_job<R: Wait>(
-        &mut self,
-        rt: &R,
-        alloc: Global,
-        usims: &Usims,
-        full: bool,
-        job: &[Line],
-    ) -> Result<ServedJob, NoMemory>
-        requires rows { AreOfRows self.old.set.rows usims.now }
-        requires known { AreKnown (length self.old.set.rows) job.now }
-        requires none { self.old.lines ≡ [] }
-        requires begins { (early : List LineRecord) × (beside : List LineRecord) × WorkerBegins C.kept early beside self.old usims.now job.now }
+/// The network with which a job begins, with devices that have copies of the USIMs that it holds.
+pub(crate) fn job_world(
+    alloc: Global,
+    set: &Setting,
+    usims: &Usims,
+    job: &[Line],
+) -> Result<World, NoMemory>
+    requires rows { AreOfRows set.now.rows usims.now }
+    requires known { AreKnown (length set.now.rows) job.now }
+    requires realm { length set.now.realm ≤ 255 }
+    ensures { IfOk result (λ world. world ≡ start_world set.now usims.now job.now) }
+{
+    let (homes, devices) = JobDevices::of_job(alloc, set, usims, job)?.into_parts();
+    World::new(alloc, homes, devices)
+}
 
-        ensures served { IfOk result (λ served. WorkerServesJob C.kept C.goes self.old self.new usims.now job.now served.lines served.usims) }
-        ensures vectors { IfOk result (λ served. served.vectors ≡ (if full then vectors_in self.old.set served.lines else [])) }
-        ensures none { OnOk result (self.new.lines ≡ []) }
-        ensures same { IsSameWorker (C.name self.old.centre) (C.name self.new.centre) self.old self.new }
-    {
-        self.begin(JobUsims::of_job(alloc, usims, job)?);
-        self.serve_lines(rt, job)?;
-        let (lines, usims) = self.end(alloc);
-        let vectors = printed_vectors(alloc, self.set, lines.as_slice(), full)?;
-        Ok(ServedJob {
-            lines,
-            usims,
-            vectors,
-        })
-    }
+/// What a job gave whose lines are these, and whose network came to this.
+pub(crate) fn served_job(
+    alloc: Global,
+    set: &Setting,
+    full: bool,
+    lines: JobRecord,
+    world: World,
+) -> Result<ServedJob, NoMemory>
+    requires { All (IsReleasableLine set.now) lines }
+    ensures lines { IfOk result (λ served. served.lines ≡ lines) }
+    ensures homes { IfOk result (λ served. served.devices.homes ≡ world.net.homes) }
+    ensures devices { IfOk result (λ served. served.devices.devices ≡ world.devices) }
+    ensures sessions { IfOk result (λ served. served.sessions ≡ job_sessions world.net) }
+    ensures vectors { IfOk result (λ served. served.vectors ≡ (if full then vectors_in set.now lines else [])) }
+{
+    let vectors = printed_vectors(alloc, set, lines.as_slice(), full)?;
+    let sessions = world.sessions(alloc)?;
+    let (homes, devices) = world.parts();
+    Ok(ServedJob {
+        lines,
+        devices: JobDevices::new(homes, devices),
+        sessions,
+        vectors,
+    })
 }

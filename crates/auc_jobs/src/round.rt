@@ -26,7 +26,9 @@ use auc_disk::Disk;
 use auc_edge::{Gate, Items, NoMemory, Stop};
 use auc_journal::Journal;
 use auc_lines::JobPart;
-use auc_world::{JobVectors, RoundRecord, Setting, closings, counts};
+use auc_world::{
+    JobVectors, RoundRecord, Setting, closings, counts, round_premise, round_verdicts,
+};
 use std::alloc::Global;
 use std::sync::Wait;
 use std::thread::Threads;
@@ -54,7 +56,7 @@ pub struct Served<D: Disk + Drop> {
 }
 
 /// Serves a round of this number by 1 to 64 workers, each in a thread of its own: opens each subscriber at its word of the
-/// state, has the workers claim the jobs and serve them, each with its own copies of the USIMs to which it gives, closes
+/// state, has the workers claim the jobs and serve them, each with its own copies of the USIMs that it holds, closes
 /// the subscribers, and puts the USIMs back. A number is released only if the journal has reserved it. If an append is
 /// refused, the round goes on within the limits. The gate is told before a job and after its last line, by its number
 /// from 1.
@@ -76,6 +78,7 @@ pub fn serve<D: Disk + Drop + Send, G: Gate + Sync, R: Threads + Wait + Sync>(
     requires apart { AllPairs AreApart jobs.now }
     requires workers { (1 ≤ workers) × (workers ≤ 64) }
     requires subscribers { AreSubscribers set.now.rows }
+    requires realm { length set.now.realm ≤ 255 }
     requires journal { IsJournalOf set.now.rows journal }
     ensures served { IfOk result.result (λ ran. (early : List LineRecord) → StandsAt set.now early state
         → Serves D.seen D.may_leave set.now early state jobs.now ran.round ran.stop journal
@@ -129,9 +132,10 @@ fn pieces<D: Disk + Drop + Send, G: Gate + Sync, R: Threads + Wait + Sync>(
     requires apart { AllPairs AreApart jobs.now }
     requires workers { (1 ≤ workers) × (workers ≤ 64) }
     requires subscribers { AreSubscribers set.now.rows }
+    requires realm { length set.now.realm ≤ 255 }
     requires journal { IsJournalOf set.now.rows journal }
     ensures served { IfOk result.result (λ done. (early : List LineRecord) → StandsAt set.now early state.now
-        → AreServed set.now early state.now.words jobs.now done.jobs.records done.jobs.usims done.words) }
+        → AreServed set.now early state.now.words jobs.now done.jobs.records done.jobs.devices done.jobs.sessions done.words) }
     ensures limits { IfOk result.result (λ done. GoesByLimits set.now done.stop done.jobs.records
         (limits_of journal) done.words (limits_of result.journal)) }
     ensures vectors { IfOk result.result (λ done. done.jobs.vectors
@@ -171,9 +175,10 @@ fn finish(
     done: RoundPieces,
 ) -> Result<Ran, NoMemory>
     requires state { (early : List LineRecord) × StandsAt set.now early state.old }
+    requires few { length jobs.now ≤ 200000 }
     requires apart { AllPairs AreApart jobs.now }
     requires served { (early : List LineRecord) → StandsAt set.now early state.old
-        → AreServed set.now early state.old.words jobs.now done.jobs.records done.jobs.usims done.words }
+        → AreServed set.now early state.old.words jobs.now done.jobs.records done.jobs.devices done.jobs.sessions done.words }
     requires withholds { Withholds done.stop (all_lines done.jobs.records) }
     requires bound { All (λ word. word ≤ max_seq + 64) done.words }
     ensures lawful { IfOk result (λ ran. (early : List LineRecord) → StandsAt set.now early state.old
@@ -195,16 +200,18 @@ fn finish(
     } = done;
     let ServedJobs {
         records,
-        usims,
+        devices,
+        sessions,
         vectors,
     } = done;
     let counts = counts(alloc, state.words.len(), records.as_slice())?;
     let closings = closings(alloc, state.words.as_slice(), words.as_slice(), &counts)?;
+    let verdicts = round_verdicts(alloc, sessions.as_slice())?;
+    let premise = round_premise(sessions.as_slice());
     state.advance(
         alloc,
-        jobs,
         records.as_slice(),
-        usims.as_slice(),
+        devices.as_slice(),
         words.as_slice(),
     )?;
     Ok(Ran {
@@ -212,6 +219,8 @@ fn finish(
             number,
             jobs: records,
             closings,
+            sessions: verdicts,
+            premise,
         },
         vectors,
         stop,

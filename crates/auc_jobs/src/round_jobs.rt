@@ -8,7 +8,7 @@ ghost use Rattle.auc_world.specs.declared.record.LineRecord.{LineRecord};
 ghost use Rattle.auc_jobs.specs.InnerSharing.{BeginsAt, IsBookOf, IsServable, ServesAt};
 ghost use Rattle.auc_jobs.specs.InnerWorker.{IsCentreOf};
 
-use crate::jobs::ServedJob;
+use crate::jobs::{ServedJob, job_world, served_job};
 use crate::worker::Worker;
 use auc_cards::Usims;
 use auc_centre::{Desk, Kept, Naming};
@@ -77,10 +77,14 @@ impl RoundJobs<'_> {
             (C.kept centre.old) (C.kept centre.new) self.now job served) }
     {
         let asked = self.jobs[job as usize].as_slice();
-        let mut worker = Worker::new(alloc, centre, self.set, self.released);
-        let served = worker.serve_job(rt, alloc, self.usims, self.full, asked);
+        let world = job_world(alloc, self.set, self.usims, asked)?;
+        let mut worker = Worker::new(alloc, centre, self.set, self.released, world);
+        let served = worker.serve_lines(rt, alloc, asked);
+        let ended = worker.end(alloc);
         let _centre = worker.into_centre();
-        served
+        served?;
+        let (lines, world) = ended?;
+        served_job(alloc, self.set, self.full, lines, world)
     }
 
     /// Serves the job of a place at the desk of a pass.

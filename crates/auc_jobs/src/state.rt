@@ -7,9 +7,8 @@ ghost use Rattle.auc_world.specs.declared.record.LineRecord.{LineRecord};
 ghost use Rattle.auc_jobs.specs.InnerRound.{IsAdvanced};
 ghost use Rattle.auc_jobs.specs.State.{StandsAt};
 
-use auc_cards::{JobUsims, Usims};
+use auc_cards::{JobDevices, Usims};
 use auc_edge::{Items, NoMemory};
-use auc_lines::JobPart;
 use auc_released::Numbers;
 use auc_subs::Subscribers;
 use auc_world::{JobRecord, note_all, reopened};
@@ -60,18 +59,16 @@ impl State {
     pub(crate) fn advance(
         &mut self,
         alloc: Global,
-        jobs: &[JobPart],
         records: &[JobRecord],
-        usims: &[JobUsims],
+        devices: &[JobDevices],
         words: &[u64],
     ) -> Result<(), NoMemory>
-        requires { length usims.now ≡ length jobs.now }
-        ensures advanced { OnOk result (IsAdvanced self.old jobs.now records.now usims.now words.now self.new) }
+        ensures advanced { OnOk result (IsAdvanced self.old records.now devices.now words.now self.new) }
         ensures kept { OnErr result (self.new ≡ self.old) }
     {
         let openings = reopened(alloc, words)?;
         note_all(&mut self.released, records)?;
-        self.usims.put_back(jobs, usims);
+        self.usims.put_back(devices);
         self.words = openings;
         Ok(())
     }

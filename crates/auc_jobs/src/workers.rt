@@ -157,7 +157,8 @@ fn in_order(mut done: Vec<ClaimedJob>) -> Result<Vec<ClaimedJob>, NoMemory>
 /// What the jobs gave, without their places.
 fn served_jobs(alloc: Global, jobs: Vec<ClaimedJob>, full: bool) -> Result<ServedJobs, NoMemory>
     ensures records { IfOk result (λ done. done.records ≡ map (λ c. c.served.lines) jobs.items) }
-    ensures usims { IfOk result (λ done. done.usims ≡ map (λ c. c.served.usims) jobs.items) }
+    ensures devices { IfOk result (λ done. done.devices ≡ map (λ c. c.served.devices) jobs.items) }
+    ensures sessions { IfOk result (λ done. done.sessions ≡ map (λ c. c.served.sessions) jobs.items) }
     ensures vectors { IfOk result (λ done. done.vectors ≡ (if full then map (λ c. c.served.vectors) jobs.items else [])) }
 {
     let mut done = ServedJobs::new(alloc);
@@ -228,7 +229,7 @@ fn close(
     requires keeper { (keeper.id ≡ book.id) × (keeper.passes ≡ length all.items) }
     requires stop { stop ≡ keeper.stop }
     ensures served { IfOk result (λ done. (early : List LineRecord) → Begins round.now early
-        → AreServed round.now.set early book.openings round.now.jobs done.jobs.records done.jobs.usims done.words) }
+        → AreServed round.now.set early book.openings round.now.jobs done.jobs.records done.jobs.devices done.jobs.sessions done.words) }
     ensures limits { IfOk result (λ done.
         GoesByLimits round.now.set stop done.jobs.records book.limits done.words keeper.limits) }
     ensures looked { IfOk result (λ done. (i : ℕ) → i < length book.openings
@@ -265,7 +266,7 @@ pub(crate) fn serve_pieces<D: Disk + Drop + Send, G: Gate + Sync, R: Threads + W
     requires journal { IsJournalOf round.now.set.rows journal }
     requires workers { (1 ≤ workers) × (workers ≤ 64) }
     ensures served { IfOk result.result (λ done. (early : List LineRecord) → Begins round.now early
-        → AreServed round.now.set early openings.now round.now.jobs done.jobs.records done.jobs.usims done.words) }
+        → AreServed round.now.set early openings.now round.now.jobs done.jobs.records done.jobs.devices done.jobs.sessions done.words) }
     ensures limits { IfOk result.result (λ done. GoesByLimits round.now.set done.stop done.jobs.records
         (limits_of journal) done.words (limits_of result.journal)) }
     ensures vectors { IfOk result.result (λ done. done.jobs.vectors

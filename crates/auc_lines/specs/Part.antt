@@ -1,16 +1,22 @@
--- What the parts of a scenario ask for, and to whose USIMs their jobs give.
-use Rattle.std.specs.Prelude.{◌≡◌, ℕ, ◌==◌, ◌≤◌, Bool, true, false, List, [], ◌∷◌, ◌++◌, sum_by, Option, Some, None}
+-- What the parts of a scenario ask for, and whose USIMs their jobs hold.
+use Rattle.std.specs.Prelude.{◌≡◌, ℕ, ◌==◌, ◌≤◌, Bool, true, false, List, [], ◌∷◌, ◌++◌, fold, sum_by, Option, Some, None, if◌then◌else◌}
 use Rattle.std.specs.List.{list_any}
 use Rattle.auc_lines.specs.declared.part.Line.{Line}
-use Rattle.auc_lines.specs.declared.part.Line.TheVariants.{Draw, Give, Sync}
+use Rattle.auc_lines.specs.declared.part.Line.TheVariants.{Draw, Give, Sync, Session, Start, Deliver, Repeat, GiveUp, Plain}
 use Rattle.auc_lines.specs.declared.part.Part.{Part}
 use Rattle.auc_lines.specs.declared.part.Part.TheVariants.{Round, Restart}
 
--- how many vectors a line asks for, and all lines of some jobs
+-- how many vectors a line asks for, a session for two; and all lines of some jobs
 abbrev pub asked_by : Line → ℕ
 asked_by (Draw sub count) = count
 asked_by (Sync sub seq bit count) = count
 asked_by (Give sub number) = 0
+asked_by (Session session sub) = 2
+asked_by (Start session) = 0
+asked_by (Deliver session end packet) = 0
+asked_by (Repeat session) = 0
+asked_by (GiveUp session end) = 0
+asked_by (Plain session) = 0
 
 abbrev pub asked : List (List Line) → ℕ
 asked jobs = sum_by (λ job. sum_by asked_by job) jobs
@@ -21,18 +27,40 @@ jobs_of [] = []
 jobs_of (Round jobs ∷ more) = jobs ++ jobs_of more
 jobs_of (Restart ∷ more) = jobs_of more
 
--- a line gives to the USIM of a subscriber, a job has such a line
-abbrev pub is_give_to : ℕ → Line → Bool
-is_give_to sub (Draw other count) = false
-is_give_to sub (Sync other seq bit count) = false
-is_give_to sub (Give other number) = other == sub
+-- the subscriber whose USIM a job holds because of a line: the line gives to it, or opens a session of it
+abbrev pub held_by : Line → Option ℕ
+held_by (Draw sub count) = None
+held_by (Sync sub seq bit count) = None
+held_by (Give sub number) = Some sub
+held_by (Session session sub) = Some sub
+held_by (Start session) = None
+held_by (Deliver session end packet) = None
+held_by (Repeat session) = None
+held_by (GiveUp session end) = None
+held_by (Plain session) = None
 
-abbrev pub gives_to : ℕ → List Line → Bool
-gives_to sub job = list_any (is_give_to sub) job
+abbrev pub is_that : ℕ → Option ℕ → Bool
+is_that sub None = false
+is_that sub (Some other) = other == sub
 
--- no two jobs give to one USIM
+-- a line holds the USIM of a subscriber, a job has such a line
+abbrev pub is_held_by : ℕ → Line → Bool
+is_held_by sub line = is_that sub (held_by line)
+
+abbrev pub holds : ℕ → List Line → Bool
+holds sub job = list_any (is_held_by sub) job
+
+-- no two jobs hold one USIM
 abbrev pub AreApart : List Line → List Line → Type 0
-AreApart a b = (sub : ℕ) → gives_to sub a ≡ true → gives_to sub b ≡ false
+AreApart a b = (sub : ℕ) → holds sub a ≡ true → holds sub b ≡ false
+
+-- the subscribers whose USIMs a job holds, each once, in the order of the lines that name them first
+abbrev pub with_held : List ℕ → Option ℕ → List ℕ
+with_held subs None = subs
+with_held subs (Some sub) = if list_any (λ other. other == sub) subs then subs else subs ++ sub ∷ []
+
+abbrev pub held_subs : List Line → List ℕ
+held_subs job = fold (λ subs line. with_held subs (held_by line)) [] job
 
 -- the last of the 112 bits of an AUTS (TS 33.102 §6.3.3)
 abbrev pub last_bit : ℕ

@@ -2,7 +2,17 @@
 
 use auc_edge::Items;
 
-/// A line of a job, for the subscriber at the place `sub`.
+/// An end of a session.
+#[derive(Clone, Copy, Debug, PartialEq, Eq)]
+pub enum End {
+    /// The server (RFC 3748 §1.2).
+    Server,
+    /// The peer, which has the USIM.
+    Peer,
+}
+
+/// A line of a job, for the subscriber at the place `sub` or for the session of a number. A packet's number counts the
+/// packets of the job from 1.
 #[derive(Debug, Drop, PartialEq, Eq)]
 pub enum Line {
     /// Asks for `count` vectors, 1 to 1000.
@@ -25,19 +35,64 @@ pub enum Line {
         sub: u32,
         n: u64,
     },
+    /// Opens a session of EAP-AKA under this number, 1 to 999999, at the subscriber's device.
+    Session {
+        session: u32,
+        sub: u32,
+    },
+    /// The session's server starts, and sends its first request.
+    Start(u32),
+    /// A packet reaches an end of the session. It stays there to be delivered again.
+    Deliver {
+        session: u32,
+        end: End,
+        packet: u32,
+    },
+    /// The session's server sends its last request again.
+    Repeat(u32),
+    /// An end of the session gives up.
+    GiveUp {
+        session: u32,
+        end: End,
+    },
+    /// The session's server starts, and each packet that follows is delivered once to the other end, until one makes
+    /// none.
+    Plain(u32),
 }
 
 impl Line {
     ghost use Rattle.std.specs.Prelude.{◌≡◌};
-    ghost use Rattle.auc_lines.specs.Part.{asked_by};
+    ghost use Rattle.auc_lines.specs.Part.{asked_by, held_by};
 
-    /// How many vectors it asks for at most.
+    /// How many vectors it asks for at most: a session for 2.
     pub fn count(&self) -> u32
         ensures { result ≡ asked_by self.now }
     {
         match *self {
             Line::Draw { count, .. } | Line::Sync { count, .. } => count,
-            Line::Give { .. } => 0,
+            Line::Session { .. } => 2,
+            Line::Give { .. }
+            | Line::Start(_)
+            | Line::Deliver { .. }
+            | Line::Repeat(_)
+            | Line::GiveUp { .. }
+            | Line::Plain(_) => 0,
+        }
+    }
+
+    /// The subscriber whose USIM the line's job holds because of it: it gives to the USIM, or opens a session of it.
+    pub fn held(&self) -> Option<u32>
+        ensures { result ≡ held_by self.now }
+    {
+        match *self {
+            Line::Give { sub, .. } | Line::Session { sub, .. } => Some(sub),
+            Line::Draw { .. }
+            | Line::Sync { .. }
+            | Line::Start(_)
+            | Line::Deliver { .. }
+            | Line::Repeat(_)
+            | Line::GiveUp { .. }
+            | Line::Plain(_) => None,
         }
     }
 }

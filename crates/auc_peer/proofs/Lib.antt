@@ -1,3 +1,4 @@
+pub mod Facts
 mod AskingLemmas
 mod MessageLemmas
 mod LawLemmas

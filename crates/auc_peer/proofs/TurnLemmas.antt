@@ -52,7 +52,8 @@ answer_once one p seen c (answer.Accepted res ck ik ak amf sqn) b d x y =
     (client p seen why.WrongMac (Some (note.Accepted sqn)) false) (client (accepting p c) seen why.WrongCheckcode (Some (note.Accepted sqn)) true)
     (λ (readable : Bool). opened (accepting p c) seen res sqn keys readable) b d x y
 
-row_once : OneOpening → (s : Subscription) (p : Peer) (seen : Seen) (r : Row) (n : Option UsimNote) (b d : Bool) → Decrypts (decryption_noted s p seen (asked r) n) b → Decrypts (decryption_noted s p seen (asked r) n) d
+-- what a row does depends on what was decrypted alone, and not on a decryption that it doesn't make
+pub row_once : OneOpening → (s : Subscription) (p : Peer) (seen : Seen) (r : Row) (n : Option UsimNote) (b d : Bool) → Decrypts (decryption_noted s p seen (asked r) n) b → Decrypts (decryption_noted s p seen (asked r) n) d
     → peer_does s p seen r n b ≡ peer_does s p seen r n d
 row_once one s p seen (row.Ignore cause) n b d x y = refl
 row_once one s p seen row.Again n b d x y = refl

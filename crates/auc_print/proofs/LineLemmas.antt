@@ -1,136 +1,369 @@
--- The words of a line determine the line, and the text of lines determines the lines.
-use Rattle.std.proofs.Common.{ℕ, ◌^◌, ◌<◌, ◌≡◌, ◌∙◌, refl, sym, ap, Bool, List, [], ◌∷◌, ◌++◌, map, drop, length, get_or, slice_index_or, flat_map, if◌then◌else◌, codes, bytes_eq, Ok, arith, inl, inr}
+-- The words of a line determine what is told of the line, and so does the text of lines.
+use Rattle.std.proofs.Common.{ℕ, zero, suc, ◌+◌, ◌/◌, ◌%◌, ◌<◌, ◌≤◌, ◌≡◌, ◌∙◌, refl, sym, ap, Bool, true, false, ◌||◌, List, [], ◌∷◌, ◌++◌, map, drop, length, get_or, slice_index_or, flat_map, if◌then◌else◌, codes, bytes_eq, Option, Some, None, Result, Ok, Err, ◌⊎◌, inl, inr, arith}
 use Rattle.std.specs.List.{AllByRecursion}
 use Rattle.std.proofs.lemmas.Bool.{cases_order}
-use Rattle.std.proofs.lemmas.Fmt.{decimal_injective}
 use Rattle.std.proofs.lemmas.List.Concat.{flat_map-append}
-use Rattle.std.proofs.lemmas.List.Folds.{flat_map-map}
-use Rattle.hex.specs.Hex.{IsBytes, encode_lower, decode_of}
-use Rattle.hex.proofs.HexLemmas.{decode_of-encode_lower}
-use Rattle.auc_edge.specs.Identity.{Identity}
+use Rattle.hex.specs.Hex.{encode_lower}
+use Rattle.auc_edge.specs.Identity.{Identity, last_digits}
 use Rattle.auc_edge.specs.declared.stop.Stop.{Stop}
 use Rattle.auc_edge.specs.declared.stop.Stop.TheVariants.{Fault, Full}
 use Rattle.auc_edge.proofs.Facts.{digits_of_injective}
+use Rattle.auc_lines.specs.declared.part.End.{End}
+use Rattle.auc_lines.specs.declared.part.End.TheVariants as end
+use Rattle.auc_peer.specs.declared.why.PeerWhy.{PeerWhy}
+use Rattle.auc_peer.specs.declared.why.PeerWhy.TheVariants as peer_why
+use Rattle.auc_server.specs.declared.why.ServerWhy.{ServerWhy}
+use Rattle.auc_server.specs.declared.why.ServerWhy.TheVariants as server_why
+use Rattle.auc_vector.specs.declared.notes.CounterNote.{CounterNote}
+use Rattle.auc_vector.specs.declared.notes.CounterNote.TheVariants as counter
+use Rattle.auc_vector.specs.declared.notes.Notes.{Notes}
+use Rattle.auc_vector.specs.declared.notes.NumberNote.{NumberNote}
+use Rattle.auc_vector.specs.declared.notes.NumberNote.TheVariants as number
+use Rattle.auc_vector.specs.declared.notes.ResyncNote.{ResyncNote}
+use Rattle.auc_vector.specs.declared.notes.ResyncNote.TheVariants as resync
+use Rattle.auc_vector.specs.declared.notes.UsimNote.{UsimNote}
+use Rattle.auc_vector.specs.declared.notes.UsimNote.TheVariants as usim
 use Rattle.auc_vector.specs.declared.parts.Vector.{Vector as AuthVector}
-use Rattle.auc_world.specs.Record.{subscriber_of}
+use Rattle.auc_vector.specs.declared.turn.Outcome.TheVariants as outcome
+use Rattle.auc_vector.specs.declared.turn.Reason.{Reason}
+use Rattle.auc_vector.specs.declared.turn.Reason.TheVariants as reason
+use Rattle.auc_vector.specs.declared.turn.Step.{Step}
+use Rattle.auc_vector.specs.declared.turn.Step.TheVariants as step
+use Rattle.auc_world.specs.Record.{IsBelow, subscriber_of}
 use Rattle.auc_world.specs.Setting.{Setting}
+use Rattle.auc_world.specs.Told.{told_line}
 use Rattle.auc_world.specs.Vectors.{vector_in}
+use Rattle.auc_world.specs.declared.event.Event.{Event as SessionEvent}
+use Rattle.auc_world.specs.declared.event.Event.TheVariants as event
+use Rattle.auc_world.specs.declared.event.EventRecord.{EventRecord}
+use Rattle.auc_world.specs.declared.event.Note.{Note}
+use Rattle.auc_world.specs.declared.event.NoteStep.{NoteStep}
+use Rattle.auc_world.specs.declared.event.NoteStep.TheVariants as did
+use Rattle.auc_world.specs.declared.event.WorldRefusal.{WorldRefusal}
+use Rattle.auc_world.specs.declared.event.WorldRefusal.TheVariants as refused
+use Rattle.auc_world.specs.declared.net.Breach.{Breach}
 use Rattle.auc_world.specs.declared.record.LineRecord.{LineRecord}
-use Rattle.auc_world.specs.declared.record.LineRecord.TheVariants.{Vector, Withheld, Exhausted, Sync, Give}
+use Rattle.auc_world.specs.declared.record.LineRecord.TheVariants.{Vector, Withheld, Exhausted, Sync, Give, Event}
 use Rattle.auc_world.specs.declared.record.SyncVerdict.{SyncVerdict}
 use Rattle.auc_world.specs.declared.record.SyncVerdict.TheVariants.{Moved, InRange, Beyond, WrongMac}
 use Rattle.auc_world.specs.declared.record.GiveVerdict.{GiveVerdict}
 use Rattle.auc_world.specs.declared.record.GiveVerdict.TheVariants.{Accepted, Sync as SyncFailure, Absent}
 use Rattle.auc_world.specs.declared.record.Closing.{Closing}
-use Rattle.auc_print.specs.Text.{Line, RoundLine, JobLine, RecordLine, ClosedLine, RestartLine, identities_of, imsi_of, stop_word, sync_words, give_words, record_words, closing_words, line_words, bytes_words, spaced, line_text}
-use Rattle.auc_print.specs.OneText.{AreIdentities, SyncFits, GiveFits, AnswerFits, ClosingFits}
-use Rattle.auc_print.proofs.SpacedLemmas.{IsWord, AllWords, AreWords, AreLines, lines_cut, word_from_test, decimal_word, last_digits_word, hex_word}
+use Rattle.auc_world.specs.declared.record.SessionVerdict.{SessionVerdict}
+use Rattle.auc_print.specs.EventText.{came_lines, came_words, counter_words, end_word, event_words, notes_words, number_words, packet_lines, peer_words, reason_word, resumed_words, resync_words, sent_words, server_words, step_lines, step_sent, step_words, stop_word, usim_words, what_lines, what_words}
+use Rattle.auc_print.specs.Numeral.{numeral}
+use Rattle.auc_print.specs.Text.{Line, RoundLine, JobLine, RecordLine, ClosedLine, SessionLine, HeldLine, BrokenLine, RestartLine, added_lines, agree_word, broken_words, bytes_words, closing_words, event_lines, give_words, identities_of, imsi_of, line_text, line_words, record_words, session_words, spaced, sync_words}
+use Rattle.auc_print.specs.OneText.{AnswerFits, AreIdentities, GiveFits, IsAtItsEnd}
+use Rattle.auc_print.proofs.EventLemmas.{end_injective, event_injective, notes_flat, stop_injective, word_at}
+use Rattle.auc_print.proofs.HexLemmas.{hex_injective}
+use Rattle.auc_print.proofs.NumeralLemmas.{numeral_injective, numeral_word}
+use Rattle.auc_print.proofs.SpacedLemmas.{IsWord, AllWords, AreWords, AreLines, hex_word, is_word, last_digits_word, lines_cut, word_from_test, words_append}
 
--- each subscriber that a line names has an identity, and the values in the line fit their types
+-- each subscriber that a line names has an identity, and the SQN in the line consists of bytes
 abbrev pub LineFits : List Identity → Line → Type 0
-LineFits identities (RoundLine number) = number < 2 ^ 64
-LineFits identities (JobLine number) = number < 2 ^ 64
-LineFits identities (RecordLine answer) = (subscriber_of answer < length identities) × AnswerFits answer
-LineFits identities (ClosedLine closing) = (closing.sub < length identities) × ClosingFits closing
+LineFits identities (RoundLine number) = Unit {0}
+LineFits identities (JobLine number) = Unit {0}
+LineFits identities (RecordLine answer) = IsBelow (length identities) (subscriber_of answer) × AnswerFits answer
+LineFits identities (ClosedLine closing) = closing.sub < length identities
+LineFits identities (SessionLine verdict) = Unit {0}
+LineFits identities HeldLine = Unit {0}
+LineFits identities (BrokenLine job breach) = Unit {0}
 LineFits identities RestartLine = Unit {0}
 
--- subscribers with the same IMSI are the same
-imsi_injective : (identities : List Identity) (s t : ℕ) → AreIdentities identities → s < length identities → t < length identities
-    → imsi_of identities s ≡ imsi_of identities t → s ≡ t
-imsi_injective identities s t are a b e =
-    let none : Identity = record { digits = 0; number = 0 } in
-    let same : slice_index_or identities s none ≡ slice_index_or identities t none
-    = digits_of_injective _ _ (are.each s none a) (are.each t none b) e in
-    elim (cases_order s t) [
-      | inl equal ↦ equal
+-- what came of an event in a line is a step of its end
+abbrev pub LineAt : Line → Type 0
+LineAt (RoundLine number) = Unit {0}
+LineAt (JobLine number) = Unit {0}
+LineAt (RecordLine answer) = IsAtItsEnd answer
+LineAt (ClosedLine closing) = Unit {0}
+LineAt (SessionLine verdict) = Unit {0}
+LineAt HeldLine = Unit {0}
+LineAt (BrokenLine job breach) = Unit {0}
+LineAt RestartLine = Unit {0}
+
+-- what is told of a line
+abbrev pub told_of : Line → Line
+told_of (RoundLine number) = RoundLine number
+told_of (JobLine number) = JobLine number
+told_of (RecordLine answer) = RecordLine (told_line answer)
+told_of (ClosedLine closing) = ClosedLine closing
+told_of (SessionLine verdict) = SessionLine verdict
+told_of HeldLine = HeldLine
+told_of (BrokenLine job breach) = BrokenLine job breach
+told_of RestartLine = RestartLine
+
+-- ---- subscribers
+
+-- an identity has digits
+some_digits : (count n : ℕ) → 0 < count → last_digits count n ≡ [] → ⊥
+some_digits zero n some e = omega arith
+some_digits (suc count) n some e = in_front (last_digits count (n / 10)) (48 + n % 10) e
+  where
+    in_front : (xs : List ℕ) (x : ℕ) → xs ++ x ∷ [] ≡ [] → ⊥
+    in_front [] x e = cc
+    in_front (y ∷ xs) x e = cc
+
+-- past the last subscriber there is no IMSI
+no_imsi : (identities : List Identity) (t : ℕ) → length identities ≤ t → imsi_of identities t ≡ []
+no_imsi [] t above = refl
+no_imsi (identity ∷ identities) zero above = absurd (omega arith)
+no_imsi (identity ∷ identities) (suc t) above = no_imsi identities t (omega arith)
+
+known_or_past : (t n : ℕ) → (t < n) ⊎ (n ≤ t)
+known_or_past t n =
+    elim (cases_order t n) [
+      | inl equal ↦ inr (omega arith)
       | inr apart ↦ elim apart [
-        | inl below ↦ absurd (are.differ s t none below b same)
-        | inr above ↦ absurd (are.differ t s none above a (sym same))
+        | inl below ↦ inl below
+        | inr above ↦ inr (omega arith)
       ]
     ]
+
+-- a known subscriber and one with the same IMSI are the same
+imsi_injective : (identities : List Identity) (s t : ℕ) → AreIdentities identities → s < length identities → imsi_of identities s ≡ imsi_of identities t → s ≡ t
+imsi_injective identities s t are a e = by (known_or_past t (length identities))
+  where
+    none : Identity
+    none = record { digits = 0; number = 0 }
+
+    by : (t < length identities) ⊎ (length identities ≤ t) → s ≡ t
+    by (inl b) =
+        let same : slice_index_or identities s none ≡ slice_index_or identities t none
+        = digits_of_injective _ _ (are.each s none a) (are.each t none b) e in
+        elim (cases_order s t) [
+          | inl equal ↦ equal
+          | inr apart ↦ elim apart [
+            | inl below ↦ absurd (are.differ s t none below b same)
+            | inr above ↦ absurd (are.differ t s none above a (sym same))
+          ]
+        ]
+    by (inr past) =
+        let here : Identity = slice_index_or identities s none in
+        let some = (are.each s none a).least in
+        let enough : 0 < here.digits = omega (arith, some) in
+        absurd (some_digits here.digits here.number enough (e ∙ no_imsi identities t past))
 
 -- an IMSI is a word
 imsi_word : (identities : List Identity) (s : ℕ) → IsWord (imsi_of identities s)
 imsi_word identities s =
     let identity : Identity = slice_index_or identities s (record { digits = 0; number = 0 }) in last_digits_word identity.digits identity.number
 
--- bytes with the same hexadecimal digits are the same
-hex_injective : (a b : List ℕ) → IsBytes a → IsBytes b → encode_lower a ≡ encode_lower b → a ≡ b
-hex_injective a b p q e =
-    let read : Ok a ≡ Ok b = sym (decode_of-encode_lower a p) ∙ ap decode_of e ∙ decode_of-encode_lower b q in (cc)
+-- ---- words
 
 -- the words of a stop, of a verdict on an AUTS and of a USIM's answer are words
 stop_word_is : (stop : Stop) → IsWord (stop_word stop)
 stop_word_is Fault = word_from_test (codes "fault") refl
 stop_word_is Full = word_from_test (codes "full") refl
 
-sync_words_are : (verdict : SyncVerdict) → SyncFits verdict → AllWords (sync_words verdict)
-sync_words_are (Moved seen seq_ms) fits = (word_from_test (codes "moved") refl, (decimal_word seen fits.0, (decimal_word seq_ms fits.1, tt)))
-sync_words_are (InRange seen seq_ms) fits = (word_from_test (codes "inrange") refl, (decimal_word seen fits.0, (decimal_word seq_ms fits.1, tt)))
-sync_words_are (Beyond seen seq_ms) fits = (word_from_test (codes "beyond") refl, (decimal_word seen fits.0, (decimal_word seq_ms fits.1, tt)))
-sync_words_are WrongMac fits = (word_from_test (codes "wrongmac") refl, tt)
+end_word_is : (at' : End) → IsWord (end_word at')
+end_word_is end.Server = word_from_test (codes "server") refl
+end_word_is end.Peer = word_from_test (codes "peer") refl
+
+-- words of a number, of two, of bytes
+one_number : (word : List ℕ) (n : ℕ) → is_word word ≡ true → AllWords (word ∷ numeral n ∷ [])
+one_number word n test = (word_from_test word test, (numeral_word n, tt))
+
+two_numbers : (word : List ℕ) (m n : ℕ) → is_word word ≡ true → AllWords (word ∷ numeral m ∷ numeral n ∷ [])
+two_numbers word m n test = (word_from_test word test, (numeral_word m, (numeral_word n, tt)))
+
+a_stop : (word : List ℕ) (n : ℕ) (stop : Stop) → is_word word ≡ true → AllWords (word ∷ numeral n ∷ stop_word stop ∷ [])
+a_stop word n stop test = (word_from_test word test, (numeral_word n, (stop_word_is stop, tt)))
+
+some_bytes : (word bytes : List ℕ) → is_word word ≡ true → AllWords (word ∷ encode_lower bytes ∷ [])
+some_bytes word bytes test = (word_from_test word test, (hex_word bytes, tt))
+
+no_more : (word : List ℕ) → is_word word ≡ true → AllWords (word ∷ [])
+no_more word test = (word_from_test word test, tt)
+
+sync_words_are : (verdict : SyncVerdict) → AllWords (sync_words verdict)
+sync_words_are (Moved seen seq_ms) = two_numbers (codes "moved") seen seq_ms refl
+sync_words_are (InRange seen seq_ms) = two_numbers (codes "inrange") seen seq_ms refl
+sync_words_are (Beyond seen seq_ms) = two_numbers (codes "beyond") seen seq_ms refl
+sync_words_are WrongMac = no_more (codes "wrongmac") refl
 
 give_words_are : (verdict : GiveVerdict) → AllWords (give_words verdict)
-give_words_are Accepted = (word_from_test (codes "accepted") refl, tt)
-give_words_are (SyncFailure sqn_ms) = (word_from_test (codes "sync") refl, (hex_word sqn_ms, tt))
-give_words_are Absent = (word_from_test (codes "absent") refl, tt)
+give_words_are Accepted = no_more (codes "accepted") refl
+give_words_are (SyncFailure sqn_ms) = some_bytes (codes "sync") sqn_ms refl
+give_words_are Absent = no_more (codes "absent") refl
+
+resync_words_are : (a : Option ResyncNote) → AllWords (resync_words a)
+resync_words_are None = tt
+resync_words_are (Some (resync.Moved from to)) = two_numbers (codes "moved") from to refl
+resync_words_are (Some (resync.InRange seen seq_ms)) = two_numbers (codes "inrange") seen seq_ms refl
+resync_words_are (Some (resync.Beyond seen seq_ms)) = two_numbers (codes "beyond") seen seq_ms refl
+resync_words_are (Some resync.BadAuts) = no_more (codes "badauts") refl
+
+number_words_are : (a : Option NumberNote) → AllWords (number_words a)
+number_words_are None = tt
+number_words_are (Some (number.Drew n)) = one_number (codes "drew") n refl
+number_words_are (Some (number.Exhausted word)) = one_number (codes "exhausted") word refl
+number_words_are (Some (number.Withheld n stop)) = a_stop (codes "withheld") n stop refl
+
+resumed_words_are : (a : Option ℕ) → AllWords (resumed_words a)
+resumed_words_are None = tt
+resumed_words_are (Some count) = one_number (codes "resumed") count refl
+
+usim_words_are : (a : Option UsimNote) → AllWords (usim_words a)
+usim_words_are None = tt
+usim_words_are (Some (usim.Accepted sqn)) = some_bytes (codes "accepted") sqn refl
+usim_words_are (Some (usim.Sync sqn_ms)) = some_bytes (codes "sync") sqn_ms refl
+usim_words_are (Some usim.WrongMac) = no_more (codes "wrongmac") refl
+
+counter_words_are : (a : Option CounterNote) → AllWords (counter_words a)
+counter_words_are None = tt
+counter_words_are (Some (counter.Taken count)) = one_number (codes "counter") count refl
+counter_words_are (Some (counter.Small count)) = one_number (codes "small") count refl
+
+sent_words_are : (a : Option ℕ) → AllWords (sent_words a)
+sent_words_are None = tt
+sent_words_are (Some packet) = one_number (codes "sent") packet refl
+
+notes_words_are : (notes : Notes) → AllWords (notes_words notes)
+notes_words_are notes =
+    words_append (resync_words notes.resync) _ (resync_words_are notes.resync)
+    (words_append (number_words notes.number) _ (number_words_are notes.number)
+    (words_append (resumed_words notes.resumed) _ (resumed_words_are notes.resumed)
+    (words_append (usim_words notes.usim) (counter_words notes.counter) (usim_words_are notes.usim) (counter_words_are notes.counter))))
+
+reason_word_is : (a : Reason) → IsWord (reason_word a)
+reason_word_is reason.Closed = word_from_test (codes "closed") refl
+reason_word_is reason.NotForMe = word_from_test (codes "notforme") refl
+reason_word_is reason.OtherType = word_from_test (codes "othertype") refl
+reason_word_is reason.Malformed = word_from_test (codes "malformed") refl
+reason_word_is reason.Unexpected = word_from_test (codes "unexpected") refl
+reason_word_is reason.Missing = word_from_test (codes "missing") refl
+reason_word_is reason.NoContext = word_from_test (codes "nocontext") refl
+
+server_words_are : (a : ServerWhy) → AllWords (server_words a)
+server_words_are server_why.UnknownIdentity = no_more (codes "unknownidentity") refl
+server_words_are server_why.WrongMac = no_more (codes "wrongmac") refl
+server_words_are server_why.WrongRes = no_more (codes "wrongres") refl
+server_words_are server_why.WrongCheckcode = no_more (codes "wrongcheckcode") refl
+server_words_are server_why.SecondSync = no_more (codes "secondsync") refl
+server_words_are server_why.BadAuts = no_more (codes "badauts") refl
+server_words_are (server_why.Beyond seen seq_ms) = two_numbers (codes "beyond") seen seq_ms refl
+server_words_are (server_why.Exhausted word) = one_number (codes "exhausted") word refl
+server_words_are (server_why.Stopped n stop) = a_stop (codes "stopped") n stop refl
+server_words_are server_why.Rejected = no_more (codes "rejected") refl
+server_words_are (server_why.ClientError code) = one_number (codes "clienterror") code refl
+server_words_are server_why.GivenUp = no_more (codes "givenup") refl
+
+peer_words_are : (a : PeerWhy) → AllWords (peer_words a)
+peer_words_are peer_why.Malformed = no_more (codes "malformed") refl
+peer_words_are peer_why.Missing = no_more (codes "missing") refl
+peer_words_are peer_why.WrongAutn = no_more (codes "wrongautn") refl
+peer_words_are peer_why.WrongMac = no_more (codes "wrongmac") refl
+peer_words_are peer_why.WrongCheckcode = no_more (codes "wrongcheckcode") refl
+peer_words_are peer_why.Undecryptable = no_more (codes "undecryptable") refl
+peer_words_are (peer_why.Notified code) = one_number (codes "notified") code refl
+peer_words_are peer_why.FailureReceived = no_more (codes "failurereceived") refl
+peer_words_are peer_why.GivenUp = no_more (codes "givenup") refl
+
+what_words_are : {W : Type 0} (why_words : W → List (List ℕ)) → ((why : W) → AllWords (why_words why)) → (a : Step W) → AllWords (what_words why_words a)
+what_words_are why_words are (step.Sent bytes) = tt
+what_words_are why_words are (step.Ended (outcome.Success keys) bytes) = (word_from_test (codes "ended") refl, (word_from_test (codes "success") refl, tt))
+what_words_are why_words are (step.Ended (outcome.Failure why) bytes) = (word_from_test (codes "ended") refl, (word_from_test (codes "failure") refl, are why))
+what_words_are why_words are (step.Ignored why) = (word_from_test (codes "ignored") refl, (reason_word_is why, tt))
+
+step_words_are : (a : NoteStep) → AllWords (step_words a)
+step_words_are did.Opened = no_more (codes "open") refl
+step_words_are (did.Server what) = what_words_are server_words server_words_are what
+step_words_are (did.Peer what) = what_words_are peer_words peer_words_are what
+
+came_words_are : (a : Result Note WorldRefusal) → AllWords (came_words a)
+came_words_are (Ok note) =
+    words_append (notes_words note.notes) _ (notes_words_are note.notes)
+    (words_append (sent_words note.packet) (step_words note.step) (sent_words_are note.packet) (step_words_are note.step))
+came_words_are (Err refused.NoSuchPacket) = no_more (codes "nosuchpacket") refl
+came_words_are (Err refused.NoSuchEnd) = no_more (codes "nosuchend") refl
+came_words_are (Err refused.Started) = no_more (codes "started") refl
+
+-- the words of an event's line are words
+event_words_are : (e : SessionEvent) (words : List (List ℕ)) → AllWords words → AreWords (event_words e ++ words)
+event_words_are (event.Open session sub) words are = (word_from_test (codes "session") refl, (numeral_word session, are))
+event_words_are (event.Start session) words are = (word_from_test (codes "start") refl, (numeral_word session, are))
+event_words_are (event.Deliver session at' packet) words are =
+    (word_from_test (codes "deliver") refl, (numeral_word session, (end_word_is at', (numeral_word packet, are))))
+event_words_are (event.Repeat session) words are = (word_from_test (codes "repeat") refl, (numeral_word session, are))
+event_words_are (event.GiveUp session at') words are = (word_from_test (codes "giveup") refl, (numeral_word session, (end_word_is at', are)))
 
 -- the words of a job's record are words
-answer_words_are : (identities : List Identity) (answer : LineRecord) → AnswerFits answer → AreWords (record_words identities answer)
-answer_words_are identities (Vector sub n) fits =
-    (word_from_test (codes "vector") refl, (imsi_word identities sub, (decimal_word n fits, tt)))
-answer_words_are identities (Withheld sub n stop) fits =
-    (word_from_test (codes "withheld") refl, (imsi_word identities sub, (decimal_word n fits, (stop_word_is stop, tt))))
-answer_words_are identities (Exhausted sub word) fits =
-    (word_from_test (codes "exhausted") refl, (imsi_word identities sub, (decimal_word word fits, tt)))
-answer_words_are identities (Sync sub verdict) fits =
-    (word_from_test (codes "sync") refl, (imsi_word identities sub, sync_words_are verdict fits))
-answer_words_are identities (Give sub n verdict) fits =
-    (word_from_test (codes "give") refl, (imsi_word identities sub, (decimal_word n fits.0, give_words_are verdict)))
+answer_words_are : (identities : List Identity) (answer : LineRecord) → AreWords (record_words identities answer)
+answer_words_are identities (Vector sub n) =
+    (word_from_test (codes "vector") refl, (imsi_word identities sub, (numeral_word n, tt)))
+answer_words_are identities (Withheld sub n stop) =
+    (word_from_test (codes "withheld") refl, (imsi_word identities sub, (numeral_word n, (stop_word_is stop, tt))))
+answer_words_are identities (Exhausted sub word) =
+    (word_from_test (codes "exhausted") refl, (imsi_word identities sub, (numeral_word word, tt)))
+answer_words_are identities (Sync sub verdict) =
+    (word_from_test (codes "sync") refl, (imsi_word identities sub, sync_words_are verdict))
+answer_words_are identities (Give sub n verdict) =
+    (word_from_test (codes "give") refl, (imsi_word identities sub, (numeral_word n, give_words_are verdict)))
+answer_words_are identities (Event r) = event_words_are r.event (came_words r.result) (came_words_are r.result)
+
+agree_word_is : (agree : Bool) → IsWord (agree_word agree)
+agree_word_is true = word_from_test (codes "agree") refl
+agree_word_is false = word_from_test (codes "differ") refl
 
 -- the words of a line are words
-words_are : (identities : List Identity) (line : Line) → LineFits identities line → AreWords (line_words identities line)
-words_are identities (RoundLine number) fits = (word_from_test (codes "round") refl, (decimal_word number fits, tt))
-words_are identities (JobLine number) fits = (word_from_test (codes "job") refl, (decimal_word number fits, tt))
-words_are identities (RecordLine answer) fits = answer_words_are identities answer fits.1
-words_are identities RestartLine fits = (word_from_test (codes "restart") refl, tt)
-words_are identities (ClosedLine closing) fits = (
+words_are : (identities : List Identity) (line : Line) → AreWords (line_words identities line)
+words_are identities (RoundLine number) = (word_from_test (codes "round") refl, (numeral_word number, tt))
+words_are identities (JobLine number) = (word_from_test (codes "job") refl, (numeral_word number, tt))
+words_are identities (RecordLine answer) = answer_words_are identities answer
+words_are identities (SessionLine verdict) =
+    (word_from_test (codes "session") refl, (numeral_word verdict.session, (agree_word_is verdict.agree, tt)))
+words_are identities HeldLine = (word_from_test (codes "premise") refl, (word_from_test (codes "held") refl, tt))
+words_are identities (BrokenLine job breach) = (
+  word_from_test (codes "premise") refl,
+  (
+    word_from_test (codes "broken") refl,
+    (numeral_word job, (numeral_word breach.session, (end_word_is breach.end, (numeral_word breach.packet, tt)))),
+  ),
+)
+words_are identities RestartLine = (word_from_test (codes "restart") refl, tt)
+words_are identities (ClosedLine closing) = (
   word_from_test (codes "closed") refl,
   (
     imsi_word identities closing.sub,
     (
-      decimal_word _ fits.1.first,
+      numeral_word closing.first,
       (
-        decimal_word _ fits.1.last,
+        numeral_word closing.last,
         (
-          decimal_word _ fits.1.drawn,
-          (decimal_word _ fits.1.skipped, (decimal_word _ fits.1.released, (decimal_word _ fits.1.withheld, tt))),
+          numeral_word closing.drawn,
+          (numeral_word closing.skipped, (numeral_word closing.released, (numeral_word closing.withheld, tt))),
         ),
       ),
     ),
   ),
 )
 
--- the vectors whose bytes a print adds after a line
-abbrev added : Setting → Bool → Line → List AuthVector
-added set full (RecordLine answer) = if full then vector_in set answer else []
+-- ---- the lines that a full print adds
+
+-- the words of the lines that a print adds after a line
+abbrev added : Setting → Bool → Line → List (List (List ℕ))
+added set full (RecordLine answer) = if full then added_lines set answer else []
 added set full (RoundLine number) = []
 added set full (JobLine number) = []
 added set full (ClosedLine closing) = []
+added set full (SessionLine verdict) = []
+added set full HeldLine = []
+added set full (BrokenLine job breach) = []
 added set full RestartLine = []
 
 -- the printed lines of a line
 abbrev printed : Setting → Bool → Line → List (List (List ℕ))
-printed set full line = line_words (identities_of set.rows) line ∷ map bytes_words (added set full line)
+printed set full line = line_words (identities_of set.rows) line ∷ added set full line
 
 -- a line's text is that of its printed lines
 text_is : (set : Setting) (full : Bool) (line : Line) → line_text set full line ≡ flat_map spaced (printed set full line)
-text_is set full (RecordLine answer) =
-    ap (λ t. spaced (record_words (identities_of set.rows) answer) ++ t)
-    (sym (flat_map-map spaced bytes_words (if full then vector_in set answer else [])))
+text_is set full (RecordLine answer) = refl
 text_is set full (RoundLine number) = refl
 text_is set full (JobLine number) = refl
 text_is set full (ClosedLine closing) = refl
+text_is set full (SessionLine verdict) = refl
+text_is set full HeldLine = refl
+text_is set full (BrokenLine job breach) = refl
 text_is set full RestartLine = refl
 
 -- the text of lines is that of their printed lines
@@ -142,67 +375,190 @@ texts_are set full (line ∷ lines) =
     ∙ ap (λ t. flat_map spaced (printed set full line) ++ t) (texts_are set full lines)
     ∙ sym (flat_map-append spaced (printed set full line) (flat_map (printed set full) lines))
 
--- the bytes of vectors before lines of words are lines of words
-with_bytes : (vectors : List AuthVector) (rest : List (List (List ℕ))) → AreLines rest → AreLines (map bytes_words vectors ++ rest)
-with_bytes [] rest are = are
-with_bytes (vector ∷ vectors) rest are =
-    (bytes_are vector.rand vector.autn vector.xres vector.ck vector.ik, with_bytes vectors rest are)
-  where
-    bytes_are : (rand autn xres ck ik : List ℕ)
-        → AreWords (codes "bytes" ∷ encode_lower rand ∷ encode_lower autn ∷ encode_lower xres ∷ encode_lower ck ∷ encode_lower ik ∷ [])
-    bytes_are rand autn xres ck ik =
-        (word_from_test (codes "bytes") refl, (hex_word rand, (hex_word autn, (hex_word xres, (hex_word ck, (hex_word ik, tt))))))
+-- the word at a place, and whether a first word is that of a line that a full print adds
+abbrev is_added : List ℕ → Bool
+is_added word = bytes_eq word (codes "bytes") || (bytes_eq word (codes "packet") || bytes_eq word (codes "keys"))
+
+-- lines of words that a full print adds
+abbrev AreAdded : List (List (List ℕ)) → Type 0
+AreAdded [] = Unit {0}
+AreAdded (words ∷ lines) = (is_added (word_at words 0) ≡ true) × AreWords words × AreAdded lines
+
+added_append : (ls ms : List (List (List ℕ))) → AreAdded ls → AreAdded ms → AreAdded (ls ++ ms)
+added_append [] ms a b = b
+added_append (l ∷ ls) ms a b = (a.0, a.1, added_append ls ms a.2 b)
+
+bytes_added : (vectors : List AuthVector) → AreAdded (map bytes_words vectors)
+bytes_added [] = tt
+bytes_added (vector ∷ vectors) = (
+  refl,
+  (word_from_test (codes "bytes") refl, (hex_word vector.rand, (hex_word vector.autn, (hex_word vector.xres, (hex_word vector.ck, (hex_word vector.ik, tt)))))),
+  bytes_added vectors,
+)
+
+packet_added : (packet : Option ℕ) (bytes : List ℕ) → AreAdded (packet_lines packet bytes)
+packet_added None bytes = tt
+packet_added (Some packet) bytes = (refl, (word_from_test (codes "packet") refl, (numeral_word packet, (hex_word bytes, tt))), tt)
+
+keys_added : {W : Type 0} (a : Step W) → AreAdded (what_lines a)
+keys_added (step.Sent bytes) = tt
+keys_added (step.Ended (outcome.Success keys) bytes) =
+    (refl, (word_from_test (codes "keys") refl, (hex_word keys.k_encr, (hex_word keys.k_aut, (hex_word keys.k_re, (hex_word keys.msk, (hex_word keys.emsk, tt)))))), tt)
+keys_added (step.Ended (outcome.Failure why) bytes) = tt
+keys_added (step.Ignored why) = tt
+
+step_added : (a : NoteStep) → AreAdded (step_lines a)
+step_added did.Opened = tt
+step_added (did.Server what) = keys_added what
+step_added (did.Peer what) = keys_added what
+
+came_added : (a : Result Note WorldRefusal) → AreAdded (came_lines a)
+came_added (Ok note) =
+    added_append (packet_lines note.packet (step_sent note.step)) (step_lines note.step) (packet_added note.packet (step_sent note.step)) (step_added note.step)
+came_added (Err why) = tt
+
+event_added : (answer : LineRecord) → AreAdded (event_lines answer)
+event_added (Vector sub n) = tt
+event_added (Withheld sub n stop) = tt
+event_added (Exhausted sub word) = tt
+event_added (Sync sub verdict) = tt
+event_added (Give sub n verdict) = tt
+event_added (Event r) = came_added r.result
+
+all_added : (set : Setting) (full : Bool) (line : Line) → AreAdded (added set full line)
+all_added set true (RecordLine answer) =
+    added_append (map bytes_words (vector_in set answer)) (event_lines answer) (bytes_added (vector_in set answer)) (event_added answer)
+all_added set false (RecordLine answer) = tt
+all_added set full (RoundLine number) = tt
+all_added set full (JobLine number) = tt
+all_added set full (ClosedLine closing) = tt
+all_added set full (SessionLine verdict) = tt
+all_added set full HeldLine = tt
+all_added set full (BrokenLine job breach) = tt
+all_added set full RestartLine = tt
+
+-- added lines before lines of words are lines of words
+with_added : (lines rest : List (List (List ℕ))) → AreAdded lines → AreLines rest → AreLines (lines ++ rest)
+with_added [] rest a are = are
+with_added (words ∷ lines) rest a are = (a.1, with_added lines rest a.2 are)
 
 -- printed lines are lines of words
-printed_are : (set : Setting) (full : Bool) (lines : List Line) → AllByRecursion (LineFits (identities_of set.rows)) lines
-    → AreLines (flat_map (printed set full) lines)
-printed_are set full [] fits = tt
-printed_are set full (line ∷ lines) fits =
-    (words_are (identities_of set.rows) line fits.0, with_bytes (added set full line) _ (printed_are set full lines fits.1))
-
--- the word at a place
-abbrev word_at : List (List ℕ) → ℕ → List ℕ
-word_at words i = get_or words i []
+printed_are : (set : Setting) (full : Bool) (lines : List Line) → AreLines (flat_map (printed set full) lines)
+printed_are set full [] = tt
+printed_are set full (line ∷ lines) =
+    (words_are (identities_of set.rows) line, with_added (added set full line) _ (all_added set full line) (printed_are set full lines))
 
 -- the lines without those that a full print adds
 abbrev own : List (List (List ℕ)) → List (List (List ℕ))
 own [] = []
-own (words ∷ lines) = if bytes_eq (word_at words 0) (codes "bytes") then own lines else words ∷ own lines
+own (words ∷ lines) = if is_added (word_at words 0) then own lines else words ∷ own lines
 
--- no line of bytes is left
-own_of_bytes : (vectors : List AuthVector) (rest : List (List (List ℕ))) → own (map bytes_words vectors ++ rest) ≡ own rest
-own_of_bytes [] rest = refl
-own_of_bytes (vector ∷ vectors) rest = own_of_bytes vectors rest
+-- no added line is left
+own_of_added : (lines rest : List (List (List ℕ))) → AreAdded lines → own (lines ++ rest) ≡ own rest
+own_of_added [] rest a = refl
+own_of_added (words ∷ lines) rest a =
+    ap (λ (b : Bool). if b then own (lines ++ rest) else words ∷ own (lines ++ rest)) a.0 ∙ own_of_added lines rest a.2
 
--- the words of a line, which aren't those of bytes, are left
+-- the words of a line, which isn't added, are left
+own_of_event : (e : SessionEvent) (words : List (List ℕ)) (rest : List (List (List ℕ))) → own ((event_words e ++ words) ∷ rest) ≡ (event_words e ++ words) ∷ own rest
+own_of_event (event.Open session sub) words rest = refl
+own_of_event (event.Start session) words rest = refl
+own_of_event (event.Deliver session at' packet) words rest = refl
+own_of_event (event.Repeat session) words rest = refl
+own_of_event (event.GiveUp session at') words rest = refl
+
 own_of_words : (identities : List Identity) (line : Line) (rest : List (List (List ℕ)))
     → own (line_words identities line ∷ rest) ≡ line_words identities line ∷ own rest
 own_of_words identities (RoundLine number) rest = refl
 own_of_words identities (JobLine number) rest = refl
 own_of_words identities (ClosedLine closing) rest = refl
+own_of_words identities (SessionLine verdict) rest = refl
+own_of_words identities HeldLine rest = refl
+own_of_words identities (BrokenLine job breach) rest = refl
 own_of_words identities RestartLine rest = refl
 own_of_words identities (RecordLine (Vector sub n)) rest = refl
 own_of_words identities (RecordLine (Withheld sub n stop)) rest = refl
 own_of_words identities (RecordLine (Exhausted sub word)) rest = refl
 own_of_words identities (RecordLine (Sync sub verdict)) rest = refl
 own_of_words identities (RecordLine (Give sub n verdict)) rest = refl
+own_of_words identities (RecordLine (Event r)) rest = own_of_event r.event (came_words r.result) rest
 
 -- without what a full print adds, only the lines themselves are left of their printed lines
 own_of_lines : (set : Setting) (full : Bool) (lines : List Line)
     → own (flat_map (printed set full) lines) ≡ map (line_words (identities_of set.rows)) lines
 own_of_lines set full [] = refl
 own_of_lines set full (line ∷ lines) =
-    own_of_words (identities_of set.rows) line (map bytes_words (added set full line) ++ flat_map (printed set full) lines)
+    own_of_words (identities_of set.rows) line (added set full line ++ flat_map (printed set full) lines)
     ∙ ap (λ rest. line_words (identities_of set.rows) line ∷ rest)
-    (own_of_bytes (added set full line) (flat_map (printed set full) lines) ∙ own_of_lines set full lines)
+    (own_of_added (added set full line) (flat_map (printed set full) lines) (all_added set full line) ∙ own_of_lines set full lines)
 
--- a number for each kind of line, by its first word
-abbrev kind_of_word : List ℕ → ℕ
-kind_of_word word =
-    if bytes_eq word (codes "round") then 0
-    else if bytes_eq word (codes "job") then 1
-    else if bytes_eq word (codes "closed") then 2
-    else if bytes_eq word (codes "restart") then 3 else 4
+-- ---- the kind of a line
+
+-- whether a word is that of a verdict on a session; none of an event's line stands in its place
+abbrev is_verdict : List ℕ → Bool
+is_verdict word = bytes_eq word (codes "agree") || bytes_eq word (codes "differ")
+
+after_resync : (a : Option ResyncNote) (r : List (List ℕ)) → is_verdict (word_at r 0) ≡ false → is_verdict (word_at (resync_words a ++ r) 0) ≡ false
+after_resync None r none = none
+after_resync (Some (resync.Moved from to)) r none = refl
+after_resync (Some (resync.InRange seen seq_ms)) r none = refl
+after_resync (Some (resync.Beyond seen seq_ms)) r none = refl
+after_resync (Some resync.BadAuts) r none = refl
+
+after_number : (a : Option NumberNote) (r : List (List ℕ)) → is_verdict (word_at r 0) ≡ false → is_verdict (word_at (number_words a ++ r) 0) ≡ false
+after_number None r none = none
+after_number (Some (number.Drew n)) r none = refl
+after_number (Some (number.Exhausted word)) r none = refl
+after_number (Some (number.Withheld n stop)) r none = refl
+
+after_resumed : (a : Option ℕ) (r : List (List ℕ)) → is_verdict (word_at r 0) ≡ false → is_verdict (word_at (resumed_words a ++ r) 0) ≡ false
+after_resumed None r none = none
+after_resumed (Some count) r none = refl
+
+after_usim : (a : Option UsimNote) (r : List (List ℕ)) → is_verdict (word_at r 0) ≡ false → is_verdict (word_at (usim_words a ++ r) 0) ≡ false
+after_usim None r none = none
+after_usim (Some (usim.Accepted sqn)) r none = refl
+after_usim (Some (usim.Sync sqn_ms)) r none = refl
+after_usim (Some usim.WrongMac) r none = refl
+
+after_counter : (a : Option CounterNote) (r : List (List ℕ)) → is_verdict (word_at r 0) ≡ false → is_verdict (word_at (counter_words a ++ r) 0) ≡ false
+after_counter None r none = none
+after_counter (Some (counter.Taken count)) r none = refl
+after_counter (Some (counter.Small count)) r none = refl
+
+after_sent : (a : Option ℕ) (r : List (List ℕ)) → is_verdict (word_at r 0) ≡ false → is_verdict (word_at (sent_words a ++ r) 0) ≡ false
+after_sent None r none = none
+after_sent (Some packet) r none = refl
+
+in_what : {W : Type 0} (why_words : W → List (List ℕ)) (a : Step W) → is_verdict (word_at (what_words why_words a) 0) ≡ false
+in_what why_words (step.Sent bytes) = refl
+in_what why_words (step.Ended (outcome.Success keys) bytes) = refl
+in_what why_words (step.Ended (outcome.Failure why) bytes) = refl
+in_what why_words (step.Ignored why) = refl
+
+in_step : (a : NoteStep) → is_verdict (word_at (step_words a) 0) ≡ false
+in_step did.Opened = refl
+in_step (did.Server what) = in_what server_words what
+in_step (did.Peer what) = in_what peer_words what
+
+in_came : (a : Result Note WorldRefusal) → is_verdict (word_at (came_words a) 0) ≡ false
+in_came (Ok note) =
+    ap (λ ws. is_verdict (word_at ws 0)) (notes_flat note.notes (sent_words note.packet ++ step_words note.step))
+    ∙ after_resync note.notes.resync _ (after_number note.notes.number _ (after_resumed note.notes.resumed _
+    (after_usim note.notes.usim _ (after_counter note.notes.counter _ (after_sent note.packet _ (in_step note.step))))))
+in_came (Err refused.NoSuchPacket) = refl
+in_came (Err refused.NoSuchEnd) = refl
+in_came (Err refused.Started) = refl
+
+-- a number for each kind of line, by its words
+abbrev kind_of_words : List (List ℕ) → ℕ
+kind_of_words words =
+    if bytes_eq (word_at words 0) (codes "round") then 0
+    else if bytes_eq (word_at words 0) (codes "job") then 1
+    else if bytes_eq (word_at words 0) (codes "closed") then 2
+    else if bytes_eq (word_at words 0) (codes "restart") then 3
+    else if bytes_eq (word_at words 0) (codes "premise") then (if bytes_eq (word_at words 1) (codes "held") then 5 else 6)
+    else if bytes_eq (word_at words 0) (codes "session") then (if is_verdict (word_at words 2) then 7 else 4) else 4
 
 -- the same number, by the line
 abbrev kind_of : Line → ℕ
@@ -211,18 +567,37 @@ kind_of (JobLine number) = 1
 kind_of (ClosedLine closing) = 2
 kind_of RestartLine = 3
 kind_of (RecordLine answer) = 4
+kind_of HeldLine = 5
+kind_of (BrokenLine job breach) = 6
+kind_of (SessionLine verdict) = 7
 
--- the first word says the kind of line
-kind_is : (identities : List Identity) (line : Line) → kind_of line ≡ kind_of_word (word_at (line_words identities line) 0)
+kind_of_event : (e : SessionEvent) (words : List (List ℕ)) → is_verdict (word_at words 0) ≡ false → 4 ≡ kind_of_words (event_words e ++ words)
+kind_of_event (event.Open session sub) words none = ap (λ (b : Bool). if b then 7 else 4) {x = false} {y = is_verdict (word_at words 0)} (sym none)
+kind_of_event (event.Start session) words none = refl
+kind_of_event (event.Deliver session at' packet) words none = refl
+kind_of_event (event.Repeat session) words none = refl
+kind_of_event (event.GiveUp session at') words none = refl
+
+kind_of_verdict : (agree : Bool) → is_verdict (agree_word agree) ≡ true
+kind_of_verdict true = refl
+kind_of_verdict false = refl
+
+-- the words say the kind of line
+kind_is : (identities : List Identity) (line : Line) → kind_of line ≡ kind_of_words (line_words identities line)
 kind_is identities (RoundLine number) = refl
 kind_is identities (JobLine number) = refl
 kind_is identities (ClosedLine closing) = refl
+kind_is identities (SessionLine verdict) =
+    ap (λ (b : Bool). if b then 7 else 4) {x = true} {y = is_verdict (agree_word verdict.agree)} (sym (kind_of_verdict verdict.agree))
+kind_is identities HeldLine = refl
+kind_is identities (BrokenLine job breach) = refl
 kind_is identities RestartLine = refl
 kind_is identities (RecordLine (Vector sub n)) = refl
 kind_is identities (RecordLine (Withheld sub n stop)) = refl
 kind_is identities (RecordLine (Exhausted sub word)) = refl
 kind_is identities (RecordLine (Sync sub verdict)) = refl
 kind_is identities (RecordLine (Give sub n verdict)) = refl
+kind_is identities (RecordLine (Event r)) = kind_of_event r.event (came_words r.result) (in_came r.result)
 
 -- a number for each kind of record, by its first word
 abbrev record_of_word : List ℕ → ℕ
@@ -230,7 +605,8 @@ record_of_word word =
     if bytes_eq word (codes "vector") then 0
     else if bytes_eq word (codes "withheld") then 1
     else if bytes_eq word (codes "exhausted") then 2
-    else if bytes_eq word (codes "sync") then 3 else 4
+    else if bytes_eq word (codes "sync") then 3
+    else if bytes_eq word (codes "give") then 4 else 5
 
 -- the same number, by the record
 abbrev record_number : LineRecord → ℕ
@@ -239,6 +615,14 @@ record_number (Withheld sub n stop) = 1
 record_number (Exhausted sub word) = 2
 record_number (Sync sub verdict) = 3
 record_number (Give sub n verdict) = 4
+record_number (Event r) = 5
+
+record_of_event : (e : SessionEvent) (words : List (List ℕ)) → 5 ≡ record_of_word (word_at (event_words e ++ words) 0)
+record_of_event (event.Open session sub) words = refl
+record_of_event (event.Start session) words = refl
+record_of_event (event.Deliver session at' packet) words = refl
+record_of_event (event.Repeat session) words = refl
+record_of_event (event.GiveUp session at') words = refl
 
 -- the first word says the kind of record
 record_is : (identities : List Identity) (answer : LineRecord) → record_number answer ≡ record_of_word (word_at (record_words identities answer) 0)
@@ -247,13 +631,7 @@ record_is identities (Withheld sub n stop) = refl
 record_is identities (Exhausted sub word) = refl
 record_is identities (Sync sub verdict) = refl
 record_is identities (Give sub n verdict) = refl
-
--- a stop is determined by its word
-stop_injective : (a b : Stop) → stop_word a ≡ stop_word b → a ≡ b
-stop_injective Fault Fault e = refl
-stop_injective Fault Full e = let second : get_or (stop_word Fault) 1 0 ≡ get_or (stop_word Full) 1 0 = ap (λ w. get_or w 1 0) e in absurd (omega arith)
-stop_injective Full Fault e = let second : get_or (stop_word Full) 1 0 ≡ get_or (stop_word Fault) 1 0 = ap (λ w. get_or w 1 0) e in absurd (omega arith)
-stop_injective Full Full e = refl
+record_is identities (Event r) = record_of_event r.event (came_words r.result)
 
 -- a number for each verdict on an AUTS, by its first word
 abbrev verdict_of_word : List ℕ → ℕ
@@ -277,18 +655,18 @@ verdict_is (Beyond seen seq_ms) = refl
 verdict_is WrongMac = refl
 
 -- a verdict on an AUTS is determined by its words
-sync_injective : (a b : SyncVerdict) → SyncFits a → SyncFits b → sync_words a ≡ sync_words b → a ≡ b
-sync_injective (Moved s m) (Moved t n) p q e =
-    let first : s ≡ t = decimal_injective s t p.0 q.0 (ap (λ ws. word_at ws 1) e) in
-    let second : m ≡ n = decimal_injective m n p.1 q.1 (ap (λ ws. word_at ws 2) e) in (cc)
-sync_injective (InRange s m) (InRange t n) p q e =
-    let first : s ≡ t = decimal_injective s t p.0 q.0 (ap (λ ws. word_at ws 1) e) in
-    let second : m ≡ n = decimal_injective m n p.1 q.1 (ap (λ ws. word_at ws 2) e) in (cc)
-sync_injective (Beyond s m) (Beyond t n) p q e =
-    let first : s ≡ t = decimal_injective s t p.0 q.0 (ap (λ ws. word_at ws 1) e) in
-    let second : m ≡ n = decimal_injective m n p.1 q.1 (ap (λ ws. word_at ws 2) e) in (cc)
-sync_injective WrongMac WrongMac p q e = refl
-sync_injective a b p q e =
+sync_injective : (a b : SyncVerdict) → sync_words a ≡ sync_words b → a ≡ b
+sync_injective (Moved s m) (Moved t n) e =
+    let first : s ≡ t = numeral_injective s t (ap (λ ws. word_at ws 1) e) in
+    let second : m ≡ n = numeral_injective m n (ap (λ ws. word_at ws 2) e) in (cc)
+sync_injective (InRange s m) (InRange t n) e =
+    let first : s ≡ t = numeral_injective s t (ap (λ ws. word_at ws 1) e) in
+    let second : m ≡ n = numeral_injective m n (ap (λ ws. word_at ws 2) e) in (cc)
+sync_injective (Beyond s m) (Beyond t n) e =
+    let first : s ≡ t = numeral_injective s t (ap (λ ws. word_at ws 1) e) in
+    let second : m ≡ n = numeral_injective m n (ap (λ ws. word_at ws 2) e) in (cc)
+sync_injective WrongMac WrongMac e = refl
+sync_injective a b e =
     let kinds : verdict_number a ≡ verdict_number b = verdict_is a ∙ ap (λ ws. verdict_of_word (word_at ws 0)) e ∙ sym (verdict_is b) in
     absurd (omega arith)
 
@@ -311,36 +689,37 @@ answer_is (SyncFailure sqn_ms) = refl
 answer_is Absent = refl
 
 -- a USIM's answer is determined by its words
-give_injective : (a b : GiveVerdict) → GiveFits a → GiveFits b → give_words a ≡ give_words b → a ≡ b
-give_injective Accepted Accepted p q e = refl
-give_injective (SyncFailure a) (SyncFailure b) p q e = ap SyncFailure (hex_injective a b p q (ap (λ ws. word_at ws 1) e))
-give_injective Absent Absent p q e = refl
-give_injective a b p q e =
+give_injective : (a b : GiveVerdict) → GiveFits a → give_words a ≡ give_words b → a ≡ b
+give_injective Accepted Accepted p e = refl
+give_injective (SyncFailure a) (SyncFailure b) p e = ap SyncFailure (hex_injective a b p (ap (λ ws. word_at ws 1) e))
+give_injective Absent Absent p e = refl
+give_injective a b p e =
     let kinds : answer_number a ≡ answer_number b = answer_is a ∙ ap (λ ws. answer_of_word (word_at ws 0)) e ∙ sym (answer_is b) in
     absurd (omega arith)
 
--- a job's record is determined by its words
+-- what is told of a job's record is determined by its words
 answer_injective : (identities : List Identity) (a b : LineRecord) → AreIdentities identities
-    → LineFits identities (RecordLine a) → LineFits identities (RecordLine b)
-    → record_words identities a ≡ record_words identities b → a ≡ b
-answer_injective identities (Vector s m) (Vector t n) are p q e =
-    let sub : s ≡ t = imsi_injective identities s t are p.0 q.0 (ap (λ ws. word_at ws 1) e) in
-    let number : m ≡ n = decimal_injective m n p.1 q.1 (ap (λ ws. word_at ws 2) e) in (cc)
-answer_injective identities (Withheld s m a) (Withheld t n b) are p q e =
-    let sub : s ≡ t = imsi_injective identities s t are p.0 q.0 (ap (λ ws. word_at ws 1) e) in
-    let number : m ≡ n = decimal_injective m n p.1 q.1 (ap (λ ws. word_at ws 2) e) in
+    → LineFits identities (RecordLine a) → IsAtItsEnd a → IsAtItsEnd b
+    → record_words identities a ≡ record_words identities b → told_line a ≡ told_line b
+answer_injective identities (Vector s m) (Vector t n) are p x y e =
+    let sub : s ≡ t = imsi_injective identities s t are p.0 (ap (λ ws. word_at ws 1) e) in
+    let number : m ≡ n = numeral_injective m n (ap (λ ws. word_at ws 2) e) in (cc)
+answer_injective identities (Withheld s m a) (Withheld t n b) are p x y e =
+    let sub : s ≡ t = imsi_injective identities s t are p.0 (ap (λ ws. word_at ws 1) e) in
+    let number : m ≡ n = numeral_injective m n (ap (λ ws. word_at ws 2) e) in
     let stop : a ≡ b = stop_injective a b (ap (λ ws. word_at ws 3) e) in (cc)
-answer_injective identities (Exhausted s m) (Exhausted t n) are p q e =
-    let sub : s ≡ t = imsi_injective identities s t are p.0 q.0 (ap (λ ws. word_at ws 1) e) in
-    let number : m ≡ n = decimal_injective m n p.1 q.1 (ap (λ ws. word_at ws 2) e) in (cc)
-answer_injective identities (Sync s a) (Sync t b) are p q e =
-    let sub : s ≡ t = imsi_injective identities s t are p.0 q.0 (ap (λ ws. word_at ws 1) e) in
-    let verdict : a ≡ b = sync_injective a b p.1 q.1 (ap (λ ws. drop 2 ws) e) in (cc)
-answer_injective identities (Give s m a) (Give t n b) are p q e =
-    let sub : s ≡ t = imsi_injective identities s t are p.0 q.0 (ap (λ ws. word_at ws 1) e) in
-    let number : m ≡ n = decimal_injective m n p.1.0 q.1.0 (ap (λ ws. word_at ws 2) e) in
-    let verdict : a ≡ b = give_injective a b p.1.1 q.1.1 (ap (λ ws. drop 3 ws) e) in (cc)
-answer_injective identities a b are p q e =
+answer_injective identities (Exhausted s m) (Exhausted t n) are p x y e =
+    let sub : s ≡ t = imsi_injective identities s t are p.0 (ap (λ ws. word_at ws 1) e) in
+    let number : m ≡ n = numeral_injective m n (ap (λ ws. word_at ws 2) e) in (cc)
+answer_injective identities (Sync s a) (Sync t b) are p x y e =
+    let sub : s ≡ t = imsi_injective identities s t are p.0 (ap (λ ws. word_at ws 1) e) in
+    let verdict : a ≡ b = sync_injective a b (ap (λ ws. drop 2 ws) e) in (cc)
+answer_injective identities (Give s m a) (Give t n b) are p x y e =
+    let sub : s ≡ t = imsi_injective identities s t are p.0 (ap (λ ws. word_at ws 1) e) in
+    let number : m ≡ n = numeral_injective m n (ap (λ ws. word_at ws 2) e) in
+    let verdict : a ≡ b = give_injective a b p.1 (ap (λ ws. drop 3 ws) e) in (cc)
+answer_injective identities (Event a) (Event b) are p x y e = ap (λ (r : EventRecord). Event r) (event_injective a b p.1 x y e)
+answer_injective identities a b are p x y e =
     let kinds : record_number a ≡ record_number b
     = record_is identities a ∙ ap (λ ws. record_of_word (word_at ws 0)) e ∙ sym (record_is identities b) in
     absurd (omega arith)
@@ -360,51 +739,78 @@ closing_is a b sub first last drawn skipped released withheld =
     ∙ ap (λ w. make b.sub b.first b.last b.drawn b.skipped b.released w) withheld
 
 -- a closing is determined by its words
-closing_injective : (identities : List Identity) (a b : Closing) → AreIdentities identities
-    → LineFits identities (ClosedLine a) → LineFits identities (ClosedLine b)
+closing_injective : (identities : List Identity) (a b : Closing) → AreIdentities identities → LineFits identities (ClosedLine a)
     → closing_words identities a ≡ closing_words identities b → a ≡ b
-closing_injective identities a b are p q e =
+closing_injective identities a b are p e =
     let at : (i : ℕ) → word_at (closing_words identities a) i ≡ word_at (closing_words identities b) i = λ i. ap (λ ws. word_at ws i) e in
-    let sub : a.sub ≡ b.sub = imsi_injective identities _ _ are p.0 q.0 (at 1) in
-    let first : a.first ≡ b.first = decimal_injective _ _ p.1.first q.1.first (at 2) in
-    let last : a.last ≡ b.last = decimal_injective _ _ p.1.last q.1.last (at 3) in
-    let drawn : a.drawn ≡ b.drawn = decimal_injective _ _ p.1.drawn q.1.drawn (at 4) in
-    let skipped : a.skipped ≡ b.skipped = decimal_injective _ _ p.1.skipped q.1.skipped (at 5) in
-    let released : a.released ≡ b.released = decimal_injective _ _ p.1.released q.1.released (at 6) in
-    let withheld : a.withheld ≡ b.withheld = decimal_injective _ _ p.1.withheld q.1.withheld (at 7) in
+    let sub : a.sub ≡ b.sub = imsi_injective identities _ _ are p (at 1) in
+    let first : a.first ≡ b.first = numeral_injective _ _ (at 2) in
+    let last : a.last ≡ b.last = numeral_injective _ _ (at 3) in
+    let drawn : a.drawn ≡ b.drawn = numeral_injective _ _ (at 4) in
+    let skipped : a.skipped ≡ b.skipped = numeral_injective _ _ (at 5) in
+    let released : a.released ≡ b.released = numeral_injective _ _ (at 6) in
+    let withheld : a.withheld ≡ b.withheld = numeral_injective _ _ (at 7) in
     closing_is a b sub first last drawn skipped released withheld
 
--- a line is determined by its words
-line_injective : (identities : List Identity) (l m : Line) → AreIdentities identities → LineFits identities l → LineFits identities m
-    → line_words identities l ≡ line_words identities m → l ≡ m
-line_injective identities (RoundLine m) (RoundLine n) are p q e = ap RoundLine (decimal_injective m n p q (ap (λ ws. word_at ws 1) e))
-line_injective identities (JobLine m) (JobLine n) are p q e = ap JobLine (decimal_injective m n p q (ap (λ ws. word_at ws 1) e))
-line_injective identities (RecordLine a) (RecordLine b) are p q e = ap RecordLine (answer_injective identities a b are p q e)
-line_injective identities (ClosedLine a) (ClosedLine b) are p q e = ap ClosedLine (closing_injective identities a b are p q e)
-line_injective identities RestartLine RestartLine are p q e = refl
-line_injective identities l m are p q e =
-    let kinds : kind_of l ≡ kind_of m = kind_is identities l ∙ ap (λ ws. kind_of_word (word_at ws 0)) e ∙ sym (kind_is identities m) in
+-- so is the verdict on a session
+agree_injective : (a b : Bool) → agree_word a ≡ agree_word b → a ≡ b
+agree_injective true true e = refl
+agree_injective true false e = let first : get_or (agree_word true) 0 0 ≡ get_or (agree_word false) 0 0 = ap (λ w. get_or w 0 0) e in absurd (omega arith)
+agree_injective false true e = let first : get_or (agree_word false) 0 0 ≡ get_or (agree_word true) 0 0 = ap (λ w. get_or w 0 0) e in absurd (omega arith)
+agree_injective false false e = refl
+
+verdict_injective : (a b : SessionVerdict) → session_words a ≡ session_words b → a ≡ b
+verdict_injective a b e =
+    let session : a.session ≡ b.session = numeral_injective _ _ (ap (λ ws. word_at ws 1) e) in
+    let agree : a.agree ≡ b.agree = agree_injective _ _ (ap (λ ws. word_at ws 2) e) in
+    let make : ℕ → Bool → SessionVerdict = λ s v. record { session = s; agree = v } in
+    ap (λ (s : ℕ). make s a.agree) session ∙ ap (λ v. make b.session v) agree
+
+-- and a breach with its job
+broken_injective : (i j : ℕ) (a b : Breach) → broken_words i a ≡ broken_words j b → BrokenLine i a ≡ BrokenLine j b
+broken_injective i j a b e =
+    let job : i ≡ j = numeral_injective _ _ (ap (λ ws. word_at ws 2) e) in
+    let session : a.session ≡ b.session = numeral_injective _ _ (ap (λ ws. word_at ws 3) e) in
+    let place : a.end ≡ b.end = end_injective _ _ (ap (λ ws. word_at ws 4) e) in
+    let packet : a.packet ≡ b.packet = numeral_injective _ _ (ap (λ ws. word_at ws 5) e) in
+    let make : ℕ → ℕ → End → ℕ → Line = λ k s x n. BrokenLine k (record { session = s; end = x; packet = n }) in
+    ap (λ (k : ℕ). make k a.session a.end a.packet) job ∙ ap (λ (s : ℕ). make j s a.end a.packet) session
+    ∙ ap (λ x. make j b.session x a.packet) place ∙ ap (λ (n : ℕ). make j b.session b.end n) packet
+
+-- what is told of a line is determined by its words
+line_injective : (identities : List Identity) (l m : Line) → AreIdentities identities → LineFits identities l → LineAt l → LineAt m
+    → line_words identities l ≡ line_words identities m → told_of l ≡ told_of m
+line_injective identities (RoundLine m) (RoundLine n) are p x y e = ap RoundLine (numeral_injective m n (ap (λ ws. word_at ws 1) e))
+line_injective identities (JobLine m) (JobLine n) are p x y e = ap JobLine (numeral_injective m n (ap (λ ws. word_at ws 1) e))
+line_injective identities (RecordLine a) (RecordLine b) are p x y e = ap RecordLine (answer_injective identities a b are p x y e)
+line_injective identities (ClosedLine a) (ClosedLine b) are p x y e = ap ClosedLine (closing_injective identities a b are p e)
+line_injective identities (SessionLine a) (SessionLine b) are p x y e = ap SessionLine (verdict_injective a b e)
+line_injective identities HeldLine HeldLine are p x y e = refl
+line_injective identities (BrokenLine i a) (BrokenLine j b) are p x y e = broken_injective i j a b e
+line_injective identities RestartLine RestartLine are p x y e = refl
+line_injective identities l m are p x y e =
+    let kinds : kind_of l ≡ kind_of m = kind_is identities l ∙ ap kind_of_words e ∙ sym (kind_is identities m) in
     absurd (omega arith)
 
--- lines are determined by their words
+-- what is told of lines is determined by their words
 words_injective : (identities : List Identity) (ls ms : List Line) → AreIdentities identities
-    → AllByRecursion (LineFits identities) ls → AllByRecursion (LineFits identities) ms
-    → map (line_words identities) ls ≡ map (line_words identities) ms → ls ≡ ms
-words_injective identities [] [] are p q e = refl
-words_injective identities [] (m ∷ ms) are p q e = absurd (cc)
-words_injective identities (l ∷ ls) [] are p q e = absurd (cc)
-words_injective identities (l ∷ ls) (m ∷ ms) are p q e =
+    → AllByRecursion (LineFits identities) ls → AllByRecursion LineAt ls → AllByRecursion LineAt ms
+    → map (line_words identities) ls ≡ map (line_words identities) ms → map told_of ls ≡ map told_of ms
+words_injective identities [] [] are p x y e = refl
+words_injective identities [] (m ∷ ms) are p x y e = absurd (cc)
+words_injective identities (l ∷ ls) [] are p x y e = absurd (cc)
+words_injective identities (l ∷ ls) (m ∷ ms) are p x y e =
     let first : line_words identities l ≡ line_words identities m = cc in
     let others : map (line_words identities) ls ≡ map (line_words identities) ms = cc in
-    let line : l ≡ m = line_injective identities l m are p.0 q.0 first in
-    let rest : ls ≡ ms = words_injective identities ls ms are p.1 q.1 others in (cc)
+    let line : told_of l ≡ told_of m = line_injective identities l m are p.0 x.0 y.0 first in
+    let rest : map told_of ls ≡ map told_of ms = words_injective identities ls ms are p.1 x.1 y.1 others in (cc)
 
--- lines are determined by their text
+-- and by their text
 pub lines_injective : (set : Setting) (full : Bool) (ls ms : List Line) → AreIdentities (identities_of set.rows)
-    → AllByRecursion (LineFits (identities_of set.rows)) ls → AllByRecursion (LineFits (identities_of set.rows)) ms
-    → flat_map (line_text set full) ls ≡ flat_map (line_text set full) ms → ls ≡ ms
-lines_injective set full ls ms are p q e =
+    → AllByRecursion (LineFits (identities_of set.rows)) ls → AllByRecursion LineAt ls → AllByRecursion LineAt ms
+    → flat_map (line_text set full) ls ≡ flat_map (line_text set full) ms → map told_of ls ≡ map told_of ms
+lines_injective set full ls ms are p x y e =
     let lines : flat_map (printed set full) ls ≡ flat_map (printed set full) ms
-    = lines_cut _ _ (printed_are set full ls p) (printed_are set full ms q)
+    = lines_cut _ _ (printed_are set full ls) (printed_are set full ms)
     (sym (texts_are set full ls) ∙ e ∙ texts_are set full ms) in
-    words_injective (identities_of set.rows) ls ms are p q (sym (own_of_lines set full ls) ∙ ap own lines ∙ own_of_lines set full ms)
+    words_injective (identities_of set.rows) ls ms are p x y (sym (own_of_lines set full ls) ∙ ap own lines ∙ own_of_lines set full ms)

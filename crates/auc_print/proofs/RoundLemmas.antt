@@ -4,16 +4,25 @@ use Rattle.auc_world.specs.declared.record.LineRecord.{LineRecord}
 use Rattle.auc_world.specs.declared.record.Closing.{Closing}
 use Rattle.auc_world.specs.declared.record.PartRecord.{PartRecord}
 use Rattle.auc_world.specs.declared.record.PartRecord.TheVariants.{Round, Restart}
+use Rattle.auc_world.specs.declared.record.Premise.{Premise}
+use Rattle.auc_world.specs.declared.record.Premise.TheVariants as premise
 use Rattle.auc_world.specs.declared.record.RoundRecord.{RoundRecord}
-use Rattle.auc_print.specs.Text.{Line, RoundLine, JobLine, RecordLine, ClosedLine, RestartLine, jobs_lines, part_lines}
+use Rattle.auc_world.specs.declared.record.SessionVerdict.{SessionVerdict}
+use Rattle.auc_world.specs.Told.{told, told_job, told_line, told_part}
+use Rattle.auc_print.specs.Text.{Line, RoundLine, JobLine, RecordLine, ClosedLine, SessionLine, HeldLine, BrokenLine, RestartLine, end_lines, jobs_lines, part_lines, premise_lines, round_lines}
+use Rattle.auc_print.proofs.LineLemmas.{told_of}
 
--- the rank of a kind of line, the innermost first: a record of a job, a job, a closing, a round or a restart
+-- the rank of a kind of line, the innermost first: a record of a job, a job, a closing, a session, the premise, a round or a
+-- restart
 abbrev rank : Line → ℕ
 rank (RecordLine answer) = 0
 rank (JobLine number) = 1
 rank (ClosedLine closing) = 2
-rank (RoundLine number) = 3
-rank RestartLine = 3
+rank (SessionLine verdict) = 3
+rank HeldLine = 4
+rank (BrokenLine job breach) = 4
+rank (RoundLine number) = 5
+rank RestartLine = 5
 
 -- there are no lines, or the first one has at least this rank
 abbrev Begins : ℕ → List Line → Type 0
@@ -40,9 +49,31 @@ tagged_cut tag level level_is same (x ∷ xs) (y ∷ ys) r s p q e =
 records_cut : (xs ys : List LineRecord) (r s : List Line) → Begins 1 r → Begins 1 s → map RecordLine xs ++ r ≡ map RecordLine ys ++ s → (xs ≡ ys) × (r ≡ s)
 records_cut = tagged_cut RecordLine 0 (λ x. refl) (λ x y e. cc)
 
--- the closings end where the next part begins
+-- the closings end where the sessions, the premise or the next part begin
 closings_cut : (xs ys : List Closing) (r s : List Line) → Begins 3 r → Begins 3 s → map ClosedLine xs ++ r ≡ map ClosedLine ys ++ s → (xs ≡ ys) × (r ≡ s)
 closings_cut = tagged_cut ClosedLine 2 (λ x. refl) (λ x y e. cc)
+
+-- the sessions end where the premise or the next part begins
+sessions_cut : (xs ys : List SessionVerdict) (r s : List Line) → Begins 4 r → Begins 4 s → map SessionLine xs ++ r ≡ map SessionLine ys ++ s → (xs ≡ ys) × (r ≡ s)
+sessions_cut = tagged_cut SessionLine 3 (λ x. refl) (λ x y e. cc)
+
+-- the premise ends where the next part begins
+no_begin : (line : Line) (r s : List Line) → rank line ≡ 4 → Begins 5 r → r ≡ line ∷ s → ⊥
+no_begin line r s is begins e = let above : 5 ≤ rank line = subst (Begins 5) e begins in omega (arith, above, is)
+
+premise_cut : (p q : Premise) (r s : List Line) → Begins 5 r → Begins 5 s → premise_lines p ++ r ≡ premise_lines q ++ s → (p ≡ q) × (r ≡ s)
+premise_cut premise.NoSession premise.NoSession r s a b e = (refl, e)
+premise_cut premise.NoSession premise.Held r s a b e = absurd (no_begin HeldLine r s refl a e)
+premise_cut premise.NoSession (premise.Broken job breach) r s a b e = absurd (no_begin (BrokenLine job breach) r s refl a e)
+premise_cut premise.Held premise.NoSession r s a b e = absurd (no_begin HeldLine s r refl b (sym e))
+premise_cut (premise.Broken job breach) premise.NoSession r s a b e = absurd (no_begin (BrokenLine job breach) s r refl b (sym e))
+premise_cut premise.Held premise.Held r s a b e = let rest : r ≡ s = cc in (refl, rest)
+premise_cut premise.Held (premise.Broken job breach) r s a b e = let heads : HeldLine ≡ BrokenLine job breach = cc in absurd (cc)
+premise_cut (premise.Broken job breach) premise.Held r s a b e = let heads : BrokenLine job breach ≡ HeldLine = cc in absurd (cc)
+premise_cut (premise.Broken i a) (premise.Broken j b) r s x y e =
+    let heads : BrokenLine i a ≡ BrokenLine j b = cc in
+    let rest : r ≡ s = cc in
+    ((cc), rest)
 
 -- what comes after a job doesn't begin with a record
 jobs_begin : (number : ℕ) (jobs : List (List LineRecord)) (r : List Line) → Begins 2 r → Begins 1 (jobs_lines number jobs ++ r)
@@ -67,23 +98,75 @@ jobs_cut number (j ∷ js) (k ∷ ks) r s p q e =
     let tail : js ≡ ks = rest.0 in
     ((cc), rest.1)
 
--- what comes after the closings of a round begins with a round or a restart
-parts_begin : (parts : List PartRecord) → Begins 3 (flat_map part_lines parts)
+-- what comes after a round begins with a round or a restart
+parts_begin : (parts : List PartRecord) → Begins 5 (flat_map part_lines parts)
 parts_begin [] = tt
 parts_begin (Round round ∷ parts) = omega arith
 parts_begin (Restart ∷ parts) = omega arith
 
--- what comes after the jobs of a round begins with a closing, a round or a restart
+-- what comes after the sessions begins with the premise or the next part
+premise_begins : (p : Premise) (r : List Line) → Begins 5 r → Begins 4 (premise_lines p ++ r)
+premise_begins premise.NoSession [] b = tt
+premise_begins premise.NoSession (line ∷ r) b = omega arith
+premise_begins premise.Held r b = omega arith
+premise_begins (premise.Broken job breach) r b = omega arith
+
+-- what comes after the closings begins with a session or what comes after them
+sessions_begin : (sessions : List SessionVerdict) (r : List Line) → Begins 4 r → Begins 3 (map SessionLine sessions ++ r)
+sessions_begin [] [] b = tt
+sessions_begin [] (line ∷ r) b = omega arith
+sessions_begin (verdict ∷ sessions) r b = omega arith
+
+-- what comes after the jobs begins with a closing or what comes after them
 closings_begin : (closings : List Closing) (r : List Line) → Begins 3 r → Begins 2 (map ClosedLine closings ++ r)
 closings_begin [] [] b = tt
 closings_begin [] (line ∷ r) b = omega arith
 closings_begin (closing ∷ closings) r b = omega arith
 
 -- rounds with the same fields are the same
-round_is : (a b : RoundRecord) → a.number ≡ b.number → a.jobs ≡ b.jobs → a.closings ≡ b.closings → a ≡ b
-round_is a b number jobs closings =
-    let make : ℕ → List (List LineRecord) → List Closing → RoundRecord = λ n js cs. record { number = n; jobs = js; closings = cs } in
-    ap (λ n. make n a.jobs a.closings) number ∙ ap (λ js. make b.number js a.closings) jobs ∙ ap (λ cs. make b.number b.jobs cs) closings
+round_is : (a b : RoundRecord) → a.number ≡ b.number → a.jobs ≡ b.jobs → a.closings ≡ b.closings → a.sessions ≡ b.sessions → a.premise ≡ b.premise → a ≡ b
+round_is a b number jobs closings sessions held =
+    let make : ℕ → List (List LineRecord) → List Closing → List SessionVerdict → Premise → RoundRecord
+    = λ n js cs vs p. record { number = n; jobs = js; closings = cs; sessions = vs; premise = p } in
+    ap (λ n. make n a.jobs a.closings a.sessions a.premise) number ∙ ap (λ js. make b.number js a.closings a.sessions a.premise) jobs
+    ∙ ap (λ cs. make b.number b.jobs cs a.sessions a.premise) closings ∙ ap (λ vs. make b.number b.jobs b.closings vs a.premise) sessions
+    ∙ ap (λ p. make b.number b.jobs b.closings b.sessions p) held
+
+-- the lines of a round in pieces, with what comes after it
+pieces : (round : RoundRecord) (r : List Line) → (jobs_lines 1 round.jobs ++ end_lines round) ++ r
+    ≡ jobs_lines 1 round.jobs ++ (map ClosedLine round.closings ++ (map SessionLine round.sessions ++ (premise_lines round.premise ++ r)))
+pieces round r =
+    let jobs : List Line = jobs_lines 1 round.jobs in
+    let closed : List Line = map ClosedLine round.closings in
+    let judged : List Line = map SessionLine round.sessions in
+    let last : List Line = premise_lines round.premise in
+    append_assoc jobs (closed ++ (judged ++ last)) r ∙ ap (λ t. jobs ++ t)
+    (append_assoc closed (judged ++ last) r ∙ ap (λ t. closed ++ t) (append_assoc judged last r))
+
+-- what comes after each piece of a round
+ends : (round : RoundRecord) (parts : List PartRecord) → Begins 4 (premise_lines round.premise ++ flat_map part_lines parts)
+ends round parts = premise_begins round.premise _ (parts_begin parts)
+
+after_closings : (round : RoundRecord) (parts : List PartRecord) → Begins 3 (map SessionLine round.sessions ++ (premise_lines round.premise ++ flat_map part_lines parts))
+after_closings round parts = sessions_begin round.sessions _ (ends round parts)
+
+after_jobs : (round : RoundRecord) (parts : List PartRecord)
+    → Begins 2 (map ClosedLine round.closings ++ (map SessionLine round.sessions ++ (premise_lines round.premise ++ flat_map part_lines parts)))
+after_jobs round parts = closings_begin round.closings _ (after_closings round parts)
+
+-- rounds with the same lines are the same, and so is what comes after them
+round_cut : (a b : RoundRecord) (parts others : List PartRecord) → round_lines a ++ flat_map part_lines parts ≡ round_lines b ++ flat_map part_lines others
+    → (a ≡ b) × (flat_map part_lines parts ≡ flat_map part_lines others)
+round_cut a b parts others e =
+    let heads : RoundLine a.number ≡ RoundLine b.number = cc in
+    let number : a.number ≡ b.number = cc in
+    let tails : (jobs_lines 1 a.jobs ++ end_lines a) ++ flat_map part_lines parts ≡ (jobs_lines 1 b.jobs ++ end_lines b) ++ flat_map part_lines others = cc in
+    let jobs = jobs_cut 1 a.jobs b.jobs _ _ (after_jobs a parts) (after_jobs b others)
+    (sym (pieces a (flat_map part_lines parts)) ∙ tails ∙ pieces b (flat_map part_lines others)) in
+    let closings = closings_cut a.closings b.closings _ _ (after_closings a parts) (after_closings b others) jobs.1 in
+    let sessions = sessions_cut a.sessions b.sessions _ _ (ends a parts) (ends b others) closings.1 in
+    let held = premise_cut a.premise b.premise _ _ (parts_begin parts) (parts_begin others) sessions.1 in
+    (round_is a b number jobs.0 closings.0 sessions.0 held.0, held.1)
 
 -- parts with the same lines are the same
 pub parts_injective : (parts others : List PartRecord) → flat_map part_lines parts ≡ flat_map part_lines others → parts ≡ others
@@ -97,16 +180,60 @@ parts_injective (Restart ∷ parts) (Restart ∷ others) e =
 parts_injective (Round a ∷ parts) (Restart ∷ others) e = let heads : RoundLine a.number ≡ RestartLine = cc in absurd (cc)
 parts_injective (Restart ∷ parts) (Round b ∷ others) e = let heads : RestartLine ≡ RoundLine b.number = cc in absurd (cc)
 parts_injective (Round a ∷ parts) (Round b ∷ others) e =
-    let heads : RoundLine a.number ≡ RoundLine b.number = cc in
-    let number : a.number ≡ b.number = cc in
-    let tails : (jobs_lines 1 a.jobs ++ map ClosedLine a.closings) ++ flat_map part_lines parts
-    ≡ (jobs_lines 1 b.jobs ++ map ClosedLine b.closings) ++ flat_map part_lines others = cc in
-    let jobs : (a.jobs ≡ b.jobs) × (map ClosedLine a.closings ++ flat_map part_lines parts ≡ map ClosedLine b.closings ++ flat_map part_lines others)
-    = jobs_cut 1 a.jobs b.jobs _ _ (closings_begin a.closings _ (parts_begin parts)) (closings_begin b.closings _ (parts_begin others))
-    (sym (append_assoc (jobs_lines 1 a.jobs) (map ClosedLine a.closings) (flat_map part_lines parts)) ∙ tails
-    ∙ append_assoc (jobs_lines 1 b.jobs) (map ClosedLine b.closings) (flat_map part_lines others)) in
-    let closings : (a.closings ≡ b.closings) × (flat_map part_lines parts ≡ flat_map part_lines others)
-    = closings_cut a.closings b.closings _ _ (parts_begin parts) (parts_begin others) jobs.1 in
-    let round : a ≡ b = round_is a b number jobs.0 closings.0 in
-    let rest : parts ≡ others = parts_injective parts others closings.1 in
+    let found : (a ≡ b) × (flat_map part_lines parts ≡ flat_map part_lines others) = round_cut a b parts others e in
+    let round : a ≡ b = found.0 in
+    let rest : parts ≡ others = parts_injective parts others found.1 in
     (cc)
+
+-- ---- what is told
+
+map_append : {A B : Type 0} (f : A → B) (xs ys : List A) → map f (xs ++ ys) ≡ map f xs ++ map f ys
+map_append f [] ys = refl
+map_append f (x ∷ xs) ys = ap (λ t. f x ∷ t) (map_append f xs ys)
+
+told_records : (job : List LineRecord) → map told_of (map RecordLine job) ≡ map RecordLine (told_job job)
+told_records [] = refl
+told_records (answer ∷ job) = ap (λ t. RecordLine (told_line answer) ∷ t) (told_records job)
+
+told_jobs : (number : ℕ) (jobs : List (List LineRecord)) → map told_of (jobs_lines number jobs) ≡ jobs_lines number (map told_job jobs)
+told_jobs number [] = refl
+told_jobs number (job ∷ jobs) =
+    ap (λ t. JobLine number ∷ t)
+    (map_append told_of (map RecordLine job) (jobs_lines (number + 1) jobs) ∙ ap (λ t. t ++ map told_of (jobs_lines (number + 1) jobs)) (told_records job)
+    ∙ ap (λ t. map RecordLine (told_job job) ++ t) (told_jobs (number + 1) jobs))
+
+told_closings : (closings : List Closing) → map told_of (map ClosedLine closings) ≡ map ClosedLine closings
+told_closings [] = refl
+told_closings (closing ∷ closings) = ap (λ t. ClosedLine closing ∷ t) (told_closings closings)
+
+told_sessions : (sessions : List SessionVerdict) → map told_of (map SessionLine sessions) ≡ map SessionLine sessions
+told_sessions [] = refl
+told_sessions (verdict ∷ sessions) = ap (λ t. SessionLine verdict ∷ t) (told_sessions sessions)
+
+told_premise : (p : Premise) → map told_of (premise_lines p) ≡ premise_lines p
+told_premise premise.NoSession = refl
+told_premise premise.Held = refl
+told_premise (premise.Broken job breach) = refl
+
+told_end : (round : RoundRecord) → map told_of (end_lines round) ≡ end_lines round
+told_end round =
+    map_append told_of (map ClosedLine round.closings) (map SessionLine round.sessions ++ premise_lines round.premise)
+    ∙ ap (λ t. t ++ map told_of (map SessionLine round.sessions ++ premise_lines round.premise)) (told_closings round.closings)
+    ∙ ap (λ t. map ClosedLine round.closings ++ t)
+    (map_append told_of (map SessionLine round.sessions) (premise_lines round.premise)
+    ∙ ap (λ t. t ++ map told_of (premise_lines round.premise)) (told_sessions round.sessions)
+    ∙ ap (λ t. map SessionLine round.sessions ++ t) (told_premise round.premise))
+
+told_part_lines : (part : PartRecord) → map told_of (part_lines part) ≡ part_lines (told_part part)
+told_part_lines Restart = refl
+told_part_lines (Round round) =
+    ap (λ t. RoundLine round.number ∷ t)
+    (map_append told_of (jobs_lines 1 round.jobs) (end_lines round) ∙ ap (λ t. t ++ map told_of (end_lines round)) (told_jobs 1 round.jobs)
+    ∙ ap (λ t. jobs_lines 1 (map told_job round.jobs) ++ t) (told_end round))
+
+-- what is told of the lines of parts are the lines of what is told of them
+pub told_lines : (parts : List PartRecord) → map told_of (flat_map part_lines parts) ≡ flat_map part_lines (told parts)
+told_lines [] = refl
+told_lines (part ∷ parts) =
+    map_append told_of (part_lines part) (flat_map part_lines parts) ∙ ap (λ t. t ++ map told_of (flat_map part_lines parts)) (told_part_lines part)
+    ∙ ap (λ t. part_lines (told_part part) ++ t) (told_lines parts)

@@ -1,10 +1,7 @@
 -- A text of spaced words is cut into words in only one way, for the lemmas on lines.
-use Rattle.std.proofs.Common.{ℕ, zero, suc, ◌+◌, ◌/◌, ◌%◌, ◌^◌, ◌<◌, ◌≡◌, ◌∙◌, refl, sym, ap, List, [], ◌∷◌, ◌++◌, get_or, flat_map, append_assoc, Bool, true, false, ◌&&◌, ◌||◌, not, eqb, decimal, arith}
+use Rattle.std.proofs.Common.{ℕ, zero, suc, ◌+◌, ◌/◌, ◌%◌, ◌<◌, ◌≡◌, ◌∙◌, refl, sym, ap, List, [], ◌∷◌, ◌++◌, get_or, flat_map, append_assoc, Bool, true, false, ◌&&◌, ◌||◌, not, eqb, arith}
 use Rattle.std.proofs.lemmas.Bool.{and_parts}
 use Rattle.std.proofs.lemmas.Bool.Decides.{nat_tests}
-use Rattle.std.specs.Str.Parse.{AllDigits}
-use Rattle.std.proofs.lemmas.Str.Parse.{digit_from_value}
-use Rattle.std.proofs.lemmas.Fmt.{decimal_is_IsNumeral}
 use Rattle.hex.specs.Hex.{encode_lower, encode_with, lower_digits}
 use Rattle.auc_edge.specs.Identity.{last_digits}
 use Rattle.auc_print.specs.Text.{spaced}
@@ -34,6 +31,11 @@ AllWords (word ∷ words) = IsWord word × AllWords words
 abbrev pub AreWords : List (List ℕ) → Type 0
 AreWords [] = ⊥
 AreWords (word ∷ words) = IsWord word × AllWords words
+
+-- words after words
+pub words_append : (vs ws : List (List ℕ)) → AllWords vs → AllWords ws → AllWords (vs ++ ws)
+words_append [] ws a b = b
+words_append (v ∷ vs) ws a b = (a.0, words_append vs ws a.1 b)
 
 -- lines of one word or more
 abbrev pub AreLines : List (List (List ℕ)) → Type 0
@@ -135,17 +137,8 @@ word_from_test (byte ∷ bytes) e =
     goes_on false e = refl
 
 -- a byte above the space ends no word
-above_space : (byte : ℕ) → 32 < byte → is_break byte ≡ false
+pub above_space : (byte : ℕ) → 32 < byte → is_break byte ≡ false
 above_space byte above = grind (arith, nat_tests)
-
--- digits make a word
-digits_word : (ds : List ℕ) → AllDigits 10 ds → IsWord ds
-digits_word [] a = tt
-digits_word (d ∷ ds) a = let range = digit_from_value d a.0 in (above_space d (omega arith), digits_word ds a.1)
-
--- a number in decimal is a word
-pub decimal_word : (n : ℕ) → n < 2 ^ 64 → IsWord (decimal n)
-decimal_word n h = digits_word (decimal n) (decimal_is_IsNumeral n h).0.1
 
 -- two words side by side are a word
 word_append : (v w : List ℕ) → IsWord v → IsWord w → IsWord (v ++ w)

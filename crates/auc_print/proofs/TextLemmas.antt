@@ -1,20 +1,29 @@
 -- The text of a round in pieces, for the functions that print it.
-use Rattle.std.proofs.Common.{ℕ, zero, suc, ◌+◌, ◌<◌, Bool, true, false, List, [], ◌∷◌, ◌++◌, length, map, take, drop, flat_map, decimal, codes, ◌≡◌, refl, ap, sym, ◌∙◌, append_assoc, All, if◌then◌else◌, slice_get, slice_index_or, get_or, Some, arith}
-use Rattle.std.proofs.lemmas.List.{append-nil, drop_more, get_or-map}
+use Rattle.std.proofs.Common.{ℕ, zero, suc, ◌+◌, ◌<◌, Bool, true, false, List, [], ◌∷◌, ◌++◌, length, map, take, drop, flat_map, codes, ◌≡◌, refl, ap, sym, subst, ◌∙◌, append_assoc, All, if◌then◌else◌, slice_get, slice_index_or, get_or, Option, Some, None, arith}
+use Rattle.std.proofs.lemmas.List.{append-nil, drop_more, get_or-map, take_more}
 use Rattle.std.proofs.lemmas.List.Concat.{flat_map-append}
-use Rattle.std.proofs.lemmas.List.Elements.{All-head, All-tail}
+use Rattle.std.proofs.lemmas.List.Elements.{All-append, All-cons, All-head, All-nil, All-tail}
+use Rattle.auc_released.specs.declared.numbers.Number.{Number}
 use Rattle.auc_subs.specs.declared.row.Row.{Row}
 use Rattle.auc_vector.specs.Random.{rand_of}
 use Rattle.auc_vector.specs.declared.parts.Vector.{Vector as AuthVector}
-use Rattle.auc_world.specs.Record.{subscriber_of}
+use Rattle.auc_vector.specs.declared.notes.NumberNote.{NumberNote}
+use Rattle.auc_vector.specs.declared.notes.NumberNote.TheVariants as drawn
+use Rattle.auc_world.specs.Event.{asked_in, event_number, number_in, number_with}
+use Rattle.auc_world.specs.Record.{IsBelow, subscriber_of}
 use Rattle.auc_world.specs.Setting.{Setting}
-use Rattle.auc_world.specs.Vectors.{vector_with, vector_at, vectors_in}
+use Rattle.auc_world.specs.Vectors.{vector_with, vector_at, vector_in, vector_of_number, vectors_in}
 use Rattle.auc_world.specs.declared.record.LineRecord.{LineRecord}
-use Rattle.auc_world.specs.declared.record.LineRecord.TheVariants.{Vector, Withheld, Exhausted, Sync, Give}
+use Rattle.auc_world.specs.declared.record.LineRecord.TheVariants.{Vector, Withheld, Exhausted, Sync, Give, Event}
 use Rattle.auc_world.specs.declared.record.Closing.{Closing}
+use Rattle.auc_world.specs.declared.record.Premise.{Premise}
+use Rattle.auc_world.specs.declared.record.Premise.TheVariants as premise
 use Rattle.auc_world.specs.declared.record.RoundRecord.{RoundRecord}
-use Rattle.auc_print.specs.Inner.{IsFrontOf, answers_text, job_text}
-use Rattle.auc_print.specs.Text.{Line, RoundLine, JobLine, RecordLine, ClosedLine, bytes_text, closing_words, identities_of, job_lines, jobs_lines, line_text, record_words, round_text, spaced}
+use Rattle.auc_world.specs.declared.record.SessionVerdict.{SessionVerdict}
+use Rattle.auc_edge.specs.Identity.{Identity}
+use Rattle.auc_print.specs.Inner.{IsFrontOf, answer_text, answers_text, bytes_text, job_text, left_after, left_for, lines_text, premise_text, shown_after, shown_for}
+use Rattle.auc_print.specs.Numeral.{numeral}
+use Rattle.auc_print.specs.Text.{Line, RoundLine, JobLine, RecordLine, ClosedLine, SessionLine, BrokenLine, broken_words, bytes_words, closing_words, end_lines, event_lines, identities_of, job_lines, jobs_lines, line_text, premise_lines, record_words, round_text, session_words, spaced}
 
 -- a place in a list has an item
 item_at : (rows : List Row) (sub : ℕ) → sub < length rows → (row : Row) × (slice_get rows sub ≡ Some row)
@@ -26,48 +35,120 @@ item_at (row ∷ rows) (suc sub) known = item_at rows sub (omega arith)
 one_vector : (set : Setting) (sub n : ℕ) → sub < length set.rows → (vector : AuthVector) × (vector_at set sub n ≡ vector ∷ [])
 one_vector set sub n known = let found = item_at set.rows sub known in (_, ap (λ row. vector_with row n (rand_of set.key sub n)) found.1)
 
--- in a brief print no record is followed by bytes
-brief_answers : (set : Setting) (job : List LineRecord) → answers_text (identities_of set.rows) job [] ≡ flat_map (line_text set false) (map RecordLine job)
-brief_answers set [] = refl
-brief_answers set (Vector sub n ∷ job) = ap (λ rest. line_text set false (RecordLine (Vector sub n)) ++ rest) (brief_answers set job)
-brief_answers set (Withheld sub n stop ∷ job) = ap (λ rest. line_text set false (RecordLine (Withheld sub n stop)) ++ rest) (brief_answers set job)
-brief_answers set (Exhausted sub word ∷ job) = ap (λ rest. line_text set false (RecordLine (Exhausted sub word)) ++ rest) (brief_answers set job)
-brief_answers set (Sync sub verdict ∷ job) = ap (λ rest. line_text set false (RecordLine (Sync sub verdict)) ++ rest) (brief_answers set job)
-brief_answers set (Give sub n verdict ∷ job) = ap (λ rest. line_text set false (RecordLine (Give sub n verdict)) ++ rest) (brief_answers set job)
+-- ---- the vectors that are shown
 
--- in a full print each vector's record is followed by the bytes of the vector that it releases
-full_answers : (set : Setting) (job : List LineRecord) → All (λ answer. subscriber_of answer < length set.rows) job
-    → answers_text (identities_of set.rows) job (vectors_in set job) ≡ flat_map (line_text set true) (map RecordLine job)
+-- a number that was released, if one was, is that of a subscriber with a row
+abbrev IsKnown : Setting → Option Number → Type 0
+IsKnown set None = Unit {0}
+IsKnown set (Some number) = number.sub < length set.rows
+
+number_known : (set : Setting) (asked : Option ℕ) (told : Option NumberNote) → IsBelow (length set.rows) asked → IsKnown set (number_with asked told)
+number_known set None told named = tt
+number_known set (Some sub) None named = tt
+number_known set (Some sub) (Some (drawn.Drew n)) named = named
+number_known set (Some sub) (Some (drawn.Exhausted word)) named = tt
+number_known set (Some sub) (Some (drawn.Withheld n stop)) named = tt
+
+-- no vector is shown of none
+none_shown : (number : Option Number) → shown_for number [] ≡ []
+none_shown None = refl
+none_shown (Some number) = refl
+
+none_left : (number : Option Number) → left_for number [] ≡ []
+none_left None = refl
+none_left (Some number) = refl
+
+brief_shown : (answer : LineRecord) → shown_after answer [] ≡ []
+brief_shown (Vector sub n) = refl
+brief_shown (Withheld sub n stop) = refl
+brief_shown (Exhausted sub word) = refl
+brief_shown (Sync sub verdict) = refl
+brief_shown (Give sub n verdict) = refl
+brief_shown (Event r) = none_shown (event_number r.result)
+
+brief_left : (answer : LineRecord) → left_after answer [] ≡ []
+brief_left (Vector sub n) = refl
+brief_left (Withheld sub n stop) = refl
+brief_left (Exhausted sub word) = refl
+brief_left (Sync sub verdict) = refl
+brief_left (Give sub n verdict) = refl
+brief_left (Event r) = none_left (event_number r.result)
+
+-- of the vectors of some lines, a line that releases a number shows its own, and leaves those of the lines after it
+number_shown : (set : Setting) (number : Option Number) (more : List AuthVector) → IsKnown set number
+    → shown_for number (vector_of_number set number ++ more) ≡ vector_of_number set number
+number_shown set None more known = refl
+number_shown set (Some number) more known =
+    let one = one_vector set number.sub number.n known in ap (λ vectors. take 1 (vectors ++ more)) one.1 ∙ sym one.1
+
+number_left : (set : Setting) (number : Option Number) (more : List AuthVector) → IsKnown set number
+    → left_for number (vector_of_number set number ++ more) ≡ more
+number_left set None more known = refl
+number_left set (Some number) more known =
+    let one = one_vector set number.sub number.n known in ap (λ vectors. drop 1 (vectors ++ more)) one.1
+
+full_shown : (set : Setting) (answer : LineRecord) (more : List AuthVector) → IsBelow (length set.rows) (subscriber_of answer)
+    → shown_after answer (vector_in set answer ++ more) ≡ vector_in set answer
+full_shown set (Vector sub n) more named = number_shown set (Some (record { sub = sub; n = n })) more named
+full_shown set (Withheld sub n stop) more named = refl
+full_shown set (Exhausted sub word) more named = refl
+full_shown set (Sync sub verdict) more named = refl
+full_shown set (Give sub n verdict) more named = refl
+full_shown set (Event r) more named =
+    number_shown set (event_number r.result) more (number_known set (asked_in r.result) (number_in r.result) named)
+
+full_left : (set : Setting) (answer : LineRecord) (more : List AuthVector) → IsBelow (length set.rows) (subscriber_of answer)
+    → left_after answer (vector_in set answer ++ more) ≡ more
+full_left set (Vector sub n) more named = number_left set (Some (record { sub = sub; n = n })) more named
+full_left set (Withheld sub n stop) more named = refl
+full_left set (Exhausted sub word) more named = refl
+full_left set (Sync sub verdict) more named = refl
+full_left set (Give sub n verdict) more named = refl
+full_left set (Event r) more named =
+    number_left set (event_number r.result) more (number_known set (asked_in r.result) (number_in r.result) named)
+
+-- ---- a job
+
+-- each subscriber that a job's records name has a row
+abbrev AreNamed : Setting → List LineRecord → Type 0
+AreNamed set job = All (λ answer. IsBelow (length set.rows) (subscriber_of answer)) job
+
+-- in a brief print nothing follows a record's line
+brief_answers : (set : Setting) (job : List LineRecord)
+    → answers_text (identities_of set.rows) false job [] ≡ flat_map (line_text set false) (map RecordLine job)
+brief_answers set [] = refl
+brief_answers set (answer ∷ job) =
+    let own : List ℕ = spaced (record_words (identities_of set.rows) answer) in
+    ap (λ vectors. (own ++ (bytes_text vectors ++ [])) ++ answers_text (identities_of set.rows) false job (left_after answer [])) (brief_shown answer)
+    ∙ ap (λ vectors. line_text set false (RecordLine answer) ++ answers_text (identities_of set.rows) false job vectors) (brief_left answer)
+    ∙ ap (λ rest. line_text set false (RecordLine answer) ++ rest) (brief_answers set job)
+
+-- in a full print the bytes of the vector that a record releases follow its line, and then the lines of an event
+full_answers : (set : Setting) (job : List LineRecord) → AreNamed set job
+    → answers_text (identities_of set.rows) true job (vectors_in set job) ≡ flat_map (line_text set true) (map RecordLine job)
 full_answers set [] named = refl
-full_answers set (Vector sub n ∷ job) named =
-    let one = one_vector set sub n (All-head (λ answer. subscriber_of answer < length set.rows) (Vector sub n) job named) in
-    let own : List ℕ = spaced (record_words (identities_of set.rows) (Vector sub n)) in
-    ap (λ vectors. (own ++ bytes_text (take 1 (vectors ++ vectors_in set job))) ++ answers_text (identities_of set.rows) job (drop 1 (vectors ++ vectors_in set job))) one.1
-    ∙ ap (λ vectors. (own ++ bytes_text vectors) ++ answers_text (identities_of set.rows) job (vectors_in set job)) (sym one.1)
-    ∙ ap (λ rest. line_text set true (RecordLine (Vector sub n)) ++ rest)
-    (full_answers set job (All-tail (λ answer. subscriber_of answer < length set.rows) (Vector sub n) job named))
-full_answers set (Withheld sub n stop ∷ job) named =
-    ap (λ rest. line_text set true (RecordLine (Withheld sub n stop)) ++ rest)
-    (full_answers set job (All-tail (λ answer. subscriber_of answer < length set.rows) (Withheld sub n stop) job named))
-full_answers set (Exhausted sub word ∷ job) named =
-    ap (λ rest. line_text set true (RecordLine (Exhausted sub word)) ++ rest)
-    (full_answers set job (All-tail (λ answer. subscriber_of answer < length set.rows) (Exhausted sub word) job named))
-full_answers set (Sync sub verdict ∷ job) named =
-    ap (λ rest. line_text set true (RecordLine (Sync sub verdict)) ++ rest)
-    (full_answers set job (All-tail (λ answer. subscriber_of answer < length set.rows) (Sync sub verdict) job named))
-full_answers set (Give sub n verdict ∷ job) named =
-    ap (λ rest. line_text set true (RecordLine (Give sub n verdict)) ++ rest)
-    (full_answers set job (All-tail (λ answer. subscriber_of answer < length set.rows) (Give sub n verdict) job named))
+full_answers set (answer ∷ job) named =
+    let here = All-head (λ line. IsBelow (length set.rows) (subscriber_of line)) answer job named in
+    let there : AreNamed set job = All-tail (λ line. IsBelow (length set.rows) (subscriber_of line)) answer job named in
+    let own : List ℕ = spaced (record_words (identities_of set.rows) answer) in
+    let more : List AuthVector = vectors_in set job in
+    ap (λ vectors. (own ++ (bytes_text vectors ++ lines_text (event_lines answer)))
+    ++ answers_text (identities_of set.rows) true job (left_after answer (vector_in set answer ++ more))) (full_shown set answer more here)
+    ∙ ap (λ vectors. (own ++ (bytes_text (vector_in set answer) ++ lines_text (event_lines answer))) ++ answers_text (identities_of set.rows) true job vectors)
+    (full_left set answer more here)
+    ∙ ap (λ t. (own ++ t) ++ answers_text (identities_of set.rows) true job more)
+    (sym (flat_map-append spaced (map bytes_words (vector_in set answer)) (event_lines answer)))
+    ∙ ap (λ rest. line_text set true (RecordLine answer) ++ rest) (full_answers set job there)
 
 -- a job's text with the vectors that a print shows is that of its lines
-pub job_text_is : (set : Setting) (full : Bool) (number : ℕ) (job : List LineRecord) → All (λ answer. subscriber_of answer < length set.rows) job
-    → job_text (identities_of set.rows) number job (if full then vectors_in set job else []) ≡ flat_map (line_text set full) (job_lines number job)
+pub job_text_is : (set : Setting) (full : Bool) (number : ℕ) (job : List LineRecord) → AreNamed set job
+    → job_text (identities_of set.rows) full number job (if full then vectors_in set job else []) ≡ flat_map (line_text set full) (job_lines number job)
 job_text_is set full number job named =
-    ap (λ own. own ++ answers_text (identities_of set.rows) job (if full then vectors_in set job else []))
-    (sym (append-nil (spaced (codes "job" ∷ decimal number ∷ []))))
+    ap (λ own. own ++ answers_text (identities_of set.rows) full job (if full then vectors_in set job else []))
+    (sym (append-nil (spaced (codes "job" ∷ numeral number ∷ []))))
     ∙ ap (λ rest. line_text set full (JobLine number) ++ rest) (answers_are full)
   where
-    answers_are : (print : Bool) → answers_text (identities_of set.rows) job (if print then vectors_in set job else [])
+    answers_are : (print : Bool) → answers_text (identities_of set.rows) print job (if print then vectors_in set job else [])
         ≡ flat_map (line_text set print) (map RecordLine job)
     answers_are true = full_answers set job named
     answers_are false = brief_answers set job
@@ -75,10 +156,10 @@ job_text_is set full number job named =
 -- the text so far with that of the job at a place goes on with the lines of the jobs after it
 pub jobs_step : (set : Setting) (full : Bool) (rows : List Row) (jobs : List (List LineRecord)) (vectors : List (List AuthVector)) (place : ℕ)
     (item job : List LineRecord) (own : List AuthVector) (out next : List ℕ)
-    → rows ≡ set.rows → All (All (λ answer. subscriber_of answer < length set.rows)) jobs
+    → rows ≡ set.rows → All (AreNamed set) jobs
     → vectors ≡ (if full then map (vectors_in set) jobs else []) → place < length jobs → item ≡ get_or jobs place item → job ≡ item
     → own ≡ (if full then slice_index_or vectors place [] else [])
-    → next ≡ out ++ job_text (identities_of rows) (place + 1) job own
+    → next ≡ out ++ job_text (identities_of rows) full (place + 1) job own
     → next ++ flat_map (line_text set full) (jobs_lines (place + 1 + 1) (drop (place + 1) jobs))
     ≡ out ++ flat_map (line_text set full) (jobs_lines (place + 1) (drop place jobs))
 jobs_step set full rows jobs vectors place item job own out next same named vectors_are within item_is job_is own_is printed =
@@ -87,9 +168,9 @@ jobs_step set full rows jobs vectors place item job own out next same named vect
     let here : List LineRecord = get_or jobs place item in
     let shown : own ≡ (if full then vectors_in set here else []) = shown_is full vectors_are own_is in
     let job_printed : next ≡ out ++ text (job_lines (place + 1) here)
-    = printed ∙ ap (λ r. out ++ job_text (identities_of r) (place + 1) job own) same
-    ∙ ap (λ j. out ++ job_text (identities_of set.rows) (place + 1) j own) (job_is ∙ item_is)
-    ∙ ap (λ vs. out ++ job_text (identities_of set.rows) (place + 1) here vs) shown
+    = printed ∙ ap (λ r. out ++ job_text (identities_of r) full (place + 1) job own) same
+    ∙ ap (λ j. out ++ job_text (identities_of set.rows) full (place + 1) j own) (job_is ∙ item_is)
+    ∙ ap (λ vs. out ++ job_text (identities_of set.rows) full (place + 1) here vs) shown
     ∙ ap (λ t. out ++ t) (job_text_is set full (place + 1) here (named place item within)) in
     ap (λ t. t ++ text after) job_printed ∙ append_assoc out (text (job_lines (place + 1) here)) (text after)
     ∙ ap (λ t. out ++ t) (sym (flat_map-append (line_text set full) (job_lines (place + 1) here) after))
@@ -116,35 +197,87 @@ closings_text set full (closing ∷ closings) =
     (sym (append-nil (spaced (closing_words (identities_of set.rows) closing))))
     ∙ ap (λ rest. line_text set full (ClosedLine closing) ++ rest) (closings_text set full closings)
 
--- a round's text is its own line, then the jobs' text, then the closings'
+-- so is the sessions'
+sessions_text : (set : Setting) (full : Bool) (sessions : List SessionVerdict)
+    → flat_map (λ verdict. spaced (session_words verdict)) sessions ≡ flat_map (line_text set full) (map SessionLine sessions)
+sessions_text set full [] = refl
+sessions_text set full (verdict ∷ sessions) =
+    ap (λ own. own ++ flat_map (λ v. spaced (session_words v)) sessions) (sym (append-nil (spaced (session_words verdict))))
+    ∙ ap (λ rest. line_text set full (SessionLine verdict) ++ rest) (sessions_text set full sessions)
+
+-- and the premise's
+premise_text_is : (set : Setting) (full : Bool) (p : Premise) → premise_text p ≡ flat_map (line_text set full) (premise_lines p)
+premise_text_is set full premise.NoSession = refl
+premise_text_is set full premise.Held = refl
+premise_text_is set full (premise.Broken job breach) =
+    sym (append-nil (spaced (broken_words job breach))) ∙ sym (append-nil (line_text set full (BrokenLine job breach)))
+
+-- the pieces that are appended after the jobs are the text of the lines that end a round
+pub end_printed : (set : Setting) (full : Bool) (rows : List Row) (round : RoundRecord) (closings : List Closing) (sessions : List SessionVerdict)
+    (old first second third : List ℕ) → rows ≡ set.rows → closings ≡ round.closings → sessions ≡ round.sessions
+    → first ≡ old ++ flat_map (λ closing. spaced (closing_words (identities_of rows) closing)) closings
+    → second ≡ first ++ flat_map (λ verdict. spaced (session_words verdict)) sessions
+    → third ≡ second ++ premise_text round.premise
+    → third ≡ old ++ flat_map (line_text set full) (end_lines round)
+end_printed set full rows round closings sessions old first second third same k s e f g =
+    let text : List Line → List ℕ = λ lines. flat_map (line_text set full) lines in
+    let closed : List Line = map ClosedLine round.closings in
+    let judged : List Line = map SessionLine round.sessions in
+    let last : List Line = premise_lines round.premise in
+    let first_is : first ≡ old ++ text closed
+    = e ∙ ap (λ r. old ++ flat_map (λ closing. spaced (closing_words (identities_of r) closing)) closings) same
+    ∙ ap (λ cs. old ++ flat_map (λ closing. spaced (closing_words (identities_of set.rows) closing)) cs) k
+    ∙ ap (λ t. old ++ t) (closings_text set full round.closings) in
+    let second_is : second ≡ first ++ text judged
+    = f ∙ ap (λ vs. first ++ flat_map (λ verdict. spaced (session_words verdict)) vs) s ∙ ap (λ t. first ++ t) (sessions_text set full round.sessions) in
+    let third_is : third ≡ second ++ text last = g ∙ ap (λ t. second ++ t) (premise_text_is set full round.premise) in
+    third_is ∙ ap (λ x. x ++ text last) (second_is ∙ ap (λ x. x ++ text judged) first_is)
+    ∙ append_assoc (old ++ text closed) (text judged) (text last) ∙ append_assoc old (text closed) (text judged ++ text last)
+    ∙ ap (λ t. old ++ (text closed ++ t)) (sym (flat_map-append (line_text set full) judged last))
+    ∙ ap (λ t. old ++ t) (sym (flat_map-append (line_text set full) closed (judged ++ last)))
+
+-- a round's text is its own line, then the jobs' text, then that of the lines that end it
 round_text_is : (set : Setting) (full : Bool) (round : RoundRecord)
-    → spaced (codes "round" ∷ decimal round.number ∷ []) ++ (flat_map (line_text set full) (jobs_lines 1 round.jobs)
-    ++ flat_map (λ closing. spaced (closing_words (identities_of set.rows) closing)) round.closings)
+    → spaced (codes "round" ∷ numeral round.number ∷ []) ++ (flat_map (line_text set full) (jobs_lines 1 round.jobs)
+    ++ flat_map (line_text set full) (end_lines round))
     ≡ round_text set full round
 round_text_is set full round =
-    ap (λ own. own ++ (flat_map (line_text set full) (jobs_lines 1 round.jobs)
-    ++ flat_map (λ closing. spaced (closing_words (identities_of set.rows) closing)) round.closings))
-    (sym (append-nil (spaced (codes "round" ∷ decimal round.number ∷ []))))
-    ∙ ap (λ rest. line_text set full (RoundLine round.number) ++ (flat_map (line_text set full) (jobs_lines 1 round.jobs) ++ rest))
-    (closings_text set full round.closings)
+    ap (λ own. own ++ (flat_map (line_text set full) (jobs_lines 1 round.jobs) ++ flat_map (line_text set full) (end_lines round)))
+    (sym (append-nil (spaced (codes "round" ∷ numeral round.number ∷ []))))
     ∙ ap (λ rest. line_text set full (RoundLine round.number) ++ rest)
-    (sym (flat_map-append (line_text set full) (jobs_lines 1 round.jobs) (map ClosedLine round.closings)))
+    (sym (flat_map-append (line_text set full) (jobs_lines 1 round.jobs) (end_lines round)))
 
 -- the pieces that are appended for a round are the round's text
-pub round_printed : (set : Setting) (full : Bool) (rows : List Row) (round : RoundRecord) (jobs : List (List LineRecord)) (closings : List Closing)
-    (old first second third : List ℕ) → rows ≡ set.rows → jobs ≡ round.jobs → closings ≡ round.closings
-    → first ≡ old ++ spaced (codes "round" ∷ decimal round.number ∷ [])
+pub round_printed : (set : Setting) (full : Bool) (round : RoundRecord) (jobs : List (List LineRecord))
+    (old first second third : List ℕ) → jobs ≡ round.jobs
+    → first ≡ old ++ spaced (codes "round" ∷ numeral round.number ∷ [])
     → second ≡ first ++ flat_map (line_text set full) (jobs_lines 1 jobs)
-    → third ≡ second ++ flat_map (λ closing. spaced (closing_words (identities_of rows) closing)) closings
+    → third ≡ second ++ flat_map (line_text set full) (end_lines round)
     → third ≡ old ++ round_text set full round
-round_printed set full rows round jobs closings old first second third same j k e f g =
-    let heading : List ℕ = spaced (codes "round" ∷ decimal round.number ∷ []) in
+round_printed set full round jobs old first second third j e f g =
+    let heading : List ℕ = spaced (codes "round" ∷ numeral round.number ∷ []) in
     let job_texts : List (List LineRecord) → List ℕ = λ js. flat_map (line_text set full) (jobs_lines 1 js) in
-    let closing_text : List Row → List Closing → List ℕ = λ r cs. flat_map (λ closing. spaced (closing_words (identities_of r) closing)) cs in
-    g ∙ ap (λ x. x ++ closing_text rows closings) (f ∙ ap (λ x. x ++ job_texts jobs) e)
-    ∙ append_assoc (old ++ heading) (job_texts jobs) (closing_text rows closings)
-    ∙ append_assoc old heading (job_texts jobs ++ closing_text rows closings)
-    ∙ ap (λ js. old ++ (heading ++ (job_texts js ++ closing_text rows closings))) j
-    ∙ ap (λ cs. old ++ (heading ++ (job_texts round.jobs ++ closing_text rows cs))) k
-    ∙ ap (λ r. old ++ (heading ++ (job_texts round.jobs ++ closing_text r round.closings))) same
+    let ending : List ℕ = flat_map (line_text set full) (end_lines round) in
+    g ∙ ap (λ x. x ++ ending) (f ∙ ap (λ x. x ++ job_texts jobs) e)
+    ∙ append_assoc (old ++ heading) (job_texts jobs) ending
+    ∙ append_assoc old heading (job_texts jobs ++ ending)
+    ∙ ap (λ js. old ++ (heading ++ (job_texts js ++ ending))) j
     ∙ ap (λ x. old ++ x) (round_text_is set full round)
+
+-- what holds of the items before a place and of the one there holds of those before the next place
+pub all_more : {X : Type 0} (P : X → Type 0) (xs : List X) (i : ℕ) (x : X) → i < length xs → x ≡ get_or xs i x → All P (take i xs) → P x → All P (take (i + 1) xs)
+all_more P xs i x within is before here =
+    subst (All P) (sym (take_more xs i x within)) (All-append P (take i xs) (get_or xs i x ∷ []) before (All-cons P (get_or xs i x) [] (subst P is here) (All-nil P)))
+
+-- the text so far with that of a record goes on with the records after it
+pub answers_step : (identities : List Identity) (full : Bool) (job : List LineRecord) (place : ℕ) (answer : LineRecord) (left after : List AuthVector)
+    (out next : List ℕ) → place < length job → answer ≡ get_or job place answer → next ≡ out ++ answer_text identities full answer left
+    → after ≡ left_after answer left
+    → next ++ answers_text identities full (drop (place + 1) job) after ≡ out ++ answers_text identities full (drop place job) left
+answers_step identities full job place answer left after out next within is printed after_is =
+    let more : List LineRecord = drop (place + 1) job in
+    ap (λ x. x ++ answers_text identities full more after) printed
+    ∙ append_assoc out (answer_text identities full answer left) (answers_text identities full more after)
+    ∙ ap (λ vectors. out ++ (answer_text identities full answer left ++ answers_text identities full more vectors)) after_is
+    ∙ ap (λ first. out ++ answers_text identities full (first ∷ more) left) is
+    ∙ ap (λ lines. out ++ answers_text identities full lines left) (sym (drop_more job place answer within))

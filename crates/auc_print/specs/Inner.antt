@@ -1,42 +1,82 @@
 -- Inner facts: what only private contracts of this crate cite.
-use Rattle.std.specs.Prelude.{ℕ, ◌≡◌, List, [], ◌∷◌, ◌++◌, take, drop, codes, decimal}
+use Rattle.std.specs.Prelude.{ℕ, ◌≡◌, Bool, List, [], ◌∷◌, ◌++◌, map, take, drop, flat_map, if◌then◌else◌, Option, Some, None, codes}
 use Rattle.auc_edge.specs.Identity.{Identity}
+use Rattle.auc_released.specs.declared.numbers.Number.{Number}
 use Rattle.auc_vector.specs.declared.parts.Vector.{Vector as AuthVector}
+use Rattle.auc_world.specs.Event.{event_number}
 use Rattle.auc_world.specs.declared.record.LineRecord.{LineRecord}
-use Rattle.auc_world.specs.declared.record.LineRecord.TheVariants.{Vector, Withheld, Exhausted, Sync, Give}
-use Rattle.auc_print.specs.Text.{bytes_text, record_words, spaced}
+use Rattle.auc_world.specs.declared.record.LineRecord.TheVariants.{Vector, Withheld, Exhausted, Sync, Give, Event}
+use Rattle.auc_world.specs.declared.record.Premise.{Premise}
+use Rattle.auc_world.specs.declared.record.Premise.TheVariants as premise
+use Rattle.auc_print.specs.Numeral.{numeral}
+use Rattle.auc_print.specs.Text.{broken_words, bytes_words, event_lines, record_words, spaced}
 
 -- a text begins with a front
 pub record IsFrontOf (front text : List ℕ) : Type 0 where
   pub rest : List ℕ
   pub is : text ≡ front ++ rest
 
--- of the vectors that are left, the one whose bytes follow a record's line: the first, if the line releases a vector
+-- words, each after a space
+abbrev pub after_spaces : List (List ℕ) → List ℕ
+after_spaces words = flat_map (λ word. 32 ∷ word) words
+
+-- words with a space between each two
+abbrev pub joined : List (List ℕ) → List ℕ
+joined [] = []
+joined (word ∷ words) = word ++ after_spaces words
+
+-- the text of lines
+abbrev pub lines_text : List (List (List ℕ)) → List ℕ
+lines_text lines = flat_map spaced lines
+
+-- the text of some vectors' bytes, a line for each
+abbrev pub bytes_text : List AuthVector → List ℕ
+bytes_text vectors = lines_text (map bytes_words vectors)
+
+-- of the vectors that are left, the one whose bytes follow a line that releases a number, if it does: the first; and the
+-- vectors that are left for the lines after it
+abbrev pub shown_for : Option Number → List AuthVector → List AuthVector
+shown_for None vectors = []
+shown_for (Some number) vectors = take 1 vectors
+
+abbrev pub left_for : Option Number → List AuthVector → List AuthVector
+left_for None vectors = vectors
+left_for (Some number) vectors = drop 1 vectors
+
+-- the same for a record's line
 abbrev pub shown_after : LineRecord → List AuthVector → List AuthVector
 shown_after (Vector sub n) vectors = take 1 vectors
 shown_after (Withheld sub n stop) vectors = []
 shown_after (Exhausted sub word) vectors = []
 shown_after (Sync sub verdict) vectors = []
 shown_after (Give sub n verdict) vectors = []
+shown_after (Event r) vectors = shown_for (event_number r.result) vectors
 
--- the vectors that are left for the lines after a record's line
 abbrev pub left_after : LineRecord → List AuthVector → List AuthVector
 left_after (Vector sub n) vectors = drop 1 vectors
 left_after (Withheld sub n stop) vectors = vectors
 left_after (Exhausted sub word) vectors = vectors
 left_after (Sync sub verdict) vectors = vectors
 left_after (Give sub n verdict) vectors = vectors
+left_after (Event r) vectors = left_for (event_number r.result) vectors
 
 -- the text of a record, with some vectors left to be shown
-abbrev pub answer_text : List Identity → LineRecord → List AuthVector → List ℕ
-answer_text identities answer vectors = spaced (record_words identities answer) ++ bytes_text (shown_after answer vectors)
+abbrev pub answer_text : List Identity → Bool → LineRecord → List AuthVector → List ℕ
+answer_text identities full answer vectors =
+    spaced (record_words identities answer) ++ (bytes_text (shown_after answer vectors) ++ lines_text (if full then event_lines answer else []))
 
 -- the text of a job's records, with the vectors that its lines show
-abbrev pub answers_text : List Identity → List LineRecord → List AuthVector → List ℕ
-answers_text identities [] vectors = []
-answers_text identities (answer ∷ job) vectors =
-    answer_text identities answer vectors ++ answers_text identities job (left_after answer vectors)
+abbrev pub answers_text : List Identity → Bool → List LineRecord → List AuthVector → List ℕ
+answers_text identities full [] vectors = []
+answers_text identities full (answer ∷ job) vectors =
+    answer_text identities full answer vectors ++ answers_text identities full job (left_after answer vectors)
 
 -- the text of a job, with the vectors that its lines show
-abbrev pub job_text : List Identity → ℕ → List LineRecord → List AuthVector → List ℕ
-job_text identities number job vectors = spaced (codes "job" ∷ decimal number ∷ []) ++ answers_text identities job vectors
+abbrev pub job_text : List Identity → Bool → ℕ → List LineRecord → List AuthVector → List ℕ
+job_text identities full number job vectors = spaced (codes "job" ∷ numeral number ∷ []) ++ answers_text identities full job vectors
+
+-- the text of a premise
+abbrev pub premise_text : Premise → List ℕ
+premise_text premise.NoSession = []
+premise_text premise.Held = codes "premise held\n"
+premise_text (premise.Broken job breach) = spaced (broken_words job breach)

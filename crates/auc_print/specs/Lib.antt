@@ -1,3 +1,5 @@
+pub mod EventText
 pub mod Inner
+pub mod Numeral
 pub mod OneText
 pub mod Text

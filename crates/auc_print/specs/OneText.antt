@@ -1,16 +1,24 @@
--- A text determines its transcript.
-use Rattle.std.specs.Prelude.{ℕ, ◌^◌, ◌<◌, ◌≡◌, ◌≢◌, Bool, List, length, All, AllPairs}
+-- A text tells what is told of its transcript.
+use Rattle.std.specs.Prelude.{ℕ, ◌≡◌, ◌≢◌, Bool, List, length, Option, Some, None, Result, Ok, Err, All, AllPairs}
 use Rattle.hex.specs.Hex.{IsBytes}
 use Rattle.auc_edge.specs.Identity.{Identity, IsIdentity}
+use Rattle.auc_lines.specs.declared.part.End.{End}
+use Rattle.auc_lines.specs.declared.part.End.TheVariants as end
+use Rattle.auc_vector.specs.declared.notes.UsimNote.{UsimNote}
+use Rattle.auc_vector.specs.declared.notes.UsimNote.TheVariants as usim
 use Rattle.auc_world.specs.Record.{PartNamesBelow}
 use Rattle.auc_world.specs.Setting.{Setting}
+use Rattle.auc_world.specs.Told.{told}
+use Rattle.auc_world.specs.declared.event.Event.{Event}
+use Rattle.auc_world.specs.declared.event.Event.TheVariants as event
+use Rattle.auc_world.specs.declared.event.Note.{Note}
+use Rattle.auc_world.specs.declared.event.NoteStep.{NoteStep}
+use Rattle.auc_world.specs.declared.event.NoteStep.TheVariants as did
+use Rattle.auc_world.specs.declared.event.WorldRefusal.{WorldRefusal}
 use Rattle.auc_world.specs.declared.record.LineRecord.{LineRecord}
-use Rattle.auc_world.specs.declared.record.LineRecord.TheVariants.{Vector, Withheld, Exhausted, Sync, Give}
-use Rattle.auc_world.specs.declared.record.SyncVerdict.{SyncVerdict}
-use Rattle.auc_world.specs.declared.record.SyncVerdict.TheVariants.{Moved, InRange, Beyond, WrongMac}
+use Rattle.auc_world.specs.declared.record.LineRecord.TheVariants as record_of
 use Rattle.auc_world.specs.declared.record.GiveVerdict.{GiveVerdict}
 use Rattle.auc_world.specs.declared.record.GiveVerdict.TheVariants.{Accepted, Sync as SyncFailure, Absent}
-use Rattle.auc_world.specs.declared.record.Closing.{Closing}
 use Rattle.auc_world.specs.declared.record.PartRecord.{PartRecord}
 use Rattle.auc_world.specs.declared.record.PartRecord.TheVariants.{Round, Restart}
 use Rattle.auc_world.specs.declared.record.RoundRecord.{RoundRecord}
@@ -21,55 +29,87 @@ pub record AreIdentities (identities : List Identity) : Type 0 where
   pub each : All (λ identity. IsIdentity identity.digits identity.number) identities
   pub differ : AllPairs ◌≢◌ identities
 
--- the numbers of a verdict on an AUTS have 64 bits
-abbrev pub SyncFits : SyncVerdict → Type 0
-SyncFits (Moved seen seq_ms) = (seen < 2 ^ 64) × (seq_ms < 2 ^ 64)
-SyncFits (InRange seen seq_ms) = (seen < 2 ^ 64) × (seq_ms < 2 ^ 64)
-SyncFits (Beyond seen seq_ms) = (seen < 2 ^ 64) × (seq_ms < 2 ^ 64)
-SyncFits WrongMac = Unit {0}
+-- ---- the SQNs in the answers of USIMs consist of bytes
 
--- the SQN_MS in a USIM's answer consists of bytes
 abbrev pub GiveFits : GiveVerdict → Type 0
 GiveFits Accepted = Unit {0}
 GiveFits (SyncFailure sqn_ms) = IsBytes sqn_ms
 GiveFits Absent = Unit {0}
 
--- the numbers in a job's record have 64 bits, and its SQN_MS consists of bytes
+abbrev pub UsimFits : Option UsimNote → Type 0
+UsimFits None = Unit {0}
+UsimFits (Some (usim.Accepted sqn)) = IsBytes sqn
+UsimFits (Some (usim.Sync sqn_ms)) = IsBytes sqn_ms
+UsimFits (Some usim.WrongMac) = Unit {0}
+
+abbrev pub CameFits : Result Note WorldRefusal → Type 0
+CameFits (Ok note) = UsimFits note.notes.usim
+CameFits (Err why) = Unit {0}
+
+-- that of a job's record, if it has one
 abbrev pub AnswerFits : LineRecord → Type 0
-AnswerFits (Vector sub n) = n < 2 ^ 64
-AnswerFits (Withheld sub n stop) = n < 2 ^ 64
-AnswerFits (Exhausted sub word) = word < 2 ^ 64
-AnswerFits (Sync sub verdict) = SyncFits verdict
-AnswerFits (Give sub n verdict) = (n < 2 ^ 64) × GiveFits verdict
+AnswerFits (record_of.Vector sub n) = Unit {0}
+AnswerFits (record_of.Withheld sub n stop) = Unit {0}
+AnswerFits (record_of.Exhausted sub word) = Unit {0}
+AnswerFits (record_of.Sync sub verdict) = Unit {0}
+AnswerFits (record_of.Give sub n verdict) = GiveFits verdict
+AnswerFits (record_of.Event r) = CameFits r.result
 
--- the numbers of a closing have 64 bits
-pub record ClosingFits (closing : Closing) : Type 0 where
-  pub first : closing.first < 2 ^ 64
-  pub last : closing.last < 2 ^ 64
-  pub drawn : closing.drawn < 2 ^ 64
-  pub skipped : closing.skipped < 2 ^ 64
-  pub released : closing.released < 2 ^ 64
-  pub withheld : closing.withheld < 2 ^ 64
+abbrev pub RoundFits : RoundRecord → Type 0
+RoundFits round = All (All AnswerFits) round.jobs
 
--- the values in a round and the count of its jobs fit their types
-pub record RoundFits (round : RoundRecord) : Type 0 where
-  pub number : round.number < 2 ^ 64
-  pub count : length round.jobs < 2 ^ 64
-  pub jobs : All (All AnswerFits) round.jobs
-  pub closings : All ClosingFits round.closings
-
--- the same of a part; a restart has no values
+-- those of a part; a restart has none
 abbrev pub PartFits : PartRecord → Type 0
 PartFits (Round round) = RoundFits round
 PartFits Restart = Unit {0}
 
--- each subscriber that the parts name is one of the first `count` subscribers, and the values in them fit their types
+-- each subscriber that the parts name is one of the first `count` subscribers, and each SQN in them consists of bytes
 pub record IsPrintable (count : ℕ) (records : List PartRecord) : Type 0 where
   pub named : All (PartNamesBelow count) records
   pub fit : All PartFits records
 
--- two transcripts with the same text are the same
+-- ---- events at their ends
+
+-- the end that an event concerns; a session is opened at no end
+abbrev pub end_of : Event → Option End
+end_of (event.Open session sub) = None
+end_of (event.Start session) = Some end.Server
+end_of (event.Deliver session at' packet) = Some at'
+end_of (event.Repeat session) = Some end.Server
+end_of (event.GiveUp session at') = Some at'
+
+-- a step is one of this end
+abbrev pub IsStepAt : Option End → NoteStep → Type 0
+IsStepAt None did.Opened = Unit {0}
+IsStepAt (Some end.Server) (did.Server what) = Unit {0}
+IsStepAt (Some end.Peer) (did.Peer what) = Unit {0}
+IsStepAt _ _ = ⊥
+
+abbrev pub CameAt : Option End → Result Note WorldRefusal → Type 0
+CameAt at' (Ok note) = IsStepAt at' note.step
+CameAt at' (Err why) = Unit {0}
+
+-- what came of a record's event is a step of the end that the event concerns
+abbrev pub IsAtItsEnd : LineRecord → Type 0
+IsAtItsEnd (record_of.Vector sub n) = Unit {0}
+IsAtItsEnd (record_of.Withheld sub n stop) = Unit {0}
+IsAtItsEnd (record_of.Exhausted sub word) = Unit {0}
+IsAtItsEnd (record_of.Sync sub verdict) = Unit {0}
+IsAtItsEnd (record_of.Give sub n verdict) = Unit {0}
+IsAtItsEnd (record_of.Event r) = CameAt (end_of r.event) r.result
+
+-- the same of a part's records
+abbrev pub PartIsAtItsEnds : PartRecord → Type 0
+PartIsAtItsEnds (Round round) = All (All IsAtItsEnd) round.jobs
+PartIsAtItsEnds Restart = Unit {0}
+
+abbrev pub AreAtTheirEnds : List PartRecord → Type 0
+AreAtTheirEnds records = All PartIsAtItsEnds records
+
+-- ---- the law
+
+-- a printable transcript and another one with the same text tell the same
 abbrev pub OneTranscript : Type 0
 OneTranscript = (set : Setting) (full : Bool) (records others : List PartRecord) → AreIdentities (identities_of set.rows)
-    → IsPrintable (length set.rows) records → IsPrintable (length set.rows) others
-    → transcript_text set full records ≡ transcript_text set full others → records ≡ others
+    → IsPrintable (length set.rows) records → AreAtTheirEnds records → AreAtTheirEnds others
+    → transcript_text set full records ≡ transcript_text set full others → told records ≡ told others

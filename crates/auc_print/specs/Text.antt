@@ -1,14 +1,12 @@
 -- The text of a transcript: lines of words. One space stands between two words, and a line feed ends the line.
--- The first word says which kind of line it is.
-use Rattle.std.specs.Prelude.{ℕ, ◌+◌, Bool, if◌then◌else◌, List, [], ◌∷◌, ◌++◌, map, slice_index_or, flat_map, codes, decimal}
+use Rattle.std.specs.Prelude.{ℕ, ◌+◌, Bool, true, false, if◌then◌else◌, List, [], ◌∷◌, ◌++◌, map, slice_index_or, flat_map, codes}
 use Rattle.hex.specs.Hex.{encode_lower}
 use Rattle.auc_edge.specs.Identity.{Identity, digits_of}
-use Rattle.auc_edge.specs.declared.stop.Stop.{Stop}
-use Rattle.auc_edge.specs.declared.stop.Stop.TheVariants.{Fault, Full}
 use Rattle.auc_subs.specs.declared.row.Row.{Row}
 use Rattle.auc_vector.specs.declared.parts.Vector.{Vector as AuthVector}
+use Rattle.auc_world.specs.declared.net.Breach.{Breach}
 use Rattle.auc_world.specs.declared.record.LineRecord.{LineRecord}
-use Rattle.auc_world.specs.declared.record.LineRecord.TheVariants.{Vector, Withheld, Exhausted, Sync, Give}
+use Rattle.auc_world.specs.declared.record.LineRecord.TheVariants.{Vector, Withheld, Exhausted, Sync, Give, Event}
 use Rattle.auc_world.specs.declared.record.SyncVerdict.{SyncVerdict}
 use Rattle.auc_world.specs.declared.record.SyncVerdict.TheVariants.{Moved, InRange, Beyond, WrongMac}
 use Rattle.auc_world.specs.declared.record.GiveVerdict.{GiveVerdict}
@@ -16,16 +14,25 @@ use Rattle.auc_world.specs.declared.record.GiveVerdict.TheVariants.{Accepted, Sy
 use Rattle.auc_world.specs.declared.record.Closing.{Closing}
 use Rattle.auc_world.specs.declared.record.PartRecord.{PartRecord}
 use Rattle.auc_world.specs.declared.record.PartRecord.TheVariants.{Round, Restart}
+use Rattle.auc_world.specs.declared.record.Premise.{Premise}
+use Rattle.auc_world.specs.declared.record.Premise.TheVariants as premise
 use Rattle.auc_world.specs.declared.record.RoundRecord.{RoundRecord}
+use Rattle.auc_world.specs.declared.record.SessionVerdict.{SessionVerdict}
 use Rattle.auc_world.specs.Setting.{Setting}
 use Rattle.auc_world.specs.Vectors.{vector_in}
+use Rattle.auc_print.specs.EventText.{came_lines, came_words, end_word, event_words, stop_word}
+use Rattle.auc_print.specs.Numeral.{numeral}
 
--- a line: the beginning of a round or of a job with its number, the record of a job's line, a closing, a restart
+-- a line: the beginning of a round or of a job with its number, the record of a job's line, a closing, the verdict on a
+-- session, the premise of equal keys, a restart
 pub data Line : Type 0 where
   RoundLine : (number : ℕ) → Line
   JobLine : (number : ℕ) → Line
   RecordLine : (answer : LineRecord) → Line
   ClosedLine : (closing : Closing) → Line
+  SessionLine : (verdict : SessionVerdict) → Line
+  HeldLine : Line
+  BrokenLine : (job : ℕ) → (breach : Breach) → Line
   RestartLine : Line
 
 -- a job's lines: its number, then its records
@@ -37,9 +44,19 @@ abbrev pub jobs_lines : ℕ → List (List LineRecord) → List Line
 jobs_lines number [] = []
 jobs_lines number (job ∷ jobs) = job_lines number job ++ jobs_lines (number + 1) jobs
 
--- a round's lines: its number, its jobs, numbered from 1, and its closings
+-- the line of a premise; a round without sessions has none
+abbrev pub premise_lines : Premise → List Line
+premise_lines premise.NoSession = []
+premise_lines premise.Held = HeldLine ∷ []
+premise_lines (premise.Broken job breach) = BrokenLine job breach ∷ []
+
+-- the lines after a round's jobs: its closings, its sessions' verdicts and its premise
+abbrev pub end_lines : RoundRecord → List Line
+end_lines round = map ClosedLine round.closings ++ (map SessionLine round.sessions ++ premise_lines round.premise)
+
+-- a round's lines: its number, its jobs, numbered from 1, and what ends it
 abbrev pub round_lines : RoundRecord → List Line
-round_lines round = RoundLine round.number ∷ (jobs_lines 1 round.jobs ++ map ClosedLine round.closings)
+round_lines round = RoundLine round.number ∷ (jobs_lines 1 round.jobs ++ end_lines round)
 
 -- a part's lines: those of its round, or the one of a restart
 abbrev pub part_lines : PartRecord → List Line
@@ -54,16 +71,11 @@ identities_of rows = map (λ row. row.imsi) rows
 abbrev pub imsi_of : List Identity → ℕ → List ℕ
 imsi_of identities sub = digits_of (slice_index_or identities sub (record { digits = 0; number = 0 }))
 
--- the word that says why a number was withheld
-abbrev pub stop_word : Stop → List ℕ
-stop_word Fault = codes "fault"
-stop_word Full = codes "full"
-
 -- the words that say what the home network made of an AUTS
 abbrev pub sync_words : SyncVerdict → List (List ℕ)
-sync_words (Moved seen seq_ms) = codes "moved" ∷ decimal seen ∷ decimal seq_ms ∷ []
-sync_words (InRange seen seq_ms) = codes "inrange" ∷ decimal seen ∷ decimal seq_ms ∷ []
-sync_words (Beyond seen seq_ms) = codes "beyond" ∷ decimal seen ∷ decimal seq_ms ∷ []
+sync_words (Moved seen seq_ms) = codes "moved" ∷ numeral seen ∷ numeral seq_ms ∷ []
+sync_words (InRange seen seq_ms) = codes "inrange" ∷ numeral seen ∷ numeral seq_ms ∷ []
+sync_words (Beyond seen seq_ms) = codes "beyond" ∷ numeral seen ∷ numeral seq_ms ∷ []
 sync_words WrongMac = codes "wrongmac" ∷ []
 
 -- the words that say what a USIM answered to a vector
@@ -74,24 +86,41 @@ give_words Absent = codes "absent" ∷ []
 
 -- the words of a job's record
 abbrev pub record_words : List Identity → LineRecord → List (List ℕ)
-record_words identities (Vector sub n) = codes "vector" ∷ imsi_of identities sub ∷ decimal n ∷ []
-record_words identities (Withheld sub n stop) = codes "withheld" ∷ imsi_of identities sub ∷ decimal n ∷ stop_word stop ∷ []
-record_words identities (Exhausted sub word) = codes "exhausted" ∷ imsi_of identities sub ∷ decimal word ∷ []
+record_words identities (Vector sub n) = codes "vector" ∷ imsi_of identities sub ∷ numeral n ∷ []
+record_words identities (Withheld sub n stop) = codes "withheld" ∷ imsi_of identities sub ∷ numeral n ∷ stop_word stop ∷ []
+record_words identities (Exhausted sub word) = codes "exhausted" ∷ imsi_of identities sub ∷ numeral word ∷ []
 record_words identities (Sync sub verdict) = codes "sync" ∷ imsi_of identities sub ∷ sync_words verdict
-record_words identities (Give sub n verdict) = codes "give" ∷ imsi_of identities sub ∷ decimal n ∷ give_words verdict
+record_words identities (Give sub n verdict) = codes "give" ∷ imsi_of identities sub ∷ numeral n ∷ give_words verdict
+record_words identities (Event r) = event_words r.event ++ came_words r.result
 
 -- the words of a closing
 abbrev pub closing_words : List Identity → Closing → List (List ℕ)
 closing_words identities closing =
-    codes "closed" ∷ imsi_of identities closing.sub ∷ decimal closing.first ∷ decimal closing.last
-    ∷ decimal closing.drawn ∷ decimal closing.skipped ∷ decimal closing.released ∷ decimal closing.withheld ∷ []
+    codes "closed" ∷ imsi_of identities closing.sub ∷ numeral closing.first ∷ numeral closing.last
+    ∷ numeral closing.drawn ∷ numeral closing.skipped ∷ numeral closing.released ∷ numeral closing.withheld ∷ []
+
+-- the words of the verdict on a session
+abbrev pub agree_word : Bool → List ℕ
+agree_word true = codes "agree"
+agree_word false = codes "differ"
+
+abbrev pub session_words : SessionVerdict → List (List ℕ)
+session_words verdict = codes "session" ∷ numeral verdict.session ∷ agree_word verdict.agree ∷ []
+
+-- the words of the delivery that breaks the premise, with its job
+abbrev pub broken_words : ℕ → Breach → List (List ℕ)
+broken_words job breach =
+    codes "premise" ∷ codes "broken" ∷ numeral job ∷ numeral breach.session ∷ end_word breach.end ∷ numeral breach.packet ∷ []
 
 -- the words of a line
 abbrev pub line_words : List Identity → Line → List (List ℕ)
-line_words identities (RoundLine number) = codes "round" ∷ decimal number ∷ []
-line_words identities (JobLine number) = codes "job" ∷ decimal number ∷ []
+line_words identities (RoundLine number) = codes "round" ∷ numeral number ∷ []
+line_words identities (JobLine number) = codes "job" ∷ numeral number ∷ []
 line_words identities (RecordLine answer) = record_words identities answer
 line_words identities (ClosedLine closing) = closing_words identities closing
+line_words identities (SessionLine verdict) = session_words verdict
+line_words identities HeldLine = codes "premise" ∷ codes "held" ∷ []
+line_words identities (BrokenLine job breach) = broken_words job breach
 line_words identities RestartLine = codes "restart" ∷ []
 
 -- the words of a vector's bytes
@@ -105,13 +134,22 @@ abbrev pub spaced : List (List ℕ) → List ℕ
 spaced [] = codes "\n"
 spaced (word ∷ words) = word ++ flat_map (λ next. 32 ∷ next) words ++ codes "\n"
 
--- the text of some vectors' bytes, a line for each
-abbrev pub bytes_text : List AuthVector → List ℕ
-bytes_text vectors = flat_map (λ vector. spaced (bytes_words vector)) vectors
+-- the lines that a full print adds after a record's line: the bytes of the vector that it releases, and the packet and the
+-- keys of an event
+abbrev pub event_lines : LineRecord → List (List (List ℕ))
+event_lines (Vector sub n) = []
+event_lines (Withheld sub n stop) = []
+event_lines (Exhausted sub word) = []
+event_lines (Sync sub verdict) = []
+event_lines (Give sub n verdict) = []
+event_lines (Event r) = came_lines r.result
 
--- what a full print adds after a line: the bytes of the vector that the line releases
+abbrev pub added_lines : Setting → LineRecord → List (List (List ℕ))
+added_lines set answer = map bytes_words (vector_in set answer) ++ event_lines answer
+
+-- what a full print adds after a line
 abbrev pub full_text : Setting → Bool → Line → List ℕ
-full_text set full (RecordLine answer) = bytes_text (if full then vector_in set answer else [])
+full_text set full (RecordLine answer) = flat_map spaced (if full then added_lines set answer else [])
 full_text set full line = []
 
 -- the text of a line

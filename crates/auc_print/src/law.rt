@@ -2,8 +2,8 @@
 
 ghost use Rattle.auc_print.specs.OneText.{OneTranscript};
 
-/// A text determines its transcript, in a brief and in a full print, if no two subscribers have the same identity
-/// and each number has 64 bits.
+/// A text determines what is told of its transcript, in a brief and in a full print, if no two subscribers have the same
+/// identity. Events of sessions are told without their subscribers, and without the bytes and keys of the full print.
 pub fn each_text_has_one_transcript()
     ensures { OneTranscript }
 {}

@@ -1,22 +1,27 @@
 //! The lines of a round.
 
-ghost use Rattle.std.specs.Prelude.{◌≡◌, ◌++◌, ◌∷◌, [], ◌<◌, length, take, decimal, flat_map, OnOk};
+ghost use Rattle.std.specs.Prelude.{◌≡◌, ◌++◌, ◌∷◌, [], ◌<◌, length, take, OnOk};
 ghost use Rattle.hex.specs.Hex.{encode_lower};
-ghost use Rattle.auc_world.specs.Record.{subscriber_of};
-ghost use Rattle.auc_print.specs.Inner.{IsFrontOf, answer_text};
-ghost use Rattle.auc_print.specs.Text.{bytes_text, bytes_words, closing_words, give_words, identities_of, imsi_of, record_words, spaced, stop_word, sync_words};
+ghost use Rattle.auc_world.specs.Record.{IsBelow, subscriber_of};
+ghost use Rattle.auc_print.specs.EventText.{end_word, stop_word};
+ghost use Rattle.auc_print.specs.Inner.{IsFrontOf, after_spaces, answer_text, bytes_text};
+ghost use Rattle.auc_print.specs.Numeral.{numeral};
+ghost use Rattle.auc_print.specs.OneText.{AnswerFits, GiveFits};
+ghost use Rattle.auc_print.specs.Text.{agree_word, broken_words, bytes_words, closing_words, give_words, identities_of, imsi_of, record_words, session_words, spaced, sync_words};
 
+use crate::event::{print_event, word_of_end};
+use crate::notes::{print_sqn, word_of};
 use crate::word::{
-    print_bytes, print_number, print_numbered, print_numbers, print_subject, print_word,
+    print_hex, print_number, print_numbered, print_numbers, print_pair, print_subject, print_word,
 };
 use auc_edge::{NoMemory, Octets, Stop};
 use auc_subs::Subscribers;
 use auc_vector::Vector;
-use auc_world::{Closing, GiveVerdict, LineRecord, SyncVerdict};
+use auc_world::{Breach, Closing, GiveVerdict, LineRecord, SessionVerdict, SyncVerdict};
 
 /// Appends a line of a word and a number.
 pub fn print_heading(word: &[u8], number: u64, out: &mut Octets) -> Result<(), NoMemory>
-    ensures printed { OnOk result (out.new ≡ out.old ++ spaced (word.now ∷ decimal number ∷ [])) }
+    ensures printed { OnOk result (out.new ≡ out.old ++ spaced (word.now ∷ numeral number ∷ [])) }
     ensures grows { IsFrontOf out.old out.new }
 {
     out.append(word)?;
@@ -25,26 +30,69 @@ pub fn print_heading(word: &[u8], number: u64, out: &mut Octets) -> Result<(), N
 }
 
 /// Appends the line of a job's record. If it releases a vector and vectors are left, the line of the first
-/// one's bytes follows.
+/// one's bytes follows; in a full print, so do those of an event's packet and keys.
 pub fn print_answer(
     answer: &LineRecord,
     vectors: &[Vector],
+    full: bool,
     subs: &Subscribers,
     out: &mut Octets,
 ) -> Result<(), NoMemory>
-    requires { subscriber_of answer.now < length subs.now }
+    requires { IsBelow (length subs.now) (subscriber_of answer.now) }
 
     ensures printed { OnOk result
-        (out.new ≡ out.old ++ answer_text (identities_of subs.now) answer.now vectors.now) }
+        (out.new ≡ out.old ++ answer_text (identities_of subs.now) full answer.now vectors.now) }
+    ensures grows { IsFrontOf out.old out.new }
+    ensures fits { OnOk result (AnswerFits answer.now) }
+{
+    match answer {
+        LineRecord::Vector { sub, n } => print_vector(*sub, *n, vectors, subs, out),
+        LineRecord::Withheld { sub, n, stop } => print_withheld(*sub, *n, *stop, subs, out),
+        LineRecord::Exhausted { sub, word } => print_request(b"exhausted", *sub, *word, subs, out),
+        LineRecord::Sync { sub, verdict } => print_sync(*sub, *verdict, subs, out),
+        LineRecord::Give { sub, n, verdict } => print_give(*sub, *n, *verdict, subs, out),
+        LineRecord::Event(event) => print_event(event.record(), vectors, full, out),
+    }
+}
+
+/// Appends the line of the verdict on a session.
+pub fn print_session_verdict(verdict: &SessionVerdict, out: &mut Octets) -> Result<(), NoMemory>
+    ensures printed { OnOk result (out.new ≡ out.old ++ spaced (session_words verdict.now)) }
     ensures grows { IsFrontOf out.old out.new }
 {
-    match *answer {
-        LineRecord::Vector { sub, n } => print_vector(sub, n, vectors, subs, out),
-        LineRecord::Withheld { sub, n, stop } => print_withheld(sub, n, stop, subs, out),
-        LineRecord::Exhausted { sub, word } => print_request(b"exhausted", sub, word, subs, out),
-        LineRecord::Sync { sub, verdict } => print_sync(sub, verdict, subs, out),
-        LineRecord::Give { sub, n, verdict } => print_give(sub, n, verdict, subs, out),
-    }
+    out.append(b"session")?;
+    print_number(u64::from(verdict.session), out)?;
+    print_word(word_of_verdict(verdict.agree), out)?;
+    out.append(b"\n")
+}
+
+/// The word that says whether the keys of a session's ends are equal.
+fn word_of_verdict(agree: bool) -> &'static [u8]
+    ensures { result.now ≡ agree_word agree }
+{
+    if agree { b"agree" } else { b"differ" }
+}
+
+/// Appends the line of the delivery that breaks the premise.
+pub fn print_broken(job: u32, breach: Breach, out: &mut Octets) -> Result<(), NoMemory>
+    ensures printed { OnOk result (out.new ≡ out.old ++ spaced (broken_words job breach)) }
+    ensures grows { IsFrontOf out.old out.new }
+{
+    out.append(b"premise broken")?;
+    print_number(u64::from(job), out)?;
+    print_breach(breach, out)?;
+    out.append(b"\n")
+}
+
+/// Appends the session, the end and the packet of a delivery, each after a space.
+fn print_breach(breach: Breach, out: &mut Octets) -> Result<(), NoMemory>
+    ensures printed { OnOk result (out.new ≡ out.old ++ after_spaces
+        (numeral breach.session ∷ end_word breach.end ∷ numeral breach.packet ∷ [])) }
+    ensures grows { IsFrontOf out.old out.new }
+{
+    print_number(u64::from(breach.session), out)?;
+    print_word(word_of_end(breach.end), out)?;
+    print_number(u64::from(breach.packet), out)
 }
 
 /// Appends the line of a closing.
@@ -90,6 +138,14 @@ fn print_vector(
     ensures grows { IsFrontOf out.old out.new }
 {
     print_request(b"vector", sub, n, subs, out)?;
+    print_shown(vectors, out)
+}
+
+/// Appends the line of the first vector's bytes, if there is one.
+pub fn print_shown(vectors: &[Vector], out: &mut Octets) -> Result<(), NoMemory>
+    ensures printed { OnOk result (out.new ≡ out.old ++ bytes_text (take 1 vectors.now)) }
+    ensures grows { IsFrontOf out.old out.new }
+{
     match vectors {
         [vector, ..] => print_parts(vector, out),
         [] => Ok(()),
@@ -109,24 +165,24 @@ fn print_parts(vector: &Vector, out: &mut Octets) -> Result<(), NoMemory>
 
 /// Appends RAND and AUTN, each after a space.
 fn print_challenge(vector: &Vector, out: &mut Octets) -> Result<(), NoMemory>
-    ensures printed { OnOk result (out.new ≡ out.old ++ flat_map (λ word. 32 ∷ word)
+    ensures printed { OnOk result (out.new ≡ out.old ++ after_spaces
         (encode_lower vector.now.rand ∷ encode_lower vector.now.autn ∷ [])) }
     ensures grows { IsFrontOf out.old out.new }
 {
-    print_bytes(&vector.rand, out)?;
-    print_bytes(&vector.autn, out)
+    print_hex(&vector.rand, out)?;
+    print_hex(&vector.autn, out)
 }
 
 /// Appends XRES, CK and IK, each after a space.
 fn print_response_and_keys(vector: &Vector, out: &mut Octets) -> Result<(), NoMemory>
-    ensures printed { OnOk result (out.new ≡ out.old ++ flat_map (λ word. 32 ∷ word)
+    ensures printed { OnOk result (out.new ≡ out.old ++ after_spaces
         (encode_lower vector.now.xres ∷ encode_lower vector.now.ck ∷ encode_lower vector.now.ik
         ∷ [])) }
     ensures grows { IsFrontOf out.old out.new }
 {
-    print_bytes(&vector.xres, out)?;
-    print_bytes(&vector.ck, out)?;
-    print_bytes(&vector.ik, out)
+    print_hex(&vector.xres, out)?;
+    print_hex(&vector.ck, out)?;
+    print_hex(&vector.ik, out)
 }
 
 /// Appends the line of a number that was withheld.
@@ -146,16 +202,6 @@ fn print_withheld(
     print_numbered(b"withheld", sub, n, subs, out)?;
     print_word(word_of(stop), out)?;
     out.append(b"\n")
-}
-
-/// The word that says why a number was withheld.
-fn word_of(stop: Stop) -> &'static [u8]
-    ensures { result.now ≡ stop_word stop }
-{
-    match stop {
-        Stop::Fault => b"fault",
-        Stop::Full => b"full",
-    }
 }
 
 /// Appends the line of a synchronisation failure that was reported.
@@ -179,7 +225,7 @@ fn print_sync(
 /// Appends the words that say what the home network made of an AUTS, each after a space.
 fn print_sync_verdict(verdict: SyncVerdict, out: &mut Octets) -> Result<(), NoMemory>
     ensures printed { OnOk result
-        (out.new ≡ out.old ++ flat_map (λ word. 32 ∷ word) (sync_words verdict)) }
+        (out.new ≡ out.old ++ after_spaces (sync_words verdict)) }
     ensures grows { IsFrontOf out.old out.new }
 {
     match verdict {
@@ -188,17 +234,6 @@ fn print_sync_verdict(verdict: SyncVerdict, out: &mut Octets) -> Result<(), NoMe
         SyncVerdict::Beyond(seen, seq_ms) => print_pair(b"beyond", seen, seq_ms, out),
         SyncVerdict::WrongMac => print_word(b"wrongmac", out),
     }
-}
-
-/// Appends a word and two numbers, each after a space.
-fn print_pair(word: &[u8], first: u64, second: u64, out: &mut Octets) -> Result<(), NoMemory>
-    ensures printed { OnOk result (out.new ≡ out.old
-        ++ flat_map (λ word. 32 ∷ word) (word.now ∷ decimal first ∷ decimal second ∷ [])) }
-    ensures grows { IsFrontOf out.old out.new }
-{
-    print_word(word, out)?;
-    print_number(first, out)?;
-    print_number(second, out)
 }
 
 /// Appends the line of a vector that was given to a USIM.
@@ -214,6 +249,7 @@ fn print_give(
     ensures printed { OnOk result (out.new ≡ out.old
         ++ spaced (record_words (identities_of subs.now) (LineRecord.Give sub n verdict))) }
     ensures grows { IsFrontOf out.old out.new }
+    ensures fits { OnOk result (GiveFits verdict) }
 {
     print_numbered(b"give", sub, n, subs, out)?;
     print_give_verdict(verdict, out)?;
@@ -223,24 +259,15 @@ fn print_give(
 /// Appends the words that say what a USIM answered to a vector, each after a space.
 fn print_give_verdict(verdict: GiveVerdict, out: &mut Octets) -> Result<(), NoMemory>
     ensures printed { OnOk result
-        (out.new ≡ out.old ++ flat_map (λ word. 32 ∷ word) (give_words verdict)) }
+        (out.new ≡ out.old ++ after_spaces (give_words verdict)) }
     ensures grows { IsFrontOf out.old out.new }
+    ensures fits { GiveFits verdict }
 {
     match verdict {
         GiveVerdict::Accepted => print_word(b"accepted", out),
-        GiveVerdict::Sync(sqn_ms) => print_sqn_ms(sqn_ms, out),
+        GiveVerdict::Sync(sqn_ms) => print_sqn(b"sync", sqn_ms, out),
         GiveVerdict::Absent => print_word(b"absent", out),
     }
-}
-
-/// Appends the word of a synchronisation failure and its SQN_MS, each after a space.
-fn print_sqn_ms(sqn_ms: [u8; 6], out: &mut Octets) -> Result<(), NoMemory>
-    ensures printed { OnOk result
-        (out.new ≡ out.old ++ flat_map (λ word. 32 ∷ word) (give_words (GiveVerdict.Sync sqn_ms))) }
-    ensures grows { IsFrontOf out.old out.new }
-{
-    print_word(b"sync", out)?;
-    print_bytes(&sqn_ms, out)
 }
 
 /// Appends a line of a word, the IMSI of a subscriber and a number.
@@ -254,7 +281,7 @@ fn print_request(
     requires { sub < length subs.now }
 
     ensures printed { OnOk result (out.new ≡ out.old
-        ++ spaced (word.now ∷ imsi_of (identities_of subs.now) sub ∷ decimal number ∷ [])) }
+        ++ spaced (word.now ∷ imsi_of (identities_of subs.now) sub ∷ numeral number ∷ [])) }
     ensures grows { IsFrontOf out.old out.new }
 {
     print_numbered(word, sub, number, subs, out)?;

@@ -1,16 +1,21 @@
 //! The text of a part of a transcript: a round or a restart.
 
-ghost use Rattle.std.specs.Prelude.{◌≡◌, ◌++◌, ◌<◌, [], length, map, All, IsTrue, OnOk, OnErr, flat_map, if◌then◌else◌, slice_index_or};
-ghost use Rattle.auc_world.specs.Record.{subscriber_of, NamesBelow};
+ghost use Rattle.std.specs.Prelude.{◌≡◌, ◌++◌, ◌<◌, [], drop, length, map, All, IsTrue, OnOk, OnErr, flat_map, if◌then◌else◌, slice_index_or};
+ghost use Rattle.auc_world.specs.Record.{IsBelow, NamesBelow, subscriber_of};
 ghost use Rattle.auc_world.specs.Vectors.{vectors_in};
-ghost use Rattle.auc_print.specs.Inner.{IsFrontOf, answers_text, job_text, left_after};
-ghost use Rattle.auc_print.specs.Text.{closing_words, identities_of, jobs_lines, line_text, restart_text, round_text, spaced};
+ghost use Rattle.auc_print.specs.Inner.{IsFrontOf, answers_text, job_text, left_after, premise_text};
+ghost use Rattle.auc_print.specs.OneText.{AnswerFits, RoundFits};
+ghost use Rattle.auc_print.specs.Text.{closing_words, end_lines, identities_of, jobs_lines, line_text, premise_lines, restart_text, round_text, session_words, spaced};
 
-use crate::line::{print_answer, print_closing, print_heading};
+use crate::line::{
+    print_answer, print_broken, print_closing, print_heading, print_session_verdict,
+};
 use auc_edge::{NoMemory, Octets};
 use auc_subs::Subscribers;
 use auc_vector::Vector;
-use auc_world::{Closing, JobRecord, JobVectors, LineRecord, RoundRecord, Setting};
+use auc_world::{
+    Closing, JobRecord, JobVectors, LineRecord, Premise, RoundRecord, SessionVerdict, Setting,
+};
 
 /// Appends the text of a restart. If memory runs out, `out` stays as it was.
 pub fn print_restart(out: &mut Octets) -> Result<(), NoMemory>
@@ -20,10 +25,11 @@ pub fn print_restart(out: &mut Octets) -> Result<(), NoMemory>
     out.append(b"restart\n")
 }
 
-/// Appends the text of a round: its own line, the lines of its jobs, numbered from 1, and the lines of its
-/// closings. In a full print the line of a vector's bytes follows the vector's line; `vectors` has the vectors
-/// that each job's lines released, and in a brief print it is empty. Each subscriber that the round names is a
-/// row. If memory runs out, `out` stays as it was.
+/// Appends the text of a round: its own line, the lines of its jobs, numbered from 1, those of its closings and its
+/// sessions, and that of the premise of equal keys. In a full print the lines of a vector's bytes, a packet and keys
+/// follow the line that they belong to; `vectors` has the vectors that each job's lines released, and in a brief print it
+/// is empty. Each subscriber that the round names is a row. Each SQN that is printed consists of bytes. If memory runs
+/// out, `out` stays as it was.
 pub fn print_round(
     round: &RoundRecord,
     vectors: &[JobVectors],
@@ -36,6 +42,7 @@ pub fn print_round(
         ≡ (if full then map (vectors_in set.now) round.now.jobs else []) }
 
     ensures printed { OnOk result (out.new ≡ out.old ++ round_text set.now full round.now) }
+    ensures fits { OnOk result (RoundFits round.now) }
     ensures kept { OnErr result (out.new ≡ out.old) }
 {
     let count = out.len();
@@ -62,10 +69,53 @@ fn print_lines(
 
     ensures printed { OnOk result (out.new ≡ out.old ++ round_text set.now full round.now) }
     ensures grows { IsFrontOf out.old out.new }
+    ensures fits { OnOk result (RoundFits round.now) }
 {
     print_heading(b"round", round.number as u64, out)?;
     print_jobs(round.jobs.as_slice(), vectors, set, full, out)?;
-    print_closings(round.closings.as_slice(), set.subs, out)
+    print_end(round, set, full, out)
+}
+
+/// Appends the lines after a round's jobs.
+fn print_end(
+    round: &RoundRecord,
+    set: &Setting,
+    full: bool,
+    out: &mut Octets,
+) -> Result<(), NoMemory>
+    requires { All (λ closing. closing.sub < length set.now.rows) round.now.closings }
+
+    ensures printed { OnOk result (out.new ≡ out.old
+        ++ flat_map (line_text set.now full) (end_lines round.now)) }
+    ensures grows { IsFrontOf out.old out.new }
+{
+    print_closings(round.closings.as_slice(), set.subs, out)?;
+    print_sessions(round.sessions.as_slice(), out)?;
+    print_premise(round.premise, out)
+}
+
+/// Appends the lines of the verdicts on a round's sessions.
+fn print_sessions(sessions: &[SessionVerdict], out: &mut Octets) -> Result<(), NoMemory>
+    ensures printed { OnOk result (out.new ≡ out.old
+        ++ flat_map (λ verdict. spaced (session_words verdict)) sessions.now) }
+    ensures grows { IsFrontOf out.old out.new }
+{
+    for verdict in sessions {
+        print_session_verdict(verdict, out)?;
+    }
+    Ok(())
+}
+
+/// Appends the line of a round's premise, if the round has sessions.
+fn print_premise(premise: Premise, out: &mut Octets) -> Result<(), NoMemory>
+    ensures printed { OnOk result (out.new ≡ out.old ++ premise_text premise) }
+    ensures grows { IsFrontOf out.old out.new }
+{
+    match premise {
+        Premise::NoSession => Ok(()),
+        Premise::Held => out.append(b"premise held\n"),
+        Premise::Broken { job, breach } => print_broken(job, breach, out),
+    }
 }
 
 /// Appends the lines of a round's jobs.
@@ -76,16 +126,17 @@ fn print_jobs(
     full: bool,
     out: &mut Octets,
 ) -> Result<(), NoMemory>
-    requires named { All (All (λ answer. subscriber_of answer < length set.now.rows)) jobs.now }
+    requires named { All (All (λ answer. IsBelow (length set.now.rows) (subscriber_of answer))) jobs.now }
     requires vectors { vectors.now ≡ (if full then map (vectors_in set.now) jobs.now else []) }
 
     ensures printed { OnOk result (out.new ≡ out.old
         ++ flat_map (line_text set.now full) (jobs_lines 1 jobs.now)) }
     ensures grows { IsFrontOf out.old out.new }
+    ensures fits { OnOk result (All (All AnswerFits) jobs.now) }
 {
     for (place, job) in jobs.iter().enumerate() {
         let own = vectors_of(vectors, place, full);
-        print_job(place as u64 + 1, job.as_slice(), own, set.subs, out)?;
+        print_job(place as u64 + 1, job.as_slice(), own, full, set.subs, out)?;
     }
     Ok(())
 }
@@ -103,17 +154,19 @@ fn print_job(
     number: u64,
     job: &[LineRecord],
     vectors: &[Vector],
+    full: bool,
     subs: &Subscribers,
     out: &mut Octets,
 ) -> Result<(), NoMemory>
-    requires { All (λ answer. subscriber_of answer < length subs.now) job.now }
+    requires { All (λ answer. IsBelow (length subs.now) (subscriber_of answer)) job.now }
 
     ensures printed { OnOk result (out.new ≡ out.old
-        ++ job_text (identities_of subs.now) number job.now vectors.now) }
+        ++ job_text (identities_of subs.now) full number job.now vectors.now) }
     ensures grows { IsFrontOf out.old out.new }
+    ensures fits { OnOk result (All AnswerFits job.now) }
 {
     print_heading(b"job", number, out)?;
-    print_answers(job, vectors, subs, out)
+    print_answers(job, vectors, full, subs, out)
 }
 
 /// Appends the lines of a job's records. The i-th line that releases a vector is followed by the bytes of the
@@ -121,18 +174,20 @@ fn print_job(
 fn print_answers(
     job: &[LineRecord],
     vectors: &[Vector],
+    full: bool,
     subs: &Subscribers,
     out: &mut Octets,
 ) -> Result<(), NoMemory>
-    requires { All (λ answer. subscriber_of answer < length subs.now) job.now }
+    requires { All (λ answer. IsBelow (length subs.now) (subscriber_of answer)) job.now }
 
     ensures printed { OnOk result (out.new ≡ out.old
-        ++ answers_text (identities_of subs.now) job.now vectors.now) }
+        ++ answers_text (identities_of subs.now) full job.now vectors.now) }
     ensures grows { IsFrontOf out.old out.new }
+    ensures fits { OnOk result (All AnswerFits job.now) }
 {
     let mut left = vectors;
     for answer in job {
-        print_answer(answer, left, subs, out)?;
+        print_answer(answer, left, full, subs, out)?;
         left = after(answer, left);
     }
     Ok(())
@@ -142,9 +197,20 @@ fn print_answers(
 fn after<'a>(answer: &LineRecord, vectors: &'a [Vector]) -> &'a [Vector]
     ensures { result.now ≡ left_after answer.now vectors.now }
 {
-    match (answer, vectors) {
-        (LineRecord::Vector { .. }, [_, left @ ..]) => left,
+    match answer {
+        LineRecord::Vector { .. } => behind_first(vectors),
+        LineRecord::Event(event) if event.record().number().is_some() => behind_first(vectors),
         _ => vectors,
+    }
+}
+
+/// The vectors behind the first, if there is one.
+fn behind_first(vectors: &[Vector]) -> &[Vector]
+    ensures { result.now ≡ drop 1 vectors.now }
+{
+    match vectors {
+        [_, left @ ..] => left,
+        [] => vectors,
     }
 }
 

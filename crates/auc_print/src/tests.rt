@@ -1,14 +1,20 @@
 //! The text of a transcript. Further lines are seen in the stored runs of the program and in the tests of `auc_run`.
 
 ghost use Rattle.std.specs.Prelude.{◌≡◌, IsTrue, All, ◌<◌};
-ghost use Rattle.auc_world.specs.Record.{subscriber_of, NamesBelow};
+ghost use Rattle.auc_world.specs.Record.{IsBelow, NamesBelow, subscriber_of};
 
 use crate::line::print_answer;
 use crate::{print_restart, print_round};
 use auc_edge::{Items, NoMemory, Octets, Stop};
+use auc_hmac::KeySet;
 use auc_subs::Subscribers;
-use auc_vector::{Rands, Vector};
-use auc_world::{Closing, JobRecord, LineRecord, RoundRecord, Setting, SyncVerdict};
+use auc_vector::{
+    CounterNote, Notes, NumberNote, Outcome, Rands, ResyncNote, Step, UsimNote, Vector,
+};
+use auc_world::{
+    BoxedEvent, Closing, End, Event, EventRecord, JobRecord, LineRecord, Note, NoteStep, Premise,
+    RoundRecord, SessionVerdict, Setting, SyncVerdict,
+};
 use std::alloc::Global;
 use std::test::Fail;
 
@@ -29,21 +35,17 @@ fn names_below(round: &RoundRecord, count: usize) -> bool
 }
 
 fn are_below(job: &[LineRecord], count: usize) -> bool
-    ensures { IsTrue result → All (λ answer. subscriber_of answer < count) job.now }
+    ensures { IsTrue result → All (λ line. IsBelow count (subscriber_of line)) job.now }
 {
-    job.iter()
-        .all(|answer| (subscriber(answer) as usize) < count)
+    job.iter().all(|line| is_below(line.subscriber(), count))
 }
 
-fn subscriber(answer: &LineRecord) -> u32
-    ensures { result ≡ subscriber_of answer.now }
+fn is_below(sub: Option<u32>, count: usize) -> bool
+    ensures { IsTrue result → IsBelow count sub }
 {
-    match *answer {
-        LineRecord::Vector { sub, .. } => sub,
-        LineRecord::Withheld { sub, .. } => sub,
-        LineRecord::Exhausted { sub, .. } => sub,
-        LineRecord::Sync { sub, .. } => sub,
-        LineRecord::Give { sub, .. } => sub,
+    match sub {
+        Some(sub) => (sub as usize) < count,
+        None => true,
     }
 }
 
@@ -68,11 +70,6 @@ fn round(alloc: Global) -> Result<RoundRecord, NoMemory> {
             n: u64::MAX,
             stop: Stop::Fault,
         },
-        LineRecord::Withheld {
-            sub: 0,
-            n: 3,
-            stop: Stop::Full,
-        },
         LineRecord::Sync {
             sub: 0,
             verdict: SyncVerdict::Beyond(8796093022207, 0),
@@ -94,10 +91,16 @@ fn round(alloc: Global) -> Result<RoundRecord, NoMemory> {
         released: 14,
         withheld: 15,
     })?;
+    let mut sessions: Items<SessionVerdict> = Items::new(alloc);
+    for (session, agree) in [(1, true), (20, false)] {
+        sessions.push(SessionVerdict { session, agree })?;
+    }
     Ok(RoundRecord {
         number: 7,
         jobs,
         closings,
+        sessions,
+        premise: Premise::Held,
     })
 }
 
@@ -113,9 +116,11 @@ const TEXT: &[u8] = b"round 7
 job 1
 vector 000007 0
 withheld 000007 18446744073709551615 fault
-withheld 001010000000001 3 full
 sync 001010000000001 beyond 8796093022207 0
 closed 000007 10 11 12 13 14 15
+session 1 agree
+session 20 differ
+premise held
 restart
 vector 000007 1
 bytes 000102030405060708090a0b0c0d0e0f 101112131415161718191a1b1c1d1e1f a0a1a2a3a4a5a6a7 \
@@ -143,9 +148,68 @@ fn each_value_is_printed_in_its_place(rt: HostRuntime) -> Result<(), Fail> {
     print_answer(
         &LineRecord::Vector { sub: 1, n: 1 },
         &[vector()],
+        true,
         &subs,
         &mut text,
     )?;
     assert_eq!(rt; text.as_slice(), TEXT);
+    Ok(())
+}
+
+// No event has all of these notes. The keys are runs of equal bytes.
+#[test]
+fn notes_packet_and_keys_are_printed_in_their_order(rt: HostRuntime) -> Result<(), Fail> {
+    let keys = KeySet {
+        k_encr: [1; 16],
+        k_aut: [2; 32],
+        k_re: [3; 32],
+        msk: [4; 64],
+        emsk: [5; 64],
+    };
+    let mut success = Octets::new(rt.alloc());
+    success.append(&[3, 2, 0, 0xff])?;
+    let note = Note {
+        notes: Notes {
+            resync: Some(ResyncNote::Moved(1, 500)),
+            number: Some(NumberNote::Drew(501)),
+            resumed: Some(7),
+            usim: Some(UsimNote::Sync([0, 0, 0, 0, 0x3e, 0x94])),
+            counter: Some(CounterNote::Small(8)),
+        },
+        step: NoteStep::Server(Step::Ended(Outcome::Success(keys), success)),
+        packet: Some(5),
+        asked: None,
+        device: None,
+    };
+    let event = Event::Deliver {
+        session: 1,
+        end: End::Server,
+        packet: 4,
+    };
+    let record = EventRecord {
+        event,
+        result: Ok(note),
+    };
+    let line = LineRecord::Event(BoxedEvent::new(rt.alloc(), record)?);
+    assert!(rt; is_below(line.subscriber(), 0));
+    let mut text = Octets::new(rt.alloc());
+    print_answer(&line, &[], true, &Subscribers::new(rt.alloc()), &mut text)?;
+    let mut wanted = Octets::new(rt.alloc());
+    wanted.append(b"deliver 1 server 4 moved 1 500 drew 501 resumed 7 sync 000000003e94 small 8")?;
+    wanted.append(b" sent 5 ended success\npacket 5 030200ff\nkeys")?;
+    for (digits, count) in [
+        (b"01", 16),
+        (b"02", 32),
+        (b"03", 32),
+        (b"04", 64),
+        (b"05", 64),
+    ] {
+        wanted.append(b" ")?;
+        for _ in 0..count {
+            wanted.append(digits)?;
+        }
+    }
+    wanted.append(b"\n")?;
+    assert_eq!(rt; text.as_slice(), wanted.as_slice());
     Ok(())
 }

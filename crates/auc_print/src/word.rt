@@ -1,8 +1,9 @@
 //! The words of a line.
 
-ghost use Rattle.std.specs.Prelude.{◌≡◌, ◌*◌, ◌++◌, ◌∷◌, ◌<◌, ◌≤◌, length, drop, decimal, flat_map, OnOk, OnErr};
+ghost use Rattle.std.specs.Prelude.{◌≡◌, ◌*◌, ◌++◌, ◌∷◌, [], ◌<◌, ◌≤◌, length, drop, flat_map, OnOk, OnErr};
 ghost use Rattle.hex.specs.Hex.{encode_lower};
-ghost use Rattle.auc_print.specs.Inner.{IsFrontOf};
+ghost use Rattle.auc_print.specs.Inner.{IsFrontOf, after_spaces};
+ghost use Rattle.auc_print.specs.Numeral.{numeral};
 ghost use Rattle.auc_print.specs.Text.{identities_of, imsi_of};
 
 use auc_edge::{NoMemory, Octets};
@@ -37,7 +38,7 @@ pub fn print_numbered(
     requires { sub < length subs.now }
 
     ensures printed { OnOk result (out.new ≡ out.old
-        ++ (word.now ++ 32 ∷ imsi_of (identities_of subs.now) sub ++ 32 ∷ decimal number)) }
+        ++ (word.now ++ 32 ∷ imsi_of (identities_of subs.now) sub ++ 32 ∷ numeral number)) }
     ensures grows { IsFrontOf out.old out.new }
 {
     print_subject(word, sub, subs, out)?;
@@ -56,7 +57,7 @@ pub fn print_word(word: &[u8], out: &mut Octets) -> Result<(), NoMemory>
 /// Appends numbers, each after a space.
 pub fn print_numbers(numbers: &[u64], out: &mut Octets) -> Result<(), NoMemory>
     ensures printed { OnOk result
-        (out.new ≡ out.old ++ flat_map (λ number. 32 ∷ decimal number) numbers.now) }
+        (out.new ≡ out.old ++ flat_map (λ number. 32 ∷ numeral number) numbers.now) }
     ensures grows { IsFrontOf out.old out.new }
 {
     for number in numbers {
@@ -65,9 +66,20 @@ pub fn print_numbers(numbers: &[u64], out: &mut Octets) -> Result<(), NoMemory>
     Ok(())
 }
 
+/// Appends a word and two numbers, each after a space.
+pub fn print_pair(word: &[u8], first: u64, second: u64, out: &mut Octets) -> Result<(), NoMemory>
+    ensures printed { OnOk result (out.new ≡ out.old
+        ++ after_spaces (word.now ∷ numeral first ∷ numeral second ∷ [])) }
+    ensures grows { IsFrontOf out.old out.new }
+{
+    print_word(word, out)?;
+    print_number(first, out)?;
+    print_number(second, out)
+}
+
 /// Appends a space and a number.
 pub fn print_number(number: u64, out: &mut Octets) -> Result<(), NoMemory>
-    ensures printed { OnOk result (out.new ≡ out.old ++ 32 ∷ decimal number) }
+    ensures printed { OnOk result (out.new ≡ out.old ++ 32 ∷ numeral number) }
     ensures grows { IsFrontOf out.old out.new }
 {
     let mut room = [0; 21];
@@ -78,7 +90,7 @@ pub fn print_number(number: u64, out: &mut Octets) -> Result<(), NoMemory>
 /// Writes a space and the decimal digits of a number at the end of `room`. It answers where they begin.
 fn write_number(number: u64, room: &mut [u8; 21]) -> usize
     ensures within { result ≤ 21 }
-    ensures written { drop result room.new ≡ 32 ∷ decimal number }
+    ensures written { drop result room.new ≡ 32 ∷ numeral number }
 {
     let mut place = 21;
     let mut rest = number;
@@ -92,15 +104,26 @@ fn write_number(number: u64, room: &mut [u8; 21]) -> usize
     place - 2
 }
 
-/// Appends a space and up to 16 bytes in lower-case hexadecimal digits.
-pub fn print_bytes(bytes: &[u8], out: &mut Octets) -> Result<(), NoMemory>
-    requires { length bytes.now ≤ 16 }
-
+/// Appends a space and bytes in lower-case hexadecimal digits.
+pub fn print_hex(bytes: &[u8], out: &mut Octets) -> Result<(), NoMemory>
     ensures printed { OnOk result (out.new ≡ out.old ++ 32 ∷ encode_lower bytes.now) }
     ensures grows { IsFrontOf out.old out.new }
 {
     out.append(b" ")?;
-    append_hex_digits(bytes, out)
+    print_all_digits(bytes, out)
+}
+
+/// Appends bytes in lower-case hexadecimal digits.
+fn print_all_digits(bytes: &[u8], out: &mut Octets) -> Result<(), NoMemory>
+    ensures printed { OnOk result (out.new ≡ out.old ++ encode_lower bytes.now) }
+    ensures grows { IsFrontOf out.old out.new }
+{
+    let mut rest = bytes;
+    while rest.len() > 16 {
+        append_hex_digits(&rest[..16], out)?;
+        rest = &rest[16..];
+    }
+    append_hex_digits(rest, out)
 }
 
 /// Appends up to 16 bytes in lower-case hexadecimal digits, two for each. If memory runs out, `out` stays

@@ -1,24 +1,20 @@
--- For the rounds: the entries for which lines stand, and the words that lines tell of them.
+-- For a load: the entries for which lines stand, and the words that lines of draws tell of them.
 use Rattle.std.proofs.Common.{◌≡◌, ℕ, zero, suc, ◌+◌, ◌-◌, ◌<◌, ◌≤◌, ◌⊎◌, Bool, true, false, List, [], ◌∷◌, ◌++◌, length, get_or, All, Any, Some, refl, sym, ◌∙◌, ap, append_assoc, append-nil, arith, inl, inr}
 use Rattle.std.specs.Prelude.{◌==◌, ◌||◌, if◌then◌else◌}
 use Rattle.std.specs.List.{list_any}
 use Rattle.std.proofs.lemmas.Bool.Decides.{nat_tests}
-use Rattle.std.proofs.lemmas.Grind.{flat_map-append}
-use Rattle.std.proofs.lemmas.List.{length-append}
 use Rattle.std.proofs.lemmas.List.Elements.{All-nil, All-cons, All-head, All-tail}
 use Rattle.std.proofs.lemmas.List.Folds.{list_any-append}
-use Rattle.auc_history.specs.History.{covers, covered, drawn, drawn_by, last_of, IsMove, IsFound}
+use Rattle.auc_history.specs.History.{covers, covered, last_of, IsMove, IsFound}
 use Rattle.auc_history.specs.Split.{Splits, all_entries, times}
 use Rattle.auc_history.specs.declared.entry.Entry.{Entry}
 use Rattle.auc_history.specs.declared.entry.Entry.TheVariants.{Drawn, Moved, Look}
 use Rattle.auc_history.proofs.Facts.{times-append, times-numbers_after}
-use Rattle.auc_world.specs.Entries.{reports, entries_of_verdict, entries_of_line, entries_of_lines, entries_of_jobs}
-use Rattle.auc_world.specs.Lines.{released_by, numbers_of, withheld_by, withheld_of, all_lines}
-use Rattle.auc_world.specs.Record.{subscriber_of}
+use Rattle.auc_sqn.specs.Number.{max_seq}
+use Rattle.auc_world.specs.Entries.{reports, entries_of_line, entries_of_lines, entries_of_jobs}
+use Rattle.auc_world.specs.Lines.{all_lines}
 use Rattle.auc_world.specs.declared.record.LineRecord.{LineRecord}
-use Rattle.auc_world.specs.declared.record.LineRecord.TheVariants.{Vector, Withheld, Exhausted, Sync, Give}
-use Rattle.auc_world.specs.declared.record.SyncVerdict.{SyncVerdict}
-use Rattle.auc_world.specs.declared.record.SyncVerdict.TheVariants as verdict
+use Rattle.auc_world.specs.declared.record.LineRecord.TheVariants.{Vector, Withheld, Exhausted, Sync, Give, Event}
 
 -- the entries of lines and of further ones
 entries_of_lines-append : (sub : ℕ) (before xs ys : List LineRecord)
@@ -91,33 +87,40 @@ splits_within top opening closing lists splits k d inside =
     within (Moved from to) move is last = let at = last to refl in let up = move.0 in (omega (arith, at, up), at)
     within (Look seen) move is last = found seen is
 
--- ---- the words that lines tell
+-- ---- the words that draws tell
 
--- a number that a resynchronisation found is at most a word
-abbrev pub SeenWithin : ℕ → SyncVerdict → Type 0
-SeenWithin closing (verdict.Moved seen seq_ms) = seen ≤ closing
-SeenWithin closing (verdict.InRange seen seq_ms) = seen ≤ closing
-SeenWithin closing (verdict.Beyond seen seq_ms) = seen ≤ closing
-SeenWithin closing verdict.WrongMac = Unit {0}
+-- a line of a draw: a word that it tells is that of a spent subscriber
+abbrev pub IsOfDraw : LineRecord → Type 0
+IsOfDraw (Vector s n) = Unit {0}
+IsOfDraw (Withheld s n stop) = Unit {0}
+IsOfDraw (Exhausted s word) = max_seq ≤ word
+IsOfDraw (Sync s answer) = ⊥
+IsOfDraw (Give s n answer) = ⊥
+IsOfDraw (Event r) = ⊥
 
--- a word that a line tells is at most another
+-- its subscriber
+abbrev pub sub_of : LineRecord → ℕ
+sub_of (Vector s n) = s
+sub_of (Withheld s n stop) = s
+sub_of (Exhausted s word) = s
+sub_of (Sync s answer) = s
+sub_of (Give s n answer) = s
+sub_of (Event r) = 0
+
+-- a word that it tells is at most another
 abbrev pub WordWithin : ℕ → LineRecord → Type 0
 WordWithin closing (Vector s n) = Unit {0}
 WordWithin closing (Withheld s n stop) = Unit {0}
 WordWithin closing (Exhausted s word) = word ≤ closing
-WordWithin closing (Sync s answer) = SeenWithin closing answer
+WordWithin closing (Sync s answer) = Unit {0}
 WordWithin closing (Give s n answer) = Unit {0}
+WordWithin closing (Event r) = Unit {0}
 
 -- the words that lines reported of a subscriber are at most a word
 abbrev pub ReportsWithin : ℕ → ℕ → List LineRecord → Type 0
 ReportsWithin sub closing before = (word : ℕ) → list_any (reports sub word) before ≡ true → word ≤ closing
 
--- a look that is there where no line reported its word
-look_within : (told : Bool) (closing word : ℕ) → (told ≡ true → word ≤ closing) → All (IsWithin closing) (if told then [] else Look word ∷ []) → word ≤ closing
-look_within true closing word reported within = reported refl
-look_within false closing word reported within = All-head (IsWithin closing) (Look word) [] within
-
--- a mark, likewise
+-- a mark that is there if no line reported its word
 mark_within : (told : Bool) (closing word : ℕ) → (told ≡ true → word ≤ closing) → All (IsWithin closing) (if told then [] else Drawn (word + 1) ∷ []) → word ≤ closing
 mark_within true closing word reported within = reported refl
 mark_within false closing word reported within = let above = All-head (IsWithin closing) (Drawn (word + 1)) [] within in omega (arith, above)
@@ -127,61 +130,52 @@ named_entries : (there : Bool) (closing : ℕ) (entries : List Entry) → there 
 named_entries true closing entries is within = within
 named_entries false closing entries is within = absurd (cc)
 
--- a verdict whose entry reaches no further than a word
-verdict_within : (sub closing : ℕ) (before : List LineRecord) (answer : SyncVerdict) → ReportsWithin sub closing before
-    → All (IsWithin closing) (entries_of_verdict sub before answer) → SeenWithin closing answer
-verdict_within sub closing before (verdict.Moved from to) reported within = (All-head (IsWithin closing) (Moved from to) [] within).0
-verdict_within sub closing before (verdict.InRange seen seq_ms) reported within =
-    look_within (list_any (reports sub seen) before) closing seen (reported seen) within
-verdict_within sub closing before (verdict.Beyond seen seq_ms) reported within =
-    look_within (list_any (reports sub seen) before) closing seen (reported seen) within
-verdict_within sub closing before verdict.WrongMac reported within = tt
-
 -- a line of the subscriber whose entry reaches no further
-line_within : (sub closing : ℕ) (before : List LineRecord) (line : LineRecord) → ReportsWithin sub closing before
-    → All (IsWithin closing) (entries_of_line sub before line) → subscriber_of line ≡ sub → WordWithin closing line
-line_within sub closing before (Vector s n) reported within named = tt
-line_within sub closing before (Withheld s n stop) reported within named = tt
-line_within sub closing before (Exhausted s word) reported within named =
+line_within : (sub closing : ℕ) (before : List LineRecord) (line : LineRecord) → IsOfDraw line → ReportsWithin sub closing before
+    → All (IsWithin closing) (entries_of_line sub before line) → sub_of line ≡ sub → WordWithin closing line
+line_within sub closing before (Vector s n) is reported within named = tt
+line_within sub closing before (Withheld s n stop) is reported within named = tt
+line_within sub closing before (Exhausted s word) is reported within named =
     mark_within (list_any (reports sub word) before) closing word (reported word)
     (named_entries (s == sub) closing (if list_any (reports sub word) before then [] else Drawn (word + 1) ∷ []) (grind (arith, nat_tests)) within)
-line_within sub closing before (Sync s answer) reported within named =
-    verdict_within sub closing before answer reported
-    (named_entries (s == sub) closing (entries_of_verdict sub before answer) (grind (arith, nat_tests)) within)
-line_within sub closing before (Give s n answer) reported within named = tt
+line_within sub closing before (Sync s answer) is reported within named = tt
+line_within sub closing before (Give s n answer) is reported within named = tt
+line_within sub closing before (Event r) is reported within named = tt
 
 -- the words that lines and one more reported
-reports_more : (sub closing : ℕ) (before : List LineRecord) (line : LineRecord) → ReportsWithin sub closing before
-    → (subscriber_of line ≡ sub → WordWithin closing line) → ReportsWithin sub closing (before ++ line ∷ [])
-reports_more sub closing before line reported here word told =
+reports_more : (sub closing : ℕ) (before : List LineRecord) (line : LineRecord) → IsOfDraw line → ReportsWithin sub closing before
+    → (sub_of line ≡ sub → WordWithin closing line) → ReportsWithin sub closing (before ++ line ∷ [])
+reports_more sub closing before line is reported here word told =
     either (list_any (reports sub word) before) (reports sub word line) (sym (list_any-append (reports sub word) before (line ∷ [])) ∙ told)
-    (reported word) (λ is. tells line here is)
+    (reported word) (λ reports_it. tells line is here reports_it)
   where
     either : (a b : Bool) → (a || (b || false)) ≡ true → (a ≡ true → word ≤ closing) → (b ≡ true → word ≤ closing) → word ≤ closing
     either true b is first second = first refl
     either false true is first second = second refl
     either false false is first second = absurd (cc)
 
-    tells : (line : LineRecord) → (subscriber_of line ≡ sub → WordWithin closing line) → reports sub word line ≡ true → word ≤ closing
-    tells (Vector s n) here is = absurd (cc)
-    tells (Withheld s n stop) here is = absurd (cc)
-    tells (Exhausted s read) here is =
+    tells : (line : LineRecord) → IsOfDraw line → (sub_of line ≡ sub → WordWithin closing line) → reports sub word line ≡ true → word ≤ closing
+    tells (Vector s n) of_draw here is = absurd (cc)
+    tells (Withheld s n stop) of_draw here is = absurd (cc)
+    tells (Exhausted s read) of_draw here is =
         let same : s ≡ sub = grind (arith, nat_tests) in
         let at : read ≡ word = grind (arith, nat_tests) in
         let bound = here same in
         omega (arith, bound)
-    tells (Sync s answer) here is = absurd (cc)
-    tells (Give s n answer) here is = absurd (cc)
+    tells (Sync s answer) of_draw here is = absurd of_draw
+    tells (Give s n answer) of_draw here is = absurd of_draw
+    tells (Event r) of_draw here is = absurd of_draw
 
 -- the lines of the subscriber tell words that are no higher than where its entries end
-pub lines_within : (sub closing : ℕ) (before lines : List LineRecord) → ReportsWithin sub closing before
-    → All (IsWithin closing) (entries_of_lines sub before lines) → All (λ line. subscriber_of line ≡ sub → WordWithin closing line) lines
-lines_within sub closing before [] reported within = All-nil (λ line. subscriber_of line ≡ sub → WordWithin closing line)
-lines_within sub closing before (line ∷ lines) reported within =
-    let here : subscriber_of line ≡ sub → WordWithin closing line =
-    line_within sub closing before line reported (All-left (IsWithin closing) (entries_of_line sub before line) (entries_of_lines sub (before ++ line ∷ []) lines) within) in
-    All-cons (λ line. subscriber_of line ≡ sub → WordWithin closing line) line lines here
-    (lines_within sub closing (before ++ line ∷ []) lines (reports_more sub closing before line reported here)
+pub lines_within : (sub closing : ℕ) (before lines : List LineRecord) → All IsOfDraw lines → ReportsWithin sub closing before
+    → All (IsWithin closing) (entries_of_lines sub before lines) → All (λ line. sub_of line ≡ sub → WordWithin closing line) lines
+lines_within sub closing before [] of_draw reported within = All-nil (λ line. sub_of line ≡ sub → WordWithin closing line)
+lines_within sub closing before (line ∷ lines) of_draw reported within =
+    let is = All-head IsOfDraw line lines of_draw in
+    let here : sub_of line ≡ sub → WordWithin closing line =
+    line_within sub closing before line is reported (All-left (IsWithin closing) (entries_of_line sub before line) (entries_of_lines sub (before ++ line ∷ []) lines) within) in
+    All-cons (λ line. sub_of line ≡ sub → WordWithin closing line) line lines here
+    (lines_within sub closing (before ++ line ∷ []) lines (All-tail IsOfDraw line lines of_draw) (reports_more sub closing before line is reported here)
     (All-right (IsWithin closing) (entries_of_line sub before line) (entries_of_lines sub (before ++ line ∷ []) lines) within))
   where
     All-left : {X : Type 0} (P : X → Type 0) (xs ys : List X) → All P (xs ++ ys) → All P xs
@@ -191,34 +185,3 @@ lines_within sub closing before (line ∷ lines) reported within =
     All-right : {X : Type 0} (P : X → Type 0) (xs ys : List X) → All P (xs ++ ys) → All P ys
     All-right P [] ys all = all
     All-right P (x ∷ xs) ys all = All-right P xs ys (All-tail P x (xs ++ ys) all)
-
--- ---- counts
-
--- a line releases and withholds no more than it draws
-told_fewer : (sub : ℕ) (before : List LineRecord) (line : LineRecord) → length (released_by sub line) + length (withheld_by sub line) ≤ length (drawn (entries_of_line sub before line))
-told_fewer sub before (Vector s n) = vector_fewer (s == sub) n
-  where
-    vector_fewer : (there : Bool) (n : ℕ) → length (if there then n ∷ [] else []) + 0 ≤ length (drawn (if there then Drawn n ∷ [] else []))
-    vector_fewer true n = omega arith
-    vector_fewer false n = omega arith
-told_fewer sub before (Withheld s n stop) = withheld_fewer (s == sub) n
-  where
-    withheld_fewer : (there : Bool) (n : ℕ) → 0 + length (if there then n ∷ [] else []) ≤ length (drawn (if there then Drawn n ∷ [] else []))
-    withheld_fewer true n = omega arith
-    withheld_fewer false n = omega arith
-told_fewer sub before (Exhausted s word) = omega arith
-told_fewer sub before (Sync s answer) = omega arith
-told_fewer sub before (Give s n answer) = omega arith
-
--- lines release and withhold no more vectors than they draw numbers
-pub length-told : (sub : ℕ) (before lines : List LineRecord)
-    → length (numbers_of sub lines) + length (withheld_of sub lines) ≤ length (drawn (entries_of_lines sub before lines))
-length-told sub before [] = omega arith
-length-told sub before (line ∷ lines) =
-    let first = told_fewer sub before line in
-    let rest = length-told sub (before ++ line ∷ []) lines in
-    let released = length-append (released_by sub line) (numbers_of sub lines) in
-    let withheld = length-append (withheld_by sub line) (withheld_of sub lines) in
-    let cut = ap length (flat_map-append drawn_by (entries_of_line sub before line) (entries_of_lines sub (before ++ line ∷ []) lines)) in
-    let both = length-append (drawn (entries_of_line sub before line)) (drawn (entries_of_lines sub (before ++ line ∷ []) lines)) in
-    omega (arith, first, rest, released, withheld, cut, both)

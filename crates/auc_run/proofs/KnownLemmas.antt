@@ -1,5 +1,5 @@
 -- For the top call: a scenario that was read asks only for what can be served.
-use Rattle.std.proofs.Common.{◌+◌, ◌^◌, ◌<◌, ◌≤◌, List, [], ◌∷◌, length, All, arith}
+use Rattle.std.proofs.Common.{◌≤◌, List, [], ◌∷◌, length, All, arith}
 use Rattle.std.proofs.lemmas.List.{length-append}
 use Rattle.std.proofs.lemmas.List.Elements.{All-nil, All-cons, All-head, All-tail, All-weaker}
 use Rattle.auc_jobs.specs.Serving.{IsKnownLine, AreKnown}
@@ -7,7 +7,7 @@ use Rattle.auc_script.specs.Limits.{IsLine, IsPart, IsWithin}
 use Rattle.auc_script.specs.Numbers.{most_jobs}
 use Rattle.auc_lines.specs.Part.{jobs_of}
 use Rattle.auc_lines.specs.declared.part.Line.{Line}
-use Rattle.auc_lines.specs.declared.part.Line.TheVariants.{Draw, Sync, Give}
+use Rattle.auc_lines.specs.declared.part.Line.TheVariants.{Draw, Sync, Give, Session, Start, Deliver, Repeat, GiveUp, Plain}
 use Rattle.auc_lines.specs.declared.part.Part.{Part}
 use Rattle.auc_lines.specs.declared.part.Part.TheVariants.{Round, Restart}
 use Rattle.auc_script.specs.declared.script.Script.{Script}
@@ -15,17 +15,23 @@ use Rattle.auc_subs.specs.Subscriber.{AreSubscribers}
 use Rattle.auc_subs.specs.declared.row.Row.{Row}
 use Rattle.auc_run.specs.Inner.{IsKnownPart}
 
--- subscribers, and parts that can be served
+-- subscribers, a realm that isn't too long, and parts that can be served
 pub record Known (rows : List Row) (script : Script) : Type 0 where
   pub subscribers : AreSubscribers rows
+  pub realm : length script.realm ≤ 255
   pub parts : All (IsKnownPart (length rows)) script.parts
-  pub count : length script.parts + 1 < 2 ^ 32
 
 -- a line
 known_line : (rows : List Row) (line : Line) → IsLine rows line → IsKnownLine (length rows) line
 known_line rows (Draw sub count) is = is.0
 known_line rows (Sync sub seq bit count) is = (is.0, is.1, is.2)
 known_line rows (Give sub n) is = (is.0, is.1, is.2)
+known_line rows (Session session sub) is = is.0
+known_line rows (Start session) is = tt
+known_line rows (Deliver session at' packet) is = tt
+known_line rows (Repeat session) is = tt
+known_line rows (GiveUp session at') is = tt
+known_line rows (Plain session) is = tt
 
 -- parts that have not too many jobs together
 known_parts : (rows : List Row) (parts : List Part) → All (IsPart rows) parts → length (jobs_of parts) ≤ most_jobs → All (IsKnownPart (length rows)) parts
@@ -47,10 +53,4 @@ known_parts rows (Round jobs ∷ parts) each few =
 pub known : (rows : List Row) (script : Script) → IsWithin rows script → Known rows script
 known rows script within =
     let jobs = within.parts.jobs in
-    let rounds = within.parts.rounds in
-    let restarts = within.parts.restarts in
-    record {
-      subscribers = within.subscribers;
-      parts = known_parts rows script.parts within.parts.each (omega (arith, jobs));
-      count = omega (arith, rounds, restarts);
-    }
+    record { subscribers = within.subscribers; realm = within.realm; parts = known_parts rows script.parts within.parts.each (omega (arith, jobs)) }

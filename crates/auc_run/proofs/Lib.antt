@@ -1,5 +1,4 @@
-mod SizeLemmas
-mod MadeLemmas
+mod NameLemmas
 mod EntryLemmas
 mod PrintableLemmas
 mod StandLemmas

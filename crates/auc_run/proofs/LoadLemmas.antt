@@ -15,7 +15,7 @@ use Rattle.auc_history.specs.Split.{all_entries}
 use Rattle.auc_history.specs.declared.entry.Entry.TheVariants.{Drawn}
 use Rattle.auc_history.proofs.Facts.{split_counts_its_numbers}
 use Rattle.auc_jobs.specs.Serving.{AreAllKnown, AreKnown, IsKnownLine}
-use Rattle.auc_lines.specs.Part.{AreApart, gives_to}
+use Rattle.auc_lines.specs.Part.{AreApart, holds}
 use Rattle.auc_lines.specs.declared.part.Line.{Line}
 use Rattle.auc_lines.specs.declared.part.Line.TheVariants.{Draw}
 use Rattle.auc_load.specs.Input.{job_at, load_jobs, load_key, load_rows, row_at, vectors_of_a_job}
@@ -27,24 +27,16 @@ use Rattle.auc_subs.specs.declared.row.Row.{Row}
 use Rattle.auc_world.specs.Entries.{is_reported, entries_of_line, entries_of_lines, entries_of_jobs}
 use Rattle.auc_world.specs.Given.{DrawGives, JobsGive}
 use Rattle.auc_world.specs.Lines.{all_lines, numbers_of, released_by, withheld_by, withheld_of}
-use Rattle.auc_world.specs.Record.{subscriber_of}
+use Rattle.auc_world.specs.Net.{Net}
 use Rattle.auc_world.specs.Round.{IsLawfulRound, closing_of, closings_from}
 use Rattle.auc_world.specs.Setting.{Setting}
 use Rattle.auc_world.specs.declared.record.Closing.{Closing}
 use Rattle.auc_world.specs.declared.record.LineRecord.{LineRecord}
-use Rattle.auc_world.specs.declared.record.LineRecord.TheVariants.{Vector, Withheld, Exhausted, Sync, Give}
+use Rattle.auc_world.specs.declared.record.LineRecord.TheVariants.{Vector, Withheld, Exhausted, Sync, Give, Event}
 use Rattle.auc_world.specs.declared.record.RoundRecord.{RoundRecord}
-use Rattle.auc_run.proofs.EntryLemmas.{IsWithin, WordWithin, all_entries-of_jobs, splits_within, lines_within}
+use Rattle.auc_run.proofs.EntryLemmas.{IsOfDraw, IsWithin, WordWithin, all_entries-of_jobs, splits_within, lines_within, sub_of}
 
 -- ---- what jobs give that draw
-
--- a line of a draw: a word that it tells is that of a spent subscriber
-abbrev pub IsOfDraw : LineRecord → Type 0
-IsOfDraw (Vector s n) = Unit {0}
-IsOfDraw (Withheld s n stop) = Unit {0}
-IsOfDraw (Exhausted s word) = max_seq ≤ word
-IsOfDraw (Sync s answer) = ⊥
-IsOfDraw (Give s n answer) = ⊥
 
 no_lines : (lines : List LineRecord) → lines ≡ [] → All IsOfDraw lines
 no_lines lines none = All-same IsOfDraw lines [] none (All-nil IsOfDraw)
@@ -57,22 +49,24 @@ draw_lines set sub (suc count) (Withheld s n stop ∷ lines) (same, first, last,
 draw_lines set sub (suc count) (Exhausted s word ∷ lines) (same, spent, none) = All-cons IsOfDraw (Exhausted s word) lines spent (no_lines lines none)
 draw_lines set sub (suc count) (Sync s answer ∷ lines) gives = absurd gives
 draw_lines set sub (suc count) (Give s n answer ∷ lines) gives = absurd gives
+draw_lines set sub (suc count) (Event r ∷ lines) gives = absurd gives
 
 -- its lines are of its subscriber
 draw_named : (set : Setting) (total sub count : ℕ) (lines : List LineRecord) → sub < total → DrawGives set sub count lines
-    → All (λ line. subscriber_of line < total) lines
-draw_named set total sub zero lines inside gives = All-same (λ line. subscriber_of line < total) lines [] gives (All-nil (λ line. subscriber_of line < total))
+    → All (λ line. sub_of line < total) lines
+draw_named set total sub zero lines inside gives = All-same (λ line. sub_of line < total) lines [] gives (All-nil (λ line. sub_of line < total))
 draw_named set total sub (suc count) [] inside gives = absurd gives
 draw_named set total sub (suc count) (Vector s n ∷ lines) inside (same, is, more) =
-    All-cons (λ line. subscriber_of line < total) (Vector s n) lines (omega (arith, same, inside)) (draw_named set total sub count lines inside more)
+    All-cons (λ line. sub_of line < total) (Vector s n) lines (omega (arith, same, inside)) (draw_named set total sub count lines inside more)
 draw_named set total sub (suc count) (Withheld s n stop ∷ lines) inside (same, first, last, none) =
-    All-cons (λ line. subscriber_of line < total) (Withheld s n stop) lines (omega (arith, same, inside))
-    (All-same (λ line. subscriber_of line < total) lines [] none (All-nil (λ line. subscriber_of line < total)))
+    All-cons (λ line. sub_of line < total) (Withheld s n stop) lines (omega (arith, same, inside))
+    (All-same (λ line. sub_of line < total) lines [] none (All-nil (λ line. sub_of line < total)))
 draw_named set total sub (suc count) (Exhausted s word ∷ lines) inside (same, spent, none) =
-    All-cons (λ line. subscriber_of line < total) (Exhausted s word) lines (omega (arith, same, inside))
-    (All-same (λ line. subscriber_of line < total) lines [] none (All-nil (λ line. subscriber_of line < total)))
+    All-cons (λ line. sub_of line < total) (Exhausted s word) lines (omega (arith, same, inside))
+    (All-same (λ line. sub_of line < total) lines [] none (All-nil (λ line. sub_of line < total)))
 draw_named set total sub (suc count) (Sync s answer ∷ lines) inside gives = absurd gives
 draw_named set total sub (suc count) (Give s n answer ∷ lines) inside gives = absurd gives
+draw_named set total sub (suc count) (Event r ∷ lines) inside gives = absurd gives
 
 -- there are no more lines than vectors were asked for
 draw_few : (set : Setting) (sub count : ℕ) (lines : List LineRecord) → DrawGives set sub count lines → length lines ≤ count
@@ -83,6 +77,7 @@ draw_few set sub (suc count) (Withheld s n stop ∷ lines) (same, first, last, n
 draw_few set sub (suc count) (Exhausted s word ∷ lines) (same, spent, none) = let rest = ap length none in omega (arith, rest)
 draw_few set sub (suc count) (Sync s answer ∷ lines) gives = absurd gives
 draw_few set sub (suc count) (Give s n answer ∷ lines) gives = absurd gives
+draw_few set sub (suc count) (Event r ∷ lines) gives = absurd gives
 
 -- jobs of which each draws so many vectors for the subscriber of its place in a list
 abbrev pub DrawsEach : Setting → ℕ → List ℕ → List (List LineRecord) → Type 0
@@ -90,13 +85,14 @@ DrawsEach set count [] records = records ≡ []
 DrawsEach set count (s ∷ ss) [] = ⊥
 DrawsEach set count (s ∷ ss) (lines ∷ records) = DrawGives set s count lines × DrawsEach set count ss records
 
-pub draws_each : (set : Setting) (early beside : List LineRecord) (count : ℕ) (ss : List ℕ) (records : List (List LineRecord))
-    → JobsGive set early beside (map (λ s. Draw s count ∷ []) ss) records → DrawsEach set count ss records
-draws_each set early beside count [] records gives = gives
-draws_each set early beside count (s ∷ ss) [] gives = absurd gives
-draws_each set early beside count (s ∷ ss) (lines ∷ records) ((front, rest, cut, gives, none), more) = (
+pub draws_each : (set : Setting) (early beside : List LineRecord) (count : ℕ) (ss : List ℕ) (records : List (List LineRecord)) (nets : List Net)
+    → JobsGive set early beside (map (λ s. Draw s count ∷ []) ss) records nets → DrawsEach set count ss records
+draws_each set early beside count [] records nets gives = gives.0
+draws_each set early beside count (s ∷ ss) [] nets gives = absurd gives
+draws_each set early beside count (s ∷ ss) (lines ∷ records) [] gives = absurd gives
+draws_each set early beside count (s ∷ ss) (lines ∷ records) (net ∷ nets) ((front, rest, mid, cut, (gives, same), (none, last)), more) = (
   subst (DrawGives set s count) (sym (cut ∙ ap (λ (r : List LineRecord). front ++ r) none ∙ append-nil front)) gives,
-  draws_each set early (beside ++ lines) count ss records more,
+  draws_each set early (beside ++ lines) count ss records nets more,
 )
 
 all_of_draw : (set : Setting) (count : ℕ) (ss : List ℕ) (records : List (List LineRecord)) → DrawsEach set count ss records → All IsOfDraw (all_lines records)
@@ -106,12 +102,12 @@ all_of_draw set count (s ∷ ss) (lines ∷ records) (here, more) =
     All-append IsOfDraw lines (all_lines records) (draw_lines set s count lines here) (all_of_draw set count ss records more)
 
 all_named : (set : Setting) (total count : ℕ) (ss : List ℕ) (records : List (List LineRecord)) → All (λ s. s < total) ss → DrawsEach set count ss records
-    → All (λ line. subscriber_of line < total) (all_lines records)
+    → All (λ line. sub_of line < total) (all_lines records)
 all_named set total count [] records inside gives =
-    All-same (λ line. subscriber_of line < total) (all_lines records) [] (ap all_lines gives) (All-nil (λ line. subscriber_of line < total))
+    All-same (λ line. sub_of line < total) (all_lines records) [] (ap all_lines gives) (All-nil (λ line. sub_of line < total))
 all_named set total count (s ∷ ss) [] inside gives = absurd gives
 all_named set total count (s ∷ ss) (lines ∷ records) inside (here, more) =
-    All-append (λ line. subscriber_of line < total) lines (all_lines records) (draw_named set total s count lines (All-head (λ s. s < total) s ss inside) here)
+    All-append (λ line. sub_of line < total) lines (all_lines records) (draw_named set total s count lines (All-head (λ s. s < total) s ss inside) here)
     (all_named set total count ss records (All-tail (λ s. s < total) s ss inside) more)
 
 few_lines : (set : Setting) (count : ℕ) (ss : List ℕ) (records : List (List LineRecord)) → DrawsEach set count ss records
@@ -145,6 +141,7 @@ line_draws sub before (Exhausted s word) is = mark (s == sub) (is_reported sub w
     mark false told n = omega arith
 line_draws sub before (Sync s answer) is = absurd is
 line_draws sub before (Give s n answer) is = absurd is
+line_draws sub before (Event r) is = absurd is
 
 line_skips : (sub : ℕ) (before : List LineRecord) (line : LineRecord) → IsOfDraw line → skipped (entries_of_line sub before line) ≡ 0
 line_skips sub before (Vector s n) is = one (s == sub) n
@@ -165,6 +162,7 @@ line_skips sub before (Exhausted s word) is = mark (s == sub) (is_reported sub w
     mark false told n = refl
 line_skips sub before (Sync s answer) is = absurd is
 line_skips sub before (Give s n answer) is = absurd is
+line_skips sub before (Event r) is = absurd is
 
 lines_draw : (sub : ℕ) (before lines : List LineRecord) → All IsOfDraw lines → length (drawn (entries_of_lines sub before lines)) ≤ length lines
 lines_draw sub before [] all = omega arith
@@ -192,10 +190,11 @@ IsVector (Withheld s n stop) = ⊥
 IsVector (Exhausted s word) = ⊥
 IsVector (Sync s answer) = ⊥
 IsVector (Give s n answer) = ⊥
+IsVector (Event r) = ⊥
 
 -- a line of a draw that tells no word as high as the greatest number and withholds nothing
 vector_is : (closing : ℕ) (line : LineRecord) → closing < max_seq → IsOfDraw line → WordWithin closing line
-    → withheld_by (subscriber_of line) line ≡ [] → IsVector line
+    → withheld_by (sub_of line) line ≡ [] → IsVector line
 vector_is closing (Vector s n) small is within none = tt
 vector_is closing (Withheld s n stop) small is within none = absurd (held (s == s) (grind (arith, nat_tests)) none)
   where
@@ -205,6 +204,7 @@ vector_is closing (Withheld s n stop) small is within none = absurd (held (s == 
 vector_is closing (Exhausted s word) small is within none = absurd (omega (arith, small, is, within))
 vector_is closing (Sync s answer) small is within none = is
 vector_is closing (Give s n answer) small is within none = is
+vector_is closing (Event r) small is within none = is
 
 -- what lists joined are empty
 none_at : (sub : ℕ) (lines : List LineRecord) (k : ℕ) (d : LineRecord) → k < length lines → withheld_of sub lines ≡ []
@@ -232,7 +232,7 @@ pub record IsLoadRound (set : Setting) (count : ℕ) (ss openings : List ℕ) (r
 closes_low : (set : Setting) (count : ℕ) (ss openings : List ℕ) (round : RoundRecord) (words : List ℕ) → IsLoadRound set count ss openings round words
     → (sub : ℕ) → sub < length openings → get_or words sub 0 < max_seq
 closes_low set count ss openings round words is sub inside =
-    let draws = draws_each set [] [] count ss round.jobs is.lawful.given in
+    let draws = draws_each set [] [] count ss round.jobs is.lawful.nets is.lawful.given in
     let all = all_of_draw set count ss round.jobs draws in
     let lines = few_lines set count ss round.jobs draws in
     let whole = split_counts_its_numbers max_seq (get_or openings sub 0) (get_or words sub 0) (entries_of_jobs sub [] round.jobs) (is.lawful.split sub inside) in
@@ -249,14 +249,14 @@ only_vectors : (set : Setting) (count : ℕ) (ss openings : List ℕ) (round : R
     → All IsVector (all_lines round.jobs)
 only_vectors set count ss openings round words is k d inside =
     let line = get_or (all_lines round.jobs) k d in
-    let draws = draws_each set [] [] count ss round.jobs is.lawful.given in
-    let sub = subscriber_of line in
+    let draws = draws_each set [] [] count ss round.jobs is.lawful.nets is.lawful.given in
+    let sub = sub_of line in
     let named : sub < length openings = all_named set (length openings) count ss round.jobs is.named draws k d inside in
     let closing = get_or words sub 0 in
     let entries = subst (All (IsWithin closing)) (all_entries-of_jobs sub [] round.jobs)
     (splits_within max_seq (get_or openings sub 0) closing (entries_of_jobs sub [] round.jobs) (is.lawful.split sub named)) in
-    let words_are = lines_within sub closing [] (all_lines round.jobs) (λ word told. absurd (cc)) entries in
     let of_draw = all_of_draw set count ss round.jobs draws in
+    let words_are = lines_within sub closing [] (all_lines round.jobs) of_draw (λ word told. absurd (cc)) entries in
     vector_is closing line (closes_low set count ss openings round words is sub named) (of_draw k d inside) (words_are k d inside refl)
     (none_at sub (all_lines round.jobs) k d inside (is.lawful.withheld sub))
 
@@ -290,6 +290,7 @@ job_draws set (suc count) s sub before (Withheld t n stop ∷ lines) gives all =
 job_draws set (suc count) s sub before (Exhausted t word ∷ lines) gives all = absurd (All-head IsVector (Exhausted t word) lines all)
 job_draws set (suc count) s sub before (Sync t answer ∷ lines) gives all = absurd gives
 job_draws set (suc count) s sub before (Give t n answer ∷ lines) gives all = absurd gives
+job_draws set (suc count) s sub before (Event r ∷ lines) gives all = absurd gives
 
 job_releases : (set : Setting) (count s sub : ℕ) (lines : List LineRecord) → DrawGives set s count lines → All IsVector lines
     → length (numbers_of sub lines) ≡ count * cond (s == sub) 1 0
@@ -309,6 +310,7 @@ job_releases set (suc count) s sub (Withheld t n stop ∷ lines) gives all = abs
 job_releases set (suc count) s sub (Exhausted t word ∷ lines) gives all = absurd (All-head IsVector (Exhausted t word) lines all)
 job_releases set (suc count) s sub (Sync t answer ∷ lines) gives all = absurd gives
 job_releases set (suc count) s sub (Give t n answer ∷ lines) gives all = absurd gives
+job_releases set (suc count) s sub (Event r ∷ lines) gives all = absurd gives
 
 -- those of all jobs
 jobs_draw : (set : Setting) (count sub : ℕ) (before : List LineRecord) (ss : List ℕ) (records : List (List LineRecord)) → DrawsEach set count ss records
@@ -350,7 +352,7 @@ closing_is : (set : Setting) (count : ℕ) (ss openings : List ℕ) (round : Rou
     → (sub : ℕ) → sub < length openings
     → closing_of sub (get_or openings sub 0) (get_or words sub 0) round.jobs ≡ closing_with sub (count * count_by (λ s. s == sub) ss)
 closing_is set count ss openings round words is sub inside =
-    let draws = draws_each set [] [] count ss round.jobs is.lawful.given in
+    let draws = draws_each set [] [] count ss round.jobs is.lawful.nets is.lawful.given in
     let all = only_vectors set count ss openings round words is in
     let whole = split_counts_its_numbers max_seq (get_or openings sub 0) (get_or words sub 0) (entries_of_jobs sub [] round.jobs) (is.lawful.split sub inside) in
     let draw = jobs_draw set count sub [] ss round.jobs draws all in
@@ -406,7 +408,7 @@ subs_named load is k d inside =
     let below : k % load.subscribers < load.subscribers = omega (arith, some) in
     omega (arith, at, below)
 
--- each of its lines is of a subscriber, and no job gives to a USIM
+-- each of its lines is of a subscriber, and no job holds a USIM
 pub load_known : (load : LoadWords) → IsLoad load → AreAllKnown load.subscribers (load_jobs load)
 load_known load is k d inside =
     let some = is.one_subscriber in
@@ -415,7 +417,7 @@ load_known load is k d inside =
     (All-cons (IsKnownLine load.subscribers) (Draw (k % load.subscribers) vectors_of_a_job) [] below (All-nil (IsKnownLine load.subscribers)))
 
 pub load_apart : (load : LoadWords) → AllPairs AreApart (load_jobs load)
-load_apart load i j d less inside = λ sub gives. ap (gives_to sub) (job_is load j d inside)
+load_apart load i j d less inside = λ sub gives. ap (holds sub) (job_is load j d inside)
 
 pub load_few : (load : LoadWords) → IsLoad load → length (load_jobs load) ≤ 200000
 load_few load is =

@@ -1,14 +1,15 @@
 -- For the parts of a scenario: part after part is served and written.
-use Rattle.std.proofs.Common.{◌≡◌, ◌≢◌, ℕ, Bool, List, [], ◌∷◌, ◌++◌, Option, Some, None, Result, Ok, Err, IfOk, IfErr, OnOk, OnErr, refl, sym, ◌∙◌, ap, subst, append_assoc, append-nil}
+use Rattle.std.proofs.Common.{◌≡◌, ◌≢◌, ℕ, Bool, List, [], ◌∷◌, ◌++◌, All, Option, Some, None, Result, Ok, Err, IfOk, IfErr, OnOk, OnErr, refl, sym, ◌∙◌, ap, subst, append_assoc, append-nil}
 use Rattle.std.specs.Prelude.{◌≤◌, slice_index}
 use Rattle.std.proofs.lemmas.Grind.{flat_map-append}
-use Rattle.std.proofs.lemmas.List.Elements.{All-nil}
+use Rattle.std.proofs.lemmas.List.Elements.{All-nil, All-cons, All-append}
 use Rattle.auc_edge.specs.Sink.{Appends, AppendsFront}
 use Rattle.auc_edge.proofs.Facts.{Appends-more}
 use Rattle.auc_journal.specs.Journal.{JournalState, limits_of, reserved_at}
 use Rattle.auc_jobs.specs.State.{Standing}
 use Rattle.auc_lines.specs.declared.part.Part.{Part}
 use Rattle.auc_lines.specs.declared.part.Part.TheVariants.{Round, Restart}
+use Rattle.auc_print.specs.OneText.{PartFits}
 use Rattle.auc_print.specs.Text.{part_text, transcript_text}
 use Rattle.auc_transcript.proofs.Facts.{leads_more}
 use Rattle.auc_world.specs.Setting.{Setting}
@@ -97,6 +98,11 @@ texts_join set full records waits made =
     ∙ ap (λ (t : List ℕ). t ++ part_text set full made) (flat_map-append (part_text set full) records waits)
     ∙ append_assoc (transcript_text set full records) (transcript_text set full waits) (part_text set full made)
 
+-- the values of some records, of some that wait, and of one more
+fits_join : (records waits : List PartRecord) (made : PartRecord) → All PartFits records → All PartFits waits → PartFits made → All PartFits ((records ++ waits) ++ made ∷ [])
+fits_join records waits made fits waits_fit one =
+    All-append PartFits (records ++ waits) (made ∷ []) (All-append PartFits records waits fits waits_fit) (All-cons PartFits made [] one (All-nil PartFits))
+
 -- ---- the parts so far
 
 -- some parts are left; the records so far are a lawful transcript of the parts before them, and the text of all but the
@@ -114,6 +120,8 @@ pub record Serving {D : Type 0} (seen : D → Option (List ℕ)) (may_leave : D 
   pub goes_on : Leads set None begin (served ++ waiting) (records ++ waits) mid
   pub early : mid.early ≡ course.early
   pub on : StandsOn seen may_leave set from reserved mid number state journal
+  pub fits : All PartFits records
+  pub waits_fit : All PartFits waits
   pub waits_text : text ≡ transcript_text set full waits
   pub written : Appends old new (transcript_text set full records)
 
@@ -133,6 +141,8 @@ Serving-none seen may_leave set full from reserved begin number state journal te
   goes_on = (refl, refl);
   early = refl;
   on = on;
+  fits = All-nil PartFits;
+  waits_fit = All-nil PartFits;
   waits_text = none;
   written = Appends-none old;
 }
@@ -165,6 +175,8 @@ Serving-part {D} seen may_leave set full from reserved begin number after state 
           (sym (append-nil ((serving.served ++ serving.waiting) ++ Round jobs ∷ []))) all);
       early = refl;
       on = goes.on;
+      fits = fits_join serving.records serving.waits goes.made serving.fits serving.waits_fit goes.fits;
+      waits_fit = All-nil PartFits;
       waits_text = goes.put.1;
       written = subst (Appends old new)
           (ap (λ (t : List ℕ). transcript_text set full serving.records ++ (t ++ part_text set full goes.made)) serving.waits_text
@@ -195,6 +207,8 @@ Serving-part {D} seen may_leave set full from reserved begin number after state 
               (append_assoc serving.served serving.waiting (Restart ∷ [])) all);
           early = ap (λ (c : Course). c.early) served.leads ∙ serving.early;
           on = goes.on;
+          fits = serving.fits;
+          waits_fit = All-append PartFits serving.waits (record_of.Restart ∷ []) serving.waits_fit (All-cons PartFits record_of.Restart [] tt (All-nil PartFits));
           waits_text = put.1 ∙ ap (λ (t : List ℕ). t ++ part_text set full record_of.Restart) serving.waits_text
               ∙ sym (flat_map-append (part_text set full) serving.waits (record_of.Restart ∷ [])
               ∙ ap (λ (t : List ℕ). transcript_text set full serving.waits ++ t) (append-nil (part_text set full record_of.Restart)));
@@ -218,6 +232,7 @@ Serving-all seen may_leave set full from reserved begin number state journal tex
   records = serving.records ++ serving.waits;
   end = serving.mid;
   leads = serving.goes_on;
+  fits = All-append PartFits serving.records serving.waits serving.fits serving.waits_fit;
   written = subst (IsWritten ended old new)
       (ap (λ (t : List ℕ). transcript_text set full serving.records ++ t) serving.waits_text ∙ sym (flat_map-append (part_text set full) serving.records serving.waits))
       (IsWritten-more ended old mid new (transcript_text set full serving.records) text serving.written writes);
@@ -241,6 +256,7 @@ stops_served {D} seen may_leave set full from reserved begin number state journa
   records = (serving.records ++ serving.waits) ++ last.made ∷ [];
   end = last.next;
   leads = leads_more set last.stop begin (serving.served ++ serving.waiting) (serving.records ++ serving.waits) serving.mid part last.made last.next serving.goes_on last.served;
+  fits = fits_join serving.records serving.waits last.made serving.fits serving.waits_fit last.fits;
   written = subst (IsWritten ended old new)
       (ap (λ (t : List ℕ). transcript_text set full serving.records ++ (t ++ part_text set full last.made)) serving.waits_text
       ∙ sym (texts_join set full serving.records serving.waits last.made))
@@ -264,6 +280,7 @@ stops_unserved {D} seen may_leave set full from reserved begin number state jour
   records = serving.records;
   end = serving.course;
   leads = serving.leads;
+  fits = serving.fits;
   written = subst (λ (o : Option (List ℕ)). Appends old o (transcript_text set full serving.records)) (sym still) serving.written;
   kept = kept_covers seen may_leave set.rows from disk reserved serving.course later
       (subst (λ early. Covers seen may_leave set.rows from early later) serving.early covers) same;
@@ -314,6 +331,7 @@ Serving-nothing seen may_leave faults set full from journal parts disk old begin
       records = [];
       end = begin;
       leads = (refl, refl);
+      fits = All-nil PartFits;
       written = Appends-none old;
       kept = kept_covers seen may_leave set.rows from disk (limits_of journal) begin journal
           (record { subscribers = begins.subscribers; covers = λ sub inside. All-nil (λ n. n ≤ slice_index (limits_of journal) sub); most = λ sub. reserved_at journal sub; durable = begins.durable }) same;

@@ -8,6 +8,7 @@ use Rattle.auc_journal.specs.Journal.{JournalState, limits_of}
 use Rattle.auc_jobs.specs.State.{Standing, StandsAt}
 use Rattle.auc_lines.specs.declared.part.Line.{Line}
 use Rattle.auc_lines.specs.declared.part.Part.TheVariants.{Round, Restart}
+use Rattle.auc_print.specs.OneText.{RoundFits}
 use Rattle.auc_print.specs.Text.{restart_text, round_text}
 use Rattle.auc_world.specs.Limits.{opened}
 use Rattle.auc_world.specs.Lines.{all_lines}
@@ -54,7 +55,7 @@ EachLeads {D} seen may_leave set number state journal jobs round stop next after
 pub round_goes : {D : Type 0} (seen : D → Option (List ℕ)) (may_leave : D → List ℕ → Type 0) (set : Setting) (full : Bool) (number : ℕ) (state next : Standing) (journal after : JournalState D)
     (jobs : List (List Line)) (round : RoundRecord) (stop : Option Stop) (result : Result (Unit {0}) Refusal) (waits left : List ℕ) (old new : Option (List ℕ))
     → ((early : List LineRecord) → StandsAt set early state → StandsAt set (early ++ all_lines round.jobs) next) → (after.failed ≡ true) ↔ (stop ≡ Some Fault)
-    → EachLeads seen may_leave set number state journal jobs round stop next after → HasWritten stop (status_in result) old new (waits ++ round_text set full round)
+    → EachLeads seen may_leave set number state journal jobs round stop next after → HasWritten round stop (status_in result) old new (waits ++ round_text set full round)
     → OnOk result (left ≡ []) → OnOk result ((from : D) (reserved : List ℕ) (at : Course) → StandsOn seen may_leave set from reserved at number state journal
     → GoesOn seen may_leave set full from reserved at (Round jobs) (number + 1) next after waits left old new)
 round_goes seen may_leave set full number state next journal after jobs round stop (Err refusal) waits left old new stands failed each writes none = tt
@@ -71,6 +72,7 @@ round_goes seen may_leave set full number state next journal after jobs round st
         ready = ready_if after.failed stop failed (not_none stop writes.0);
         reserves = leads.reserves;
       };
+      fits = writes.2;
       put = (writes.1, none);
     }
 
@@ -84,14 +86,15 @@ full_journal seen may_leave set from reserved end after reserves ready full told
 -- it was the last, and it was written
 last_round : {D : Type 0} (seen : D → Option (List ℕ)) (may_leave : D → List ℕ → Type 0) (set : Setting) (full : Bool) (from : D) (reserved : List ℕ) (at : Course) (next : Standing) (after : JournalState D)
     (jobs : List (List Line)) (round : RoundRecord) (stop : Option Stop) (waits : List ℕ) (old new : Option (List ℕ)) (ended : Status)
-    → RoundLeads seen may_leave set from reserved at jobs round stop next after → IsStopOf ended stop → IsWritten ended old new (waits ++ round_text set full round)
+    → RoundLeads seen may_leave set from reserved at jobs round stop next after → IsStopOf ended stop → IsWritten ended old new (waits ++ round_text set full round) → RoundFits round
     → (ended ≡ status.StoreFull → IsTold seen may_leave from → IsFull (seen after.disk)) → ServesLast seen may_leave set full from reserved at (Round jobs) ended after waits old new
-last_round seen may_leave set full from reserved at next after jobs round stop waits old new ended leads stopped written full_at = record {
+last_round seen may_leave set full from reserved at next after jobs round stop waits old new ended leads stopped written fits full_at = record {
   stop = stop;
   stopped = stopped;
   made = record_of.Round round;
   next = leads.next;
   served = leads.served;
+  fits = fits;
   reserves = leads.reserves;
   written = written;
   full_at = full_at;
@@ -107,17 +110,17 @@ fault_at same = cc
 pub round_ends : {D : Type 0} (seen : D → Option (List ℕ)) (may_leave : D → List ℕ → Type 0) (set : Setting) (full : Bool) (number : ℕ) (state next : Standing) (journal after : JournalState D)
     (jobs : List (List Line)) (round : RoundRecord) (stop : Option Stop) (result : Result (Unit {0}) Refusal) (waits : List ℕ) (old new : Option (List ℕ))
     → (after.failed ≡ true) ↔ (stop ≡ Some Fault) → (stop ≡ Some Full → 2 ^ 30 < after.place + 20)
-    → EachLeads seen may_leave set number state journal jobs round stop next after → HasWritten stop (status_in result) old new (waits ++ round_text set full round)
+    → EachLeads seen may_leave set number state journal jobs round stop next after → HasWritten round stop (status_in result) old new (waits ++ round_text set full round)
     → IfErr result (λ refusal. (from : D) (reserved : List ℕ) (at : Course) → StandsOn seen may_leave set from reserved at number state journal
     → EndsIn seen may_leave set full from reserved at (Round jobs) (status_of refusal) after waits old new)
 round_ends seen may_leave set full number state next journal after jobs round stop (Ok done) waits old new failed is_full each writes = tt
 round_ends seen may_leave set full number state next journal after jobs round stop (Err refused.WriteFault) waits old new failed is_full each writes = λ from reserved at on.
-    last_round seen may_leave set full from reserved at next after jobs round stop waits old new status.WriteFault (each from reserved at on) tt writes.1 (λ is told. absurd (not_at is))
+    last_round seen may_leave set full from reserved at next after jobs round stop waits old new status.WriteFault (each from reserved at on) tt writes.1 writes.2 (λ is told. absurd (not_at is))
 round_ends seen may_leave set full number state next journal after jobs round stop (Err refused.StoreFault) waits old new failed is_full each writes = λ from reserved at on.
-    last_round seen may_leave set full from reserved at next after jobs round stop waits old new status.StoreFault (each from reserved at on) writes.0 writes.1 (λ is told. absurd (fault_at is))
+    last_round seen may_leave set full from reserved at next after jobs round stop waits old new status.StoreFault (each from reserved at on) writes.0 writes.1 writes.2 (λ is told. absurd (fault_at is))
 round_ends seen may_leave set full number state next journal after jobs round stop (Err refused.StoreFull) waits old new failed is_full each writes = λ from reserved at on.
     let leads = each from reserved at on in
-    last_round seen may_leave set full from reserved at next after jobs round stop waits old new status.StoreFull leads writes.0 writes.1
+    last_round seen may_leave set full from reserved at next after jobs round stop waits old new status.StoreFull leads writes.0 writes.1 writes.2
     (λ is. full_journal seen may_leave set from reserved leads.next after leads.reserves (ready_if after.failed stop failed (not_full stop writes.0)) (is_full writes.0))
 round_ends seen may_leave set full number state next journal after jobs round stop (Err refused.NoMemory) waits old new failed is_full each writes = λ from reserved at on.
     let leads = each from reserved at on in
@@ -130,19 +133,19 @@ round_ends seen may_leave set full number state next journal after jobs round st
 round_ends seen may_leave set full number state next journal after jobs round stop (Err refused.TooLong) waits old new failed is_full each writes = absurd writes.0
 
 -- if it ends without a fault, reservations didn't end by one
-pub quiet_round : (stop : Option Stop) (result : Result (Unit {0}) Refusal) (text : List ℕ) (old new : Option (List ℕ))
-    → HasWritten stop (status_in result) old new text → IsQuiet (status_in result) → stop ≢ Some Fault
-quiet_round stop (Ok done) text old new writes quiet = not_none stop writes.0
-quiet_round stop (Err refused.StoreFull) text old new writes quiet = not_full stop writes.0
-quiet_round stop (Err refused.WriteFault) text old new writes quiet = absurd quiet
-quiet_round stop (Err refused.StoreFault) text old new writes quiet = absurd quiet
-quiet_round stop (Err refused.NoMemory) text old new writes quiet = absurd quiet
-quiet_round stop (Err refused.Usage) text old new writes quiet = absurd writes.0
-quiet_round stop (Err (refused.Subscribers row fault)) text old new writes quiet = absurd writes.0
-quiet_round stop (Err (refused.Scenario line fault)) text old new writes quiet = absurd writes.0
-quiet_round stop (Err refused.ReadFault) text old new writes quiet = absurd writes.0
-quiet_round stop (Err (refused.NotJournal place)) text old new writes quiet = absurd writes.0
-quiet_round stop (Err refused.TooLong) text old new writes quiet = absurd writes.0
+pub quiet_round : (round : RoundRecord) (stop : Option Stop) (result : Result (Unit {0}) Refusal) (text : List ℕ) (old new : Option (List ℕ))
+    → HasWritten round stop (status_in result) old new text → IsQuiet (status_in result) → stop ≢ Some Fault
+quiet_round round stop (Ok done) text old new writes quiet = not_none stop writes.0
+quiet_round round stop (Err refused.StoreFull) text old new writes quiet = not_full stop writes.0
+quiet_round round stop (Err refused.WriteFault) text old new writes quiet = absurd quiet
+quiet_round round stop (Err refused.StoreFault) text old new writes quiet = absurd quiet
+quiet_round round stop (Err refused.NoMemory) text old new writes quiet = absurd quiet
+quiet_round round stop (Err refused.Usage) text old new writes quiet = absurd writes.0
+quiet_round round stop (Err (refused.Subscribers row fault)) text old new writes quiet = absurd writes.0
+quiet_round round stop (Err (refused.Scenario line fault)) text old new writes quiet = absurd writes.0
+quiet_round round stop (Err refused.ReadFault) text old new writes quiet = absurd writes.0
+quiet_round round stop (Err (refused.NotJournal place)) text old new writes quiet = absurd writes.0
+quiet_round round stop (Err refused.TooLong) text old new writes quiet = absurd writes.0
 
 -- ---- a restart
 
@@ -163,6 +166,7 @@ restart_goes {D} seen may_leave set full number later state next journal after (
       served = leads.0;
       on = subst (λ (n : ℕ). StandsOn seen may_leave set from reserved (after_restart set.rows at (limits_of journal)) n next after) (sym count)
           (subst (λ (j : JournalState D). StandsOn seen may_leave set from reserved (after_restart set.rows at (limits_of journal)) number next j) (sym same) leads.1);
+      fits = tt;
       put = (refl, text);
     }
 

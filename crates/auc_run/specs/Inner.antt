@@ -18,6 +18,7 @@ use Rattle.auc_load.specs.Words.{load_named}
 use Rattle.auc_load.specs.declared.words.LoadWords.{LoadWords}
 use Rattle.auc_jobs.specs.Serving.{AreAllKnown}
 use Rattle.auc_jobs.specs.State.{Standing, StandsAt}
+use Rattle.auc_print.specs.OneText.{PartFits, RoundFits}
 use Rattle.auc_print.specs.Text.{part_text, transcript_text}
 use Rattle.auc_script.specs.Numbers.{most_jobs}
 use Rattle.auc_script.specs.Reading.{script_of}
@@ -38,6 +39,7 @@ use Rattle.auc_world.specs.Lines.{numbers_of}
 use Rattle.auc_world.specs.Transcript.{Course, Leads, ServesPart}
 use Rattle.auc_world.specs.declared.record.LineRecord.{LineRecord}
 use Rattle.auc_world.specs.declared.record.PartRecord.{PartRecord}
+use Rattle.auc_world.specs.declared.record.RoundRecord.{RoundRecord}
 use Rattle.auc_run.specs.Crash.{IsFound, IsFull, IsKept, IsNoJournal, MayLeave, limits_in}
 use Rattle.auc_run.specs.Outcome.{HasText, AreRead, AreRight, AreWrong, IsStopOf, IsWritten, RunsFiles, max_file}
 use Rattle.auc_run.specs.Refusal.{status_of, line_of}
@@ -232,7 +234,7 @@ pub record Covers {D : Type 0} (seen : D → Option (List ℕ)) (may_leave : D �
 
 -- ---- the rounds, one after the other
 
--- each line of a round is one of known subscribers, no two of its jobs give to one USIM, and it has not too many jobs
+-- each line of a round is one of known subscribers, no two of its jobs hold one USIM, and it has not too many jobs
 pub record IsKnownRound (count : ℕ) (jobs : List (List Line)) : Type 0 where
   pub known : AreAllKnown count jobs
   pub apart : AllPairs AreApart jobs
@@ -263,6 +265,7 @@ pub record GoesOn {D : Type 0} (seen : D → Option (List ℕ)) (may_leave : D �
   pub next : Course
   pub served : ServesPart set None at part made next
   pub on : StandsOn seen may_leave set from reserved next number state journal
+  pub fits : PartFits made
   pub put : IsPut part (part_text set full made) before after old new
 
 -- the last part of a run that ends early was served, and its text was written after what waited
@@ -273,6 +276,7 @@ pub record ServesLast {D : Type 0} (seen : D → Option (List ℕ)) (may_leave :
   pub made : PartRecord
   pub next : Course
   pub served : ServesPart set stop at part made next
+  pub fits : PartFits made
   pub reserves : Reserves seen may_leave set.rows from reserved next journal
   pub written : IsWritten status old new (before ++ part_text set full made)
   pub full_at : status ≡ StoreFull → IsTold seen may_leave from → IsFull (seen journal.disk)
@@ -284,10 +288,10 @@ EndsIn seen may_leave set full from reserved at part NoMemory journal before old
 EndsIn seen may_leave set full from reserved at part status journal before old new =
     ServesLast seen may_leave set full from reserved at part status journal before old new
 
--- a text was written after a round in which reservations may have stopped, unless memory ran out
-abbrev pub HasWritten : Option Stop → Status → Option (List ℕ) → Option (List ℕ) → List ℕ → Type 0
-HasWritten stop NoMemory old new text = new ≡ old
-HasWritten stop status old new text = IsStopOf status stop × IsWritten status old new text
+-- a text was written after a round that can be printed and in which reservations may have stopped, unless memory ran out
+abbrev pub HasWritten : RoundRecord → Option Stop → Status → Option (List ℕ) → Option (List ℕ) → List ℕ → Type 0
+HasWritten round stop NoMemory old new text = new ≡ old
+HasWritten round stop status old new text = IsStopOf status stop × IsWritten status old new text × RoundFits round
 
 -- the first of some parts were served and written, all of them if the run is done, and the disk is left so
 pub record RunsParts {D : Type 0} (seen : D → Option (List ℕ)) (may_leave : D → List ℕ → Type 0) (set : Setting) (full : Bool) (from : D) (reserved : List ℕ) (at : Course) (parts : List Part)
@@ -301,6 +305,7 @@ pub record RunsParts {D : Type 0} (seen : D → Option (List ℕ)) (may_leave : 
   pub records : List PartRecord
   pub end : Course
   pub leads : Leads set stop at served records end
+  pub fits : All PartFits records
   pub written : IsWritten status old new (transcript_text set full records)
   pub kept : (image : List ℕ) → MayLeave seen may_leave from disk image → IsKept status set.rows reserved end image
   pub full_at : status ≡ StoreFull → IsTold seen may_leave from → IsFull (seen disk)

@@ -1,12 +1,16 @@
 -- What a run of a scenario writes.
-use Rattle.std.specs.Prelude.{◌≡◌, ℕ, Option, List, length}
+use Rattle.std.specs.Prelude.{◌≡◌, ℕ, Option, List, [], length}
 use Rattle.auc_edge.specs.declared.stop.Stop.{Stop}
 use Rattle.auc_lines.specs.declared.part.Part.{Part}
 use Rattle.auc_print.specs.Text.{transcript_text}
 use Rattle.auc_script.specs.declared.script.Script.{Script}
 use Rattle.auc_subs.specs.declared.row.Row.{Row}
 use Rattle.auc_world.specs.Setting.{Setting}
+use Rattle.auc_transcript.specs.Completeness.{PlainSessionsAgree}
 use Rattle.auc_transcript.specs.Headline.{VectorsDiffer, AcceptsNoneTwice, FailsExactlyByPlace}
+use Rattle.auc_transcript.specs.Keys.{AreNets, BreachesAreTold, EndsAgree}
+use Rattle.auc_transcript.specs.Presented.{FailsExactlyByPlaceInSessions, FindsRightMacs}
+use Rattle.auc_world.specs.Net.{Net}
 use Rattle.auc_world.specs.Transcript.{Course, Leads, IsLawful, beginning}
 use Rattle.auc_world.specs.declared.record.PartRecord.{PartRecord}
 
@@ -25,7 +29,11 @@ text_of rows script records = transcript_text (setting_of rows script) script.fu
 
 -- a text is that of exactly one lawful transcript of some parts of a script, in which no two vectors of a subscriber carry
 -- the same SQN, no USIM accepts an SQN twice, and between resynchronisations and restarts a released vector gets a
--- synchronisation failure exactly if it, or one drawn a positive multiple of 32 places later, was accepted before
+-- synchronisation failure exactly if it, or one drawn a positive multiple of 32 places later, was accepted before, whether a
+-- `give` line or a session presents it; a USIM to which a session presents it finds its MAC right. A server and a peer that
+-- ended in Success over one challenge have equal keys, if no delivery broke the premise in their jobs, and each round tells
+-- of a breach exactly if one did. A session that has its plain line and no other event line ends in Success at both ends, and
+-- its round says that they agree, unless a record of it tells why not
 pub record IsOutput (rows : List Row) (script : Script) (reserved : List ℕ) (stop : Option Stop) (parts : List Part) (end : Course) (text : List ℕ) : Type 0 where
   pub transcript : List PartRecord
   -- it is lawful, and this is where it ends
@@ -35,3 +43,11 @@ pub record IsOutput (rows : List Row) (script : Script) (reserved : List ℕ) (s
   pub differ : VectorsDiffer (length rows) transcript
   pub accepts_none_twice : AcceptsNoneTwice (length rows) transcript
   pub fails_by_place : FailsExactlyByPlace rows transcript
+  pub fails_by_place_in_sessions : FailsExactlyByPlaceInSessions (setting_of rows script) transcript
+  pub finds_right_macs : FindsRightMacs (setting_of rows script) transcript
+  -- the networks of its jobs' sessions, a list for each round
+  pub nets : List (List Net)
+  pub are_nets : AreNets (setting_of rows script) [] parts transcript nets
+  pub keys : EndsAgree nets
+  pub breaches : BreachesAreTold transcript nets
+  pub plain : PlainSessionsAgree rows parts transcript nets

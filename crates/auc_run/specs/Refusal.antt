@@ -45,6 +45,7 @@ why_word why.Number = codes "number"
 why_word why.Hex = codes "hex"
 why_word (why.Subscriber fault) = subs_why_word fault
 why_word why.UnknownSubscriber = codes "unknownsubscriber"
+why_word why.UnknownSession = codes "unknownsession"
 why_word why.Twice = codes "twice"
 why_word why.UsimBusy = codes "usimbusy"
 why_word why.Limit = codes "limit"

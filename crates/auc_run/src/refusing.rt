@@ -104,6 +104,7 @@ fn why_text(why: ScriptWhy) -> &'static [u8]
         ScriptWhy::Hex => b"hex",
         ScriptWhy::Subscriber(fault) => subs_why_text(fault),
         ScriptWhy::UnknownSubscriber => b"unknownsubscriber",
+        ScriptWhy::UnknownSession => b"unknownsession",
         ScriptWhy::Twice => b"twice",
         ScriptWhy::UsimBusy => b"usimbusy",
         ScriptWhy::Limit => b"limit",

@@ -7,7 +7,7 @@ ghost use Rattle.auc_jobs.specs.State.{StandsAt};
 ghost use Rattle.auc_journal.specs.Journal.{limits_of};
 ghost use Rattle.auc_lines.specs.declared.part.Part.TheVariants as part;
 ghost use Rattle.auc_print.specs.Text.{restart_text, round_text};
-ghost use Rattle.auc_script.specs.Numbers.{most_workers};
+ghost use Rattle.auc_script.specs.Numbers.{longest_realm, most_workers};
 ghost use Rattle.auc_sqn.specs.Number.{max_seq};
 ghost use Rattle.auc_subs.specs.Subscriber.{AreSubscribers};
 ghost use Rattle.auc_world.specs.Limits.{opened};
@@ -77,7 +77,7 @@ fn write_round<K: Sink>(
     requires vectors { ran.now.vectors
         ≡ (if settings.now.full then map (vectors_in settings.now.set) ran.now.round.jobs else []) }
 
-    ensures written { HasWritten ran.now.stop (status_in result) (K.written out.old) (K.written out.new)
+    ensures written { HasWritten ran.now.round ran.now.stop (status_in result) (K.written out.old) (K.written out.new)
         (text.old ++ round_text settings.now.set settings.now.full ran.now.round) }
     ensures refused { IfErr result RoundsStop }
     ensures done { OnOk result (text.new ≡ []) }
@@ -109,6 +109,7 @@ fn serve_round<R: Threads + Wait + Sync, K: Sink, D: Disk + Drop + Send, G: Gate
     requires subscribers { AreSubscribers settings.now.set.rows }
     requires known { IsKnownPart (length settings.now.set.rows) (part.Round jobs.now) }
     requires workers { (1 ≤ settings.now.workers) × (settings.now.workers ≤ most_workers) }
+    requires realm { length settings.now.set.realm ≤ longest_realm }
     requires number { stand.number + 1 < 2 ^ 32 }
     requires stands { (from : D) × (reserved : List ℕ) × (at : Course) × StandsOn D.seen D.may_leave settings.now.set
         from reserved at stand.number stand.state stand.journal }
@@ -214,6 +215,7 @@ fn serve_part<R: Threads + Wait + Sync, K: Sink, D: Disk + Drop + Send, G: Gate 
     requires subscribers { AreSubscribers settings.now.set.rows }
     requires known { IsKnownPart (length settings.now.set.rows) part.now }
     requires workers { (1 ≤ settings.now.workers) × (settings.now.workers ≤ most_workers) }
+    requires realm { length settings.now.set.realm ≤ longest_realm }
     requires number { stand.number + 1 < 2 ^ 32 }
     requires stands { (from : D) × (reserved : List ℕ) × (at : Course) × StandsOn D.seen D.may_leave settings.now.set
         from reserved at stand.number stand.state stand.journal }
@@ -261,6 +263,7 @@ fn serve_all<R: Threads + Wait + Sync, K: Sink, D: Disk + Drop + Send, G: Gate +
     requires subscribers { AreSubscribers settings.now.set.rows }
     requires known { All (IsKnownPart (length settings.now.set.rows)) parts.now }
     requires workers { (1 ≤ settings.now.workers) × (settings.now.workers ≤ most_workers) }
+    requires realm { length settings.now.set.realm ≤ longest_realm }
     requires number { stand.number + length parts.now < 2 ^ 32 }
     requires text { stand.text ≡ [] }
     requires stands { (from : D) × (reserved : List ℕ) × (at : Course) × StandsOn D.seen D.may_leave settings.now.set
@@ -330,6 +333,7 @@ pub(crate) fn serve_parts<R: Threads + Wait + Sync, K: Sink, D: Disk + Drop + Se
     requires known { All (IsKnownPart (length subs.now)) script.now.parts }
     requires count { length script.now.parts + 1 < 2 ^ 32 }
     requires workers { (1 ≤ script.now.workers) × (script.now.workers ≤ most_workers) }
+    requires realm { length script.now.realm ≤ longest_realm }
     requires journal { (from : D) × Begins D.seen D.may_leave D.faults subs.now from journal }
 
     ensures ran { (from : D) → Begins D.seen D.may_leave D.faults subs.now from journal

@@ -34,6 +34,10 @@ use auc_forms::{AlgorithmWords, algorithm_lines, algorithm_words, is_reserved, r
 use auc_journal::{Journal, LimitList, OpenRefused};
 use auc_script::Script;
 use auc_subs::Subscribers;
+use auc_transcript::{
+    each_authentication_agrees, each_breach_is_told, each_failure_in_sessions_is_by_place,
+    each_plain_session_agrees, each_told_transcript_is_one,
+};
 use std::alloc::Global;
 use std::sync::Wait;
 use std::thread::Threads;
@@ -240,7 +244,14 @@ fn run_input<R: Threads + Wait + Sync, K: Sink, D: Disk + Drop + Send, G: Gate +
     ensures quiet_disk { IsQuiet (status_in result.result) → D.faults result.disk ≡ D.faults disk }
 {
     match open_journal(alloc, disk, &input.subs) {
-        Ok(journal) => serve_parts(rt, alloc, &input.script, &input.subs, journal, out, gate),
+        Ok(journal) => {
+            each_told_transcript_is_one();
+            each_authentication_agrees();
+            each_breach_is_told();
+            each_failure_in_sessions_is_by_place();
+            each_plain_session_agrees();
+            serve_parts(rt, alloc, &input.script, &input.subs, journal, out, gate)
+        }
         Err(OpenRefused { disk, why }) => Performed {
             disk,
             result: Err(Refusal::from(why)),

@@ -177,6 +177,47 @@ fn reserved_tells_what_a_run_reserved(rt: HostRuntime) -> Result<(), NoMemory> {
     Ok(())
 }
 
+// By hand, from the tables of docs/sessions.md. The SQN of a number N is 32 N + N % 32: 16020, in hexadecimal 3e94, for
+// 500. A session draws from the numbers of its subscriber, and so does the line after it.
+#[test]
+fn sessions_go_by_the_tables_of_their_ends(rt: HostRuntime) -> Result<(), NoMemory> {
+    let alloc = rt.alloc();
+    let mut stale = Octets::new(alloc);
+    stale.append(
+        b"round 1\njob 1\nsession 1 open\nstart 1 sent 1\ndeliver 1 peer 1 sent 2\ndeliver 1 server 2 drew 1 sent 3\ndeliver 1 peer 3 sync 000000003e94 sent 4\ndeliver 1 server 4 moved 1 500 drew 501 sent 5\ndeliver 1 peer 5 accepted 000000003eb5 sent 6\ndeliver 1 server 6 sent 7 ended success\ndeliver 1 peer 7 ended success\n",
+    )?;
+    for n in 502..542u64 {
+        stale.append(b"vector 001010000000001 ")?;
+        stale.append_number(n)?;
+        stale.append(b"\n")?;
+    }
+    stale.append(
+        b"sync 001010000000001 inrange 541 500\nvector 001010000000001 542\nclosed 001010000000001 0 542 43 499 43 0\nsession 1 agree\npremise held\n",
+    )?;
+    let cases: [(&[u8], &[u8]); 3] = [
+        // The USIM stands at 500, and the centre at 0.
+        (
+            b"subscriber 001010000000001 465b5ce8b199b49faa5f0a2ee238a6bc opc cd63cb71954a9f4e48a5994e37a02baf 8000 0 500\nround\njob\nsession 1 001010000000001 aka - - - held\nplain 1\ndraw 001010000000001 40\nsync 001010000000001 500 - 1\n".as_slice(),
+            stale.as_slice(),
+        ),
+        // EAP-Success of another session comes too early, and the challenge comes twice.
+        (
+            b"subscriber 001010000000001 465b5ce8b199b49faa5f0a2ee238a6bc opc cd63cb71954a9f4e48a5994e37a02baf 8000 0 0\nround\njob\nsession 1 001010000000001 aka - - - held\nplain 1\nsession 2 001010000000001 aka - - - held\nstart 2\ndeliver 2 peer 6\ndeliver 2 server 7\ndeliver 2 peer 5\ndeliver 2 peer 8\ndeliver 2 peer 8\ndeliver 2 server 10\ndeliver 2 peer 11\n".as_slice(),
+            b"round 1\njob 1\nsession 1 open\nstart 1 sent 1\ndeliver 1 peer 1 sent 2\ndeliver 1 server 2 drew 1 sent 3\ndeliver 1 peer 3 accepted 000000000021 sent 4\ndeliver 1 server 4 sent 5 ended success\ndeliver 1 peer 5 ended success\nsession 2 open\nstart 2 sent 6\ndeliver 2 peer 6 sent 7\ndeliver 2 server 7 drew 2 sent 8\ndeliver 2 peer 5 ignored unexpected\ndeliver 2 peer 8 accepted 000000000042 sent 9\ndeliver 2 peer 8 sent 10\ndeliver 2 server 10 sent 11 ended success\ndeliver 2 peer 11 ended success\nclosed 001010000000001 0 2 2 0 2 0\nsession 1 agree\nsession 2 agree\npremise held\n".as_slice(),
+        ),
+        // No number is left.
+        (
+            b"subscriber 001010000000001 465b5ce8b199b49faa5f0a2ee238a6bc opc cd63cb71954a9f4e48a5994e37a02baf 8000 8796093022207 0\nround\njob\nsession 1 001010000000001 aka - - - held\nplain 1\n".as_slice(),
+            b"round 1\njob 1\nsession 1 open\nstart 1 sent 1\ndeliver 1 peer 1 sent 2\ndeliver 1 server 2 exhausted 8796093022207 sent 3\ndeliver 1 peer 3 sent 4\ndeliver 1 server 4 sent 5 ended failure exhausted 8796093022207\ndeliver 1 peer 5 ended failure notified 16384\nclosed 001010000000001 8796093022207 8796093022208 1 0 0 0\npremise held\n".as_slice(),
+        ),
+    ];
+    for (scenario, output) in cases {
+        let disk = disk_of(alloc, b"", FailList::new(alloc))?;
+        check(&rt, alloc, scenario, disk, Status::Done, output)?;
+    }
+    Ok(())
+}
+
 // A journal begins with its header. The opening asks for the length first.
 #[test]
 fn journal_that_cannot_be_opened_ends_the_run(rt: HostRuntime) -> Result<(), NoMemory> {

@@ -1,3 +1,4 @@
 mod LawLemmas
 mod ReadingLemmas
+mod SessionLemmas
 mod SoFarLemmas

@@ -1,5 +1,5 @@
 -- What is kept while lines are read, for `SoFar`.
-use Rattle.std.proofs.Common.{ℕ, ◌≡◌, ◌<◌, ◌≤◌, ◌+◌, ◌*◌, ◌∙◌, ◌&&◌, ◌||◌, nat_eq, nat_le, nat_lt, Bool, true, false, List, ◌∷◌, ◌++◌, [], length, get_or, slice_index, slice_set, Option, Some, None, is_some, Ok, Err, arith, ap, sym, refl, append-nil, append_assoc, length-append, length-set, replicate}
+use Rattle.std.proofs.Common.{ℕ, ◌≡◌, ◌≢◌, ◌<◌, ◌≤◌, ◌+◌, ◌*◌, ◌∙◌, ◌&&◌, ◌||◌, nat_eq, nat_le, nat_lt, Bool, true, false, List, ◌∷◌, ◌++◌, [], length, get_or, slice_index, slice_set, Option, Some, None, is_some, slice_get, Result, Ok, Err, arith, ap, sym, refl, append-nil, append_assoc, length-append, length-set, replicate}
 use Rattle.std.specs.Prelude.{◌==◌, not}
 use Rattle.std.specs.List.{All, AllPairs, list_any, sum_by}
 use Rattle.std.specs.Option.{option_to_list}
@@ -7,26 +7,32 @@ use Rattle.std.proofs.lemmas.Bool.Decides.{nat_tests}
 use Rattle.std.proofs.lemmas.List.{get_or_append_left, length-replicate, get_or-set_same, get_or-set_other}
 use Rattle.std.proofs.Math.Seq.{get_or-append_seam}
 use Rattle.std.proofs.lemmas.List.Elements.{All-from_get_or, All-nil, All-pop, All-push, All-replicate}
+use Rattle.std.proofs.lemmas.Grind.{flat_map-append}
 use Rattle.std.proofs.lemmas.List.Folds.{list_any-append, list_any_at}
 use Rattle.std.proofs.lemmas.List.Quantifiers.{all_pairs_push}
 use Rattle.std.proofs.lemmas.List.Sums.{sum_by-append}
+use Rattle.std.proofs.lemmas.Option.{slice_get_within}
 use Rattle.auc_subs.specs.declared.row.Row.{Row}
-use Rattle.auc_script.specs.declared.givers.Givers.{Givers}
+use Rattle.auc_script.specs.declared.holders.Holders.{Holders}
+use Rattle.auc_script.specs.declared.sessions.Sessions.{Sessions}
 use Rattle.auc_script.specs.declared.so_far.SoFar.{SoFar}
 use Rattle.auc_lines.specs.declared.part.Line.{Line}
-use Rattle.auc_lines.specs.declared.part.Line.TheVariants.{Draw, Give, Sync}
 use Rattle.auc_lines.specs.declared.part.Part.{Part}
 use Rattle.auc_lines.specs.declared.part.Part.TheVariants.{Round, Restart}
-use Rattle.auc_script.specs.Numbers.{most_jobs, most_rounds, most_vectors}
+use Rattle.auc_script.specs.Numbers.{most_jobs, most_packets, most_rounds, most_sessions, most_vectors}
 use Rattle.auc_script.specs.declared.round_so_far.RoundSoFar.{RoundSoFar}
 use Rattle.auc_script.specs.declared.word.JobWord.{JobWord}
-use Rattle.auc_script.specs.Limits.{AreJobs, AreWithin, IsLine, IsPart}
+use Rattle.auc_script.specs.Limits.{AreJobs, AreWithin, IsLine, IsOpened, IsPart, SessionsAreOpened}
 use Rattle.auc_lines.specs.Part.{AreApart}
-use Rattle.auc_script.specs.Scenario.{Scenario, is_busy, jobs_in, job_line, line_of, no_jobs, of_job_line, parts_of, restart_line, round_line, rounds_of, with_round}
-use Rattle.auc_lines.specs.Part.{asked, asked_by, gives_to, is_give_to, jobs_of}
-use Rattle.auc_script.specs.declared.refusal.ScriptWhy.TheVariants.{Limit}
-use Rattle.auc_script.specs.Field.{no_field}
-use Rattle.auc_script.specs.InnerSoFar.{AreMarks, IsBetween, IsMark, IsSoFar, marked, with_line}
+use Rattle.auc_script.specs.Scenario.{Scenario, in_order, is_busy, jobs_in, job_line, line_of, no_jobs, of_job_line, parts_of, restart_line, round_line, rounds_of, with_round}
+use Rattle.auc_lines.specs.Part.{asked, asked_by, held_by, holds, is_held_by, jobs_of}
+use Rattle.auc_script.specs.Session.{is_among, named_by, opened, opened_by, packets, packets_by, sessions_of}
+use Rattle.auc_script.specs.declared.refusal.ScriptWhy.{ScriptWhy}
+use Rattle.auc_script.specs.declared.refusal.ScriptWhy.TheVariants.{Limit, UsimBusy}
+use Rattle.auc_subs.specs.Steps.{◌>>=◌}
+use Rattle.auc_script.specs.Field.{no_field, require}
+use Rattle.auc_script.specs.InnerSoFar.{AreMarks, AreOfJob, IsBetween, IsMark, IsSoFar, marked, noted, of_new_job, scenario, with_line}
+use Rattle.auc_script.proofs.SessionLemmas.{fresh, known, not_last, numbers_push, of_job_more, opened_more, packets_push, sessions_job, sessions_last, sessions_line}
 
 -- the jobs of parts with one more round
 pub jobs_with : (ended : List Part) (jobs : List (List Line)) → jobs_of (ended ++ Round jobs ∷ []) ≡ jobs_of ended ++ jobs
@@ -40,6 +46,10 @@ length-jobs ended jobs = rw (jobs_with ended jobs) (length-append (jobs_of ended
 
 pub asked-jobs : (ended : List Part) (jobs : List (List Line)) → asked (jobs_of (ended ++ Round jobs ∷ [])) ≡ asked (jobs_of ended) + asked jobs
 asked-jobs ended jobs = rw (jobs_with ended jobs) (sum_by-append (λ job. sum_by asked_by job) (jobs_of ended) jobs)
+
+-- the sessions that they open
+pub sessions-jobs : (ended : List Part) (jobs : List (List Line)) → sessions_of (jobs_of (ended ++ Round jobs ∷ [])) ≡ sessions_of (jobs_of ended) ++ sessions_of jobs
+sessions-jobs ended jobs = rw (jobs_with ended jobs) (flat_map-append opened (jobs_of ended) jobs)
 
 -- how many rounds they are
 pub rounds-round : (ended : List Part) (jobs : List (List Line)) → rounds_of (ended ++ Round jobs ∷ []) ≡ rounds_of ended + 1
@@ -60,41 +70,61 @@ jobs-restart (Round first ∷ more) = ap (λ rest. first ++ rest) (jobs-restart 
 
 -- other jobs in the present round
 pub within_with : (rows : List Row) (ended : List Part) (old new : List (List Line)) → AreWithin rows (ended ++ Round old ∷ []) → AreJobs rows new
-    → length (jobs_of (ended ++ Round new ∷ [])) ≤ most_jobs → asked (jobs_of (ended ++ Round new ∷ [])) ≤ most_vectors → AreWithin rows (ended ++ Round new ∷ [])
-within_with rows ended old new within jobs count vectors = record {
+    → length (jobs_of (ended ++ Round new ∷ [])) ≤ most_jobs → asked (jobs_of (ended ++ Round new ∷ [])) ≤ most_vectors
+    → length (sessions_of (jobs_of (ended ++ Round new ∷ []))) ≤ most_sessions → AllPairs ◌≢◌ (sessions_of (jobs_of (ended ++ Round new ∷ [])))
+    → AreWithin rows (ended ++ Round new ∷ [])
+within_with rows ended old new within jobs count vectors sessions numbers = record {
   each = All-push (IsPart rows) ended (Round new) (All-pop (IsPart rows) (ended ++ Round old ∷ []) ended (Some (Round old)) refl within.each).0 jobs;
   rounds = omega (arith, within.rounds, rounds-round ended old, rounds-round ended new);
   restarts = omega (arith, within.restarts, rounds-round ended old, rounds-round ended new, length-append ended (Round old ∷ []), length-append ended (Round new ∷ []));
   jobs = count;
   vectors = vectors;
+  sessions = sessions;
+  numbers = numbers;
 }
 
 -- the jobs of the present round
 pub present_jobs : (rows : List Row) (ended : List Part) (jobs : List (List Line)) → AreWithin rows (ended ++ Round jobs ∷ []) → AreJobs rows jobs
 present_jobs rows ended jobs within = (All-pop (IsPart rows) (ended ++ Round jobs ∷ []) ended (Some (Round jobs)) refl within.each).1
 
+-- a round without jobs opens no session
+sessions-none : (ended : List Part) → sessions_of (jobs_of (ended ++ Round [] ∷ [])) ≡ sessions_of (jobs_of ended)
+sessions-none ended = sessions-jobs ended [] ∙ append-nil (sessions_of (jobs_of ended))
+
 -- a round without jobs
 pub no_jobs_more : (rows : List Row) (ended : List Part) → AreWithin rows ended → rounds_of ended < most_rounds → AreWithin rows (ended ++ Round [] ∷ [])
 no_jobs_more rows ended within room = record {
-  each = All-push (IsPart rows) ended (Round []) within.each (record { lines = All-nil (λ job. All (IsLine rows) job); apart = λ i j d less inside. absurd (omega arith) });
+  each = All-push (IsPart rows) ended (Round []) within.each (record {
+    lines = All-nil (λ job. All (IsLine rows) job);
+    opened = All-nil SessionsAreOpened;
+    packets = All-nil (λ job. packets job ≤ most_packets);
+    apart = λ i j d less inside. absurd (omega arith);
+  });
   rounds = omega (arith, room, rounds-round ended []);
   restarts = omega (arith, within.restarts, rounds-round ended [], length-append ended (Round [] ∷ []));
   jobs = omega (arith, within.jobs, length-jobs ended []);
   vectors = omega (arith, within.vectors, asked-jobs ended []);
+  sessions = rw (sessions-none ended) within.sessions;
+  numbers = rw (sessions-none ended) within.numbers;
 }
 
 -- a job without lines
 pub job_more : (rows : List Row) (jobs : List (List Line)) → AreJobs rows jobs → AreJobs rows (jobs ++ [] ∷ [])
 job_more rows jobs are = record {
   lines = All-push (λ job. All (IsLine rows) job) jobs [] are.lines (All-nil (IsLine rows));
+  opened = All-push SessionsAreOpened jobs [] are.opened (λ i line at. absurd (none i line at));
+  packets = All-push (λ job. packets job ≤ most_packets) jobs [] are.packets (omega arith);
   apart = all_pairs_push AreApart jobs [] are.apart (λ k d within sub gives. refl);
 }
+  where
+    none : (i : ℕ) (line : Line) → slice_get {X = Line} [] i ≡ Some line → ⊥
+    none i line at = let inside : i < 0 = slice_get_within [] i line at in omega arith
 
 -- it asks for nothing
 pub asked_same : (jobs : List (List Line)) → asked (jobs ++ [] ∷ []) ≡ asked jobs
 asked_same jobs = rw (sum_by-append (λ job. sum_by asked_by job) jobs ([] ∷ [])) (omega arith)
 
--- which jobs of a round give, by a mark, with one more job
+-- which jobs of a round hold a USIM, by its mark, with one more job
 mark_more : (before count mark : ℕ) → ((nat_lt before mark && nat_le mark (before + count)) || nat_eq mark (before + count + 1)) ≡ (nat_lt before mark && nat_le mark (before + (count + 1)))
 mark_more before count mark = grind (arith, nat_tests)
 
@@ -120,20 +150,20 @@ mark_job before jobs None sub mark is = record {
 }
 mark_job before jobs (Some job) sub mark is = record {
   bound = omega (arith, is.bound, length-append (jobs ++ job ∷ []) ([] ∷ []));
-  earlier = rw (any_push (gives_to sub) jobs job, is.earlier, is.present, length-append jobs (job ∷ [])) (mark_more before (length jobs) mark);
+  earlier = rw (any_push (holds sub) jobs job, is.earlier, is.present, length-append jobs (job ∷ [])) (mark_more before (length jobs) mark);
   present = mark_behind before (length (jobs ++ job ∷ [])) mark is.bound;
 }
 
 pub marks_job : (before : ℕ) (marks : List ℕ) (round : RoundSoFar) → AreMarks before marks round → AreMarks before marks (record { jobs = jobs_in round; job = Some [] })
 marks_job before marks round are sub within = mark_job before round.jobs round.job sub (slice_index marks sub) (are sub within)
 
--- a mark when a line comes that doesn't give to the USIM
+-- a mark when a line comes for which the job doesn't hold the USIM
 mark_line : (before : ℕ) (jobs : List (List Line)) (job : List Line) (line : Line) (sub mark : ℕ) → IsMark before (record { jobs = jobs; job = Some job }) sub mark
-    → is_give_to sub line ≡ false → IsMark before (record { jobs = jobs; job = Some (job ++ line ∷ []) }) sub mark
+    → is_held_by sub line ≡ false → IsMark before (record { jobs = jobs; job = Some (job ++ line ∷ []) }) sub mark
 mark_line before jobs job line sub mark is other = record {
   bound = omega (arith, is.bound, length-append jobs (job ∷ []), length-append jobs ((job ++ line ∷ []) ∷ []));
   earlier = is.earlier;
-  present = rw (any_push (is_give_to sub) job line, other, or_false (gives_to sub job)) is.present;
+  present = rw (any_push (is_held_by sub) job line, other, or_false (holds sub job)) is.present;
 }
 
 -- a number is itself, and stands behind those before
@@ -147,39 +177,36 @@ or_true : (b : Bool) → (b || true) ≡ true
 or_true true = refl
 or_true false = refl
 
--- the mark when a line gives to the USIM, to which no earlier job of the round gives
-mark_give : (before : ℕ) (jobs : List (List Line)) (job : List Line) (sub number : ℕ) → list_any (gives_to sub) jobs ≡ false
-    → IsMark before (record { jobs = jobs; job = Some (job ++ Give sub number ∷ []) }) sub (before + length jobs + 1)
-mark_give before jobs job sub number free = record {
-  bound = omega (arith, length-append jobs ((job ++ Give sub number ∷ []) ∷ []));
+-- the mark when a line comes for which the job holds the USIM, and no earlier job of the round does
+mark_held : (before : ℕ) (jobs : List (List Line)) (job : List Line) (line : Line) (sub : ℕ) → held_by line ≡ Some sub → list_any (holds sub) jobs ≡ false
+    → IsMark before (record { jobs = jobs; job = Some (job ++ line ∷ []) }) sub (before + length jobs + 1)
+mark_held before jobs job line sub held free = record {
+  bound = omega (arith, length-append jobs ((job ++ line ∷ []) ∷ []));
   earlier = rw free (behind before (length jobs));
-  present = rw (any_push (is_give_to sub) job (Give sub number), same sub, or_true (gives_to sub job), same (before + length jobs + 1)) refl;
+  present = rw (any_push (is_held_by sub) job line, held, same sub, or_true (holds sub job), same (before + length jobs + 1)) refl;
 }
 
-pub marks_line : (before : ℕ) (marks : List ℕ) (jobs : List (List Line)) (job : List Line) (line : Line) → AreMarks before marks (record { jobs = jobs; job = Some job })
-    → is_busy (record { jobs = jobs; job = Some job }) line ≡ false
-    → AreMarks before (marked marks (before + length jobs + 1) line) (record { jobs = jobs; job = Some (job ++ line ∷ []) })
-marks_line before marks jobs job (Draw s count) are free sub within = mark_line before jobs job (Draw s count) sub (slice_index marks sub) (are sub within) refl
-marks_line before marks jobs job (Sync s seq bit count) are free sub within = mark_line before jobs job (Sync s seq bit count) sub (slice_index marks sub) (are sub within) refl
-marks_line before marks jobs job (Give s number) are free sub within = which (nat_eq s sub) refl
+pub marks_line : (before : ℕ) (marks : List ℕ) (jobs : List (List Line)) (job : List Line) (line : Line) (held : Option ℕ) → held_by line ≡ held
+    → AreMarks before marks (record { jobs = jobs; job = Some job }) → is_busy jobs held ≡ false
+    → AreMarks before (marked marks (before + length jobs + 1) held) (record { jobs = jobs; job = Some (job ++ line ∷ []) })
+marks_line before marks jobs job line None held are free sub within = mark_line before jobs job line sub (slice_index marks sub) (are sub within) (rw held refl)
+marks_line before marks jobs job line (Some s) held are free sub within = which (nat_eq s sub) refl
   where
     inside : sub < length marks
     inside = rw (length-set marks s (before + length jobs + 1)) at within
 
-    which : (b : Bool) → nat_eq s sub ≡ b → IsMark before (record { jobs = jobs; job = Some (job ++ Give s number ∷ []) }) sub (slice_index (slice_set marks s (before + length jobs + 1)) sub)
+    which : (b : Bool) → nat_eq s sub ≡ b → IsMark before (record { jobs = jobs; job = Some (job ++ line ∷ []) }) sub (slice_index (slice_set marks s (before + length jobs + 1)) sub)
     which true is =
         let one : s ≡ sub = grind (arith, nat_tests) in
-        rw (← one, get_or-set_same marks s (before + length jobs + 1) 0 (omega (arith, inside, one))) (mark_give before jobs job s number free)
+        rw (← one, get_or-set_same marks s (before + length jobs + 1) 0 (omega (arith, inside, one))) (mark_held before jobs job line s held free)
     which false is =
-        let apart : nat_eq sub s ≡ false = grind (arith, nat_tests) in
         rw (get_or-set_other marks s sub (before + length jobs + 1) 0 (λ same. grind (arith, nat_tests)))
-        (mark_line before jobs job (Give s number) sub (slice_index marks sub) (are sub inside) is)
+        (mark_line before jobs job line sub (slice_index marks sub) (are sub inside) (rw held is))
 
 -- each subscriber keeps a mark
-length-marked : (marks : List ℕ) (job : ℕ) (line : Line) → length (marked marks job line) ≡ length marks
-length-marked marks job (Draw s count) = refl
-length-marked marks job (Sync s seq bit count) = refl
-length-marked marks job (Give s number) = length-set marks s job
+length-marked : (marks : List ℕ) (job : ℕ) (held : Option ℕ) → length (marked marks job held) ≡ length marks
+length-marked marks job None = refl
+length-marked marks job (Some s) = length-set marks s job
 
 -- it asks for as many vectors more
 asked_more : (jobs : List (List Line)) (job : List Line) (line : Line) → asked (jobs ++ (job ++ line ∷ []) ∷ []) ≡ asked (jobs ++ job ∷ []) + asked_by line
@@ -207,31 +234,35 @@ none_at p xs k d none inside = which (p (get_or xs k d)) refl
     which false is = refl
 
 -- a job stays apart from the present one with a line more
-apart_more : (a job : List Line) (line : Line) → AreApart a job → ((sub : ℕ) → is_give_to sub line ≡ true → gives_to sub a ≡ false) → AreApart a (job ++ line ∷ [])
-apart_more a job line apart free sub gives = rw (any_push (is_give_to sub) job line, apart sub gives) (which (is_give_to sub line) refl)
+apart_more : (a job : List Line) (line : Line) → AreApart a job → ((sub : ℕ) → is_held_by sub line ≡ true → holds sub a ≡ false) → AreApart a (job ++ line ∷ [])
+apart_more a job line apart free sub gives = rw (any_push (is_held_by sub) job line, apart sub gives) (which (is_held_by sub line) refl)
   where
-    which : (b : Bool) → is_give_to sub line ≡ b → b ≡ false
+    which : (b : Bool) → is_held_by sub line ≡ b → b ≡ false
     which true is = absurd (cc (free sub is))
     which false is = refl
 
--- to whom a line gives, no earlier job gives
-none_gives : (jobs : List (List Line)) (job : List Line) (line : Line) → is_busy (record { jobs = jobs; job = Some job }) line ≡ false
-    → (k : ℕ) (d : List Line) → k < length jobs → (sub : ℕ) → is_give_to sub line ≡ true → gives_to sub (get_or jobs k d) ≡ false
-none_gives jobs job (Draw s count) free k d inside sub gives = absurd cc
-none_gives jobs job (Sync s seq bit count) free k d inside sub gives = absurd cc
-none_gives jobs job (Give s number) free k d inside sub gives =
-    let one : s ≡ sub = grind (arith, nat_tests) in
-    rw (← one) (none_at (gives_to s) jobs k d free inside)
+-- the USIM that a job holds because of a line is held by no earlier job
+none_holds : (jobs : List (List Line)) (line : Line) (held : Option ℕ) → held_by line ≡ held → is_busy jobs held ≡ false
+    → (k : ℕ) (d : List Line) → k < length jobs → (sub : ℕ) → is_held_by sub line ≡ true → holds sub (get_or jobs k d) ≡ false
+none_holds jobs line None held free k d inside sub holding = absurd (cc (rw held at holding))
+none_holds jobs line (Some s) held free k d inside sub holding =
+    let one : s ≡ sub = let test : nat_eq s sub ≡ true = rw held at holding in grind (arith, nat_tests) in
+    rw (← one) (none_at (holds s) jobs k d free inside)
 
 -- the jobs of a round with a line more in the last
 jobs_line : (rows : List Row) (jobs : List (List Line)) (job : List Line) (line : Line) → AreJobs rows (jobs ++ job ∷ []) → IsLine rows line
-    → is_busy (record { jobs = jobs; job = Some job }) line ≡ false → AreJobs rows (jobs ++ (job ++ line ∷ []) ∷ [])
-jobs_line rows jobs job line are is_line free =
-    let parts = All-pop (λ job. All (IsLine rows) job) (jobs ++ job ∷ []) jobs (Some job) refl are.lines in
+    → is_busy jobs (held_by line) ≡ false → IsOpened (opened job) (named_by line) → packets job + packets_by line ≤ most_packets
+    → AreJobs rows (jobs ++ (job ++ line ∷ []) ∷ [])
+jobs_line rows jobs job line are is_line free named few =
+    let lines = All-pop (λ job. All (IsLine rows) job) (jobs ++ job ∷ []) jobs (Some job) refl are.lines in
+    let order = All-pop SessionsAreOpened (jobs ++ job ∷ []) jobs (Some job) refl are.opened in
+    let counts = All-pop (λ job. packets job ≤ most_packets) (jobs ++ job ∷ []) jobs (Some job) refl are.packets in
     record {
-      lines = All-push (λ job. All (IsLine rows) job) jobs (job ++ line ∷ []) parts.0 (All-push (IsLine rows) job line parts.1 is_line);
+      lines = All-push (λ job. All (IsLine rows) job) jobs (job ++ line ∷ []) lines.0 (All-push (IsLine rows) job line lines.1 is_line);
+      opened = All-push SessionsAreOpened jobs (job ++ line ∷ []) order.0 (opened_more job line order.1 named);
+      packets = All-push (λ job. packets job ≤ most_packets) jobs (job ++ line ∷ []) counts.0 (rw (packets_push job line) few);
       apart = all_pairs_push AreApart jobs (job ++ line ∷ []) (front_apart jobs job are.apart)
-          (λ k d inside. apart_more (get_or jobs k d) job line (last_apart jobs job are.apart k d inside) (none_gives jobs job line free k d inside));
+          (λ k d inside. apart_more (get_or jobs k d) job line (last_apart jobs job are.apart k d inside) (none_holds jobs line (held_by line) refl free k d inside));
     }
 
 -- what is kept, where the present round is known
@@ -240,41 +271,69 @@ at_round rows s round is kept = rw (← is) kept
 
 -- what is kept when a job begins
 pub kept_job : (rows : List Row) (s : SoFar) (round : RoundSoFar) → IsSoFar rows (record s { round = Some round }) → s.jobs < most_jobs
-    → IsSoFar rows (record s { round = Some (record { jobs = jobs_in round; job = Some [] }); jobs = s.jobs + 1 })
+    → IsSoFar rows (record s { round = Some (record { jobs = jobs_in round; job = Some [] }); jobs = s.jobs + 1; sessions = of_new_job s.sessions })
 kept_job rows s round kept room =
     let count : length (jobs_of (s.ended ++ Round (jobs_in round ++ [] ∷ []) ∷ [])) ≡ s.jobs + 1
     = omega (arith, kept.jobs, length-jobs s.ended (jobs_in round), length-jobs s.ended (jobs_in round ++ [] ∷ []), length-append (jobs_in round) ([] ∷ [])) in
     let vectors : asked (jobs_of (s.ended ++ Round (jobs_in round ++ [] ∷ []) ∷ [])) ≡ s.asked
     = omega (arith, kept.asked, asked-jobs s.ended (jobs_in round), asked-jobs s.ended (jobs_in round ++ [] ∷ []), asked_same (jobs_in round)) in
+    let sessions : sessions_of (jobs_of (s.ended ++ Round (jobs_in round ++ [] ∷ []) ∷ [])) ≡ sessions_of (jobs_of (s.ended ++ Round (jobs_in round) ∷ []))
+    = rw (sessions-jobs s.ended (jobs_in round), sessions-jobs s.ended (jobs_in round ++ [] ∷ []), sessions_job (jobs_in round)) refl in
     record {
       header = kept.header;
-      parts = within_with rows s.ended (jobs_in round) (jobs_in round ++ [] ∷ []) kept.parts (job_more rows (jobs_in round) (present_jobs rows s.ended (jobs_in round) kept.parts)) (omega arith) (omega (arith, kept.parts.vectors, kept.asked));
+      parts = within_with rows s.ended (jobs_in round) (jobs_in round ++ [] ∷ []) kept.parts (job_more rows (jobs_in round) (present_jobs rows s.ended (jobs_in round) kept.parts)) (omega arith) (omega (arith, kept.parts.vectors, kept.asked))
+          (rw sessions kept.parts.sessions) (rw sessions kept.parts.numbers);
       jobs = sym count;
       asked = sym vectors;
-      round = record { before = kept.round.before; each = kept.round.each; marks = marks_job s.givers.before s.givers.marks.items round kept.round.marks };
+      sessions = kept.sessions ∙ sym sessions;
+      round = record {
+        before = kept.round.before;
+        each = kept.round.each;
+        marks = marks_job s.holders.before s.holders.marks.items round kept.round.marks;
+        job = record { opened = refl; started = refl; packets = refl };
+      };
       rounds = kept.rounds ∙ rounds-round s.ended (jobs_in round) ∙ sym (rounds-round s.ended (jobs_in round ++ [] ∷ []));
       restarts = kept.restarts;
     }
 
+-- a line that passes all tests, over the jobs before the present one
+pub record Passes (rows : List Row) (s : SoFar) (jobs : List (List Line)) (line : Line) : Type 0 where
+  pub is_line : IsLine rows line
+  pub order : in_order s.sessions.all s.sessions.opened s.sessions.started line ≡ Ok tt
+  pub free : is_busy jobs (held_by line) ≡ false
+  pub vectors : s.asked + asked_by line ≤ most_vectors
+  pub sessions : length (s.sessions.all ++ option_to_list (opened_by line)) ≤ most_sessions
+  pub packets : s.sessions.packets + packets_by line ≤ most_packets
+
 -- what is kept when a line of a job comes
-pub kept_line : (rows : List Row) (s : SoFar) (jobs : List (List Line)) (job : List Line) (line : Line) (givers : Givers) → IsSoFar rows (record s { round = Some (record { jobs = jobs; job = Some job }) })
-    → IsLine rows line → is_busy (record { jobs = jobs; job = Some job }) line ≡ false → s.asked + asked_by line ≤ most_vectors
-    → givers.before ≡ s.givers.before → givers.marks.items ≡ marked s.givers.marks.items (s.givers.before + length jobs + 1) line
-    → IsSoFar rows (record s { round = Some (record { jobs = jobs; job = Some (job ++ line ∷ []) }); asked = s.asked + asked_by line; givers = givers })
-kept_line rows s jobs job line givers kept is_line free room before marks =
+pub kept_line : (rows : List Row) (s : SoFar) (jobs : List (List Line)) (job : List Line) (line : Line) (holders : Holders) → IsSoFar rows (record s { round = Some (record { jobs = jobs; job = Some job }) })
+    → Passes rows s jobs line → holders.before ≡ s.holders.before → holders.marks.items ≡ marked s.holders.marks.items (s.holders.before + length jobs + 1) (held_by line)
+    → IsSoFar rows (record s { round = Some (record { jobs = jobs; job = Some (job ++ line ∷ []) }); asked = s.asked + asked_by line; holders = holders; sessions = noted s.sessions line })
+kept_line rows s jobs job line holders kept passes before marks =
     let count : length (jobs_of (s.ended ++ Round (jobs ++ (job ++ line ∷ []) ∷ []) ∷ [])) ≡ s.jobs
     = omega (arith, kept.jobs, length-jobs s.ended (jobs ++ job ∷ []), length-jobs s.ended (jobs ++ (job ++ line ∷ []) ∷ []), length-append jobs (job ∷ []), length-append jobs ((job ++ line ∷ []) ∷ [])) in
     let vectors : asked (jobs_of (s.ended ++ Round (jobs ++ (job ++ line ∷ []) ∷ []) ∷ [])) ≡ s.asked + asked_by line
     = omega (arith, kept.asked, asked-jobs s.ended (jobs ++ job ∷ []), asked-jobs s.ended (jobs ++ (job ++ line ∷ []) ∷ []), asked_more jobs job line) in
+    let sessions : sessions_of (jobs_of (s.ended ++ Round (jobs ++ (job ++ line ∷ []) ∷ []) ∷ [])) ≡ s.sessions.all ++ option_to_list (opened_by line)
+    = rw (kept.sessions, sessions-jobs s.ended (jobs ++ job ∷ []), sessions-jobs s.ended (jobs ++ (job ++ line ∷ []) ∷ []), sessions_line jobs job line)
+    (sym (append_assoc (sessions_of (jobs_of s.ended)) (sessions_of (jobs ++ job ∷ [])) (option_to_list (opened_by line)))) in
+    let named : IsOpened (opened job) (named_by line) = rw kept.round.job.opened at (known s.sessions.all s.sessions.opened s.sessions.started line passes.order) in
+    let few : packets job + packets_by line ≤ most_packets = omega (arith, kept.round.job.packets, passes.packets) in
+    let apart : AllPairs ◌≢◌ (s.sessions.all ++ option_to_list (opened_by line))
+    = numbers_push s.sessions.all (opened_by line) (rw kept.sessions kept.parts.numbers) (fresh s.sessions.all s.sessions.opened s.sessions.started line passes.order) in
     record {
       header = kept.header;
-      parts = within_with rows s.ended (jobs ++ job ∷ []) (jobs ++ (job ++ line ∷ []) ∷ []) kept.parts (jobs_line rows jobs job line (present_jobs rows s.ended (jobs ++ job ∷ []) kept.parts) is_line free) (omega (arith, kept.parts.jobs, kept.jobs)) (omega arith);
+      parts = within_with rows s.ended (jobs ++ job ∷ []) (jobs ++ (job ++ line ∷ []) ∷ []) kept.parts
+          (jobs_line rows jobs job line (present_jobs rows s.ended (jobs ++ job ∷ []) kept.parts) passes.is_line passes.free named few)
+          (omega (arith, kept.parts.jobs, kept.jobs)) (omega (arith, vectors, passes.vectors)) (rw sessions passes.sessions) (rw sessions apart);
       jobs = sym count;
       asked = sym vectors;
+      sessions = sym sessions;
       round = record {
         before = before ∙ kept.round.before;
-        each = rw marks (length-marked s.givers.marks.items (s.givers.before + length jobs + 1) line) ∙ kept.round.each;
-        marks = rw (before, marks) (marks_line s.givers.before s.givers.marks.items jobs job line kept.round.marks free);
+        each = rw marks (length-marked s.holders.marks.items (s.holders.before + length jobs + 1) (held_by line)) ∙ kept.round.each;
+        marks = rw (before, marks) (marks_line s.holders.before s.holders.marks.items jobs job line (held_by line) refl kept.round.marks passes.free);
+        job = of_job_more s.sessions job line kept.round.job;
       };
       rounds = kept.rounds ∙ rounds-round s.ended (jobs ++ job ∷ []) ∙ sym (rounds-round s.ended (jobs ++ (job ++ line ∷ []) ∷ []));
       restarts = kept.restarts;
@@ -288,6 +347,8 @@ within_none rows after ended none within = record {
   restarts = within.restarts;
   jobs = within.jobs;
   vectors = within.vectors;
+  sessions = within.sessions;
+  numbers = within.numbers;
 }
   where
     no_part : {k : ℕ} → k < 0 → ⊥
@@ -302,6 +363,7 @@ kept_rows rows after s kept none first =
       parts = within_none rows after s.ended first at.parts;
       jobs = at.jobs;
       asked = at.asked;
+      sessions = at.sessions;
       round = tt;
       rounds = at.rounds;
       restarts = at.restarts;
@@ -325,15 +387,18 @@ kept_round rows old s kept room between =
     let restarts : length s.ended ≤ 2 * rounds_of s.ended = rw same kept.parts.restarts in
     let jobs : s.jobs ≡ length (jobs_of s.ended) = rw same (between.jobs ∙ kept.jobs) in
     let vectors : s.asked ≡ asked (jobs_of s.ended) = rw same (between.asked ∙ kept.asked) in
+    let sessions : s.sessions.all ≡ sessions_of (jobs_of s.ended) = rw same (ap (λ (s : Sessions). s.all) between.sessions ∙ kept.sessions) in
     record {
       header = rw between.header kept.header;
       parts = parts;
       jobs = omega (arith, jobs, length-jobs s.ended []);
       asked = omega (arith, vectors, asked-jobs s.ended []);
+      sessions = sessions ∙ sym (sessions-none s.ended);
       round = record {
         before = between.before ∙ sym between.jobs ∙ jobs;
         each = between.each;
-        marks = λ sub inside. fresh s.givers.before sub (slice_index s.givers.marks.items sub) (rw between.before (between.marks sub 0 inside));
+        marks = λ sub inside. fresh s.holders.before sub (slice_index s.holders.marks.items sub) (rw between.before (between.marks sub 0 inside));
+        job = tt;
       };
       rounds = omega (arith, rounds, rounds-round s.ended []);
       restarts = restarts;
@@ -343,8 +408,8 @@ kept_round rows old s kept room between =
     fresh before sub mark bound = record { bound = omega (arith, bound); earlier = low before mark bound; present = high before mark bound }
 
 -- the marks of a round are at most the number of jobs
-pub marks_bound : (rows : List Row) (s : SoFar) (round : RoundSoFar) → IsSoFar rows (record s { round = Some round }) → All (λ mark. mark ≤ s.jobs) s.givers.marks.items
-marks_bound rows s round kept = All-from_get_or (λ mark. mark ≤ s.jobs) s.givers.marks.items 0
+pub marks_bound : (rows : List Row) (s : SoFar) (round : RoundSoFar) → IsSoFar rows (record s { round = Some round }) → All (λ mark. mark ≤ s.jobs) s.holders.marks.items
+marks_bound rows s round kept = All-from_get_or (λ mark. mark ≤ s.jobs) s.holders.marks.items 0
     (λ sub inside. omega (arith, (kept.round.marks sub inside).bound, kept.round.before, kept.jobs, length-jobs s.ended (jobs_in round)))
 
 -- where no round has begun
@@ -372,6 +437,7 @@ kept_restart rows old s parts round kept is between pushed =
     let rounds : s.rounds ≡ rounds_of s.ended = rw same (between.rounds ∙ at.rounds) in
     let jobs : s.jobs ≡ length (jobs_of s.ended) = rw same (between.jobs ∙ at.jobs) in
     let vectors : s.asked ≡ asked (jobs_of s.ended) = rw same (between.asked ∙ at.asked) in
+    let sessions : s.sessions.all ≡ sessions_of (jobs_of s.ended) = rw same (ap (λ (s : Sessions). s.all) between.sessions ∙ at.sessions) in
     rw (between.round, pushed) (record {
       header = rw between.header kept.header;
       parts = record {
@@ -380,9 +446,12 @@ kept_restart rows old s parts round kept is between pushed =
         restarts = omega (arith, all, rounds-restart s.ended, length-append s.ended (Restart ∷ []));
         jobs = rw (jobs-restart s.ended) within.jobs;
         vectors = rw (jobs-restart s.ended) within.vectors;
+        sessions = rw (jobs-restart s.ended) within.sessions;
+        numbers = rw (jobs-restart s.ended) within.numbers;
       };
       jobs = rw (jobs-restart s.ended) jobs;
       asked = rw (jobs-restart s.ended) vectors;
+      sessions = rw (jobs-restart s.ended) sessions;
       round = tt;
       rounds = rw (rounds-restart s.ended) rounds;
       restarts = omega (arith, all, rounds-restart s.ended, length-append s.ended (Restart ∷ []));
@@ -391,7 +460,7 @@ kept_restart rows old s parts round kept is between pushed =
 -- the present round has ended
 pub between_some : (rows : List Row) (s : SoFar) (round : RoundSoFar) (parts : List Part) (present : Option RoundSoFar) → IsSoFar rows s → s.round ≡ Some round
     → parts ≡ s.ended ++ Round (jobs_in round) ∷ [] → present ≡ None
-    → IsBetween rows s (record s { ended = parts; round = present; givers = record { before = s.jobs; marks = s.givers.marks } })
+    → IsBetween rows s (record s { ended = parts; round = present; holders = record { before = s.jobs; marks = s.holders.marks } })
 between_some rows s round parts present kept is pushed left =
     let at = at_round rows s (Some round) is kept in
     record {
@@ -399,6 +468,7 @@ between_some rows s round parts present kept is pushed left =
       ended = rw is pushed;
       jobs = refl;
       asked = refl;
+      sessions = refl;
       rounds = refl;
       round = left;
       before = refl;
@@ -407,15 +477,16 @@ between_some rows s round parts present kept is pushed left =
     }
 
 -- there was no round
-pub between_none : (rows : List Row) (s : SoFar) (givers : Givers) (present : Option RoundSoFar) (subs : ℕ) → IsSoFar rows s → s.round ≡ None
-    → subs ≡ length rows → givers.before ≡ s.jobs → givers.marks.items ≡ replicate subs 0 → present ≡ None
-    → IsBetween rows s (record s { round = present; givers = givers })
-between_none rows s givers present subs kept none size before marks left =
+pub between_none : (rows : List Row) (s : SoFar) (holders : Holders) (present : Option RoundSoFar) (subs : ℕ) → IsSoFar rows s → s.round ≡ None
+    → subs ≡ length rows → holders.before ≡ s.jobs → holders.marks.items ≡ replicate subs 0 → present ≡ None
+    → IsBetween rows s (record s { round = present; holders = holders })
+between_none rows s holders present subs kept none size before marks left =
     record {
       header = refl;
       ended = rw none refl;
       jobs = refl;
       asked = refl;
+      sessions = refl;
       rounds = refl;
       round = left;
       before = before;
@@ -424,38 +495,71 @@ between_none rows s givers present subs kept none size before marks left =
     }
 
 -- the number of a job of the present round fits
-pub job_room : (rows : List Row) (s : SoFar) (round : RoundSoFar) → s.round ≡ Some round → IsSoFar rows s → s.givers.before + length round.jobs ≤ most_jobs
+pub job_room : (rows : List Row) (s : SoFar) (round : RoundSoFar) → s.round ≡ Some round → IsSoFar rows s → s.holders.before + length round.jobs ≤ most_jobs
 job_room rows s round is kept =
     let at = at_round rows s (Some round) is kept in
     omega (arith, at.round.before, at.parts.jobs, length-jobs s.ended (jobs_in round), length-append round.jobs (option_to_list round.job))
 
+-- the present round, by its jobs
+present_round : (s : SoFar) (round : RoundSoFar) (job : List Line) → s.round ≡ Some round → round.job ≡ Some job → s.round ≡ Some (record { jobs = round.jobs; job = Some job })
+present_round s round job is has = is ∙ ap (λ (job : Option (List Line)). Some (record { jobs = round.jobs; job = job })) has
+
 -- what is kept when a line of a job comes, by what the calls say
-pub kept_line_at : (rows : List Row) (s : SoFar) (round : RoundSoFar) (job : List Line) (line : Line) (after : Option RoundSoFar) (count : ℕ) (givers : Givers) → IsSoFar rows s
-    → s.round ≡ Some round → round.job ≡ Some job → IsLine rows line → is_busy round line ≡ false → count ≡ asked_by line → s.asked + count ≤ most_vectors
-    → givers.before ≡ s.givers.before → givers.marks.items ≡ marked s.givers.marks.items (s.givers.before + length round.jobs + 1) line → after ≡ with_line s.round line
-    → IsSoFar rows (record s { round = after; asked = s.asked + count; givers = givers })
-kept_line_at rows s round job line after count givers kept is has is_line free counted room before marks made =
-    let present : s.round ≡ Some (record { jobs = round.jobs; job = Some job }) = is ∙ ap (λ (job : Option (List Line)). Some (record { jobs = round.jobs; job = job })) has in
+pub kept_line_at : (rows : List Row) (s : SoFar) (round : RoundSoFar) (job : List Line) (line : Line) (after : Option RoundSoFar) (count : ℕ) (holders : Holders) (sessions : Sessions) → IsSoFar rows s
+    → s.round ≡ Some round → round.job ≡ Some job → Passes rows s round.jobs line → count ≡ asked_by line → holders.before ≡ s.holders.before
+    → holders.marks.items ≡ marked s.holders.marks.items (s.holders.before + length round.jobs + 1) (held_by line) → sessions ≡ noted s.sessions line → after ≡ with_line s.round line
+    → IsSoFar rows (record s { round = after; asked = s.asked + count; holders = holders; sessions = sessions })
+kept_line_at rows s round job line after count holders sessions kept is has passes counted before marks noting made =
+    let present = present_round s round job is has in
     let made_of : after ≡ Some (record { jobs = round.jobs; job = Some (job ++ line ∷ []) }) = rw (made, present) refl in
-    let still : is_busy (record { jobs = round.jobs; job = Some job }) line ≡ false = free_still round job line free in
-    rw (made_of, counted) (kept_line rows s round.jobs job line givers (at_round rows s (Some (record { jobs = round.jobs; job = Some job })) present kept) is_line still (rw counted at room) before marks)
+    rw (made_of, counted, noting) (kept_line rows s round.jobs job line holders (at_round rows s (Some (record { jobs = round.jobs; job = Some job })) present kept) passes before marks)
+
+-- what isn't among all sessions isn't among the present job's
+pub none_opened : (rows : List Row) (s : SoFar) (round : RoundSoFar) (job : List Line) → IsSoFar rows s → s.round ≡ Some round → round.job ≡ Some job
+    → (n : ℕ) → is_among n s.sessions.all ≡ false → is_among n s.sessions.opened ≡ false
+none_opened rows s round job kept is has n none =
+    let at = at_round rows s (Some (record { jobs = round.jobs; job = Some job })) (present_round s round job is has) kept in
+    let behind = not_last (sessions_of (jobs_of s.ended)) (sessions_of (round.jobs ++ job ∷ [])) n (rw (at.sessions, sessions-jobs s.ended (round.jobs ++ job ∷ [])) at none) in
+    rw at.round.job.opened (not_last (sessions_of round.jobs) (opened job) n (rw (sessions_last round.jobs job) at behind))
+
+-- what the tests behind its form make of a line: the order of its session, whether the USIM is held, and whether there is room
+abbrev pub tested : Result (Unit {0}) ScriptWhy → Bool → Bool → Scenario → Result Scenario ScriptWhy
+tested order busy room next = order >>= λ known. require (not busy) UsimBusy >>= λ free. require room Limit >>= λ within. Ok next
+
+-- whether a line is within the limits, by what is counted
+abbrev pub room_for : SoFar → Line → Bool
+room_for s line =
+    nat_le (s.asked + asked_by line) most_vectors && nat_le (length (s.sessions.all ++ option_to_list (opened_by line))) most_sessions
+    && nat_le (s.sessions.packets + packets_by line) most_packets
+
+-- the sessions of the present job
+of_present : (rows : List Row) (s : SoFar) (round : RoundSoFar) (job : List Line) → IsSoFar rows s → s.round ≡ Some round → round.job ≡ Some job → AreOfJob s.sessions job
+of_present rows s round job kept is has = let at = at_round rows s (Some round) is kept in rw has at at.round.job
+
+-- what a line of a job makes of the scenario, by what is kept
+pub line_is : (rows : List Row) (s : SoFar) (which : JobWord) (fields : List (List ℕ)) (round : RoundSoFar) (job : List Line) (line : Line) → IsSoFar rows s
+    → s.round ≡ Some round → round.job ≡ Some job → line_of rows which fields ≡ Ok line
+    → of_job_line (scenario rows s) which fields
+    ≡ tested (in_order s.sessions.all s.sessions.opened s.sessions.started line) (is_busy round.jobs (held_by line)) (room_for s line) (record (scenario rows s) { round = with_line s.round line })
+line_is rows s which fields round job line kept is has says =
+    let present = of_present rows s round job kept is has in
+    rw (kept.sessions, present.opened, present.started, present.packets, kept.asked) (rw (says, is, has) refl)
+
+-- two limits that are kept together
+pub both : (a b c d : ℕ) → (nat_le a b && nat_le c d) ≡ true → (a ≤ b) × (c ≤ d)
+both a b c d kept = (grind (arith, nat_tests), grind (arith, nat_tests))
+
+-- the tests that a line passes
+pub all_pass : (rows : List Row) (s : SoFar) (jobs : List (List Line)) (line : Line) (next : Scenario) → Passes rows s jobs line
+    → tested (in_order s.sessions.all s.sessions.opened s.sessions.started line) (is_busy jobs (held_by line)) (room_for s line) next ≡ Ok next
+all_pass rows s jobs line next passes =
+    let vectors = fits_in (s.asked + asked_by line) most_vectors passes.vectors in
+    let sessions = fits_in (length (s.sessions.all ++ option_to_list (opened_by line))) most_sessions passes.sessions in
+    let packets = fits_in (s.sessions.packets + packets_by line) most_packets passes.packets in
+    rw (passes.order, passes.free, vectors, sessions, packets) refl
   where
-    free_still : (round : RoundSoFar) (job : List Line) (line : Line) → is_busy round line ≡ false → is_busy (record { jobs = round.jobs; job = Some job }) line ≡ false
-    free_still round job (Draw sub count) free = free
-    free_still round job (Sync sub seq bit count) free = free
-    free_still round job (Give sub number) free = free
-
--- a sum that is within a limit passes its test
-passes : (a n limit : ℕ) → a + n ≤ limit → nat_le (a + n) limit ≡ true
-passes a n limit within = grind (arith, nat_tests)
-
--- what a line of a job makes of the scenario
-pub line_becomes : (s : Scenario) (which : JobWord) (fields : List (List ℕ)) (round : RoundSoFar) (job : List Line) (line : Line) (n count : ℕ) (after : Option RoundSoFar)
-    → s.round ≡ Some round → round.job ≡ Some job → line_of s.rows which fields ≡ Ok line → is_busy round line ≡ false → n ≡ asked (jobs_of (parts_of s)) → count ≡ asked_by line
-    → n + count ≤ most_vectors → after ≡ with_line s.round line → of_job_line s which fields ≡ Ok (record s { round = after })
-line_becomes s which fields round job line n count after is has says free total counted within made =
-    let test = passes (asked (jobs_of (parts_of s))) (asked_by line) most_vectors (omega (arith, total, counted, within)) in
-    rw (made, says, test, is, free, has) refl
+    fits_in : (n limit : ℕ) → n ≤ limit → nat_le n limit ≡ true
+    fits_in n limit within = grind (arith, nat_tests)
 
 -- tests of a count
 fits : (n limit : ℕ) → n < limit → nat_lt n limit ≡ true

@@ -6,13 +6,15 @@ use Rattle.auc_edge.specs.Identity.{number_of}
 use Rattle.auc_text.specs.Text.{is_text}
 use Rattle.auc_script.specs.declared.refusal.ScriptWhy.{ScriptWhy}
 use Rattle.auc_script.specs.declared.refusal.ScriptWhy.TheVariants as why
+use Rattle.auc_lines.specs.declared.part.End.{End}
+use Rattle.auc_lines.specs.declared.part.End.TheVariants.{Server, Peer}
 use Rattle.auc_lines.specs.Part.{last_bit}
 
 -- a test that has to hold
 abbrev pub require : Bool → ScriptWhy → Result (Unit {0}) ScriptWhy
 require holds cause = if holds then Ok tt else Err cause
 
--- so many fields: none, one, two or four
+-- so many fields: none to four
 abbrev pub no_field : List (List ℕ) → Result (Unit {0}) ScriptWhy
 no_field [] = Ok tt
 no_field (a ∷ more) = Err why.Fields
@@ -24,6 +26,10 @@ one_field other = Err why.Fields
 abbrev pub two_fields : List (List ℕ) → Result (List ℕ × List ℕ) ScriptWhy
 two_fields (a ∷ b ∷ []) = Ok (a, b)
 two_fields other = Err why.Fields
+
+abbrev pub three_fields : List (List ℕ) → Result (List ℕ × List ℕ × List ℕ) ScriptWhy
+three_fields (a ∷ b ∷ c ∷ []) = Ok (a, b, c)
+three_fields other = Err why.Fields
 
 abbrev pub four_fields : List (List ℕ) → Result (List ℕ × List ℕ × List ℕ × List ℕ) ScriptWhy
 four_fields (a ∷ b ∷ c ∷ d ∷ []) = Ok (a, b, c, d)
@@ -47,6 +53,13 @@ some_bit (Err cause) = Err cause
 -- a bit of the 112 of an AUTS, or - for none
 abbrev pub bit_in : List ℕ → Result (Option ℕ) ScriptWhy
 bit_in text = if is_text text (codes "-") then Ok None else some_bit (number_between 0 last_bit text)
+
+-- an end of a session
+abbrev pub end_in : List ℕ → Result End ScriptWhy
+end_in text =
+    if is_text text (codes "server") then Ok Server
+    else if is_text text (codes "peer") then Ok Peer
+    else Err why.Fields
 
 -- whether vectors are printed in full
 abbrev pub full_in : List ℕ → Result Bool ScriptWhy

@@ -6,4 +6,6 @@ pub mod Limits
 pub mod Numbers
 pub mod Reading
 pub mod Scenario
+pub mod Session
+pub mod SessionLine
 pub mod Word

@@ -1,27 +1,50 @@
 -- What holds of every scenario that is read: its limits, that its lines speak of subscribers that there
--- are, and that no two jobs of a round give to one USIM.
-use Rattle.std.specs.Prelude.{◌*◌, ◌<◌, ◌≤◌, List, length, All, AllPairs}
+-- are and of sessions that their jobs opened, that no two sessions have one number, and that no two jobs of a round hold
+-- one USIM.
+use Rattle.std.specs.Prelude.{◌≡◌, ◌≢◌, ℕ, ◌*◌, ◌<◌, ◌≤◌, true, List, length, take, slice_get, Option, Some, None, All, AllPairs}
 use Rattle.auc_sqn.specs.Number.{max_seq}
 use Rattle.auc_subs.specs.declared.row.Row.{Row}
 use Rattle.auc_subs.specs.Subscriber.{AreSubscribers}
 use Rattle.auc_lines.specs.declared.part.Line.{Line}
-use Rattle.auc_lines.specs.declared.part.Line.TheVariants.{Draw, Give, Sync}
+use Rattle.auc_lines.specs.declared.part.Line.TheVariants.{Draw, Give, Sync, Session, Start, Deliver, Repeat, GiveUp, Plain}
 use Rattle.auc_lines.specs.declared.part.Part.{Part}
 use Rattle.auc_lines.specs.declared.part.Part.TheVariants.{Round, Restart}
 use Rattle.auc_lines.specs.Part.{AreApart, IsBit, asked, jobs_of}
 use Rattle.auc_script.specs.declared.script.Script.{Script}
 use Rattle.auc_script.specs.Scenario.{rounds_of}
-use Rattle.auc_script.specs.Numbers.{longest_realm, most_count, most_jobs, most_rounds, most_vectors, most_workers}
+use Rattle.auc_script.specs.Session.{is_among, named_by, opened, packets, sessions_of}
+use Rattle.auc_script.specs.Numbers.{last_session, longest_realm, most_count, most_jobs, most_packets, most_rounds, most_sessions, most_vectors, most_workers}
 
--- a line of a subscriber that there is, whose numbers are within their ranges
+-- a number that a session may have
+abbrev pub IsSession : ℕ → Type 0
+IsSession session = (1 ≤ session) × (session ≤ last_session)
+
+-- a line whose subscriber there is, and whose numbers are within their ranges
 abbrev pub IsLine : List Row → Line → Type 0
 IsLine rows (Draw sub count) = (sub < length rows) × (1 ≤ count) × (count ≤ most_count)
 IsLine rows (Sync sub seq bit count) = (sub < length rows) × (seq ≤ max_seq) × IsBit bit × (count ≤ most_count)
 IsLine rows (Give sub number) = (sub < length rows) × (1 ≤ number) × (number ≤ max_seq)
+IsLine rows (Session session sub) = (sub < length rows) × (1 ≤ session) × (session ≤ last_session)
+IsLine rows (Start session) = IsSession session
+IsLine rows (Deliver session end packet) = IsSession session
+IsLine rows (Repeat session) = IsSession session
+IsLine rows (GiveUp session end) = IsSession session
+IsLine rows (Plain session) = IsSession session
 
--- the jobs of a round: of such lines, and no two give to one USIM
+-- a session, if there is one, is among those that were opened
+abbrev pub IsOpened : List ℕ → Option ℕ → Type 0
+IsOpened opened None = Unit {0}
+IsOpened opened (Some session) = is_among session opened ≡ true
+
+-- each line of a job that is of a session and doesn't open it comes after the line that does
+abbrev pub SessionsAreOpened : List Line → Type 0
+SessionsAreOpened job = (i : ℕ) (line : Line) → slice_get job i ≡ Some line → IsOpened (opened (take i job)) (named_by line)
+
+-- the jobs of a round: of such lines, of sessions that they opened, with not too many packets, and no two hold one USIM
 pub record AreJobs (rows : List Row) (jobs : List (List Line)) : Type 0 where
   pub lines : All (λ job. All (IsLine rows) job) jobs
+  pub opened : All SessionsAreOpened jobs
+  pub packets : All (λ job. packets job ≤ most_packets) jobs
   pub apart : AllPairs AreApart jobs
 
 -- a round of such jobs, or a restart
@@ -29,14 +52,16 @@ abbrev pub IsPart : List Row → Part → Type 0
 IsPart rows (Round jobs) = AreJobs rows jobs
 IsPart rows Restart = Unit {0}
 
--- parts of which not too many are rounds and no more are restarts, which have not too many jobs and ask for not too many
--- vectors
+-- parts of which not too many are rounds and no more are restarts, which have not too many jobs, ask for not too many
+-- vectors, and open not too many sessions, each under a number of its own
 pub record AreWithin (rows : List Row) (parts : List Part) : Type 0 where
   pub each : All (IsPart rows) parts
   pub rounds : rounds_of parts ≤ most_rounds
   pub restarts : length parts ≤ 2 * rounds_of parts
   pub jobs : length (jobs_of parts) ≤ most_jobs
   pub vectors : asked (jobs_of parts) ≤ most_vectors
+  pub sessions : length (sessions_of (jobs_of parts)) ≤ most_sessions
+  pub numbers : AllPairs ◌≢◌ (sessions_of (jobs_of parts))
 
 -- what subscribers and a script that were read are
 pub record IsWithin (rows : List Row) (script : Script) : Type 0 where

@@ -8,12 +8,29 @@ most_count = 1000
 abbrev pub most_vectors : ℕ
 most_vectors = 1000000
 
--- how many rounds and jobs there may be
+-- how many rounds, jobs and sessions there may be
 abbrev pub most_rounds : ℕ
 most_rounds = 1000
 
 abbrev pub most_jobs : ℕ
 most_jobs = 200000
+
+abbrev pub most_sessions : ℕ
+most_sessions = 100000
+
+-- the greatest number of a session, and of a packet
+abbrev pub last_session : ℕ
+last_session = 999999
+
+abbrev pub last_packet : ℕ
+last_packet = 4294967295
+
+-- how many packets a `plain` line counts for, and all lines of a job may
+abbrev pub packets_of_plain : ℕ
+packets_of_plain = 40
+
+abbrev pub most_packets : ℕ
+most_packets = 1000000
 
 -- how many threads may serve a round
 abbrev pub most_workers : ℕ

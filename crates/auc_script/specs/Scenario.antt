@@ -12,11 +12,23 @@
 --   draw IMSI COUNT                          in a job; 1 to 1000 vectors; a subscriber's IMSI
 --   sync IMSI SEQ BIT COUNT                  in a job; SEQ to max_seq, BIT 0 to 111 or -, 0 to 1000
 --                                            vectors; a subscriber's IMSI
---   give IMSI N                              in a job; N from 1 to max_seq; a subscriber's IMSI, to
---                                            whose USIM no earlier job of the round gives
+--   give IMSI N                              in a job; N from 1 to max_seq; a subscriber's IMSI, whose
+--                                            USIM no earlier job of the round holds
+--   session T IMSI METHOD SNAME PNAME OPTIONS IDENTITY
+--                                            in a job; T from 1 to 999999; METHOD aka, SNAME, PNAME and
+--                                            OPTIONS -, IDENTITY held or permanent; a subscriber's IMSI;
+--                                            no session T before; no earlier job of the round holds the
+--                                            USIM; 100000 at most
+--   start T                                  in a job, after its line that opens session T; once
+--   repeat T                                 in a job, after its line that opens session T
+--   deliver T END P                          the same; END server or peer, P to 4294967295
+--   giveup T END                             the same; END server or peer
+--   plain T                                  the same
 --
--- All lines together ask for 1000000 vectors at most. A line without a word and a comment say nothing.
--- What isn't served so far is told before all else: the lines of other words.
+-- All lines together ask for 1000000 vectors at most, a session for two. The lines of sessions in a job count for 1000000
+-- packets at most, a plain for 40 and each other for one. A line without a word and a comment say nothing.
+-- What isn't served so far is told before all else: tamper and cut, and a session of seven fields whose METHOD is prime,
+-- whose OPTIONS are letters of p, r, b, a and d, each once, or whose IDENTITY begins with =.
 use Rattle.std.specs.Prelude.{ℕ, ◌+◌, ◌==◌, ◌++◌, ◌&&◌, not, nat_le, nat_lt, Bool, false, List, [], ◌∷◌, length, Option, Some, None, is_some, Result, Ok, Err, if◌then◌else◌}
 use Rattle.std.specs.List.{join_with_byte, list_any}
 use Rattle.std.specs.Option.{ok_or, option_to_list}
@@ -28,11 +40,11 @@ use Rattle.auc_text.specs.Field.{octets_in}
 use Rattle.auc_text.specs.Text.{words_of}
 use Rattle.auc_subs.specs.Subscriber.{place_of, rows_after}
 use Rattle.auc_lines.specs.declared.part.Line.{Line}
-use Rattle.auc_lines.specs.declared.part.Line.TheVariants.{Draw, Give, Sync}
+use Rattle.auc_lines.specs.declared.part.Line.TheVariants.{Draw, Give, Sync, Session, Start, Deliver, Repeat, GiveUp, Plain}
 use Rattle.auc_lines.specs.declared.part.Part.{Part}
 use Rattle.auc_lines.specs.declared.part.Part.TheVariants.{Round, Restart}
-use Rattle.auc_lines.specs.Part.{asked, asked_by, gives_to, jobs_of}
-use Rattle.auc_script.specs.Numbers.{longest_realm, most_count, most_jobs, most_rounds, most_vectors, most_workers}
+use Rattle.auc_lines.specs.Part.{asked, asked_by, held_by, holds, jobs_of}
+use Rattle.auc_script.specs.Numbers.{last_packet, last_session, longest_realm, most_count, most_jobs, most_packets, most_rounds, most_sessions, most_vectors, most_workers}
 use Rattle.auc_script.specs.declared.refusal.ScriptWhy.{ScriptWhy}
 use Rattle.auc_script.specs.declared.refusal.ScriptWhy.TheVariants as why
 use Rattle.auc_script.specs.declared.header.Header.{Header}
@@ -44,7 +56,9 @@ use Rattle.auc_script.specs.declared.word.JobWord.TheVariants as job
 use Rattle.auc_script.specs.declared.word.Word.{Word}
 use Rattle.auc_script.specs.declared.word.Word.TheVariants as word
 use Rattle.auc_subs.specs.Steps.{◌>>=◌}
-use Rattle.auc_script.specs.Field.{bit_in, four_fields, full_in, no_field, number_between, one_field, require, two_fields}
+use Rattle.auc_script.specs.Field.{bit_in, end_in, four_fields, full_in, no_field, number_between, one_field, require, three_fields, two_fields}
+use Rattle.auc_script.specs.Session.{is_among, opened, opened_by, packets, packets_by, sessions_of, started}
+use Rattle.auc_script.specs.SessionLine.{are_served, seven_fields}
 use Rattle.auc_script.specs.Word.{is_comment, is_later, word_of}
 
 -- what some lines say: the subscribers, the words of the header, the parts before the present round, and
@@ -74,11 +88,10 @@ rounds_of [] = 0
 rounds_of (Round jobs ∷ more) = rounds_of more + 1
 rounds_of (Restart ∷ more) = rounds_of more
 
--- an earlier job of the round gives to the USIM to which a line is to give
-abbrev pub is_busy : RoundSoFar → Line → Bool
-is_busy round (Draw sub count) = false
-is_busy round (Sync sub seq bit count) = false
-is_busy round (Give sub number) = list_any (gives_to sub) round.jobs
+-- one of some jobs holds the USIM of a subscriber, if there is one
+abbrev pub is_busy : List (List Line) → Option ℕ → Bool
+is_busy jobs None = false
+is_busy jobs (Some sub) = list_any (holds sub) jobs
 
 -- a word that didn't come before
 abbrev pub once : {A : Type 0} → Option A → Result (Unit {0}) ScriptWhy
@@ -195,10 +208,73 @@ give_of rows fields = do
   sub ← ok_or (place_of rows identity) why.UnknownSubscriber
   Ok (Give sub number)
 
+abbrev pub session_of : List Row → List (List ℕ) → Result Line ScriptWhy
+session_of rows fields = do
+  seven ← seven_fields fields
+  session ← number_between 1 last_session seven.session
+  identity ← ok_or (identity_of seven.imsi) why.Fields
+  served ← require (are_served seven.method seven.sname seven.pname seven.options seven.identity) why.Fields
+  sub ← ok_or (place_of rows identity) why.UnknownSubscriber
+  Ok (Session session sub)
+
+-- the number of a session that the one field of a line is
+abbrev pub number_of_session : List (List ℕ) → Result ℕ ScriptWhy
+number_of_session fields = do
+  text ← one_field fields
+  number_between 1 last_session text
+
+abbrev pub deliver_of : List (List ℕ) → Result Line ScriptWhy
+deliver_of fields = do
+  three ← three_fields fields
+  session ← number_between 1 last_session three.0
+  end ← end_in three.1
+  packet ← number_between 0 last_packet three.2
+  Ok (Deliver session end packet)
+
+abbrev pub give_up_of : List (List ℕ) → Result Line ScriptWhy
+give_up_of fields = do
+  two ← two_fields fields
+  session ← number_between 1 last_session two.0
+  end ← end_in two.1
+  Ok (GiveUp session end)
+
 abbrev pub line_of : List Row → JobWord → List (List ℕ) → Result Line ScriptWhy
 line_of rows job.Draw fields = draw_of rows fields
 line_of rows job.Sync fields = sync_of rows fields
 line_of rows job.Give fields = give_of rows fields
+line_of rows job.Session fields = session_of rows fields
+line_of rows job.Start fields = number_of_session fields >>= λ session. Ok (Start session)
+line_of rows job.Deliver fields = deliver_of fields
+line_of rows job.Repeat fields = number_of_session fields >>= λ session. Ok (Repeat session)
+line_of rows job.GiveUp fields = give_up_of fields
+line_of rows job.Plain fields = number_of_session fields >>= λ session. Ok (Plain session)
+
+-- a session is among those that its job opened; it isn't among those before
+abbrev pub is_open : List ℕ → ℕ → Result (Unit {0}) ScriptWhy
+is_open own session = require (is_among session own) why.UnknownSession
+
+abbrev pub is_new : List ℕ → ℕ → Result (Unit {0}) ScriptWhy
+is_new before session = require (not (is_among session before)) why.Twice
+
+-- the session of a line, if it has one, by all sessions, those that its job opened, and those that its job started: a line
+-- opens a new session, starts an open one once, or is of an open one
+abbrev pub in_order : List ℕ → List ℕ → List ℕ → Line → Result (Unit {0}) ScriptWhy
+in_order all own begun (Draw sub count) = Ok tt
+in_order all own begun (Sync sub seq bit count) = Ok tt
+in_order all own begun (Give sub number) = Ok tt
+in_order all own begun (Session session sub) = is_new all session
+in_order all own begun (Start session) = is_open own session >>= λ known. is_new begun session
+in_order all own begun (Deliver session end packet) = is_open own session
+in_order all own begun (Repeat session) = is_open own session
+in_order all own begun (GiveUp session end) = is_open own session
+in_order all own begun (Plain session) = is_open own session
+
+-- the limits of some parts with one line more in their last job
+abbrev pub has_room : List Part → List Line → Line → Bool
+has_room parts job line =
+    nat_le (asked (jobs_of parts) + asked_by line) most_vectors
+    && nat_le (length (sessions_of (jobs_of parts) ++ option_to_list (opened_by line))) most_sessions
+    && nat_le (packets job + packets_by line) most_packets
 
 -- a line of a job
 abbrev pub of_job_line : Scenario → JobWord → List (List ℕ) → Result Scenario ScriptWhy
@@ -206,8 +282,9 @@ of_job_line s which fields = do
   round ← ok_or s.round why.OutOfOrder
   job ← ok_or round.job why.OutOfOrder
   line ← line_of s.rows which fields
-  free ← require (not (is_busy round line)) why.UsimBusy
-  within ← require (nat_le (asked (jobs_of (parts_of s)) + asked_by line) most_vectors) why.Limit
+  known ← in_order (sessions_of (jobs_of (parts_of s))) (opened job) (started job) line
+  free ← require (not (is_busy round.jobs (held_by line))) why.UsimBusy
+  within ← require (has_room (parts_of s) job line) why.Limit
   Ok (record s { round = Some (record { jobs = round.jobs; job = Some (job ++ line ∷ []) }) })
 
 -- a line of a known word
@@ -222,7 +299,7 @@ word_line s (word.OfJob which) fields = of_job_line s which fields
 -- a line that begins with a word
 abbrev pub served_line : Scenario → List ℕ → List (List ℕ) → Result Scenario ScriptWhy
 served_line s text fields = do
-  served ← require (not (is_later text)) why.NotYet
+  served ← require (not (is_later text fields)) why.NotYet
   which ← ok_or (word_of text) why.UnknownWord
   word_line s which fields
 

@@ -1,6 +1,7 @@
 -- How a line begins: with the # of a comment, or with a word.
-use Rattle.std.specs.Prelude.{ℕ, ◌==◌, ◌||◌, Bool, List, codes, Option, Some, None, if◌then◌else◌, slice_index_or}
+use Rattle.std.specs.Prelude.{ℕ, ◌==◌, ◌||◌, ◌&&◌, Bool, List, codes, Option, Some, None, if◌then◌else◌, slice_index_or}
 use Rattle.auc_text.specs.Text.{is_text}
+use Rattle.auc_script.specs.SessionLine.{has_later, seven_fields}
 use Rattle.auc_script.specs.declared.word.HeaderWord.{HeaderWord}
 use Rattle.auc_script.specs.declared.word.HeaderWord.TheVariants as header
 use Rattle.auc_script.specs.declared.word.JobWord.{JobWord}
@@ -27,6 +28,12 @@ job_word_of text =
     if is_text text (codes "draw") then Some job.Draw
     else if is_text text (codes "sync") then Some job.Sync
     else if is_text text (codes "give") then Some job.Give
+    else if is_text text (codes "session") then Some job.Session
+    else if is_text text (codes "start") then Some job.Start
+    else if is_text text (codes "deliver") then Some job.Deliver
+    else if is_text text (codes "repeat") then Some job.Repeat
+    else if is_text text (codes "giveup") then Some job.GiveUp
+    else if is_text text (codes "plain") then Some job.Plain
     else None
 
 abbrev pub of_header : Option HeaderWord → Option Word
@@ -50,9 +57,7 @@ word_of text =
     else if is_text text (codes "job") then Some word.Job
     else other_word_of text
 
--- whether a text is a word of lines that aren't served so far
-abbrev pub is_later : List ℕ → Bool
-is_later text =
-    is_text text (codes "session") || is_text text (codes "start") || is_text text (codes "repeat")
-    || is_text text (codes "deliver") || is_text text (codes "giveup")
-    || is_text text (codes "plain") || is_text text (codes "tamper") || is_text text (codes "cut")
+-- whether a line with this first word and these fields isn't served so far
+abbrev pub is_later : List ℕ → List (List ℕ) → Bool
+is_later text fields =
+    is_text text (codes "tamper") || is_text text (codes "cut") || (is_text text (codes "session") && has_later (seven_fields fields))

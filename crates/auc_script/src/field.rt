@@ -1,12 +1,14 @@
 //! The fields of a line.
 
-ghost use Rattle.std.specs.Prelude.{◌≡◌, ◌≤◌, ◌<◌, nat_le, MatchResult, IfOk, IfSome};
+ghost use Rattle.std.specs.Prelude.{◌≡◌, ◌≤◌, [], ◌∷◌, ◌<◌, nat_le, MatchResult, IfOk, IfSome};
 ghost use Rattle.auc_edge.specs.Identity.{number_of};
 ghost use Rattle.auc_text.specs.Text.{words_of};
-ghost use Rattle.auc_script.specs.Field.{bit_in, four_fields, full_in, is_number, no_field, number_between, one_field, two_fields};
+ghost use Rattle.auc_script.specs.Field.{bit_in, end_in, four_fields, full_in, is_number, no_field, number_between, one_field, three_fields, two_fields};
 ghost use Rattle.auc_lines.specs.Part.{IsBit};
+ghost use Rattle.auc_script.specs.declared.refusal.ScriptWhy.TheVariants as cause;
 
 use crate::refusal::ScriptWhy;
+use auc_lines::End;
 use auc_text::{are_digits, next_word, read_decimal};
 
 /// Whether a line has no field, else the cause.
@@ -19,15 +21,25 @@ pub fn no_field(fields: &[u8]) -> Result<(), ScriptWhy>
     }
 }
 
+/// The first field of a line, and the fields behind it.
+pub fn first_field(fields: &[u8]) -> Result<(&[u8], &[u8]), ScriptWhy>
+    ensures { MatchResult result
+        (λ f. words_of fields.now ≡ f.0.now ∷ words_of f.1.now)
+        (λ why. (words_of fields.now ≡ []) × (why ≡ cause.Fields)) }
+{
+    match next_word(fields) {
+        Some(cut) => Ok(cut),
+        None => Err(ScriptWhy::Fields),
+    }
+}
+
 /// The one field of a line.
 pub fn one_field(fields: &[u8]) -> Result<&[u8], ScriptWhy>
     ensures { MatchResult result
         (λ field. one_field (words_of fields.now) ≡ Ok field.now)
         (λ why. one_field (words_of fields.now) ≡ Err why) }
 {
-    let Some((first, rest)) = next_word(fields) else {
-        return Err(ScriptWhy::Fields);
-    };
+    let (first, rest) = first_field(fields)?;
     match next_word(rest) {
         None => Ok(first),
         Some(_) => Err(ScriptWhy::Fields),
@@ -40,14 +52,25 @@ pub fn two_fields(fields: &[u8]) -> Result<(&[u8], &[u8]), ScriptWhy>
         (λ f. two_fields (words_of fields.now) ≡ Ok (f.0.now, f.1.now))
         (λ why. two_fields (words_of fields.now) ≡ Err why) }
 {
-    let Some((first, rest)) = next_word(fields) else {
-        return Err(ScriptWhy::Fields);
-    };
-    let Some((second, rest)) = next_word(rest) else {
-        return Err(ScriptWhy::Fields);
-    };
+    let (first, rest) = first_field(fields)?;
+    let (second, rest) = first_field(rest)?;
     match next_word(rest) {
         None => Ok((first, second)),
+        Some(_) => Err(ScriptWhy::Fields),
+    }
+}
+
+/// The three fields of a line.
+pub fn three_fields(fields: &[u8]) -> Result<(&[u8], &[u8], &[u8]), ScriptWhy>
+    ensures { MatchResult result
+        (λ f. three_fields (words_of fields.now) ≡ Ok (f.0.now, f.1.now, f.2.now))
+        (λ why. three_fields (words_of fields.now) ≡ Err why) }
+{
+    let (first, rest) = first_field(fields)?;
+    let (second, rest) = first_field(rest)?;
+    let (third, rest) = first_field(rest)?;
+    match next_word(rest) {
+        None => Ok((first, second, third)),
         Some(_) => Err(ScriptWhy::Fields),
     }
 }
@@ -58,18 +81,10 @@ pub fn four_fields(fields: &[u8]) -> Result<(&[u8], &[u8], &[u8], &[u8]), Script
         (λ f. four_fields (words_of fields.now) ≡ Ok (f.0.now, f.1.now, f.2.now, f.3.now))
         (λ why. four_fields (words_of fields.now) ≡ Err why) }
 {
-    let Some((first, rest)) = next_word(fields) else {
-        return Err(ScriptWhy::Fields);
-    };
-    let Some((second, rest)) = next_word(rest) else {
-        return Err(ScriptWhy::Fields);
-    };
-    let Some((third, rest)) = next_word(rest) else {
-        return Err(ScriptWhy::Fields);
-    };
-    let Some((fourth, rest)) = next_word(rest) else {
-        return Err(ScriptWhy::Fields);
-    };
+    let (first, rest) = first_field(fields)?;
+    let (second, rest) = first_field(rest)?;
+    let (third, rest) = first_field(rest)?;
+    let (fourth, rest) = first_field(rest)?;
     match next_word(rest) {
         None => Ok((first, second, third, fourth)),
         Some(_) => Err(ScriptWhy::Fields),
@@ -108,6 +123,17 @@ pub fn read_bit(text: &[u8]) -> Result<Option<u8>, ScriptWhy>
     }
     let bit = read_number(text, 0, 111)?;
     Ok(Some(bit as u8))
+}
+
+/// The end of a session that a field is.
+pub fn read_end(text: &[u8]) -> Result<End, ScriptWhy>
+    ensures { result ≡ end_in text.now }
+{
+    match text {
+        b"server" => Ok(End::Server),
+        b"peer" => Ok(End::Peer),
+        _ => Err(ScriptWhy::Fields),
+    }
 }
 
 /// Whether a field says that vectors are printed in full.

@@ -8,6 +8,7 @@ ghost use Rattle.auc_script.specs.Scenario.{draw_of, give_of, line_of, sync_of};
 use crate::field::{four_fields, read_bit, read_number, two_fields};
 use crate::limits::MAX_COUNT;
 use crate::refusal::ScriptWhy;
+use crate::session_line::{read_deliver, read_give_up, read_one_number, read_session};
 use crate::word::JobWord;
 use auc_edge::Imsi;
 use auc_lines::Line;
@@ -23,6 +24,12 @@ pub fn read_line(subs: &Subscribers, word: JobWord, fields: &[u8]) -> Result<Lin
         JobWord::Draw => read_draw(subs, fields),
         JobWord::Sync => read_sync(subs, fields),
         JobWord::Give => read_give(subs, fields),
+        JobWord::Session => read_session(subs, fields),
+        JobWord::Start => Ok(Line::Start(read_one_number(fields)?)),
+        JobWord::Deliver => read_deliver(fields),
+        JobWord::Repeat => Ok(Line::Repeat(read_one_number(fields)?)),
+        JobWord::GiveUp => read_give_up(fields),
+        JobWord::Plain => Ok(Line::Plain(read_one_number(fields)?)),
     }
 }
 

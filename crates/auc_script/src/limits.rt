@@ -8,6 +8,16 @@ pub const MAX_VECTORS: u32 = 1000000;
 pub const MAX_ROUNDS: usize = 1000;
 /// How many jobs a scenario may have.
 pub const MAX_JOBS: usize = 200000;
+/// How many sessions a scenario may have.
+pub const MAX_SESSIONS: usize = 100000;
+/// The greatest number of a session.
+pub const LAST_SESSION: u64 = 999999;
+/// The greatest number of a packet that a line may name.
+pub const LAST_PACKET: u64 = 4294967295;
+/// How many packets a `plain` line counts for.
+pub const PACKETS_OF_PLAIN: u32 = 40;
+/// How many packets the lines of a job may count for together.
+pub const MAX_PACKETS: u32 = 1000000;
 /// How many threads may serve a round.
 pub const MAX_WORKERS: u64 = 64;
 /// How many bytes a realm may have.

@@ -3,6 +3,7 @@
 ghost use Rattle.std.specs.Prelude.{◌≡◌};
 ghost use Rattle.auc_script.specs.declared.refusal.ScriptRefusal.TheVariants as refusal;
 ghost use Rattle.auc_script.specs.declared.refusal.LineRefusal.TheVariants as line;
+ghost use Rattle.auc_script.specs.Field.{require};
 ghost use Rattle.auc_script.specs.InnerRefusal.{refusal_at};
 
 use auc_edge::NoMemory;
@@ -25,14 +26,23 @@ pub enum ScriptWhy {
     Subscriber(SubsWhy),
     /// No subscriber has the IMSI.
     UnknownSubscriber,
-    /// The same word stood in the header before.
+    /// No earlier line of the job opens this session.
+    UnknownSession,
+    /// The same word of the header, a session of this number, or a `start` of this session came before.
     Twice,
-    /// An earlier job of the round gives to this USIM.
+    /// An earlier job of the round gives to this USIM, or has a session of it.
     UsimBusy,
     /// A limit of the scenario is passed.
     Limit,
-    /// The line is known, but isn't served so far. This is tested before all else.
+    /// The line or a value of a session's line is known, but isn't served so far. This is tested before all else.
     NotYet,
+}
+
+/// A test that has to hold, else the cause.
+pub fn require(holds: bool, why: ScriptWhy) -> Result<(), ScriptWhy>
+    ensures { result ≡ require holds why }
+{
+    if holds { Ok(()) } else { Err(why) }
 }
 
 /// Why a scenario isn't read.

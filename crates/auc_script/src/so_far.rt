@@ -12,13 +12,14 @@ ghost use Rattle.auc_script.specs.Scenario.{after_line, header_line, job_line, o
 ghost use Rattle.auc_script.specs.InnerSoFar.{IsBetween, IsHeader, IsSoFar, scenario, with_line};
 
 use crate::field::no_field;
-use crate::givers::Givers;
 use crate::header::Header;
+use crate::holders::Holders;
 use crate::job_line::read_line;
 use crate::limits::{MAX_JOBS, MAX_ROUNDS, MAX_VECTORS};
 use crate::refusal::{LineRefusal, ScriptWhy};
 use crate::round_so_far::RoundSoFar;
 use crate::script::Script;
+use crate::sessions::Sessions;
 use crate::word::{HeaderWord, JobWord, Word, is_comment, is_later, read_word};
 use auc_edge::{Items, NoMemory, Octets};
 use auc_lines::{Line, Part};
@@ -41,8 +42,10 @@ pub struct SoFar {
     pub jobs: usize,
     /// How many vectors their lines ask for.
     pub asked: u32,
-    /// Which jobs of the present round give to each USIM.
-    pub givers: Givers,
+    /// Which jobs of the present round hold each USIM.
+    pub holders: Holders,
+    /// The sessions.
+    pub sessions: Sessions,
 }
 
 impl SoFar {
@@ -64,7 +67,11 @@ impl SoFar {
             rounds: 0,
             jobs: 0,
             asked: 0,
-            givers: Givers::none(alloc),
+            holders: Holders {
+                before: 0,
+                marks: Vec::new(alloc),
+            },
+            sessions: Sessions::new(alloc),
         }
     }
 
@@ -87,7 +94,7 @@ impl SoFar {
         let Some((text, fields)) = next_word(line) else {
             return Ok(());
         };
-        if is_later(text) {
+        if is_later(text, fields) {
             return Err(LineRefusal::Why(ScriptWhy::NotYet));
         }
         match read_word(text) {
@@ -225,6 +232,7 @@ impl SoFar {
             return Err(LineRefusal::Why(ScriptWhy::Limit));
         }
         round.begin_job(alloc)?;
+        self.sessions.begin_job(alloc);
         self.jobs += 1;
         Ok(())
     }
@@ -248,14 +256,16 @@ impl SoFar {
             return Err(LineRefusal::Why(ScriptWhy::OutOfOrder));
         };
         let line = read_line(subs, word, fields)?;
-        if self.givers.is_busy(round, &line) {
+        self.sessions.order(&line)?;
+        if self.holders.is_busy(round, &line) {
             return Err(LineRefusal::Why(ScriptWhy::UsimBusy));
         }
         let asked = self.asked + line.count();
-        if asked > MAX_VECTORS {
+        if asked > MAX_VECTORS || !self.sessions.has_room(&line) {
             return Err(LineRefusal::Why(ScriptWhy::Limit));
         }
-        self.givers.note(round, &line);
+        self.holders.note(round, &line);
+        self.sessions.note(&line)?;
         put_in_round(&mut self.round, line)?;
         self.asked = asked;
         Ok(())
@@ -276,9 +286,9 @@ impl SoFar {
         match self.round.take() {
             Some(round) => {
                 self.ended.push(Part::Round(round.end()?))?;
-                self.givers.before = self.jobs as u32;
+                self.holders.before = self.jobs as u32;
             }
-            None => self.givers = Givers::over(alloc, subs.len(), self.jobs as u32)?,
+            None => self.holders = Holders::over(alloc, subs.len(), self.jobs as u32)?,
         }
         Ok(())
     }
@@ -294,19 +304,9 @@ impl SoFar {
             key: header.key.unwrap_or([0; 32]),
             workers: header.workers.unwrap_or(1),
             full: header.full.unwrap_or(false),
-            realm: realm_in(alloc, header.realm),
+            realm: header.realm.unwrap_or(Octets::new(alloc)),
             parts,
         })
-    }
-}
-
-/// The realm, which is empty if no line said one.
-fn realm_in(alloc: Global, realm: Option<Octets>) -> Octets
-    ensures { result ≡ unwrap_or realm [] }
-{
-    match realm {
-        Some(realm) => realm,
-        None => Octets::new(alloc),
     }
 }
 

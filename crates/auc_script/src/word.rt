@@ -1,7 +1,10 @@
 //! How a line begins: with the `#` of a comment, or with a word.
 
 ghost use Rattle.std.specs.Prelude.{◌≡◌};
+ghost use Rattle.auc_text.specs.Text.{words_of};
 ghost use Rattle.auc_script.specs.Word.{header_word_of, is_comment, is_later, job_word_of, other_word_of, word_of};
+
+use crate::session_line::has_later;
 
 /// A word of a line before the first round, which stands there at most once.
 #[derive(Clone, Copy)]
@@ -25,6 +28,18 @@ pub enum JobWord {
     Sync,
     /// `give IMSI N`
     Give,
+    /// `session T IMSI METHOD SNAME PNAME OPTIONS IDENTITY`
+    Session,
+    /// `start T`
+    Start,
+    /// `deliver T END P`
+    Deliver,
+    /// `repeat T`
+    Repeat,
+    /// `giveup T END`
+    GiveUp,
+    /// `plain T`
+    Plain,
 }
 
 /// The first word of a line.
@@ -76,10 +91,7 @@ fn read_other_word(text: &[u8]) -> Option<Word>
     }
     match read_job_word(text) {
         Some(word) => Some(Word::OfJob(word)),
-        None => match read_header_word(text) {
-            Some(word) => Some(Word::Header(word)),
-            None => None,
-        },
+        None => Some(Word::Header(read_header_word(text)?)),
     }
 }
 
@@ -91,6 +103,12 @@ fn read_job_word(text: &[u8]) -> Option<JobWord>
         b"draw" => Some(JobWord::Draw),
         b"sync" => Some(JobWord::Sync),
         b"give" => Some(JobWord::Give),
+        b"session" => Some(JobWord::Session),
+        b"start" => Some(JobWord::Start),
+        b"deliver" => Some(JobWord::Deliver),
+        b"repeat" => Some(JobWord::Repeat),
+        b"giveup" => Some(JobWord::GiveUp),
+        b"plain" => Some(JobWord::Plain),
         _ => None,
     }
 }
@@ -108,16 +126,11 @@ fn read_header_word(text: &[u8]) -> Option<HeaderWord>
     }
 }
 
-/// Whether a text is a word of lines that aren't served so far.
-pub fn is_later(text: &[u8]) -> bool
-    ensures { result ≡ is_later text.now }
+/// Whether a line with this first word and these fields isn't served so far.
+pub fn is_later(text: &[u8], fields: &[u8]) -> bool
+    ensures { result ≡ is_later text.now (words_of fields.now) }
 {
-    text == b"session".as_slice()
-        || text == b"start".as_slice()
-        || text == b"repeat".as_slice()
-        || text == b"deliver".as_slice()
-        || text == b"giveup".as_slice()
-        || text == b"plain".as_slice()
-        || text == b"tamper".as_slice()
+    text == b"tamper".as_slice()
         || text == b"cut".as_slice()
+        || (text == b"session".as_slice() && has_later(fields))
 }

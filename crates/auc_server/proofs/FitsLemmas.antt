@@ -14,7 +14,7 @@ use Rattle.auc_vector.specs.declared.turn.Outcome.TheVariants as outcome
 use Rattle.auc_hmac.specs.declared.keys.KeySet.{KeySet}
 use Rattle.auc_server.specs.Laws.{Fits, Has}
 use Rattle.auc_server.specs.Messages.{keys_of}
-use Rattle.auc_server.specs.Rows.{server_row, text_in}
+use Rattle.auc_server.specs.Rows.{server_row, subscriber_in, text_in}
 use Rattle.auc_server.specs.Server.{ServerEnd}
 use Rattle.auc_server.specs.Setting.{Setting}
 use Rattle.auc_server.specs.Table.{challenge_of, challenged, challenged_with, ended, failed, identified, noted, notified, resynchronised, resynchronising, server_does, server_step, silent, succeeded, vector_at}
@@ -104,20 +104,20 @@ succeeded_fits s (Some sent) e f =
 failed_fits : (s : ServerEnd) (cause : ServerWhy) → Fits s → Fits (failed s cause).0
 failed_fits s cause f = ended_fits s (outcome.Failure cause) (packet_text (packet.Failure s.id)) false (λ keys e. absurd (no_failure cause keys e)) f
 
-does_fits : (set : Setting) (s : ServerEnd) (seen : Seen) (text : List ℕ) (r : Row) (notes : Notes) → Says s seen r → Fits s → Fits (server_does set s text r notes).0
-does_fits set s seen text (row.Ignore cause) notes says f = f
-does_fits set s seen text row.UnknownIdentity notes says f = notified_fits (identified s text) why.UnknownIdentity silent false (identified_fits s text says f)
-does_fits set s seen text (row.Challenge sub) notes says f = challenged_fits set (identified s text) sub None notes.number (identified_fits s text says f)
-does_fits set s seen text row.WrongMac notes says f = notified_fits s why.WrongMac silent false f
-does_fits set s seen text row.WrongRes notes says f = notified_fits s why.WrongRes silent true f
-does_fits set s seen text row.WrongCheckcode notes says f = notified_fits s why.WrongCheckcode silent true f
-does_fits set s seen text row.Success notes says f = succeeded_fits s s.challenged refl f
-does_fits set s seen text row.SecondSync notes says f = notified_fits s why.SecondSync silent false f
-does_fits set s seen text row.BadAuts notes says f = notified_fits s why.BadAuts (noted (Some resync.BadAuts) None) false f
-does_fits set s seen text (row.Resynchronise sub seq) notes says f = resynchronised_fits set s sub notes.resync notes.number f
-does_fits set s seen text row.Rejected notes says f = failed_fits s why.Rejected f
-does_fits set s seen text (row.ClientError code) notes says f = failed_fits s (why.ClientError code) f
-does_fits set s seen text (row.Notified cause) notes says f = failed_fits s cause f
+does_fits : (found : Option ℕ) (set : Setting) (s : ServerEnd) (seen : Seen) (text : List ℕ) (r : Row) (notes : Notes) → Says found s seen r → Fits s → Fits (server_does set s text r notes).0
+does_fits found set s seen text (row.Ignore cause) notes says f = f
+does_fits found set s seen text row.UnknownIdentity notes says f = notified_fits (identified s text) why.UnknownIdentity silent false (identified_fits s text says f)
+does_fits found set s seen text (row.Challenge sub) notes says f = challenged_fits set (identified s text) sub None notes.number (identified_fits s text says.0 f)
+does_fits found set s seen text row.WrongMac notes says f = notified_fits s why.WrongMac silent false f
+does_fits found set s seen text row.WrongRes notes says f = notified_fits s why.WrongRes silent true f
+does_fits found set s seen text row.WrongCheckcode notes says f = notified_fits s why.WrongCheckcode silent true f
+does_fits found set s seen text row.Success notes says f = succeeded_fits s s.challenged refl f
+does_fits found set s seen text row.SecondSync notes says f = notified_fits s why.SecondSync silent false f
+does_fits found set s seen text row.BadAuts notes says f = notified_fits s why.BadAuts (noted (Some resync.BadAuts) None) false f
+does_fits found set s seen text (row.Resynchronise sub seq) notes says f = resynchronised_fits set s sub notes.resync notes.number f
+does_fits found set s seen text row.Rejected notes says f = failed_fits s why.Rejected f
+does_fits found set s seen text (row.ClientError code) notes says f = failed_fits s (why.ClientError code) f
+does_fits found set s seen text (row.Notified cause) notes says f = failed_fits s cause f
 
 pub each_turn_fits : (set : Setting) (homes : List HomeRow) (s : ServerEnd) (seen : Seen) (notes : Notes) → Fits s → Fits (server_step set homes s seen notes).0
-each_turn_fits set homes s seen notes f = does_fits set s seen (text_in seen.reading) (server_row set homes s seen) notes (says_row set homes s seen) f
+each_turn_fits set homes s seen notes f = does_fits (subscriber_in set homes (text_in seen.reading)) set s seen (text_in seen.reading) (server_row set homes s seen) notes (says_row set homes s seen) f

@@ -1,6 +1,8 @@
+pub mod Facts
 mod AskingLemmas
 mod FitsLemmas
 mod HomeLemmas
 mod LawLemmas
 mod MessageLemmas
 mod MoveLemmas
+mod TurnLemmas

@@ -10,7 +10,7 @@ use Rattle.auc_vector.specs.declared.notes.ResyncNote.TheVariants as resync
 use Rattle.auc_vector.specs.declared.parts.Vector.{Vector}
 use Rattle.auc_vector.specs.declared.turn.Turn.{Turn}
 use Rattle.auc_server.specs.Laws.{EachTurnKeepsOrChallenges, Fits, KeepsChallenge, SendsChallenge}
-use Rattle.auc_server.specs.Rows.{server_row, text_in}
+use Rattle.auc_server.specs.Rows.{server_row, subscriber_in, text_in}
 use Rattle.auc_server.specs.Server.{ServerEnd}
 use Rattle.auc_server.specs.Setting.{Setting}
 use Rattle.auc_server.specs.Steps.{asking}
@@ -71,25 +71,25 @@ succeeded_moves : (set : Setting) (s : ServerEnd) (c : Option Challenged) → Mo
 succeeded_moves set s None = inl (alike s)
 succeeded_moves set s (Some sent) = inl (record { challenge = refl; identity = λ sent e. refl })
 
-does_moves : (set : Setting) (s : ServerEnd) (seen : Seen) (text : List ℕ) (r : Row) (notes : Notes) → Says s seen r → Fits s
+does_moves : (found : Option ℕ) (set : Setting) (s : ServerEnd) (seen : Seen) (text : List ℕ) (r : Row) (notes : Notes) → Says found s seen r → Fits s
     → Moves set (asking r) s (server_does set s text r notes)
-does_moves set s seen text (row.Ignore cause) notes says f = inl (alike s)
-does_moves set s seen text row.UnknownIdentity notes says f =
+does_moves found set s seen text (row.Ignore cause) notes says f = inl (alike s)
+does_moves found set s seen text row.UnknownIdentity notes says f =
     let k = identified_keeps s text says f in inl (record { challenge = k.challenge; identity = k.identity })
-does_moves set s seen text (row.Challenge sub) notes says f =
-    challenged_moves set s (identified s text) (record { sub = sub; reported = None }) None notes.number (identified_keeps s text says f)
-does_moves set s seen text row.WrongMac notes says f = inl (record { challenge = refl; identity = λ sent e. refl })
-does_moves set s seen text row.WrongRes notes says f = inl (record { challenge = refl; identity = λ sent e. refl })
-does_moves set s seen text row.WrongCheckcode notes says f = inl (record { challenge = refl; identity = λ sent e. refl })
-does_moves set s seen text row.Success notes says f = succeeded_moves set s s.challenged
-does_moves set s seen text row.SecondSync notes says f = inl (record { challenge = refl; identity = λ sent e. refl })
-does_moves set s seen text row.BadAuts notes says f = inl (record { challenge = refl; identity = λ sent e. refl })
-does_moves set s seen text (row.Resynchronise sub seq) notes says f =
+does_moves found set s seen text (row.Challenge sub) notes says f =
+    challenged_moves set s (identified s text) (record { sub = sub; reported = None }) None notes.number (identified_keeps s text says.0 f)
+does_moves found set s seen text row.WrongMac notes says f = inl (record { challenge = refl; identity = λ sent e. refl })
+does_moves found set s seen text row.WrongRes notes says f = inl (record { challenge = refl; identity = λ sent e. refl })
+does_moves found set s seen text row.WrongCheckcode notes says f = inl (record { challenge = refl; identity = λ sent e. refl })
+does_moves found set s seen text row.Success notes says f = succeeded_moves set s s.challenged
+does_moves found set s seen text row.SecondSync notes says f = inl (record { challenge = refl; identity = λ sent e. refl })
+does_moves found set s seen text row.BadAuts notes says f = inl (record { challenge = refl; identity = λ sent e. refl })
+does_moves found set s seen text (row.Resynchronise sub seq) notes says f =
     resynchronised_moves set s (record { sub = sub; reported = Some seq }) notes.resync notes.number
-does_moves set s seen text row.Rejected notes says f = inl (record { challenge = refl; identity = λ sent e. refl })
-does_moves set s seen text (row.ClientError code) notes says f = inl (record { challenge = refl; identity = λ sent e. refl })
-does_moves set s seen text (row.Notified cause) notes says f = inl (record { challenge = refl; identity = λ sent e. refl })
+does_moves found set s seen text row.Rejected notes says f = inl (record { challenge = refl; identity = λ sent e. refl })
+does_moves found set s seen text (row.ClientError code) notes says f = inl (record { challenge = refl; identity = λ sent e. refl })
+does_moves found set s seen text (row.Notified cause) notes says f = inl (record { challenge = refl; identity = λ sent e. refl })
 
 -- each turn
 pub each_turn_moves : EachTurnKeepsOrChallenges
-each_turn_moves set homes s seen notes f = does_moves set s seen (text_in seen.reading) (server_row set homes s seen) notes (says_row set homes s seen) f
+each_turn_moves set homes s seen notes f = does_moves (subscriber_in set homes (text_in seen.reading)) set s seen (text_in seen.reading) (server_row set homes s seen) notes (says_row set homes s seen) f

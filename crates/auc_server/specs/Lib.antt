@@ -1,3 +1,4 @@
+pub mod Asked
 pub mod Attributes
 pub mod InnerRooms
 pub mod InnerRows

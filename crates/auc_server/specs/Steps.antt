@@ -1,5 +1,5 @@
 -- A turn of a server: what it needs, and what it comes to.
-use Rattle.std.specs.Prelude.{◌≡◌, ℕ, ◌<◌, Bool, true, false, List, length, Option, Some, None, All}
+use Rattle.std.specs.Prelude.{◌≡◌, ℕ, ◌<◌, Bool, true, false, List, [], length, Option, Some, None, All}
 use Rattle.std.specs.Option.{is_some}
 use Rattle.auc_edge.specs.declared.stop.Stop.{Stop}
 use Rattle.auc_history.specs.declared.entry.Entry.{Entry}
@@ -10,6 +10,8 @@ use Rattle.auc_vector.specs.Notes.{Asking, Asked}
 use Rattle.auc_vector.specs.declared.notes.Notes.{Notes}
 use Rattle.auc_vector.specs.declared.notes.ResyncNote.{ResyncNote}
 use Rattle.auc_vector.specs.declared.notes.ResyncNote.TheVariants as resync
+use Rattle.auc_vector.specs.declared.turn.Step.{Step}
+use Rattle.auc_vector.specs.declared.turn.Step.TheVariants as step
 use Rattle.auc_vector.specs.declared.turn.Turn.{Turn}
 use Rattle.auc_server.specs.Rows.{is_held, server_row}
 use Rattle.auc_server.specs.Server.{ServerEnd}
@@ -42,6 +44,12 @@ abbrev pub asking : Row → Option Asking
 asking (row.Challenge sub) = Some (record { sub = sub; reported = None })
 asking (row.Resynchronise sub seq) = Some (record { sub = sub; reported = Some seq })
 asking other = None
+
+-- the bytes that a step sends, none if it sends nothing
+abbrev pub bytes_of : Step ServerWhy → List ℕ
+bytes_of (step.Sent bytes) = bytes
+bytes_of (step.Ended result bytes) = bytes
+bytes_of (step.Ignored cause) = []
 
 -- whether a new challenge follows a resynchronisation: the centre's number moved or is in range, and isn't too far above
 -- the SEQ that the USIM reported (TS 33.102 §6.3.5)

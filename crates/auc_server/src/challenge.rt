@@ -5,7 +5,7 @@ ghost use Rattle.std.specs.Option.{is_some};
 ghost use Rattle.auc_sqn.specs.Number.{max_seq};
 ghost use Rattle.auc_vector.specs.Notes.{AnswersNumber, AskedOf, entries_noted, kept_noted, withheld_noted};
 ghost use Rattle.auc_server.specs.Rows.{is_held};
-ghost use Rattle.auc_server.specs.Steps.{IsHeld, IsHome, challenges_again};
+ghost use Rattle.auc_server.specs.Steps.{IsHeld, IsHome, bytes_of, challenges_again};
 ghost use Rattle.auc_server.specs.declared.setting.HomeRow.{HomeRow};
 ghost use Rattle.auc_server.specs.Table.{challenged, first_challenge, resynchronised, sent_with, vector_at};
 
@@ -33,7 +33,8 @@ fn vector_at(set: &Setting, sub: u32, n: u64) -> Vector
 impl Server {
     /// Sends a Challenge (RFC 4187 §9.3).
     fn send_challenge(&mut self, sent: Challenged, notes: Notes, rooms: Rooms) -> Turn<ServerWhy>
-        ensures { (self.new, result) ≡ sent_with self.old sent notes }
+        ensures step { (self.new, result) ≡ sent_with self.old sent notes }
+        ensures small { length (bytes_of result.step) ≤ 72 }
     {
         let Rooms {
             message,
@@ -60,6 +61,7 @@ impl Server {
         requires { IsHome set.now.rows (C.subs centre.old) (C.top centre.old) sub }
 
         ensures step { (self.new, result) ≡ challenged set.now self.old sub resynced result.notes.number }
+        ensures small { length (bytes_of result.step) ≤ 72 }
         ensures resync { result.notes.resync ≡ resynced }
         ensures drawn { is_some result.notes.number ≡ true }
 
@@ -112,6 +114,7 @@ impl Server {
         requires { IsHome set.now.rows (C.subs centre.old) (C.top centre.old) sub }
 
         ensures step { (self.new, result) ≡ first_challenge set.now self.old text sub result.notes.number }
+        ensures small { length (bytes_of result.step) ≤ 72 }
         ensures asked { AskedOf C.goes C.kept C.top (record { sub = sub; reported = None }) result.notes centre.old centre.new }
         ensures drawn { is_some result.notes.number ≡ true }
 
@@ -142,6 +145,7 @@ impl Server {
         requires number { seq ≤ max_seq }
 
         ensures step { (self.new, result) ≡ resynchronised set.now self.old sub result.notes.resync result.notes.number }
+        ensures small { length (bytes_of result.step) ≤ 72 }
         ensures asked { AskedOf C.goes C.kept C.top (record { sub = sub; reported = Some seq }) result.notes centre.old centre.new }
         ensures drawn { is_some result.notes.number ≡ challenges_again result.notes.resync }
 

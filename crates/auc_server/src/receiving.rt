@@ -6,7 +6,7 @@ ghost use Rattle.auc_vector.specs.Notes.{Asked, AskedOf};
 ghost use Rattle.auc_server.specs.InnerRows.{IsHeldRow};
 ghost use Rattle.auc_server.specs.Rows.{server_row, text_in};
 ghost use Rattle.auc_server.specs.Server.{started};
-ghost use Rattle.auc_server.specs.Steps.{AsksAsNeeded, IsHeld, IsHome, IsServed, Steps, asking};
+ghost use Rattle.auc_server.specs.Steps.{AsksAsNeeded, IsHeld, IsHome, IsServed, Steps, asking, bytes_of};
 ghost use Rattle.auc_server.specs.Table.{first_challenge, resynchronised, server_does, server_step};
 
 use crate::rooms::Rooms;
@@ -23,7 +23,7 @@ use std::sync::Wait;
 
 impl Server {
     /// Takes received bytes, as the table has it (RFC 4187 §3, §6 and §9). If memory runs out, the server and the centre
-    /// stay as they were.
+    /// stay as they were. No message has more than 72 bytes.
     pub fn on_bytes<C: Centre, R: Wait>(
         &mut self,
         rt: &R,
@@ -36,6 +36,7 @@ impl Server {
         requires { IsServed set.now.rows (C.subs centre.old) (C.top centre.old) homes.old self.old }
 
         ensures step { IfOk result (λ turn. Steps C.goes C.kept C.top set.now homes.old self.old bytes.now centre.old self.new turn centre.new) }
+        ensures small { IfOk result (λ turn. length (bytes_of turn.step) ≤ 72) }
         ensures served { IsServed set.now.rows (C.subs centre.new) (C.top centre.new) homes.new self.new }
         ensures homes { homes.new ≡ homes.old }
         ensures subs { C.subs centre.new ≡ C.subs centre.old }
@@ -67,6 +68,7 @@ impl Server {
         requires served { IsServed set.now.rows (C.subs centre.old) (C.top centre.old) homes.now self.old }
 
         ensures step { (self.new, result) ≡ server_step set.now homes.now self.old (seen_of received.now) result.notes }
+        ensures small { length (bytes_of result.step) ≤ 72 }
         ensures asked { Asked C.goes C.kept C.top (asking (server_row set.now homes.now self.old (seen_of received.now))) result.notes centre.old centre.new }
         ensures drawn { AsksAsNeeded (server_row set.now homes.now self.old (seen_of received.now)) result.notes }
         ensures served { IsServed set.now.rows (C.subs centre.new) (C.top centre.new) homes.now self.new }
@@ -93,6 +95,7 @@ impl Server {
         requires served { IsServed set.now.rows (C.subs centre.old) (C.top centre.old) homes.now self.old }
 
         ensures step { (self.new, result) ≡ server_does set.now self.old text row result.notes }
+        ensures small { length (bytes_of result.step) ≤ 72 }
         ensures asked { Asked C.goes C.kept C.top (asking row) result.notes centre.old centre.new }
         ensures drawn { AsksAsNeeded row result.notes }
         ensures served { IsServed set.now.rows (C.subs centre.new) (C.top centre.new) homes.now self.new }

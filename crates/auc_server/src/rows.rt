@@ -3,6 +3,7 @@
 ghost use Rattle.std.specs.Prelude.{◌≡◌, ◌<◌, ℕ, length, true, Some, IfSome};
 ghost use Rattle.std.specs.Option.{option_copied};
 ghost use Rattle.auc_packet.specs.Received.{IsReceived, seen_of};
+ghost use Rattle.auc_server.specs.Asked.{asked_after};
 ghost use Rattle.auc_server.specs.Attributes.{res_of, checkcode_of, first_of};
 ghost use Rattle.auc_server.specs.Rows.{by_auts, differs, held_place, if_held, in_state, is_expected, is_held, is_type, on_auts, on_challenged, on_client_error, on_error_code, on_head, on_message, on_method, on_reading, on_response, on_subscriber, on_sync_failure, server_row, subscriber_in, text_in, type_awaited};
 ghost use Rattle.auc_server.specs.Steps.{IsHeld};
@@ -20,7 +21,7 @@ use auc_ident::{permanent_in, username};
 use auc_packet::{
     Head, Packet, Reading, Received, Subtype, head, is_malformed, is_missing, is_sealed,
 };
-use auc_vector::{Auts, Reason, read_auts};
+use auc_vector::{Auts, Notes, Reason, ResyncNote, read_auts};
 
 /// A row of a server's table.
 #[derive(Clone, Copy, Debug, PartialEq, Eq)]
@@ -60,7 +61,7 @@ fn is_held(homes: &[HomeRow], sub: u32) -> bool
     homes.iter().any(|home| home.sub == sub)
 }
 
-/// The held subscriber whose permanent identity a text begins with.
+/// The held subscriber whose permanent identity a text begins with (RFC 4187 §4.1.1.6).
 fn subscriber_in(set: &Setting, homes: &[HomeRow], text: &[u8]) -> Option<u32>
     ensures value { result ≡ subscriber_in set.now homes.now text.now }
     ensures held { IfSome result (λ sub. is_held homes.now sub ≡ true) }
@@ -68,6 +69,19 @@ fn subscriber_in(set: &Setting, homes: &[HomeRow], text: &[u8]) -> Option<u32>
     let imsi = permanent_in(Method::Aka, username(text))?;
     let sub = set.subs.find(imsi)?;
     if is_held(homes, sub) { Some(sub) } else { None }
+}
+
+impl Server {
+    /// For whom the server asked the centre in the turn after which it stands so, by the turn's notes; `None` if it didn't.
+    pub fn asked(&self, set: &Setting, homes: &[HomeRow], notes: Notes) -> Option<u32>
+        ensures { result ≡ asked_after set.now homes.now self.now notes.resync notes.number }
+    {
+        match (notes.resync, notes.number) {
+            (None, None) | (Some(ResyncNote::BadAuts), _) => None,
+            (None, Some(_)) => subscriber_in(set, homes, self.identity.as_slice()),
+            (Some(_), _) => Some(self.challenged?.sub),
+        }
+    }
 }
 
 /// The text of an Identity response, or an empty one.

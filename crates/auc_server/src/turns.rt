@@ -4,6 +4,7 @@ ghost use Rattle.std.specs.Prelude.{◌≡◌, ◌≤◌, [], length, None, IfOk
 ghost use Rattle.auc_packet.specs.Spelling.{packet_text};
 ghost use Rattle.auc_server.specs.InnerRooms.{IsFresh};
 ghost use Rattle.auc_server.specs.Server.{started};
+ghost use Rattle.auc_server.specs.Steps.{bytes_of};
 ghost use Rattle.auc_server.specs.Table.{ended, failed, gave_up, ignored, noted, notified, repeated, requested, silent, succeeded, unknown};
 
 use crate::messages::{message, notification};
@@ -38,7 +39,8 @@ pub(crate) fn silent() -> Notes
 impl Server {
     /// Ignores what was received.
     pub(crate) fn ignore(&self, why: Reason) -> Turn<ServerWhy>
-        ensures { (self.now, result) ≡ ignored self.now why }
+        ensures step { (self.now, result) ≡ ignored self.now why }
+        ensures small { length (bytes_of result.step) ≤ 72 }
     {
         Turn {
             notes: silent(),
@@ -58,7 +60,8 @@ impl Server {
     ) -> Turn<ServerWhy>
         requires small { length bytes ≤ 72 }
         requires fresh { IsFresh kept }
-        ensures { (self.new, result) ≡ requested self.old state bytes notes checked }
+        ensures step { (self.new, result) ≡ requested self.old state bytes notes checked }
+        ensures small { length (bytes_of result.step) ≤ 72 }
     {
         let mut kept = kept;
         kept.put(bytes.as_slice());
@@ -80,7 +83,8 @@ impl Server {
         checked: bool,
         rooms: Rooms,
     ) -> Turn<ServerWhy>
-        ensures { (self.new, result) ≡ notified self.old why notes checked }
+        ensures step { (self.new, result) ≡ notified self.old why notes checked }
+        ensures small { length (bytes_of result.step) ≤ 72 }
     {
         let Rooms {
             message,
@@ -94,7 +98,9 @@ impl Server {
 
     /// Ends the session.
     fn end(&mut self, outcome: Outcome<ServerWhy>, bytes: Octets, checked: bool) -> Turn<ServerWhy>
-        ensures { (self.new, result) ≡ ended self.old outcome bytes checked }
+        requires { length bytes ≤ 72 }
+        ensures step { (self.new, result) ≡ ended self.old outcome bytes checked }
+        ensures small { length (bytes_of result.step) ≤ 72 }
     {
         self.state = ServerState::Ended(outcome);
         Turn {
@@ -106,7 +112,8 @@ impl Server {
 
     /// Ends the session with EAP-Failure (RFC 3748 §4.2).
     pub(crate) fn fail(&mut self, why: ServerWhy, rooms: Rooms) -> Turn<ServerWhy>
-        ensures { (self.new, result) ≡ failed self.old why }
+        ensures step { (self.new, result) ≡ failed self.old why }
+        ensures small { length (bytes_of result.step) ≤ 72 }
     {
         let bytes = message(&Packet::Failure(self.id), rooms.message);
         self.end(Outcome::Failure(why), bytes, false)
@@ -114,7 +121,8 @@ impl Server {
 
     /// Ends the session with EAP-Success (RFC 3748 §4.2).
     pub(crate) fn succeed(&mut self, rooms: Rooms) -> Turn<ServerWhy>
-        ensures { (self.new, result) ≡ succeeded self.old self.old.challenged }
+        ensures step { (self.new, result) ≡ succeeded self.old self.old.challenged }
+        ensures small { length (bytes_of result.step) ≤ 72 }
     {
         match self.challenged {
             None => self.ignore(Reason::Unexpected),
@@ -127,7 +135,8 @@ impl Server {
 
     /// Notifies the peer that its identity is unknown.
     pub(crate) fn refuse_identity(&mut self, text: Octets, rooms: Rooms) -> Turn<ServerWhy>
-        ensures { (self.new, result) ≡ unknown self.old text }
+        ensures step { (self.new, result) ≡ unknown self.old text }
+        ensures small { length (bytes_of result.step) ≤ 72 }
     {
         self.identity = text;
         self.notify(ServerWhy::UnknownIdentity, silent(), false, rooms)
@@ -187,6 +196,13 @@ impl Server {
         ensures { result ≡ self.now.state }
     {
         self.state
+    }
+
+    /// The identity that was received last, from which keys are derived (RFC 4187 §7); empty before the first.
+    pub fn identity(&self) -> &[u8]
+        ensures { result.now ≡ self.now.identity }
+    {
+        self.identity.as_slice()
     }
 
     /// The last challenge, also after the session has ended, or `None` before the first.

@@ -1,8 +1,9 @@
 //! Bytes in a line.
 //!
 //! They are pieces with `|` between them. A piece is hexadecimal digits, `'` and a text, or `$` and the name of bytes that
-//! many lines have; in a text `\n`, `\r` and `\t` are LF, CR and HT. `-` is no byte, and `%` and a number are that many
-//! records of a file of subscribers, with the identities of 15 digits from 0 on. A number and `*` before a piece repeat it.
+//! many lines have; in a text `\n`, `\r` and `\t` are LF, CR and HT. `-` is no byte, `%` and a number are that many
+//! records of a file of subscribers, with the identities of 15 digits from 0 on, and `&` and a number are that many lines
+//! of a scenario that open sessions of the identity I, with the numbers from 1 on. A number and `*` before a piece repeat it.
 
 use std::alloc::{AllocError, Global};
 
@@ -47,6 +48,12 @@ fn once_of(alloc: Global, piece: &str) -> Result<Option<Vec<u8>>, AllocError> {
             Err(_) => Ok(None),
         };
     }
+    if let Some(count) = piece.strip_prefix('&') {
+        return match count.parse::<u32>() {
+            Ok(count) => Ok(Some(sessions(alloc, count)?)),
+            Err(_) => Ok(None),
+        };
+    }
     if piece == "-" {
         return Ok(Some(Vec::new(alloc)));
     }
@@ -71,6 +78,17 @@ fn records(alloc: Global, count: u32) -> Result<Vec<u8>, AllocError> {
         all.extend_from_slice(imsi.as_bytes())?;
         all.extend_from_slice(REST)?;
         all.push(b'\n')?;
+    }
+    Ok(all)
+}
+
+/// So many lines that open sessions of the identity I.
+fn sessions(alloc: Global, count: u32) -> Result<Vec<u8>, AllocError> {
+    let mut all = Vec::new(alloc);
+    for before in 0..count {
+        let number = before + 1;
+        let line = format!(in alloc; "session {number} 001010000000001 aka - - - held\n")?;
+        all.extend_from_slice(line.as_bytes())?;
     }
     Ok(all)
 }
@@ -101,7 +119,8 @@ fn escaped(byte: u8) -> u8 {
 }
 
 /// Bytes that many lines have: the identities I and J, the header of a file of subscribers, K, OP and OPc of TS 35.208
-/// §4.3, test set 1, the rest of a record after its IMSI, and two subscribers, a round and a job.
+/// §4.3, test set 1, the rest of a record after its IMSI, two subscribers, a round and a job, and the end of a line that
+/// opens a session.
 fn named(name: &str) -> Option<&'static [u8]> {
     match name {
         "I" => Some(b"001010000000001".as_slice()),
@@ -111,6 +130,7 @@ fn named(name: &str) -> Option<&'static [u8]> {
         "OP" => Some(b"cdc202d5123e20f62b6d676ac72cb318".as_slice()),
         "OPc" => Some(b"CD63CB71954A9F4E48A5994E37A02BAF".as_slice()),
         "rest" => Some(REST),
+        "aka" => Some(b" aka - - - held\n".as_slice()),
         "two" => Some(
             b"subscriber 001010000000001 465b5ce8b199b49faa5f0a2ee238a6bc op cdc202d5123e20f62b6d676ac72cb318 b9b9 0 0\nsubscriber\t001010000000002  465B5CE8B199B49FAA5F0A2EE238A6BC opc CD63CB71954A9F4E48A5994E37A02BAF B9B9 0000000000007 8796093022207 \r\nround\njob\n".as_slice(),
         ),

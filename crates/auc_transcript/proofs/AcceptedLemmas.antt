@@ -1,118 +1,139 @@
 -- The law of the USIM: it accepts no SQN twice.
-use Rattle.std.proofs.Common.{◌≡◌, ℕ, ◌≤◌, ◌==◌, Bool, true, false, List, [], ◌∷◌, ◌++◌, ◌≢◌, ◌%◌, ◌∙◌, get_or, All, AllPairs, refl, sym, ap, subst, arith, inl, inr, append_assoc, append-nil}
+use Rattle.std.proofs.Common.{◌≡◌, ◌≢◌, ◌⊎◌, ℕ, zero, suc, ◌+◌, ◌≤◌, ◌%◌, ◌^◌, ◌==◌, ◌&&◌, nat_le, nat_lt, Bool, true, false, List, [], ◌∷◌, ◌++◌, length, Option, Some, None, All, AllPairs, Contains, refl, sym, ap, subst, ◌∙◌, arith, inl, inr, append_assoc, append-nil}
 use Rattle.std.specs.Prelude.{if◌then◌else◌}
-use Rattle.std.proofs.lemmas.Bool.{cases_eq, eqb-true}
-use Rattle.std.proofs.lemmas.Bool.Decides.{nat_tests}
-use Rattle.auc_history.specs.Split.{times}
-use Rattle.auc_history.proofs.Facts.{differ_from_times, times-cons, times_at}
-use Rattle.auc_sqn.specs.Number.{max_seq}
-use Rattle.auc_sqn.specs.Past.{Past, verdict_of}
+use Rattle.std.proofs.lemmas.Bool.{and_from, cases_lt, eq-eqb, eqb-true, le-leb, or_left, or_right}
+use Rattle.std.proofs.lemmas.List.{get_or_append_left, get_or_push, length_push}
+use Rattle.auc_sqn.specs.Number.{ind_of, max_seq, seq_of, sqn_bytes}
+use Rattle.auc_sqn.specs.Past.{Past, entry_of, greatest_of, is_old, verdict_of}
+use Rattle.auc_sqn.specs.declared.verdict.Verdict.{Verdict}
+use Rattle.auc_sqn.specs.declared.verdict.Verdict.TheVariants.{Fresh, Old, Far}
+use Rattle.auc_sqn.proofs.Facts.{ind_of-sqn_bytes, seq_of-sqn_bytes}
+use Rattle.auc_vector.specs.declared.notes.UsimNote.{UsimNote}
+use Rattle.auc_vector.specs.declared.notes.UsimNote.TheVariants as usim
+use Rattle.auc_world.specs.Event.{sqn_accepted, usim_for}
+use Rattle.auc_world.specs.Given.{UsimAnswers, past_of}
+use Rattle.auc_world.specs.Lines.{accepted, accepted_by, numbers_of, taken}
+use Rattle.auc_world.specs.Setting.{Setting}
+use Rattle.auc_world.specs.Transcript.{lines_of}
+use Rattle.auc_world.specs.declared.event.EventRecord.{EventRecord}
 use Rattle.auc_world.specs.declared.record.GiveVerdict.{GiveVerdict}
 use Rattle.auc_world.specs.declared.record.GiveVerdict.TheVariants as given
 use Rattle.auc_world.specs.declared.record.LineRecord.{LineRecord}
-use Rattle.auc_world.specs.declared.record.LineRecord.TheVariants.{Vector, Withheld, Exhausted, Sync, Give}
-use Rattle.auc_world.specs.Lines.{numbers_of}
-use Rattle.auc_world.specs.Given.{past_of, UsimAnswers}
-use Rattle.auc_world.specs.Setting.{Setting}
-use Rattle.auc_world.specs.Transcript.{lines_of}
+use Rattle.auc_world.specs.declared.record.LineRecord.TheVariants.{Vector, Withheld, Exhausted, Sync, Give, Event}
+use Rattle.auc_world.proofs.Facts.{accepted-append, each_accepted_in_past}
 use Rattle.auc_transcript.specs.Headline.{EachUsimAcceptsNoneTwice}
-use Rattle.auc_transcript.proofs.LineLemmas.{All-times, accepted-numbers, number_taken, numbers_accepted, times-numbers-append, times-accepted-append}
-use Rattle.auc_transcript.proofs.ServedLemmas.{IsAnswered, IsServed, AreServed, AreServed-append}
-use Rattle.auc_transcript.proofs.UsimLemmas.{accepted_is_new, past_by, past_of-sqns}
-use Rattle.auc_transcript.proofs.VectorLemmas.{sqns_differ, numbers_within, transcript_served}
+use Rattle.auc_transcript.proofs.EventLemmas.{IsEventServed, IsFreshFor}
+use Rattle.auc_transcript.proofs.LineLemmas.{All-times}
+use Rattle.auc_transcript.proofs.ServedLemmas.{AreServed, AreServed-append, IsAnswered, IsServed}
+use Rattle.auc_transcript.proofs.VectorLemmas.{numbers_within, transcript_served}
 
--- a number is accepted at most once, and only if it was released
-pub record IsAccepting (sub n : ℕ) (lines : List LineRecord) : Type 0 where
-  pub once : times n (numbers_accepted sub lines) ≤ 1
-  pub released : 1 ≤ times n (numbers_accepted sub lines) → 1 ≤ times n (numbers_of sub lines)
+-- ---- what is fresh wasn't accepted
 
--- a line that doesn't say that the number was accepted
-accepting_quiet : (sub n : ℕ) (before : List LineRecord) (line : LineRecord) → times n (numbers_accepted sub (line ∷ [])) ≡ 0 → IsAccepting sub n before → IsAccepting sub n (before ++ line ∷ [])
-accepting_quiet sub n before line none is =
-    let these = times-accepted-append n sub before (line ∷ []) in
-    let those = times-numbers-append n sub before (line ∷ []) in
-    let once = is.once in record {
-      once = omega (arith, these, none, once);
-      released = λ some. let first = is.released (omega (arith, these, none, some)) in omega (arith, those, first);
-    }
+-- a SEQ that was accepted with an IND is old
+old_from_past : (past : Past) (seq ind : ℕ) → Contains past (seq, ind) → is_old past seq ind ≡ true
+old_from_past [] seq ind (k, inside, at) = absurd (omega arith)
+old_from_past (pair ∷ past) seq ind (zero, inside, at) =
+    or_left ((pair.1 == ind) && nat_le seq pair.0) (is_old past seq ind)
+    (subst (λ (p : ℕ × ℕ). ((p.1 == ind) && nat_le seq p.0) ≡ true) (sym at) (and_from (ind == ind) (nat_le seq seq) (eq-eqb ind ind refl) (le-leb seq seq (omega arith))))
+old_from_past (pair ∷ past) seq ind (suc k, inside, at) =
+    or_right ((pair.1 == ind) && nat_le seq pair.0) (is_old past seq ind) (old_from_past past seq ind (k, omega arith, at))
 
--- a USIM's answer, by the numbers that it accepted
-pub answers_by : (set : Setting) (sub n : ℕ) (before : List LineRecord) (answer : GiveVerdict) → All (λ m. m ≤ max_seq) (numbers_accepted sub before)
-    → (is : IsAnswered set before sub n answer)
-    → UsimAnswers (verdict_of (past_by is.row.usim (numbers_accepted sub before)) n (n % 32)) (past_by is.row.usim (numbers_accepted sub before)) answer
-answers_by set sub n before answer within is =
-    subst (λ (past : Past). UsimAnswers (verdict_of past n (n % 32)) past answer)
-    (ap (past_of is.row.usim) (accepted-numbers sub before) ∙ past_of-sqns is.row.usim (numbers_accepted sub before) within) is.answers
+not_fresh : (old : Bool) (entry : ℕ) (other : Verdict) → (if old then Old entry else other) ≡ Fresh → old ≡ true → ⊥
+not_fresh true entry other is old = cc
+not_fresh false entry other is old = cc
 
--- a line that says it
-accepting_taken : (set : Setting) (sub n : ℕ) (before : List LineRecord) (line : LineRecord) → All (λ m. m ≤ max_seq) (numbers_accepted sub before)
-    → times n (numbers_accepted sub (line ∷ [])) ≤ 1 → IsAnswered set before sub n given.Accepted → IsAccepting sub n (before ++ line ∷ [])
-accepting_taken set sub n before line within one is =
-    let these = times-accepted-append n sub before (line ∷ []) in
-    let those = times-numbers-append n sub before (line ∷ []) in
-    let new = accepted_is_new is.row.usim (numbers_accepted sub before) n (answers_by set sub n before given.Accepted within is) in
-    let first = is.released in record {
-      once = omega (arith, these, one, new);
-      released = λ some. omega (arith, those, first);
-    }
+-- a fresh SQN is none of those that were accepted
+fresh_is_new : (opening : ℕ) (sqns : List (List ℕ)) (sqn : List ℕ) → verdict_of (past_of opening sqns) (seq_of sqn) (ind_of sqn) ≡ Fresh → All (λ x. x ≢ sqn) sqns
+fresh_is_new opening sqns sqn fresh k d inside = λ same.
+    let past = past_of opening sqns in
+    let there = subst (λ (x : List ℕ). Contains past (seq_of x, ind_of x)) same (each_accepted_in_past opening sqns k d inside) in
+    not_fresh (is_old past (seq_of sqn) (ind_of sqn)) (entry_of (ind_of sqn) past)
+    (if nat_lt (greatest_of past + 2 ^ 28) (seq_of sqn) then Far (greatest_of past) else Fresh) fresh (old_from_past past (seq_of sqn) (ind_of sqn) there)
 
--- a presented vector
-accepting_given : (set : Setting) (sub n s m : ℕ) (answer : GiveVerdict) (b : Bool) (before : List LineRecord) → All (λ k. k ≤ max_seq) (numbers_accepted sub before) → (s == sub) ≡ b
-    → times n (numbers_accepted sub (Give s m answer ∷ [])) ≡ times n (if b then number_taken m answer else []) → IsServed set before (Give s m answer)
-    → IsAccepting sub n before → IsAccepting sub n (before ++ Give s m answer ∷ [])
-accepting_given set sub n s m answer false before within mine count served is = accepting_quiet sub n before (Give s m answer) count is
-accepting_given set sub n s m (given.Sync sqn_ms) true before within mine count served is = accepting_quiet sub n before (Give s m (given.Sync sqn_ms)) count is
-accepting_given set sub n s m given.Absent true before within mine count served is = accepting_quiet sub n before (Give s m given.Absent) count is
-accepting_given set sub n s m given.Accepted true before within mine count served is =
-    let one = times-cons n m [] in
-    elim (cases_eq m n) [
-      | inl same ↦ accepting_taken set sub n before (Give s m given.Accepted) within (let few : times n (numbers_accepted sub (Give s m given.Accepted ∷ [])) ≤ 1 = grind (arith, nat_tests, count, one) in few)
-          (subst (λ (k : ℕ). IsAnswered set before sub k given.Accepted) same
-          (subst (λ (k : ℕ). IsAnswered set before k m given.Accepted) (eqb-true s sub mine) (served (λ same. let no : ⊥ = cc in no))))
-      | inr other ↦ accepting_quiet sub n before (Give s m given.Accepted) (let none : times n (numbers_accepted sub (Give s m given.Accepted ∷ [])) ≡ 0 = grind (arith, nat_tests, count, one) in none) is
+-- a further element that differs from each of a list's
+differ-push : {X : Type 0} (xs : List X) (y : X) → AllPairs ◌≢◌ xs → All (λ x. x ≢ y) xs → AllPairs ◌≢◌ (xs ++ y ∷ [])
+differ-push xs y differ others i j d before inside =
+    let long = length_push xs y in
+    elim (cases_lt j (length xs)) [
+      | inl early ↦ (λ same. differ i j d before early
+          (sym (get_or_append_left xs (y ∷ []) d i (omega (arith, before, early))) ∙ same ∙ get_or_append_left xs (y ∷ []) d j early))
+      | inr late ↦ (λ same. let last : j ≡ length xs = omega (arith, long, inside, late) in
+          others i d (omega (arith, before, last))
+          (sym (get_or_append_left xs (y ∷ []) d i (omega (arith, before, last))) ∙ same ∙ get_or_push xs y d j (sym last)))
     ]
 
+-- ---- what a line accepts
+
+-- a line says that no SQN was accepted, or a fresh one
+abbrev AcceptsFresh : Setting → ℕ → List LineRecord → LineRecord → Type 0
+AcceptsFresh set sub before line = (accepted_by sub line ≡ []) ⊎ ((sqn : List ℕ) × (accepted_by sub line ≡ sqn ∷ []) × IsFreshFor set before sub sqn)
+
+fresh_answer : (v : Verdict) (past : Past) → UsimAnswers v past given.Accepted → v ≡ Fresh
+fresh_answer Fresh past is = refl
+fresh_answer (Old entry) past (sqn_ms, highest, same) = absurd (let no : ⊥ = cc in no)
+fresh_answer (Far greatest) past (sqn_ms, highest, same) = absurd (let no : ⊥ = cc in no)
+
+-- a presented number that was accepted
+given_fresh : (set : Setting) (before : List LineRecord) (sub n : ℕ) → All (λ m. m ≤ max_seq) (numbers_of sub before) → IsAnswered set before sub n given.Accepted
+    → IsFreshFor set before sub (sqn_bytes n)
+given_fresh set before sub n within is =
+    let past = past_of is.row.usim (accepted sub before) in
+    let fits = All-times (λ m. m ≤ max_seq) n (numbers_of sub before) within is.released in record {
+      row = is.row;
+      there = is.there;
+      fresh = ap (λ (seq : ℕ). verdict_of past seq (ind_of (sqn_bytes n))) (seq_of-sqn_bytes n fits) ∙ ap (λ (ind : ℕ). verdict_of past n ind) (ind_of-sqn_bytes n fits)
+          ∙ fresh_answer (verdict_of past n (n % 32)) past is.answers;
+    }
+
+given_accepts : (set : Setting) (sub s n : ℕ) (answer : GiveVerdict) (b : Bool) (before : List LineRecord) → (s == sub) ≡ b → All (λ m. m ≤ max_seq) (numbers_of sub before)
+    → (answer ≢ given.Absent → IsAnswered set before s n answer)
+    → ((if b then taken n answer else []) ≡ []) ⊎ ((sqn : List ℕ) × ((if b then taken n answer else []) ≡ sqn ∷ []) × IsFreshFor set before sub sqn)
+given_accepts set sub s n answer false before mine within is = inl refl
+given_accepts set sub s n (given.Sync sqn_ms) true before mine within is = inl refl
+given_accepts set sub s n given.Absent true before mine within is = inl refl
+given_accepts set sub s n given.Accepted true before mine within is =
+    inr (sqn_bytes n, refl, given_fresh set before sub n within (subst (λ (k : ℕ). IsAnswered set before k n given.Accepted) (eqb-true s sub mine) (is (λ same. let no : ⊥ = cc in no))))
+
+event_accepts : (set : Setting) (sub : ℕ) (before : List LineRecord) (r : EventRecord) (o : Option UsimNote) → usim_for sub r ≡ o → IsEventServed set before r.result
+    → AcceptsFresh set sub before (Event r)
+event_accepts set sub before r None e is = inl (ap sqn_accepted e)
+event_accepts set sub before r (Some (usim.Accepted sqn)) e is = inr (sqn, ap sqn_accepted e, is.fresh sub sqn e)
+event_accepts set sub before r (Some (usim.Sync sqn)) e is = inl (ap sqn_accepted e)
+event_accepts set sub before r (Some usim.WrongMac) e is = inl (ap sqn_accepted e)
+
+line_accepts : (set : Setting) (sub : ℕ) (before : List LineRecord) (line : LineRecord) → All (λ m. m ≤ max_seq) (numbers_of sub before) → IsServed set before line
+    → AcceptsFresh set sub before line
+line_accepts set sub before (Vector s n) within is = inl refl
+line_accepts set sub before (Withheld s n stop) within is = inl refl
+line_accepts set sub before (Exhausted s word) within is = inl refl
+line_accepts set sub before (Sync s answer) within is = inl refl
+line_accepts set sub before (Give s n answer) within is = given_accepts set sub s n answer (s == sub) before refl within is
+line_accepts set sub before (Event r) within is = event_accepts set sub before r (usim_for sub r) refl is
+
+-- ---- what lines accept
+
+accepted_one : (sub : ℕ) (before : List LineRecord) (line : LineRecord) → accepted sub (before ++ line ∷ []) ≡ accepted sub before ++ accepted_by sub line
+accepted_one sub before line = accepted-append sub before (line ∷ []) ∙ ap (λ (xs : List (List ℕ)). accepted sub before ++ xs) (append-nil (accepted_by sub line))
+
 -- a further line
-accepting_line : (set : Setting) (sub n : ℕ) (before : List LineRecord) (line : LineRecord) → All (λ k. k ≤ max_seq) (numbers_accepted sub before) → IsServed set before line → IsAccepting sub n before → IsAccepting sub n (before ++ line ∷ [])
-accepting_line set sub n before (Vector s m) within served is = accepting_quiet sub n before (Vector s m) refl is
-accepting_line set sub n before (Withheld s m stop) within served is = accepting_quiet sub n before (Withheld s m stop) refl is
-accepting_line set sub n before (Exhausted s word) within served is = accepting_quiet sub n before (Exhausted s word) refl is
-accepting_line set sub n before (Sync s answer) within served is = accepting_quiet sub n before (Sync s answer) refl is
-accepting_line set sub n before (Give s m answer) within served is =
-    accepting_given set sub n s m answer (s == sub) before within refl (ap (times n) (append-nil (if s == sub then number_taken m answer else []))) served is
+differ_line : (set : Setting) (sub : ℕ) (before : List LineRecord) (line : LineRecord) → AcceptsFresh set sub before line → AllPairs ◌≢◌ (accepted sub before)
+    → AllPairs ◌≢◌ (accepted sub (before ++ line ∷ []))
+differ_line set sub before line (inl none) differ =
+    subst (λ (xs : List (List ℕ)). AllPairs ◌≢◌ xs) (sym (accepted_one sub before line ∙ ap (λ (xs : List (List ℕ)). accepted sub before ++ xs) none ∙ append-nil (accepted sub before))) differ
+differ_line set sub before line (inr (sqn, one, is)) differ =
+    subst (λ (xs : List (List ℕ)). AllPairs ◌≢◌ xs) (sym (accepted_one sub before line ∙ ap (λ (xs : List (List ℕ)). accepted sub before ++ xs) one))
+    (differ-push (accepted sub before) sqn differ (fresh_is_new is.row.usim (accepted sub before) sqn is.fresh))
 
--- accepted numbers were released, so they are numbers that vectors may have
-accepted_within : (set : Setting) (sub : ℕ) (lines : List LineRecord) → AreServed set [] lines → ((n : ℕ) → IsAccepting sub n lines)
-    → All (λ n. n ≤ max_seq) (numbers_accepted sub lines)
-accepted_within set sub lines served are k d k<n =
-    let numbers = numbers_accepted sub lines in
-    All-times (λ n. n ≤ max_seq) (get_or numbers k d) (numbers_of sub lines) (numbers_within set sub [] lines served)
-    ((are (get_or numbers k d)).released (times_at numbers k d k<n))
-
--- lines after others that are such
-accepting_lines : (set : Setting) (sub : ℕ) (before lines : List LineRecord) → AreServed set [] before → AreServed set before lines
-    → ((n : ℕ) → IsAccepting sub n before) → (n : ℕ) → IsAccepting sub n (before ++ lines)
-accepting_lines set sub before [] earlier served are n = subst (λ (ls : List LineRecord). IsAccepting sub n ls) (sym (append-nil before)) (are n)
-accepting_lines set sub before (line ∷ lines) earlier (first, more) are n =
-    let within = accepted_within set sub before earlier are in
-    subst (λ (ls : List LineRecord). IsAccepting sub n ls) (append_assoc before (line ∷ []) lines)
-    (accepting_lines set sub (before ++ line ∷ []) lines (AreServed-append set [] before (line ∷ []) earlier (first, tt)) more
-    (λ m. accepting_line set sub m before line within first (are m)) n)
-
--- the lines of a transcript
-pub lines_accept : (set : Setting) (sub n : ℕ) (lines : List LineRecord) → AreServed set [] lines → IsAccepting sub n lines
-lines_accept set sub n lines served =
-    accepting_lines set sub [] lines tt served (λ m. record { once = omega arith; released = λ some. absurd (omega arith) }) n
-
--- the numbers that they say were accepted are numbers that vectors may have
-pub lines_accept_within : (set : Setting) (sub : ℕ) (lines : List LineRecord) → AreServed set [] lines → All (λ n. n ≤ max_seq) (numbers_accepted sub lines)
-lines_accept_within set sub lines served = accepted_within set sub lines served (λ n. lines_accept set sub n lines served)
+-- lines after others
+differ_lines : (set : Setting) (sub : ℕ) (before lines : List LineRecord) → AreServed set [] before → AreServed set before lines → AllPairs ◌≢◌ (accepted sub before)
+    → AllPairs ◌≢◌ (accepted sub (before ++ lines))
+differ_lines set sub before [] earlier served differ = subst (λ (ls : List LineRecord). AllPairs ◌≢◌ (accepted sub ls)) (sym (append-nil before)) differ
+differ_lines set sub before (line ∷ lines) earlier (first, more) differ =
+    subst (λ (ls : List LineRecord). AllPairs ◌≢◌ (accepted sub ls)) (append_assoc before (line ∷ []) lines)
+    (differ_lines set sub (before ++ line ∷ []) lines (AreServed-append set [] before (line ∷ []) earlier (first, tt)) more
+    (differ_line set sub before line (line_accepts set sub before line (numbers_within set sub [] before earlier) first) differ))
 
 -- no USIM accepts an SQN twice
 pub accepts_none_twice : EachUsimAcceptsNoneTwice
 accepts_none_twice set reserved stop parts records lawful sub inside =
-    let lines = lines_of records in
-    let served = transcript_served set reserved stop parts records lawful in
-    let numbers = numbers_accepted sub lines in
-    subst (λ (sqns : List (List ℕ)). AllPairs ◌≢◌ sqns) (sym (accepted-numbers sub lines))
-    (sqns_differ numbers (lines_accept_within set sub lines served) (differ_from_times numbers (λ n. (lines_accept set sub n lines served).once)))
+    differ_lines set sub [] (lines_of records) tt (transcript_served set reserved stop parts records lawful) (λ i j d before within. absurd (omega arith))

@@ -15,6 +15,7 @@ use Rattle.auc_world.specs.declared.record.LineRecord.{LineRecord}
 use Rattle.auc_world.specs.declared.record.LineRecord.TheVariants.{Vector, Sync, Give}
 use Rattle.auc_world.specs.declared.record.PartRecord.{PartRecord}
 use Rattle.auc_world.specs.declared.record.PartRecord.TheVariants.{Round, Restart}
+use Rattle.auc_world.specs.declared.record.Premise.TheVariants as premise
 use Rattle.auc_world.specs.declared.record.SyncVerdict.TheVariants as verdict
 use Rattle.auc_world.specs.Given.{past_of}
 use Rattle.auc_world.specs.Limits.{Raises}
@@ -35,9 +36,9 @@ vectors from count = map (Vector 0) (numbers_after from count)
 abbrev moved : ℕ → ℕ → List LineRecord
 moved from to = Sync 0 (verdict.Moved from to) ∷ []
 
--- a round of one job, without its closings
+-- a round of one job without sessions, and without its closings
 abbrev round_of : ℕ → List LineRecord → PartRecord
-round_of number lines = Round (record { number = number; jobs = lines ∷ []; closings = [] })
+round_of number lines = Round (record { number = number; jobs = lines ∷ []; closings = []; sessions = []; premise = premise.NoSession })
 
 -- the USIM accepts the SQN of a number
 abbrev accepts : ℕ → List LineRecord
@@ -238,7 +239,7 @@ mark_has_a_lesser_sqn = refl
 
 abbrev some_records : List PartRecord
 some_records =
-    round_of 1 (moved 0 500) ∷ Restart ∷ Round (record { number = 2; jobs = (Sync 0 (verdict.InRange 0 0) ∷ []) ∷ moved 0 7 ∷ []; closings = [] })
+    round_of 1 (moved 0 500) ∷ Restart ∷ Round (record { number = 2; jobs = (Sync 0 (verdict.InRange 0 0) ∷ []) ∷ moved 0 7 ∷ []; closings = []; sessions = []; premise = premise.NoSession })
     ∷ round_of 3 (vectors 7 1) ∷ Restart ∷ []
 
 some_stretches : stretches_of 0 some_records ≡ (Moved 0 500 ∷ []) ∷ (Look 0 ∷ Moved 0 7 ∷ Drawn 8 ∷ []) ∷ [] ∷ []

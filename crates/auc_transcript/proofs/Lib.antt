@@ -1,6 +1,7 @@
 pub mod Facts
 mod ListLemmas
 mod LineLemmas
+mod EventLemmas
 mod ServedLemmas
 mod RoundLemmas
 mod CourseLemmas
@@ -12,5 +13,18 @@ mod VectorLemmas
 mod AcceptedLemmas
 mod FailureLemmas
 mod SingleLemmas
+mod GenuineLemmas
 mod RestartLemmas
+mod OneEventLemmas
+mod OneToldLemmas
+mod KeysLemmas
+mod BreachLemmas
+mod PacketLemmas
+mod WalkLemmas
+mod HandedLemmas
+mod PresentedLemmas
+mod SessionFailureLemmas
+mod StayingLemmas
+mod ReadyLemmas
+mod PlainLemmas
 mod Examples

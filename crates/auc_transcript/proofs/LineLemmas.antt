@@ -1,6 +1,6 @@
 -- For the laws: how often lines name a number of a subscriber.
-use Rattle.std.proofs.Common.{◌≡◌, ℕ, zero, suc, ◌+◌, ◌≤◌, ◌==◌, ◌||◌, Bool, true, false, cond, ◌<◌, List, [], ◌∷◌, ◌++◌, length, map, get_or, All, Contains, refl, sym, ◌∙◌, ap, subst, arith, inl, inr}
-use Rattle.std.specs.Prelude.{if◌then◌else◌, flat_map}
+use Rattle.std.proofs.Common.{◌≡◌, ℕ, zero, suc, ◌+◌, ◌≤◌, ◌==◌, ◌||◌, Bool, true, false, cond, ◌<◌, List, [], ◌∷◌, ◌++◌, length, map, get_or, All, Contains, Option, Some, None, refl, sym, ◌∙◌, ap, subst, arith, inl, inr, append_assoc}
+use Rattle.std.specs.Prelude.{if◌then◌else◌}
 use Rattle.std.proofs.Math.ListN.{get_or-map, length-map}
 use Rattle.std.proofs.lemmas.Bool.{cases_eq}
 use Rattle.std.proofs.lemmas.Bool.Decides.{nat_tests}
@@ -13,12 +13,13 @@ use Rattle.auc_history.specs.Split.{times}
 use Rattle.auc_history.proofs.Facts.{times-cons, times-append, times_at}
 use Rattle.auc_sqn.specs.Number.{max_seq, sqn_bytes}
 use Rattle.auc_sqn.proofs.Facts.{each_number_has_its_own_sqn}
-use Rattle.auc_world.specs.declared.record.GiveVerdict.{GiveVerdict}
-use Rattle.auc_world.specs.declared.record.GiveVerdict.TheVariants as given
+use Rattle.auc_vector.specs.declared.notes.NumberNote.{NumberNote}
+use Rattle.auc_vector.specs.declared.notes.NumberNote.TheVariants as number
+use Rattle.auc_world.specs.Event.{number_for, number_released, resync_for}
 use Rattle.auc_world.specs.declared.record.LineRecord.{LineRecord}
-use Rattle.auc_world.specs.declared.record.LineRecord.TheVariants.{Vector, Withheld, Exhausted, Sync, Give}
-use Rattle.auc_world.specs.Lines.{released_by, numbers_of, taken, accepted}
-use Rattle.auc_world.specs.Entries.{entries_of_line, entries_of_lines}
+use Rattle.auc_world.specs.declared.record.LineRecord.TheVariants.{Vector, Withheld, Exhausted, Sync, Give, Event}
+use Rattle.auc_world.specs.Lines.{released_by, numbers_of}
+use Rattle.auc_world.specs.Entries.{entries_of_line, entries_of_lines, entries_of_number, entries_of_resync}
 use Rattle.auc_world.specs.Given.{is_in}
 
 -- ---- how often a number stands in a list
@@ -83,6 +84,20 @@ drawn-vector : (there : Bool) (n m : ℕ) (numbers : List ℕ) (entries : List E
 drawn-vector true n m numbers entries rest = times-further n m numbers (drawn entries) rest
 drawn-vector false n m numbers entries rest = rest
 
+-- the number that an event releases is drawn
+drawn-note : (n sub : ℕ) (before : List LineRecord) (note : Option NumberNote) (numbers : List ℕ) (entries : List Entry) → times n numbers ≤ times n (drawn entries)
+    → times n (number_released note ++ numbers) ≤ times n (drawn (entries_of_number sub before note ++ entries))
+drawn-note n sub before None numbers entries rest = rest
+drawn-note n sub before (Some (number.Drew m)) numbers entries rest = times-further n m numbers (drawn entries) rest
+drawn-note n sub before (Some (number.Exhausted word)) numbers entries rest = drawn-further n numbers (entries_of_number sub before (Some (number.Exhausted word))) entries rest
+drawn-note n sub before (Some (number.Withheld m stop)) numbers entries rest = drawn-further n numbers (Drawn m ∷ []) entries rest
+
+drawn-event : (n sub : ℕ) (before : List LineRecord) (note : Option NumberNote) (synced : List Entry) (numbers : List ℕ) (entries : List Entry) → times n numbers ≤ times n (drawn entries)
+    → times n (number_released note ++ numbers) ≤ times n (drawn ((synced ++ entries_of_number sub before note) ++ entries))
+drawn-event n sub before note synced numbers entries rest =
+    let more = drawn-further n (number_released note ++ numbers) synced (entries_of_number sub before note ++ entries) (drawn-note n sub before note numbers entries rest) in
+    subst (λ (es : List Entry). times n (number_released note ++ numbers) ≤ times n (drawn es)) (sym (append_assoc synced (entries_of_number sub before note) entries)) more
+
 -- the numbers of the vectors of some lines are drawn by their entries
 pub times-numbers : (n sub : ℕ) (before lines : List LineRecord) → times n (numbers_of sub lines) ≤ times n (drawn (entries_of_lines sub before lines))
 times-numbers n sub before [] = omega arith
@@ -99,6 +114,9 @@ times-numbers n sub before (Sync s answer ∷ lines) =
     drawn-further n (numbers_of sub lines) (entries_of_line sub before (Sync s answer)) (entries_of_lines sub (before ++ Sync s answer ∷ []) lines)
     (times-numbers n sub (before ++ Sync s answer ∷ []) lines)
 times-numbers n sub before (Give s m answer ∷ lines) = times-numbers n sub (before ++ Give s m answer ∷ []) lines
+times-numbers n sub before (Event r ∷ lines) =
+    drawn-event n sub before (number_for sub r) (entries_of_resync sub before (resync_for sub r)) (numbers_of sub lines) (entries_of_lines sub (before ++ Event r ∷ []) lines)
+    (times-numbers n sub (before ++ Event r ∷ []) lines)
 
 -- ---- two lists of lines
 
@@ -106,48 +124,7 @@ times-numbers n sub before (Give s m answer ∷ lines) = times-numbers n sub (be
 pub times-numbers-append : (n sub : ℕ) (xs ys : List LineRecord) → times n (numbers_of sub (xs ++ ys)) ≡ times n (numbers_of sub xs) + times n (numbers_of sub ys)
 times-numbers-append n sub xs ys = ap (times n) (flat_map-append (released_by sub) xs ys) ∙ times-append n (numbers_of sub xs) (numbers_of sub ys)
 
--- ---- accepted numbers
-
--- the presented number, if it was accepted
-abbrev pub number_taken : ℕ → GiveVerdict → List ℕ
-number_taken n given.Accepted = n ∷ []
-number_taken n (given.Sync sqn_ms) = []
-number_taken n given.Absent = []
-
--- the number that a line says a subscriber's USIM accepted
-abbrev pub number_accepted_by : ℕ → LineRecord → List ℕ
-number_accepted_by sub (Vector s m) = []
-number_accepted_by sub (Withheld s m stop) = []
-number_accepted_by sub (Exhausted s word) = []
-number_accepted_by sub (Sync s answer) = []
-number_accepted_by sub (Give s m answer) = if s == sub then number_taken m answer else []
-
--- the numbers that a subscriber's USIM accepted
-abbrev pub numbers_accepted : ℕ → List LineRecord → List ℕ
-numbers_accepted sub lines = flat_map (number_accepted_by sub) lines
-
--- how often two lists of lines say that a number was accepted
-pub times-accepted-append : (n sub : ℕ) (xs ys : List LineRecord)
-    → times n (numbers_accepted sub (xs ++ ys)) ≡ times n (numbers_accepted sub xs) + times n (numbers_accepted sub ys)
-times-accepted-append n sub xs ys = ap (times n) (flat_map-append (number_accepted_by sub) xs ys) ∙ times-append n (numbers_accepted sub xs) (numbers_accepted sub ys)
-
--- one line before others
-accepted_further : (mine : Bool) (m : ℕ) (answer : GiveVerdict) (sqns : List (List ℕ)) (numbers : List ℕ) → sqns ≡ map sqn_bytes numbers
-    → (if mine then taken m answer else []) ++ sqns ≡ map sqn_bytes ((if mine then number_taken m answer else []) ++ numbers)
-accepted_further true m given.Accepted sqns numbers same = ap (λ (rest : List (List ℕ)). sqn_bytes m ∷ rest) same
-accepted_further true m (given.Sync sqn_ms) sqns numbers same = same
-accepted_further true m given.Absent sqns numbers same = same
-accepted_further false m answer sqns numbers same = same
-
--- the accepted SQNs are those of the accepted numbers
-pub accepted-numbers : (sub : ℕ) (lines : List LineRecord) → accepted sub lines ≡ map sqn_bytes (numbers_accepted sub lines)
-accepted-numbers sub [] = refl
-accepted-numbers sub (Vector s m ∷ lines) = accepted-numbers sub lines
-accepted-numbers sub (Withheld s m stop ∷ lines) = accepted-numbers sub lines
-accepted-numbers sub (Exhausted s word ∷ lines) = accepted-numbers sub lines
-accepted-numbers sub (Sync s answer ∷ lines) = accepted-numbers sub lines
-accepted-numbers sub (Give s m answer ∷ lines) =
-    accepted_further (s == sub) m answer (accepted sub lines) (numbers_accepted sub lines) (accepted-numbers sub lines)
+-- ---- SQNs
 
 -- the SQN of a number of a list is one of the list's SQNs
 pub Contains-sqns : (n : ℕ) (numbers : List ℕ) → 1 ≤ times n numbers → Contains (map sqn_bytes numbers) (sqn_bytes n)

@@ -97,7 +97,7 @@ parts_kept set stop at (Round jobs ∷ parts) (record_of.Round round ∷ records
     let here = kept_round set at round words (omega (arith, same, sizes))
     (λ sub n inside some.
     let splits = serves.lawful.split sub (omega (arith, inside, sizes)) in
-    let served = round_served set at.early jobs round.jobs serves.lawful.given in
+    let served = round_served set at.early jobs round.jobs serves.lawful.nets serves.lawful.given in
     let (up, down) = round_between sub (get_or at.openings sub 0) (get_or words sub 0) n round splits.once some in
     (down, All-times (λ m. m ≤ max_seq) n (numbers_of sub (all_lines round.jobs)) (numbers_within set sub at.early (all_lines round.jobs) served) some))
     is in

@@ -1,5 +1,5 @@
 -- For the laws: what the entries of a subscriber in one round cover and draw.
-use Rattle.std.proofs.Common.{◌≡◌, ℕ, ◌+◌, ◌≤◌, ◌==◌, ◌&&◌, nat_lt, nat_le, Bool, true, false, List, [], ◌∷◌, ◌++◌, get_or, refl, sym, ◌∙◌, ap, arith, min, max, append_assoc, append-nil}
+use Rattle.std.proofs.Common.{◌≡◌, ℕ, ◌+◌, ◌≤◌, ◌==◌, ◌&&◌, nat_lt, nat_le, Bool, true, false, Option, Some, None, List, [], ◌∷◌, ◌++◌, get_or, refl, sym, ◌∙◌, ap, arith, min, max, append_assoc, append-nil}
 use Rattle.std.specs.Prelude.{if◌then◌else◌}
 use Rattle.std.proofs.Math.ListN.{get_or-map}
 use Rattle.std.proofs.lemmas.Bool.Decides.{nat_tests}
@@ -10,15 +10,21 @@ use Rattle.auc_history.specs.declared.entry.Entry.TheVariants.{Drawn, Look}
 use Rattle.auc_history.specs.History.{covers, covered, drawn, drawn_by}
 use Rattle.auc_history.specs.Split.{all_entries, times}
 use Rattle.auc_history.proofs.Facts.{times-append, times-cons}
+use Rattle.auc_vector.specs.declared.notes.NumberNote.{NumberNote}
+use Rattle.auc_vector.specs.declared.notes.NumberNote.TheVariants as number
+use Rattle.auc_vector.specs.declared.notes.ResyncNote.{ResyncNote}
+use Rattle.auc_vector.specs.declared.notes.ResyncNote.TheVariants as resync
+use Rattle.auc_world.specs.Event.{number_for, number_released, number_withheld, resync_for}
 use Rattle.auc_world.specs.declared.record.LineRecord.{LineRecord}
-use Rattle.auc_world.specs.declared.record.LineRecord.TheVariants.{Vector, Withheld, Exhausted, Sync, Give}
+use Rattle.auc_world.specs.declared.record.LineRecord.TheVariants.{Vector, Withheld, Exhausted, Sync, Give, Event}
 use Rattle.auc_world.specs.declared.record.RoundRecord.{RoundRecord}
 use Rattle.auc_world.specs.declared.record.SyncVerdict.{SyncVerdict}
 use Rattle.auc_world.specs.declared.record.SyncVerdict.TheVariants as verdict
 use Rattle.auc_world.specs.Lines.{numbers_of, withheld_of, all_lines}
-use Rattle.auc_world.specs.Entries.{is_reported, entries_of_verdict, entries_of_line, entries_of_lines, entries_of_jobs}
+use Rattle.auc_world.specs.Entries.{is_reported, entries_of_verdict, entries_of_resync, entries_of_number, entries_of_line, entries_of_lines, entries_of_jobs}
 use Rattle.auc_world.specs.Setting.{Setting}
 use Rattle.auc_world.specs.Transcript.{reopened, entries_of}
+use Rattle.auc_transcript.proofs.EventLemmas.{IsNoteServed}
 use Rattle.auc_transcript.proofs.LineLemmas.{times-numbers}
 use Rattle.auc_transcript.proofs.ServedLemmas.{AreServed}
 
@@ -136,6 +142,34 @@ no_draw_of false n sub before answer = refl
 told_apart : (n many : ℕ) (xs ys : List Entry) → times n (drawn xs) ≡ 0 → times n (drawn ys) ≤ many → times n (drawn (xs ++ ys)) ≤ many
 told_apart n many xs ys none rest = let cut = times-drawn-append n xs ys in omega (arith, cut, none, rest)
 
+-- an event: its resynchronisation draws nothing, and what its number draws it releases or withholds
+no_resync : (n sub : ℕ) (before : List LineRecord) (note : Option ResyncNote) → times n (drawn (entries_of_resync sub before note)) ≡ 0
+no_resync n sub before None = refl
+no_resync n sub before (Some (resync.Moved from to)) = refl
+no_resync n sub before (Some (resync.InRange seen seq)) = no_look (is_reported sub seen before) n seen
+no_resync n sub before (Some (resync.Beyond seen seq)) = no_look (is_reported sub seen before) n seen
+no_resync n sub before (Some resync.BadAuts) = refl
+
+told_number : (n sub : ℕ) (before : List LineRecord) (note : Option NumberNote) (numbers withheld : List ℕ) (entries : List Entry) → n ≤ max_seq → IsNoteServed note
+    → times n (drawn entries) ≤ times n numbers + times n withheld
+    → times n (drawn (entries_of_number sub before note ++ entries)) ≤ times n (number_released note ++ numbers) + times n (number_withheld note ++ withheld)
+told_number n sub before None numbers withheld entries within is rest = rest
+told_number n sub before (Some (number.Drew m)) numbers withheld entries within is rest = told_vector true n m (times n withheld) numbers entries rest
+told_number n sub before (Some (number.Exhausted word)) numbers withheld entries within is rest =
+    told_apart n (times n numbers + times n withheld) (entries_of_number sub before (Some (number.Exhausted word))) entries (no_mark true (is_reported sub word before) n word within is) rest
+told_number n sub before (Some (number.Withheld m stop)) numbers withheld entries within is rest = told_withheld true n m (times n numbers) withheld entries rest
+
+told_event : (n sub : ℕ) (before : List LineRecord) (synced : Option ResyncNote) (note : Option NumberNote) (numbers withheld : List ℕ) (entries : List Entry) → n ≤ max_seq
+    → IsNoteServed note → times n (drawn entries) ≤ times n numbers + times n withheld
+    → times n (drawn ((entries_of_resync sub before synced ++ entries_of_number sub before note) ++ entries)) ≤ times n (number_released note ++ numbers) + times n (number_withheld note ++ withheld)
+told_event n sub before synced note numbers withheld entries within is rest =
+    let here = entries_of_resync sub before synced in
+    let of_number = entries_of_number sub before note in
+    let cut = ap (λ (es : List Entry). times n (drawn es)) (append_assoc here of_number entries) in
+    let apart = told_apart n (times n (number_released note ++ numbers) + times n (number_withheld note ++ withheld)) here (of_number ++ entries) (no_resync n sub before synced)
+    (told_number n sub before note numbers withheld entries within is rest) in
+    omega (arith, cut, apart)
+
 -- what lines draw, they release or withhold
 drawn_told : (set : Setting) (n sub : ℕ) (start before lines : List LineRecord) → n ≤ max_seq → AreServed set start lines
     → times n (drawn (entries_of_lines sub before lines)) ≤ times n (numbers_of sub lines) + times n (withheld_of sub lines)
@@ -156,6 +190,9 @@ drawn_told set n sub start before (Sync s answer ∷ lines) within (is, more) =
     (drawn_told set n sub (start ++ Sync s answer ∷ []) (before ++ Sync s answer ∷ []) lines within more)
 drawn_told set n sub start before (Give s m answer ∷ lines) within (is, more) =
     drawn_told set n sub (start ++ Give s m answer ∷ []) (before ++ Give s m answer ∷ []) lines within more
+drawn_told set n sub start before (Event r ∷ lines) within (is, more) =
+    told_event n sub before (resync_for sub r) (number_for sub r) (numbers_of sub lines) (withheld_of sub lines) (entries_of_lines sub (before ++ Event r ∷ []) lines) within
+    (is.numbers sub) (drawn_told set n sub (start ++ Event r ∷ []) (before ++ Event r ∷ []) lines within more)
 
 -- what a round draws, it releases or withholds
 pub round_told : (set : Setting) (n sub : ℕ) (early : List LineRecord) (round : RoundRecord) → n ≤ max_seq → AreServed set early (all_lines round.jobs)

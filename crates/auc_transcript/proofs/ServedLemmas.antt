@@ -1,9 +1,11 @@
 -- For the laws: what each line of a lawful transcript is, by all lines before it.
-use Rattle.std.proofs.Common.{◌≡◌, ◌≢◌, ℕ, zero, suc, ◌%◌, ◌≤◌, Bool, true, false, Option, List, [], ◌∷◌, ◌++◌, Some, refl, sym, subst, arith, inl, inr, append_assoc, append-nil}
+use Rattle.std.proofs.Common.{◌≡◌, ◌≢◌, ℕ, zero, suc, ◌%◌, ◌≤◌, Bool, true, false, Option, List, [], ◌∷◌, ◌++◌, Some, None, refl, sym, subst, arith, inl, inr, append_assoc, append-nil}
 use Rattle.std.specs.Prelude.{slice_get}
 use Rattle.std.proofs.lemmas.Bool.{or_cases}
 use Rattle.auc_edge.specs.declared.stop.Stop.{Stop}
 use Rattle.auc_history.specs.Split.{times}
+use Rattle.auc_lines.specs.declared.part.End.{End}
+use Rattle.auc_lines.specs.declared.part.End.TheVariants as end
 use Rattle.auc_lines.specs.declared.part.Line.{Line}
 use Rattle.auc_lines.specs.declared.part.Line.TheVariants as line
 use Rattle.auc_lines.specs.declared.part.Part.{Part}
@@ -14,15 +16,20 @@ use Rattle.auc_subs.specs.declared.row.Row.{Row}
 use Rattle.auc_world.specs.declared.record.GiveVerdict.{GiveVerdict}
 use Rattle.auc_world.specs.declared.record.GiveVerdict.TheVariants as given
 use Rattle.auc_world.specs.declared.record.LineRecord.{LineRecord}
-use Rattle.auc_world.specs.declared.record.LineRecord.TheVariants.{Vector, Withheld, Exhausted, Sync, Give}
+use Rattle.auc_world.specs.declared.record.LineRecord.TheVariants.{Vector, Withheld, Exhausted, Sync, Give, Event}
 use Rattle.auc_world.specs.declared.record.PartRecord.{PartRecord}
 use Rattle.auc_world.specs.declared.record.PartRecord.TheVariants as record_of
 use Rattle.auc_world.specs.declared.record.SyncVerdict.{SyncVerdict}
 use Rattle.auc_world.specs.declared.record.SyncVerdict.TheVariants as verdict
 use Rattle.auc_world.specs.Lines.{numbers_of, accepted, all_lines}
-use Rattle.auc_world.specs.Given.{Before, DrawGives, VectorsFollow, is_released, past_of, past_before, UsimAnswers, IsGiven, LineGives, behind, JobGives, JobsGive}
+use Rattle.auc_world.specs.Given.{Before, DrawGives, EventGives, PlainGives, RelayGives, VectorsFollow, is_released, packet_of, past_of, past_before, UsimAnswers, IsGiven, LineGives, behind, JobGives, JobsGive}
+use Rattle.auc_world.specs.Net.{Net, other}
+use Rattle.auc_world.specs.Start.{start_of}
+use Rattle.auc_world.specs.declared.event.Event.{Event as Happens}
+use Rattle.auc_world.specs.declared.event.Event.TheVariants as event
 use Rattle.auc_world.specs.Setting.{Setting}
 use Rattle.auc_world.specs.Transcript.{Course, Leads, after_round, after_restart, lines_of}
+use Rattle.auc_transcript.proofs.EventLemmas.{IsEventServed, all_before, event_served}
 use Rattle.auc_transcript.proofs.LineLemmas.{times-from_is_in, times-numbers-append}
 
 -- a presented vector was released, and its USIM answered by all that it had accepted
@@ -33,13 +40,14 @@ pub record IsAnswered (set : Setting) (before : List LineRecord) (sub n : ℕ) (
   pub answers : UsimAnswers (verdict_of (past_of row.usim (accepted sub before)) n (n % 32)) (past_of row.usim (accepted sub before)) answer
 
 -- what a line is, after the lines before it: a vector has a number, the word of a spent subscriber is no number
--- that one may still have, and a presented vector was answered
+-- that one may still have, a presented vector was answered, and an event was served
 abbrev pub IsServed : Setting → List LineRecord → LineRecord → Type 0
 IsServed set before (Vector s m) = m ≤ max_seq
 IsServed set before (Withheld s n stop) = Unit {0}
 IsServed set before (Exhausted s word) = max_seq ≤ word
 IsServed set before (Sync s answer) = Unit {0}
 IsServed set before (Give s n answer) = answer ≢ given.Absent → IsAnswered set before s n answer
+IsServed set before (Event r) = IsEventServed set before r.result
 
 -- what lines are, one after the other
 abbrev pub AreServed : Setting → List LineRecord → List LineRecord → Type 0
@@ -75,6 +83,7 @@ draw_served set before sub (suc count) (Exhausted s word ∷ lines) (same, spent
     (spent, subst (λ (ls : List LineRecord). AreServed set (before ++ Exhausted s word ∷ []) ls) (sym none) tt)
 draw_served set before sub (suc count) (Sync s answer ∷ lines) gives = absurd gives
 draw_served set before sub (suc count) (Give s n answer ∷ lines) gives = absurd gives
+draw_served set before sub (suc count) (Event r ∷ lines) gives = absurd gives
 
 -- what follows a verdict
 follows_served : (set : Setting) (before : List LineRecord) (sub count : ℕ) (answer : SyncVerdict) (lines : List LineRecord)
@@ -83,10 +92,6 @@ follows_served set before sub count (verdict.Moved seen seq_ms) lines follows = 
 follows_served set before sub count (verdict.InRange seen seq_ms) lines follows = draw_served set before sub count lines follows
 follows_served set before sub count (verdict.Beyond seen seq_ms) lines follows = subst (λ (ls : List LineRecord). AreServed set before ls) (sym follows) tt
 follows_served set before sub count verdict.WrongMac lines follows = subst (λ (ls : List LineRecord). AreServed set before ls) (sym follows) tt
-
--- all earlier lines
-abbrev all_before : Before → List LineRecord
-all_before place = place.early ++ place.beside ++ place.own
 
 -- a released number stands among the numbers of all lines before
 released_before : (place : Before) (sub n : ℕ) → is_released place sub n ≡ true → 1 ≤ times n (numbers_of sub (all_before place))
@@ -105,40 +110,80 @@ given_answered set place sub n row answer false is there given present = absurd 
 given_answered set place sub n row answer true is there given present =
     record { row = row; there = there; released = released_before place sub n is; answers = given }
 
+-- the lines before what comes after some lines of the same job
+all_behind : (place : Before) (front : List LineRecord) → all_before (behind place front) ≡ all_before place ++ front
+all_behind place front = sym (append_assoc (place.early ++ place.beside) place.own front)
+
+-- some lines, and what comes after them
+served_then : (set : Setting) (place : Before) (front rest : List LineRecord) → AreServed set (all_before place) front → AreServed set (all_before (behind place front)) rest
+    → AreServed set (all_before place) (front ++ rest)
+served_then set place front rest first more =
+    AreServed-append set (all_before place) front rest first (subst (λ (ls : List LineRecord). AreServed set ls rest) (all_behind place front) more)
+
+-- an event
+event_line_served : (set : Setting) (place : Before) (net next : Net) (e : Happens) (lines : List LineRecord) → EventGives set place net e lines next
+    → AreServed set (all_before place) lines
+event_line_served set place net next e lines gives =
+    subst (λ (ls : List LineRecord). AreServed set (all_before place) ls) (sym gives.lines_are) (event_served set place net e gives.told gives.notes gives.centre gives.usim, tt)
+
+-- deliveries until one makes no packet
+relay_served : (set : Setting) (place : Before) (net next : Net) (session : ℕ) (at' : End) (o : Option ℕ) (lines : List LineRecord)
+    → RelayGives set place net session at' o lines next → AreServed set (all_before place) lines
+relay_served set place net next session at' None [] gives = tt
+relay_served set place net next session at' None (line ∷ lines) gives = absurd gives
+relay_served set place net next session at' (Some packet) [] gives = absurd gives
+relay_served set place net next session at' (Some packet) (line ∷ lines) (mid, first, more) =
+    served_then set place (line ∷ []) lines (event_line_served set place net mid (event.Deliver session at' packet) (line ∷ []) first)
+    (relay_served set (behind place (line ∷ [])) mid next session (other at') (packet_of line) lines more)
+
+plain_served : (set : Setting) (place : Before) (net next : Net) (session : ℕ) (lines : List LineRecord) → PlainGives set place net session lines next
+    → AreServed set (all_before place) lines
+plain_served set place net next session [] gives = absurd gives
+plain_served set place net next session (line ∷ lines) (mid, first, more) =
+    served_then set place (line ∷ []) lines (event_line_served set place net mid (event.Start session) (line ∷ []) first)
+    (relay_served set (behind place (line ∷ [])) mid next session end.Peer (packet_of line) lines more)
+
 -- what a line of a job gives
-line_served : (set : Setting) (place : Before) (l : Line) (lines : List LineRecord) → LineGives set place l lines → AreServed set (all_before place) lines
-line_served set place (line.Draw sub count) lines gives = draw_served set (all_before place) sub count lines gives
-line_served set place (line.Sync sub seq bit count) lines gives =
+line_served : (set : Setting) (place : Before) (net next : Net) (l : Line) (lines : List LineRecord) → LineGives set place net l lines next → AreServed set (all_before place) lines
+line_served set place net next (line.Draw sub count) lines (gives, is) = draw_served set (all_before place) sub count lines gives
+line_served set place net next (line.Sync sub seq bit count) lines (gives, is) =
     subst (λ (ls : List LineRecord). AreServed set (all_before place) ls) (sym gives.lines_are)
     (tt, follows_served set (all_before place ++ Sync sub gives.answer ∷ []) sub count gives.answer gives.more gives.follows)
-line_served set place (line.Give sub n) lines gives =
+line_served set place net next (line.Give sub n) lines (gives, is) =
     subst (λ (ls : List LineRecord). AreServed set (all_before place) ls) (sym gives.lines_are)
     (given_answered set place sub n gives.row gives.answer (is_released place sub n) refl gives.there gives.given, tt)
+line_served set place net next (line.Session session sub) lines gives = event_line_served set place net next (event.Open session sub) lines gives
+line_served set place net next (line.Start session) lines gives = event_line_served set place net next (event.Start session) lines gives
+line_served set place net next (line.Deliver session at' packet) lines gives = event_line_served set place net next (event.Deliver session at' packet) lines gives
+line_served set place net next (line.Repeat session) lines gives = event_line_served set place net next (event.Repeat session) lines gives
+line_served set place net next (line.GiveUp session at') lines gives = event_line_served set place net next (event.GiveUp session at') lines gives
+line_served set place net next (line.Plain session) lines gives = plain_served set place net next session lines gives
 
 -- what a job gives
-job_served : (set : Setting) (place : Before) (job : List Line) (records : List LineRecord) → JobGives set place job records → AreServed set (all_before place) records
-job_served set place [] records gives = subst (λ (ls : List LineRecord). AreServed set (all_before place) ls) (sym gives) tt
-job_served set place (l ∷ job) records (front, rest, cut, gives, more) =
+job_served : (set : Setting) (place : Before) (net last : Net) (job : List Line) (records : List LineRecord) → JobGives set place net job records last
+    → AreServed set (all_before place) records
+job_served set place net last [] records (none, is) = subst (λ (ls : List LineRecord). AreServed set (all_before place) ls) (sym none) tt
+job_served set place net last (l ∷ job) records (front, rest, next, cut, gives, more) =
     subst (λ (ls : List LineRecord). AreServed set (all_before place) ls) (sym cut)
-    (AreServed-append set (all_before place) front rest (line_served set place l front gives)
-    (subst (λ (ls : List LineRecord). AreServed set ls rest) (sym (append_assoc (place.early ++ place.beside) place.own front)) (job_served set (behind place front) job rest more)))
+    (served_then set place front rest (line_served set place net next l front gives) (job_served set (behind place front) next last job rest more))
 
 -- what the jobs of a round give
-pub jobs_served : (set : Setting) (early beside : List LineRecord) (jobs : List (List Line)) (records : List (List LineRecord))
-    → JobsGive set early beside jobs records → AreServed set (early ++ beside) (all_lines records)
-jobs_served set early beside [] records gives = subst (λ (rs : List (List LineRecord)). AreServed set (early ++ beside) (all_lines rs)) (sym gives) tt
-jobs_served set early beside (job ∷ jobs) [] gives = absurd gives
-jobs_served set early beside (job ∷ jobs) (lines ∷ records) (gives, more) =
-    let first = job_served set (record { early = early; beside = beside; own = [] }) job lines gives in
+pub jobs_served : (set : Setting) (early beside : List LineRecord) (jobs : List (List Line)) (records : List (List LineRecord)) (nets : List Net)
+    → JobsGive set early beside jobs records nets → AreServed set (early ++ beside) (all_lines records)
+jobs_served set early beside [] records nets (none, is) = subst (λ (rs : List (List LineRecord)). AreServed set (early ++ beside) (all_lines rs)) (sym none) tt
+jobs_served set early beside (job ∷ jobs) [] nets gives = absurd gives
+jobs_served set early beside (job ∷ jobs) (lines ∷ records) [] gives = absurd gives
+jobs_served set early beside (job ∷ jobs) (lines ∷ records) (net ∷ nets) (gives, more) =
+    let first = job_served set (record { early = early; beside = beside; own = [] }) (start_of set job) net job lines gives in
     AreServed-append set (early ++ beside) lines (all_lines records)
     (subst (λ (ls : List LineRecord). AreServed set ls lines) (append-nil (early ++ beside)) first)
-    (subst (λ (ls : List LineRecord). AreServed set ls (all_lines records)) (sym (append_assoc early beside lines)) (jobs_served set early (beside ++ lines) jobs records more))
+    (subst (λ (ls : List LineRecord). AreServed set ls (all_lines records)) (sym (append_assoc early beside lines)) (jobs_served set early (beside ++ lines) jobs records nets more))
 
 -- what a round has, after the lines of earlier rounds
-pub round_served : (set : Setting) (early : List LineRecord) (jobs : List (List Line)) (records : List (List LineRecord)) → JobsGive set early [] jobs records
-    → AreServed set early (all_lines records)
-round_served set early jobs records gives =
-    subst (λ (ls : List LineRecord). AreServed set ls (all_lines records)) (append-nil early) (jobs_served set early [] jobs records gives)
+pub round_served : (set : Setting) (early : List LineRecord) (jobs : List (List Line)) (records : List (List LineRecord)) (nets : List Net)
+    → JobsGive set early [] jobs records nets → AreServed set early (all_lines records)
+round_served set early jobs records nets gives =
+    subst (λ (ls : List LineRecord). AreServed set ls (all_lines records)) (append-nil early) (jobs_served set early [] jobs records nets gives)
 
 -- what the parts of a lawful transcript have
 pub parts_served : (set : Setting) (stop : Option Stop) (at : Course) (parts : List Part) (records : List PartRecord) (end : Course)
@@ -147,7 +192,7 @@ parts_served set stop at [] records end (none, same) = subst (λ (rs : List Part
 parts_served set stop at (part ∷ parts) [] end leads = absurd leads
 parts_served set stop at (Round jobs ∷ parts) (record_of.Round round ∷ records) end (next, serves, rest) =
     let more = subst (λ (c : Course). Leads set stop c parts records end) serves.leads rest in
-    AreServed-append set at.early (all_lines round.jobs) (lines_of records) (round_served set at.early jobs round.jobs serves.lawful.given)
+    AreServed-append set at.early (all_lines round.jobs) (lines_of records) (round_served set at.early jobs round.jobs serves.lawful.nets serves.lawful.given)
     (parts_served set stop (after_round at round serves.words) parts records end more)
 parts_served set stop at (Round jobs ∷ parts) (record_of.Restart ∷ records) end (next, serves, rest) = absurd serves
 parts_served set stop at (Restart ∷ parts) (record_of.Round round ∷ records) end (next, serves, rest) = absurd serves

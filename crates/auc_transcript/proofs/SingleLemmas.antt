@@ -1,26 +1,26 @@
 -- The law of failures without a restart: the rounds are one stretch, and its periods are those between moves.
-use Rattle.std.proofs.Common.{◌≡◌, ℕ, ◌≤◌, ◌⊎◌, ◌&&◌, ◌||◌, ◌↔◌, nat_le, not, Bool, true, false, cond, List, [], ◌∷◌, length, get_or, filter, map, All, refl, sym, ◌∙◌, ap, subst, arith, inl, inr, append-nil}
+use Rattle.std.proofs.Common.{◌≡◌, ℕ, ◌≤◌, ◌⊎◌, ◌&&◌, ◌||◌, ◌↔◌, nat_le, not, Bool, true, false, cond, List, [], ◌∷◌, length, filter, map, All, refl, sym, ◌∙◌, ap, subst, arith, inl, inr, append-nil}
 use Rattle.std.proofs.lemmas.Bool.{cond-true, leb-true}
-use Rattle.std.proofs.lemmas.List.Elements.{All-map, All-weaker}
+use Rattle.std.proofs.lemmas.List.Elements.{All-weaker}
 use Rattle.std.proofs.lemmas.Option.{slice_get_within}
 use Rattle.auc_history.specs.declared.entry.Entry.{Entry}
 use Rattle.auc_history.specs.History.{drawn}
 use Rattle.auc_history.specs.Split.{all_entries, times}
-use Rattle.auc_history.proofs.Facts.{times_at}
-use Rattle.auc_sqn.specs.Number.{seq_of, sqn_bytes}
+use Rattle.auc_sqn.specs.Number.{max_seq, seq_of, sqn_bytes}
 use Rattle.auc_world.specs.declared.record.GiveVerdict.{GiveVerdict}
 use Rattle.auc_world.specs.declared.record.PartRecord.TheVariants as record_of
 use Rattle.auc_world.specs.declared.record.RoundRecord.{RoundRecord}
 use Rattle.auc_world.specs.Given.{is_in}
+use Rattle.auc_world.specs.Lines.{accepted}
 use Rattle.auc_world.specs.Transcript.{entries_of, before_first, stretches_of}
 use Rattle.auc_transcript.specs.Headline.{is_moved, is_later, is_one_period, place_in, place_of, FailsByPlace, IsFailure, IsGenuine, IsInReach}
 use Rattle.auc_transcript.specs.Rounds.{entries_of_rounds, is_of_later_period, is_of_one_period, place_in_period, FailsByPlaceInRounds, IsInReachInRounds, EachFailureInRoundsIsByPlace}
-use Rattle.auc_transcript.proofs.FailureLemmas.{AreDrawn, drawn_within, presented_drawn, each_failure_is_by_place}
-use Rattle.auc_transcript.proofs.LineLemmas.{accepted-numbers, numbers_accepted, Contains-from_times, is_in-from_times, times-from_sqns}
+use Rattle.auc_transcript.proofs.FailureLemmas.{AreDrawn, drawn_within, genuine_numbers, presented_drawn, each_failure_is_by_place}
+use Rattle.auc_transcript.proofs.LineLemmas.{is_in-from_times, times-from_sqns}
 use Rattle.auc_transcript.proofs.PlaceLemmas.{not_moved_down}
 
 -- the stretches of rounds alone
-one_stretch : (sub : ℕ) (rounds : List RoundRecord) → stretches_of sub (map record_of.Round rounds) ≡ entries_of_rounds sub rounds ∷ []
+pub one_stretch : (sub : ℕ) (rounds : List RoundRecord) → stretches_of sub (map record_of.Round rounds) ≡ entries_of_rounds sub rounds ∷ []
 one_stretch sub [] = refl
 one_stretch sub (round ∷ rounds) = ap (before_first (entries_of sub round)) (one_stretch sub rounds)
 
@@ -117,19 +117,11 @@ from_rounds entries numbers n are fails =
       later = omega (arith, later, place_m, place_n);
     }
 
--- each accepted SQN was drawn for the subscriber
-all_genuine : (stretches : List (List Entry)) (numbers : List ℕ) (n : ℕ) → AreDrawn stretches numbers n → All (IsGenuine stretches) (map sqn_bytes numbers)
-all_genuine stretches numbers n are =
-    All-map (IsGenuine stretches) sqn_bytes numbers
-    (λ k d k<n.
-    let (within, there) = are.each (get_or numbers k d) (inr (times_at numbers k d k<n)) in
-    (get_or numbers k d, within, Contains-from_times (get_or numbers k d) (drawn (all_entries stretches)) there, refl))
-
 -- a number in reach
 reach_from_rounds : (entries : List Entry) (opening : ℕ) (numbers : List ℕ) (n : ℕ) → AreDrawn (entries ∷ []) numbers n
     → IsInReachInRounds entries opening (map sqn_bytes numbers) n → IsInReach (entries ∷ []) opening (map sqn_bytes numbers) n
 reach_from_rounds entries opening numbers n are reach = record {
-  genuine = all_genuine (entries ∷ []) numbers n are;
+  genuine = subst (λ (es : List Entry). All (IsGenuine es) (map sqn_bytes numbers)) (sym (append-nil entries)) reach.genuine;
   earlier = All-weaker (λ sqn. is_of_later_period entries n (seq_of sqn) ≡ false) (λ sqn. is_later (entries ∷ []) n (seq_of sqn) ≡ false)
       (λ sqn none. not_later_in_one entries n (seq_of sqn) none) (map sqn_bytes numbers) reach.earlier;
   near = reach.near;
@@ -137,7 +129,7 @@ reach_from_rounds entries opening numbers n are reach = record {
 }
 
 -- the law of one stretch
-fails_in_one : (entries : List Entry) (opening : ℕ) (numbers : List ℕ) (n : ℕ) (answer : GiveVerdict) → AreDrawn (entries ∷ []) numbers n
+pub fails_in_one : (entries : List Entry) (opening : ℕ) (numbers : List ℕ) (n : ℕ) (answer : GiveVerdict) → AreDrawn (entries ∷ []) numbers n
     → (IsInReach (entries ∷ []) opening (map sqn_bytes numbers) n → IsFailure answer ↔ FailsByPlace (entries ∷ []) (map sqn_bytes numbers) n)
     → IsInReachInRounds entries opening (map sqn_bytes numbers) n → IsFailure answer ↔ FailsByPlaceInRounds entries (map sqn_bytes numbers) n
 fails_in_one entries opening numbers n answer are law reach =
@@ -146,16 +138,19 @@ fails_in_one entries opening numbers n answer are law reach =
 
 -- each released vector in reach of a transcript without a restart fails exactly by its place
 pub each_failure_in_rounds_is_by_place : EachFailureInRoundsIsByPlace
-each_failure_in_rounds_is_by_place set reserved stop parts rounds lawful before sub n answer row presented there =
+each_failure_in_rounds_is_by_place set reserved stop parts rounds lawful before sub n answer row presented there reach =
     let records = map record_of.Round rounds in
     let entries = entries_of_rounds sub rounds in
-    let numbers = numbers_accepted sub before in
     let stretches = one_stretch sub rounds in
-    let sqns = accepted-numbers sub before in
-    let drawn_ones = presented_drawn set reserved stop parts records before sub n answer lawful (slice_get_within set.rows sub row there) presented in
+    let of_drawn = genuine_numbers entries (accepted sub before) reach.genuine in
+    let numbers = of_drawn.numbers in
+    let sqns = of_drawn.same in
+    let whole : entries ≡ all_entries (stretches_of sub records) = sym (append-nil entries) ∙ ap all_entries (sym stretches) in
+    let each = subst (λ (es : List Entry). All (λ m. (m ≤ max_seq) × (1 ≤ times m (drawn es))) numbers) whole of_drawn.each in
+    let drawn_ones = presented_drawn set reserved stop parts records before sub n answer numbers lawful (slice_get_within set.rows sub row there) presented each in
     let law = each_failure_is_by_place set reserved stop parts records lawful before sub n answer row presented there in
     let are = subst (λ (ss : List (List Entry)). AreDrawn ss numbers n) stretches drawn_ones in
     let of_numbers = subst (λ (xs : List (List ℕ)). IsInReach (stretches_of sub records) row.usim xs n → IsFailure answer ↔ FailsByPlace (stretches_of sub records) xs n) sqns law in
     let of_one = subst (λ (ss : List (List Entry)). IsInReach ss row.usim (map sqn_bytes numbers) n → IsFailure answer ↔ FailsByPlace ss (map sqn_bytes numbers) n) stretches of_numbers in
     subst (λ (xs : List (List ℕ)). IsInReachInRounds entries row.usim xs n → IsFailure answer ↔ FailsByPlaceInRounds entries xs n) (sym sqns)
-    (fails_in_one entries row.usim numbers n answer are of_one)
+    (fails_in_one entries row.usim numbers n answer are of_one) reach

@@ -100,7 +100,7 @@ above_round set sub opening early jobs openings words stop round [] lawful stret
 above_round set sub opening early jobs openings words stop round (next ∷ records) lawful [] same go = absurd go
 above_round set sub opening early jobs openings words stop round (next ∷ records) lawful (entries ∷ more) same ((high, covers), above, others, are) = record {
   above = λ m n low within some there.
-      let told = round_told set m sub early round low (round_served set early jobs round.jobs lawful.given) in
+      let told = round_told set m sub early round low (round_served set early jobs round.jobs lawful.nets lawful.given) in
       let none = ap (times m) (lawful.withheld sub) in
       let cut = times-numbers-append m sub early (all_lines round.jobs) in
       above.above m n low within (omega (arith, told, none, cut, some)) there;

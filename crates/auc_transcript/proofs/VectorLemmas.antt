@@ -1,5 +1,5 @@
 -- The law of vectors: no two vectors of a subscriber have the same SQN.
-use Rattle.std.proofs.Common.{◌≡◌, ◌≢◌, ℕ, ◌<◌, ◌≤◌, ◌==◌, ◌&&◌, nat_lt, nat_le, min, Bool, true, false, Option, List, [], ◌∷◌, ◌++◌, length, get_or, map, All, AllPairs, ◌∙◌, ap, subst, arith, inl, inr, append_assoc, append-nil}
+use Rattle.std.proofs.Common.{◌≡◌, ◌≢◌, ℕ, ◌<◌, ◌≤◌, ◌==◌, ◌&&◌, nat_lt, nat_le, min, Bool, true, false, Option, Some, None, List, [], ◌∷◌, ◌++◌, length, get_or, map, All, AllPairs, ◌∙◌, ap, subst, arith, inl, inr, append_assoc, append-nil}
 use Rattle.std.specs.Prelude.{if◌then◌else◌}
 use Rattle.std.proofs.Math.ListN.{length-map}
 use Rattle.std.proofs.lemmas.Bool.{cases_lt}
@@ -11,18 +11,22 @@ use Rattle.auc_history.specs.Split.{times}
 use Rattle.auc_history.proofs.Facts.{differ_from_times, AllPairs-cons, AllPairs-head, AllPairs-tail, times-drawn}
 use Rattle.auc_sqn.specs.Number.{sqn_bytes, max_seq}
 use Rattle.auc_sqn.proofs.Facts.{each_number_has_its_own_sqn}
+use Rattle.auc_vector.specs.declared.notes.NumberNote.{NumberNote}
+use Rattle.auc_vector.specs.declared.notes.NumberNote.TheVariants as number
 use Rattle.auc_lines.specs.declared.part.Part.{Part}
 use Rattle.auc_lines.specs.declared.part.Part.TheVariants.{Round, Restart}
 use Rattle.auc_world.specs.declared.record.LineRecord.{LineRecord}
-use Rattle.auc_world.specs.declared.record.LineRecord.TheVariants.{Vector, Withheld, Exhausted, Sync, Give}
+use Rattle.auc_world.specs.declared.record.LineRecord.TheVariants.{Vector, Withheld, Exhausted, Sync, Give, Event}
 use Rattle.auc_world.specs.declared.record.PartRecord.{PartRecord}
 use Rattle.auc_world.specs.declared.record.PartRecord.TheVariants as record_of
 use Rattle.auc_world.specs.declared.record.RoundRecord.{RoundRecord}
+use Rattle.auc_world.specs.Event.{number_for, number_released}
 use Rattle.auc_world.specs.Lines.{numbers_of, all_lines}
 use Rattle.auc_world.specs.Limits.{opened}
 use Rattle.auc_world.specs.Setting.{Setting}
 use Rattle.auc_world.specs.Transcript.{Course, Leads, IsLawful, after_round, after_restart, beginning, reopened, lines_of, entries_of}
 use Rattle.auc_transcript.specs.Headline.{EachTranscriptKeepsNumbersApart}
+use Rattle.auc_transcript.proofs.EventLemmas.{IsNoteServed}
 use Rattle.auc_transcript.proofs.LineLemmas.{All-times, times-numbers-append}
 use Rattle.auc_world.proofs.Facts.{length-opened, opened_above}
 use Rattle.auc_transcript.proofs.ServedLemmas.{AreServed, round_served, parts_served}
@@ -44,6 +48,13 @@ within_one : (there : Bool) (n : ℕ) → n ≤ max_seq → All (λ m. m ≤ max
 within_one true n within = All-cons (λ m. m ≤ max_seq) n [] within (All-nil (λ m. m ≤ max_seq))
 within_one false n within = All-nil (λ m. m ≤ max_seq)
 
+-- the number that an event releases
+released_within : (note : Option NumberNote) → IsNoteServed note → All (λ m. m ≤ max_seq) (number_released note)
+released_within None is = All-nil (λ m. m ≤ max_seq)
+released_within (Some (number.Drew n)) is = All-cons (λ m. m ≤ max_seq) n [] is (All-nil (λ m. m ≤ max_seq))
+released_within (Some (number.Exhausted word)) is = All-nil (λ m. m ≤ max_seq)
+released_within (Some (number.Withheld n stop)) is = All-nil (λ m. m ≤ max_seq)
+
 -- the numbers of all vectors are numbers that vectors may have
 pub numbers_within : (set : Setting) (sub : ℕ) (before lines : List LineRecord) → AreServed set before lines → All (λ n. n ≤ max_seq) (numbers_of sub lines)
 numbers_within set sub before [] served = All-nil (λ n. n ≤ max_seq)
@@ -54,6 +65,9 @@ numbers_within set sub before (Withheld s n stop ∷ lines) (is, more) = numbers
 numbers_within set sub before (Exhausted s word ∷ lines) (is, more) = numbers_within set sub (before ++ Exhausted s word ∷ []) lines more
 numbers_within set sub before (Sync s answer ∷ lines) (is, more) = numbers_within set sub (before ++ Sync s answer ∷ []) lines more
 numbers_within set sub before (Give s n answer ∷ lines) (is, more) = numbers_within set sub (before ++ Give s n answer ∷ []) lines more
+numbers_within set sub before (Event r ∷ lines) (is, more) =
+    All-append (λ n. n ≤ max_seq) (number_released (number_for sub r)) (numbers_of sub lines) (released_within (number_for sub r) (is.numbers sub))
+    (numbers_within set sub (before ++ Event r ∷ []) lines more)
 
 -- what the lines of a lawful transcript are
 pub transcript_served : (set : Setting) (reserved : List ℕ) (stop : Option Stop) (parts : List Part) (records : List PartRecord) → IsLawful set reserved stop parts records
@@ -136,7 +150,7 @@ parts_apart set stop sub at (Round jobs ∷ parts) (record_of.Round round ∷ re
     let kept = length-map words (λ (word : ℕ). min word max_seq) in
     let same = serves.lawful.sizes in
     let splits = serves.lawful.split sub (omega (arith, inside, sizes)) in
-    let within = numbers_within set sub at.early (all_lines round.jobs) (round_served set at.early jobs round.jobs serves.lawful.given) in
+    let within = numbers_within set sub at.early (all_lines round.jobs) (round_served set at.early jobs round.jobs serves.lawful.nets serves.lawful.given) in
     let here = apart_round sub (get_or at.openings sub 0) (get_or words sub 0) (get_or (reopened words) sub 0) at.early round (get_or-reopened words sub) splits.forward splits.once within are in
     let further = parts_apart set stop sub (after_round at round words) parts records end inside (omega (arith, kept, same, sizes)) here more n in
     subst (λ (ls : List LineRecord). times n (numbers_of sub ls) ≤ 1) (append_assoc at.early (all_lines round.jobs) (lines_of records)) further
@@ -152,10 +166,16 @@ parts_apart set stop sub at (Restart ∷ parts) (record_of.Restart ∷ records) 
     are in
     parts_apart set stop sub (after_restart set.rows at limits) parts records end inside (length-opened set.rows limits) here more n
 
+-- each vector of a subscriber is released once
+pub released_once : (set : Setting) (reserved : List ℕ) (stop : Option Stop) (parts : List Part) (records : List PartRecord) (sub : ℕ) → IsLawful set reserved stop parts records
+    → sub < length set.rows → (n : ℕ) → times n (numbers_of sub (lines_of records)) ≤ 1
+released_once set reserved stop parts records sub lawful inside =
+    let none : AreApart sub [] (get_or (opened set.rows reserved) sub 0) = record { once = λ n. omega arith; below = λ n some. absurd (omega (arith, some)) } in
+    parts_apart set stop sub (beginning set.rows reserved) parts records lawful.0 inside (length-opened set.rows reserved) none lawful.1
+
 -- no vector of a subscriber comes twice
 pub keeps_numbers_apart : EachTranscriptKeepsNumbersApart
 keeps_numbers_apart set reserved stop parts records lawful sub inside =
     let within = numbers_within set sub [] (lines_of records) (transcript_served set reserved stop parts records lawful) in
-    let none : AreApart sub [] (get_or (opened set.rows reserved) sub 0) = record { once = λ n. omega arith; below = λ n some. absurd (omega (arith, some)) } in
-    sqns_differ (numbers_of sub (lines_of records)) within (differ_from_times (numbers_of sub (lines_of records))
-    (parts_apart set stop sub (beginning set.rows reserved) parts records lawful.0 inside (length-opened set.rows reserved) none lawful.1))
+    sqns_differ (numbers_of sub (lines_of records)) within
+    (differ_from_times (numbers_of sub (lines_of records)) (released_once set reserved stop parts records sub lawful inside))

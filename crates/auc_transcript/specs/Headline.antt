@@ -13,7 +13,7 @@ use Rattle.auc_subs.specs.declared.row.Row.{Row}
 use Rattle.auc_world.specs.declared.record.GiveVerdict.{GiveVerdict}
 use Rattle.auc_world.specs.declared.record.GiveVerdict.TheVariants as given
 use Rattle.auc_world.specs.declared.record.LineRecord.{LineRecord}
-use Rattle.auc_world.specs.declared.record.LineRecord.TheVariants.{Give}
+use Rattle.auc_world.specs.declared.record.LineRecord.TheVariants.{Vector, Withheld, Exhausted, Sync, Give, Event}
 use Rattle.auc_world.specs.declared.record.PartRecord.{PartRecord}
 use Rattle.auc_world.specs.declared.record.PartRecord.TheVariants as record_of
 use Rattle.auc_world.specs.Given.{is_in}
@@ -81,14 +81,14 @@ pub record FailsByPlace (stretches : List (List Entry)) (before : List (List ℕ
 
 -- ---- failures
 
--- the SQN of a number that was drawn for the subscriber, and is no mark
-abbrev pub IsGenuine : List (List Entry) → List ℕ → Type 0
-IsGenuine stretches sqn = (m : ℕ) × (m ≤ max_seq) × Contains (drawn (all_entries stretches)) m × (sqn ≡ sqn_bytes m)
+-- the SQN of a number that some entries of the subscriber drew, and that is no mark
+abbrev pub IsGenuine : List Entry → List ℕ → Type 0
+IsGenuine entries sqn = (m : ℕ) × (m ≤ max_seq) × Contains (drawn entries) m × (sqn ≡ sqn_bytes m)
 
 -- a presented number is in reach: each SQN that was accepted before was drawn for the subscriber, none of a later period,
 -- the number is at most 2 ^ 28 above the greatest that counts as accepted, and it is above the USIM's opening
 pub record IsInReach (stretches : List (List Entry)) (opening : ℕ) (before : List (List ℕ)) (n : ℕ) : Type 0 where
-  pub genuine : All (IsGenuine stretches) before
+  pub genuine : All (IsGenuine (all_entries stretches)) before
   pub earlier : All (λ sqn. is_later stretches n (seq_of sqn) ≡ false) before
   pub near : n ≤ fold max opening (map seq_of before) + 2 ^ 28
   pub above : opening < n
@@ -125,6 +125,22 @@ EachUsimAcceptsNoneTwice = (set : Setting) (reserved : List ℕ) (stop : Option 
 abbrev pub EachFailureIsByPlace : Type 0
 EachFailureIsByPlace = (set : Setting) (reserved : List ℕ) (stop : Option Stop) (parts : List Part) (records : List PartRecord)
     → IsLawful set reserved stop parts records → FailsExactlyByPlace set.rows records
+
+-- a line that isn't an event's
+abbrev pub IsOutsideSessions : LineRecord → Type 0
+IsOutsideSessions (Vector sub n) = Unit {0}
+IsOutsideSessions (Withheld sub n stop) = Unit {0}
+IsOutsideSessions (Exhausted sub word) = Unit {0}
+IsOutsideSessions (Sync sub answer) = Unit {0}
+IsOutsideSessions (Give sub n answer) = Unit {0}
+IsOutsideSessions (Event r) = ⊥
+
+-- without sessions each accepted SQN was drawn for the subscriber, so that the premise `genuine` holds always
+abbrev pub EachSqnOutsideSessionsIsGenuine : Type 0
+EachSqnOutsideSessionsIsGenuine =
+    (set : Setting) (reserved : List ℕ) (stop : Option Stop) (parts : List Part) (records : List PartRecord) (before after : List LineRecord) (sub : ℕ)
+    → IsLawful set reserved stop parts records → lines_of records ≡ before ++ after → All IsOutsideSessions before
+    → All (IsGenuine (all_entries (stretches_of sub records))) (accepted sub before)
 
 -- a restart may follow every lawful transcript: some limits meet what is asked of them
 abbrev pub EachTranscriptMayRestart : Type 0

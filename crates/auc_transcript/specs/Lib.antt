@@ -1,3 +1,7 @@
+pub mod Completeness
 pub mod Headline
+pub mod Keys
+pub mod OneTold
 pub mod Position
+pub mod Presented
 pub mod Rounds

@@ -1,6 +1,6 @@
 -- The law of failures for transcripts without a restart. There the entries of all rounds are one stretch, so periods
 -- end at moves alone, and a place counts the drawn numbers of a period.
-use Rattle.std.specs.Prelude.{◌≡◌, ◌↔◌, ℕ, ◌+◌, ◌*◌, ◌^◌, ◌<◌, ◌≤◌, ◌&&◌, max, nat_le, not, Bool, true, false, Option, Some, List, length, filter, flat_map, fold, map, All, Contains, slice_get}
+use Rattle.std.specs.Prelude.{◌≡◌, ◌↔◌, ℕ, ◌+◌, ◌*◌, ◌^◌, ◌<◌, ◌≤◌, ◌&&◌, max, nat_le, not, Bool, true, false, Option, Some, List, ◌++◌, length, filter, flat_map, fold, map, All, Contains, slice_get}
 use Rattle.std.specs.List.{list_any}
 use Rattle.auc_edge.specs.declared.stop.Stop.{Stop}
 use Rattle.auc_history.specs.declared.entry.Entry.{Entry}
@@ -14,8 +14,8 @@ use Rattle.auc_world.specs.declared.record.PartRecord.TheVariants as record_of
 use Rattle.auc_world.specs.declared.record.RoundRecord.{RoundRecord}
 use Rattle.auc_world.specs.Lines.{accepted}
 use Rattle.auc_world.specs.Setting.{Setting}
-use Rattle.auc_world.specs.Transcript.{IsLawful, entries_of}
-use Rattle.auc_transcript.specs.Headline.{IsFailure, IsPresented, moves_between}
+use Rattle.auc_world.specs.Transcript.{IsLawful, entries_of, lines_of}
+use Rattle.auc_transcript.specs.Headline.{IsFailure, IsGenuine, IsOutsideSessions, IsPresented, moves_between}
 
 -- the entries of a subscriber in all rounds, one round after the other
 abbrev pub entries_of_rounds : ℕ → List RoundRecord → List Entry
@@ -46,9 +46,10 @@ pub record FailsByPlaceInRounds (entries : List Entry) (before : List (List ℕ)
   pub turns : ℕ
   pub later : place_in_period entries other ≡ place_in_period entries n + 32 * turns
 
--- a presented number is in reach: no number that was accepted before is of a later period, the number is at most
--- 2 ^ 28 above the greatest that counts as accepted, and it is above the USIM's opening
+-- a presented number is in reach: each SQN that was accepted before was drawn for the subscriber, none of a later period,
+-- the number is at most 2 ^ 28 above the greatest that counts as accepted, and it is above the USIM's opening
 pub record IsInReachInRounds (entries : List Entry) (opening : ℕ) (before : List (List ℕ)) (n : ℕ) : Type 0 where
+  pub genuine : All (IsGenuine entries) before
   pub earlier : All (λ sqn. is_of_later_period entries n (seq_of sqn) ≡ false) before
   pub near : n ≤ fold max opening (map seq_of before) + 2 ^ 28
   pub above : opening < n
@@ -64,3 +65,10 @@ FailsExactlyByPlaceInRounds rows rounds = (before : List LineRecord) (sub n : �
 abbrev pub EachFailureInRoundsIsByPlace : Type 0
 EachFailureInRoundsIsByPlace = (set : Setting) (reserved : List ℕ) (stop : Option Stop) (parts : List Part) (rounds : List RoundRecord)
     → IsLawful set reserved stop parts (map record_of.Round rounds) → FailsExactlyByPlaceInRounds set.rows rounds
+
+-- without sessions the premise `genuine` holds always
+abbrev pub EachSqnInRoundsIsGenuine : Type 0
+EachSqnInRoundsIsGenuine =
+    (set : Setting) (reserved : List ℕ) (stop : Option Stop) (parts : List Part) (rounds : List RoundRecord) (before after : List LineRecord) (sub : ℕ)
+    → IsLawful set reserved stop parts (map record_of.Round rounds) → lines_of (map record_of.Round rounds) ≡ before ++ after → All IsOutsideSessions before
+    → All (IsGenuine (entries_of_rounds sub rounds)) (accepted sub before)

@@ -1,8 +1,24 @@
 //! Laws of every lawful transcript.
 
-ghost use Rattle.auc_transcript.specs.Headline.{EachTranscriptKeepsNumbersApart, EachTranscriptMayRestart, EachUsimAcceptsNoneTwice, EachFailureIsByPlace};
+ghost use Rattle.auc_transcript.specs.Completeness.{EachPlainSessionAgrees};
+ghost use Rattle.auc_transcript.specs.Headline.{EachTranscriptKeepsNumbersApart, EachTranscriptMayRestart, EachUsimAcceptsNoneTwice, EachFailureIsByPlace, EachSqnOutsideSessionsIsGenuine};
+ghost use Rattle.auc_transcript.specs.Keys.{EachAuthenticationAgrees, EachBreachIsTold, EachTranscriptHasItsNets};
+ghost use Rattle.auc_transcript.specs.OneTold.{EachToldTranscriptIsOne};
 ghost use Rattle.auc_transcript.specs.Position.{EachMoveStandsBetween, EachPlaceIsAPosition};
-ghost use Rattle.auc_transcript.specs.Rounds.{EachFailureInRoundsIsByPlace};
+ghost use Rattle.auc_transcript.specs.Presented.{EachFailureInSessionsIsByPlace, EachFailureInSessionsOfRoundsIsByPlace, EachPresentedVectorHasARightMac};
+ghost use Rattle.auc_transcript.specs.Rounds.{EachFailureInRoundsIsByPlace, EachSqnInRoundsIsGenuine};
+
+use auc_packet::equal_bytes_are_received_alike;
+use auc_peer::{
+    each_turn_keeps_the_keys_of_its_inputs as each_peer_keeps_its_keys,
+    each_turn_keeps_what_keys_are_made_from,
+};
+use auc_seal::opening_has_one_answer;
+use auc_server::{
+    each_turn_keeps_the_challenge_or_sends_one, each_turn_keeps_the_keys_of_its_inputs,
+};
+use auc_vector::each_autn_carries_the_sqn_of_its_number;
+use auc_world::each_plain_session_succeeds;
 
 /// No two vectors of a subscriber carry the same SQN, in whichever rounds and jobs they were released, and
 /// whatever restarts are between.
@@ -28,6 +44,23 @@ pub fn each_failure_in_rounds_is_by_place()
     ensures { EachFailureInRoundsIsByPlace }
 {}
 
+/// Each released vector that a session presents to its subscriber's USIM gets a synchronisation failure by the same rule,
+/// and is accepted otherwise, since its MAC is right.
+pub fn each_failure_in_sessions_is_by_place()
+    ensures stretches { EachFailureInSessionsIsByPlace }
+    ensures rounds { EachFailureInSessionsOfRoundsIsByPlace }
+    ensures mac { EachPresentedVectorHasARightMac }
+{
+    equal_bytes_are_received_alike();
+}
+
+/// As long as no session has an event, each SQN that a USIM accepted was drawn for its subscriber. So the premise
+/// `genuine` of the laws of failures is one on sessions alone.
+pub fn each_sqn_outside_sessions_is_genuine()
+    ensures stretches { EachSqnOutsideSessionsIsGenuine }
+    ensures rounds { EachSqnInRoundsIsGenuine }
+{}
+
 /// A restart may follow every lawful transcript without a stop, if the numbers that were reserved are at most
 /// the greatest number: some limits meet what is asked of them.
 pub fn each_transcript_may_restart()
@@ -43,3 +76,45 @@ pub fn move_between_numbers_stands_between()
 pub fn place_is_a_position()
     ensures { EachPlaceIsAPosition }
 {}
+
+/// Two lawful transcripts of the same parts of which the same is told are one: what isn't told, the bytes, the
+/// keys and the subscribers of events, follows from the parts and from what is told.
+pub fn each_told_transcript_is_one()
+    ensures { EachToldTranscriptIsOne }
+{
+    equal_bytes_are_received_alike();
+    opening_has_one_answer();
+}
+
+/// A server and a peer that ended in Success over one challenge have equal keys, in whichever jobs and rounds
+/// they are, if no delivery broke the premise in the jobs of both.
+pub fn each_authentication_agrees()
+    ensures { EachAuthenticationAgrees }
+{
+    each_peer_keeps_its_keys();
+    each_turn_keeps_what_keys_are_made_from();
+    each_turn_keeps_the_challenge_or_sends_one();
+    each_turn_keeps_the_keys_of_its_inputs();
+    each_autn_carries_the_sqn_of_its_number();
+}
+
+/// A lawful transcript leads to networks of its jobs' sessions, and to no others. Each round tells of a breach
+/// exactly if a delivery broke the premise in one of its jobs.
+pub fn each_breach_is_told()
+    ensures nets { EachTranscriptHasItsNets }
+    ensures told { EachBreachIsTold }
+{
+    equal_bytes_are_received_alike();
+    opening_has_one_answer();
+}
+
+/// A session that has its `plain` line and no other event line ends in Success at both ends under the same keys, and its
+/// round says that they agree, unless a record of the session tells why not: the centre gave no number, or the USIM
+/// reported a SEQ that is too far above, or two synchronisation failures.
+pub fn each_plain_session_agrees()
+    ensures { EachPlainSessionAgrees }
+{
+    equal_bytes_are_received_alike();
+    opening_has_one_answer();
+    each_plain_session_succeeds();
+}

@@ -4,19 +4,27 @@
 //! are lawful. Restarts cut a subscriber's entries into stretches, and resynchronisations cut a stretch into
 //! periods.
 //!
-//! Three laws hold for every lawful transcript. No two vectors of a subscriber have the same SQN. Its USIM
+//! These laws hold for every lawful transcript. No two vectors of a subscriber have the same SQN. Its USIM
 //! accepts no SQN twice. Within a period a vector gets a synchronisation failure if and only if it, or one
 //! drawn a positive multiple of 32 places later, was accepted before (TS 33.102 Annex C; `specs/Headline`).
 //!
 //! The third law holds of transcripts without a restart also with the entries of all rounds taken together
 //! (`specs/Rounds`). Two laws say that periods and places are positions in a history (`specs/Position`), and
 //! one that a restart may follow every lawful transcript.
+//!
+//! Sessions add four. The third law holds of vectors that they present, too (`specs/Presented`). What is told
+//! of a lawful transcript determines it, with the bytes and keys that aren't told (`specs/OneTold`). The two
+//! ends of an authentication have equal keys, in whichever jobs and rounds they are, if no delivery broke the
+//! premise in these jobs; and a round tells of a breach exactly if one did (`specs/Keys`). A session whose only
+//! event line is `plain` ends in Success at both ends, unless a record of it tells why not (`specs/Completeness`).
 #![tactic(auto)]
 
 mod law;
 
 pub use law::{
-    each_failure_in_rounds_is_by_place, each_failure_is_by_place, each_transcript_may_restart,
+    each_authentication_agrees, each_breach_is_told, each_failure_in_rounds_is_by_place,
+    each_failure_in_sessions_is_by_place, each_failure_is_by_place, each_plain_session_agrees,
+    each_sqn_outside_sessions_is_genuine, each_told_transcript_is_one, each_transcript_may_restart,
     each_usim_accepts_none_twice, move_between_numbers_stands_between, no_vector_comes_twice,
     place_is_a_position,
 };

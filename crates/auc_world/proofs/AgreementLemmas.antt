@@ -42,8 +42,8 @@ use Rattle.auc_vector.specs.declared.turn.Step.TheVariants as step
 use Rattle.auc_world.specs.Agreement.{Agree, AreOfOneChallenge, AreReleasedOnce, EachHonestRunAgrees, Happening, HaveSecrets, IsFresh, IsHonest, IsHonestAt, IsHonestFinding, Noted, Occurs, after, after_one}
 use Rattle.auc_world.specs.Happened.{Delivery, Told, at_place, at_session, delivered, delivery_at, delivery_of, found, found_by, give_up, in_session, keys_won, moved, opened, peer_finds, peer_turn, released_by, repeat, sent_by, server_gives_up, server_turn, start, to_peer, to_server, with_peer, with_server}
 use Rattle.auc_world.specs.Net.{Net, device_place, inputs_accepted, inputs_of_peer, inputs_of_server, inputs_sent, packet_at, posted, session_place}
-use Rattle.auc_world.specs.declared.event.End.{End}
-use Rattle.auc_world.specs.declared.event.End.TheVariants as end
+use Rattle.auc_lines.specs.declared.part.End.{End}
+use Rattle.auc_lines.specs.declared.part.End.TheVariants as end
 use Rattle.auc_world.specs.declared.event.Event.{Event}
 use Rattle.auc_world.specs.declared.event.Event.TheVariants as event
 use Rattle.auc_world.specs.declared.net.Inputs.{Inputs}
@@ -132,7 +132,7 @@ peer_posts packets inputs (Some bytes) i p =
 -- ---- what holds of a network
 
 -- inputs are those of the vector of a released number
-pub record IsDrawn (set : Setting) (released : List Number) (i : Inputs) : Type 0 where
+pub record AsksWhatItNeeds (set : Setting) (released : List Number) (i : Inputs) : Type 0 where
   pub n : ℕ
   pub vector : Vector
   pub is_in : Contains released (record { sub = i.sub; n = n })
@@ -178,7 +178,7 @@ pub record SessionFine (set : Setting) (devices : List Subscription) (packets : 
 
 pub record Holds (set : Setting) (devices : List Subscription) (packets : List SentPacket) (sessions : List Session) (released : List Number) : Type 0 where
   pub secrets : HaveSecrets set devices
-  pub drawn : (i : Inputs) → IsPosted packets i → IsDrawn set released i
+  pub drawn : (i : Inputs) → IsPosted packets i → AsksWhatItNeeds set released i
   pub alike : (i j : Inputs) → IsPosted packets i → IsPosted packets j → AreOfOneChallenge i j → i ≡ j
   pub fine : All (SessionFine set devices packets) sessions
 
@@ -222,7 +222,7 @@ session_later set devices packets from inputs sent a f = record {
   done = λ keys e. done_later devices packets from inputs sent a.device a.sub a.peer keys (f.done keys e);
 }
 
-drawn_later : (set : Setting) (released more : List Number) (i : Inputs) → IsDrawn set released i → IsDrawn set (released ++ more) i
+drawn_later : (set : Setting) (released more : List Number) (i : Inputs) → AsksWhatItNeeds set released i → AsksWhatItNeeds set (released ++ more) i
 drawn_later set released more i d = record {
   n = d.n;
   vector = d.vector;
@@ -235,7 +235,7 @@ drawn_later set released more i d = record {
 -- ---- numbers
 
 -- two vectors of a subscriber with one RAND and one AUTN are of one number
-one_number : Laws → (set : Setting) (sub m n : ℕ) (v u : Vector) → AreSubscribers set.rows → vector_at set sub m ≡ Some v → vector_at set sub n ≡ Some u
+pub one_number : Laws → (set : Setting) (sub m n : ℕ) (v u : Vector) → AreSubscribers set.rows → vector_at set sub m ≡ Some v → vector_at set sub n ≡ Some u
     → v.rand ≡ u.rand → v.autn ≡ u.autn → m ≤ max_seq → n ≤ max_seq → m ≡ n
 one_number laws set sub m n v u subscribers ev eu rand autn mm nn = by (slice_get set.rows sub) refl ev eu
   where
@@ -335,10 +335,10 @@ server_new laws set w place session s did sub n v bytes subscribers h there fits
     subst (λ (d : Step ServerWhy). IsPosted (posted w.packets end.Server (inputs_of_server s) (sent_by d)) j) (sym did_is) (posts w.packets (inputs_of_server s) bytes j own) in
     let cases : (i : Inputs) → IsPosted after' i → IsPosted w.packets i ⊎ (j ≡ i) =
     λ i p. ⊎_elim (λ old. inl old) (λ is. inr (one (inputs_of_server s) j i own is)) (posted_cases w.packets (inputs_of_server s) (sent_by did) i p) in
-    let new : IsDrawn set (w.released ++ x ∷ []) j = record { n = n; vector = v; is_in = Contains-push w.released x; of_number = of; rand = refl; autn = refl } in
+    let new : AsksWhatItNeeds set (w.released ++ x ∷ []) j = record { n = n; vector = v; is_in = Contains-push w.released x; of_number = of; rand = refl; autn = refl } in
     record {
       secrets = h.secrets;
-      drawn = λ i p. ⊎_elim (λ old. drawn_later set w.released (x ∷ []) i (h.drawn i old)) (λ is. subst (IsDrawn set (w.released ++ x ∷ [])) is new) (cases i p);
+      drawn = λ i p. ⊎_elim (λ old. drawn_later set w.released (x ∷ []) i (h.drawn i old)) (λ is. subst (AsksWhatItNeeds set (w.released ++ x ∷ [])) is new) (cases i p);
       alike = λ i k p q alike.
           ⊎_elim
           (λ old. ⊎_elim
@@ -409,7 +409,7 @@ vector_keys set sub n v device c text e rand secret = by (slice_get set.rows sub
 contained : {X : Type 0} (P : X → Type 0) (xs : List X) (x : X) → All P xs → Contains xs x → P x
 contained P xs x all c = subst P c.2 (all c.0 x c.1)
 
-agreed : (set : Setting) (w : Net) → HoldsOf set w → Agree w
+pub agreed : (set : Setting) (w : Net) → HoldsOf set w → Agree w
 agreed set w h a b k l i j ina inb won other alike =
     let s = won.server in
     let fa = (contained (SessionFine set w.devices w.packets) w.sessions a h.fine ina).server s won.is in
@@ -703,9 +703,10 @@ give_up_next set w end.Peer place session there = peer_gives_next set w place se
 no_waiting_answered : (keys : KeySet) → peer_state.Waiting ≡ peer_state.Answered keys → ⊥
 no_waiting_answered keys e = cc
 
-opened_next : (set : Setting) (w : Net) (session sub : ℕ) (o : Option ℕ) → device_place set.rows w.devices sub ≡ o → Next set w (opened w session sub o)
-opened_next set w session sub None e = still set w
-opened_next set w session sub (Some place) e = record {
+opened_next : (set : Setting) (w : Net) (session sub : ℕ) (old o : Option ℕ) → device_place set.rows w.devices sub ≡ o → Next set w (opened w session sub old o)
+opened_next set w session sub (Some first) o e = still set w
+opened_next set w session sub None None e = still set w
+opened_next set w session sub None (Some place) e = record {
   more = [];
   grows = sym (append-nil w.released);
   holds = λ h o. record {
@@ -724,7 +725,7 @@ opened_next set w session sub (Some place) e = record {
 -- ---- a run
 
 moved_next : Laws → (set : Setting) (w : Net) (e : Event) (told : Told) → AreSubscribers set.rows → IsHonestFinding w.packets (found set w e told) → Next set w (moved set w e told)
-moved_next laws set w (event.Open session sub) told subscribers honest = opened_next set w session sub (device_place set.rows w.devices sub) refl
+moved_next laws set w (event.Open session sub) told subscribers honest = opened_next set w session sub (session_place w.sessions session) (device_place set.rows w.devices sub) refl
 moved_next laws set w (event.Start session) told subscribers honest =
     session_next set w session (λ place s. start w place s s.server) (λ place s there. start_next set w place s s.server there)
 moved_next laws set w (event.Deliver session end.Server packet) told subscribers honest = server_delivered laws set w told packet (session_place w.sessions session) subscribers
@@ -732,7 +733,6 @@ moved_next laws set w (event.Deliver session end.Peer packet) told subscribers h
 moved_next laws set w (event.Repeat session) told subscribers honest =
     session_next set w session (λ place s. repeat w place s s.server) (λ place s there. repeat_next set w place s s.server refl there)
 moved_next laws set w (event.GiveUp session at') told subscribers honest = session_next set w session (give_up w at') (λ place s there. give_up_next set w at' place s there)
-moved_next laws set w (event.Give sub n earlier) told subscribers honest = still set w
 
 one_next : Laws → (set : Setting) (w : Net) (h : Happening) → AreSubscribers set.rows → IsHonestAt set w h → Next set w (after_one set w h)
 one_next laws set w (Occurs e told) subscribers honest =
@@ -755,7 +755,7 @@ run_grows laws set w (h ∷ hs) subscribers honest =
     let rest = run_grows laws set (after_one set w h) hs subscribers honest.1 in
     (first.more ++ rest.0, rest.1 ∙ ap (λ (l : List Number). l ++ rest.0) first.grows ∙ append_assoc w.released first.more rest.0)
 
-run_holds : Laws → (set : Setting) (w : Net) (hs : List Happening) → AreSubscribers set.rows → IsHonest set w hs → HoldsOf set w → AreReleasedOnce (after set w hs).released
+pub run_holds : Laws → (set : Setting) (w : Net) (hs : List Happening) → AreSubscribers set.rows → IsHonest set w hs → HoldsOf set w → AreReleasedOnce (after set w hs).released
     → HoldsOf set (after set w hs)
 run_holds laws set w [] subscribers honest h once = h
 run_holds laws set w (e ∷ es) subscribers honest h once =
@@ -767,7 +767,7 @@ run_holds laws set w (e ∷ es) subscribers honest h once =
 no_packet : (packets : List SentPacket) (i : Inputs) → packets ≡ [] → IsPosted packets i → ⊥
 no_packet packets i e p = let c = subst (λ (l : List SentPacket). Contains l p.packet) e p.is_in in let lt = c.1 in omega arith
 
-begins : (set : Setting) (w : Net) → HaveSecrets set w.devices → IsFresh w → HoldsOf set w
+pub begins : (set : Setting) (w : Net) → HaveSecrets set w.devices → IsFresh w → HoldsOf set w
 begins set w secrets new = record {
   secrets = secrets;
   drawn = λ i p. absurd (no_packet w.packets i new.packets p);

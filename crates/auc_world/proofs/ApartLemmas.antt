@@ -1,23 +1,33 @@
--- For Pieces: jobs that give to USIMs of their own give the same lines whatever other jobs' lines came before.
+-- For Pieces: jobs that hold USIMs of their own give the same lines whatever other jobs' lines came before.
 use Rattle.std.proofs.Common.{◌≡◌, ℕ, zero, suc, ◌==◌, true, false, if◌then◌else◌, List, [], ◌∷◌, ◌++◌, All, AllPairs, refl, sym, ap, ◌∙◌, subst, eq-eqb}
 use Rattle.std.proofs.lemmas.Bool.{false_from_ne_true, or_left, or_parts, or_right, true≢false}
 use Rattle.std.proofs.lemmas.List.Concat.{flat_map-append}
-use Rattle.std.proofs.lemmas.List.Elements.{All-head, All-tail}
+use Rattle.std.proofs.lemmas.List.Elements.{All-head, All-nil, All-tail}
 use Rattle.auc_history.proofs.Facts.{AllPairs-head, AllPairs-tail}
 use Rattle.auc_lines.specs.declared.part.Line.{Line}
 use Rattle.auc_lines.specs.declared.part.Line.TheVariants as line
-use Rattle.auc_lines.specs.Part.{AreApart}
-use Rattle.auc_lines.specs.Part.{gives_to, is_give_to}
+use Rattle.auc_lines.specs.declared.part.End.{End}
+use Rattle.auc_lines.specs.declared.part.End.TheVariants as end
+use Rattle.auc_lines.specs.Part.{AreApart, holds, is_held_by, is_that}
 use Rattle.auc_sqn.specs.Past.{Past}
 use Rattle.auc_subs.specs.declared.row.Row.{Row}
 use Rattle.auc_world.specs.declared.record.GiveVerdict.{GiveVerdict}
 use Rattle.auc_world.specs.declared.record.LineRecord.{LineRecord}
-use Rattle.auc_world.specs.declared.record.LineRecord.TheVariants.{Vector, Withheld, Exhausted, Sync, Give}
+use Rattle.auc_world.specs.declared.record.LineRecord.TheVariants.{Vector, Withheld, Exhausted, Sync, Give, Event as Told}
 use Rattle.auc_world.specs.declared.record.SyncVerdict.{SyncVerdict}
 use Rattle.auc_world.specs.declared.record.SyncVerdict.TheVariants as verdict
+use Rattle.std.specs.Prelude.{Option, Some, None}
+use Rattle.auc_world.specs.Came.{Presented, came, presented_by}
+use Rattle.auc_world.specs.Event.{device_in, sqn_accepted, usim_in}
 use Rattle.auc_world.specs.Lines.{accepted, accepted_by, taken}
+use Rattle.auc_world.specs.Net.{Net, other}
+use Rattle.auc_world.specs.Start.{start_of}
+use Rattle.auc_world.specs.declared.event.Event.{Event}
+use Rattle.auc_world.specs.declared.event.Event.TheVariants as event
+use Rattle.auc_world.specs.declared.event.EventRecord.{EventRecord}
+use Rattle.auc_world.proofs.NetLemmas.{AreOf, IsOf, IsPresentedTo, Opens, device_is_of, presented_is_of, sessions_stay}
 use Rattle.auc_world.specs.Setting.{Setting}
-use Rattle.auc_world.specs.Given.{Before, DrawGives, VectorsFollow, IsGiven, is_released, past_of, past_before, LineGives, behind, JobGives, JobsGive}
+use Rattle.auc_world.specs.Given.{Before, DrawGives, EventGives, IsUsimAsked, JobGives, JobsGive, LineGives, PlainGives, RelayGives, UsimNotes, VectorsFollow, IsGiven, behind, is_released, packet_of, past_of, past_before}
 use Rattle.auc_world.specs.Pieces.{Piece, lines_of_pieces, IsQuiet, PiecesGive, JobsGiveAfterAllLines}
 
 -- what a USIM accepted by two lists of lines
@@ -35,6 +45,7 @@ draw_quiet set who (suc count) sub (Withheld s n stop ∷ lines) gives = ap (acc
 draw_quiet set who (suc count) sub (Exhausted s word ∷ lines) gives = ap (accepted sub) gives.2
 draw_quiet set who (suc count) sub (Sync s answer ∷ lines) gives = absurd gives
 draw_quiet set who (suc count) sub (Give s n answer ∷ lines) gives = absurd gives
+draw_quiet set who (suc count) sub (Told r ∷ lines) gives = absurd gives
 
 -- nor after a verdict
 follows_quiet : (set : Setting) (who count sub : ℕ) (answer : SyncVerdict) (lines : List LineRecord) → VectorsFollow set who count answer lines → accepted sub lines ≡ []
@@ -47,19 +58,79 @@ follows_quiet set who count sub verdict.WrongMac lines follows = ap (accepted su
 give_quiet : (sub s n : ℕ) (answer : GiveVerdict) → (s == sub) ≡ false → accepted sub (Give s n answer ∷ []) ≡ []
 give_quiet sub s n answer other = ap (λ b. (if b then taken n answer else []) ++ []) other
 
--- a line that doesn't give to the USIM
-line_quiet : (set : Setting) (before : Before) (l : Line) (sub : ℕ) (lines : List LineRecord) → LineGives set before l lines → is_give_to sub l ≡ false → accepted sub lines ≡ []
-line_quiet set before (line.Draw who count) sub lines gives other = draw_quiet set who count sub lines gives
-line_quiet set before (line.Sync who seq bit count) sub lines gives other = ap (accepted sub) gives.lines_are ∙ follows_quiet set who count sub gives.answer gives.more gives.follows
-line_quiet set before (line.Give who n) sub lines gives other = ap (accepted sub) gives.lines_are ∙ give_quiet sub who n gives.answer other
+-- nor in an event, if its device is another's
+event_quiet : (sub : ℕ) (r : EventRecord) → IsOf (λ other. (other == sub) ≡ false) (device_in r.result) → accepted sub (Told r ∷ []) ≡ []
+event_quiet sub r other = by (device_in r.result) other
+  where
+    by : (o : Option ℕ) → IsOf (λ other. (other == sub) ≡ false) o → sqn_accepted (if is_that sub o then usim_in r.result else None) ++ [] ≡ []
+    by None other = refl
+    by (Some device) other = ap (λ b. sqn_accepted (if b then usim_in r.result else None) ++ []) other
+
+-- the sessions are at devices of other subscribers
+abbrev AreOthers : ℕ → Net → Type 0
+AreOthers sub net = AreOf (λ other. (other == sub) ≡ false) net.sessions
+
+event_line_quiet : (set : Setting) (before : Before) (net next : Net) (e : Event) (sub : ℕ) (lines : List LineRecord) → EventGives set before net e lines next → AreOthers sub net
+    → accepted sub lines ≡ []
+event_line_quiet set before net next e sub lines gives others =
+    ap (accepted sub) gives.lines_are ∙ event_quiet sub (record { event = e; result = came set net e gives.told }) (device_is_of (λ other. (other == sub) ≡ false) set net e gives.told others)
+
+others_stay : (set : Setting) (before : Before) (net next : Net) (e : Event) (sub : ℕ) (lines : List LineRecord) → EventGives set before net e lines next → AreOthers sub net
+    → Opens (λ other. (other == sub) ≡ false) e → AreOthers sub next
+others_stay set before net next e sub lines gives others opens =
+    subst (AreOthers sub) (sym gives.leads) (sessions_stay (λ other. (other == sub) ≡ false) set net e gives.told others opens)
+
+-- nor by the packets that follow one
+relay_quiet : (set : Setting) (before : Before) (net next : Net) (session : ℕ) (at' : End) (o : Option ℕ) (sub : ℕ) (lines : List LineRecord)
+    → RelayGives set before net session at' o lines next → AreOthers sub net → (accepted sub lines ≡ []) × AreOthers sub next
+relay_quiet set before net next session at' None sub [] gives others = (refl, subst (AreOthers sub) (sym gives) others)
+relay_quiet set before net next session at' None sub (line ∷ lines) gives others = absurd gives
+relay_quiet set before net next session at' (Some packet) sub [] gives others = absurd gives
+relay_quiet set before net next session at' (Some packet) sub (line ∷ lines) (mid, first, more) others =
+    let (quiet, last) = relay_quiet set (behind before (line ∷ [])) mid next session (other at') (packet_of line) sub lines more
+    (others_stay set before net mid (event.Deliver session at' packet) sub (line ∷ []) first others tt) in
+    (accepted-append sub (line ∷ []) lines ∙ ap (λ (sqns : List (List ℕ)). sqns ++ accepted sub lines) (event_line_quiet set before net mid (event.Deliver session at' packet) sub (line ∷ []) first others) ∙ quiet, last)
+
+plain_quiet : (set : Setting) (before : Before) (net next : Net) (session : ℕ) (sub : ℕ) (lines : List LineRecord) → PlainGives set before net session lines next → AreOthers sub net
+    → (accepted sub lines ≡ []) × AreOthers sub next
+plain_quiet set before net next session sub [] gives others = absurd gives
+plain_quiet set before net next session sub (line ∷ lines) (mid, first, more) others =
+    let (quiet, last) = relay_quiet set (behind before (line ∷ [])) mid next session end.Peer (packet_of line) sub lines more
+    (others_stay set before net mid (event.Start session) sub (line ∷ []) first others tt) in
+    (accepted-append sub (line ∷ []) lines ∙ ap (λ (sqns : List (List ℕ)). sqns ++ accepted sub lines) (event_line_quiet set before net mid (event.Start session) sub (line ∷ []) first others) ∙ quiet, last)
+
+-- a line that doesn't hold the USIM, in a network whose sessions are at other devices
+line_quiet : (set : Setting) (before : Before) (net next : Net) (l : Line) (sub : ℕ) (lines : List LineRecord) → LineGives set before net l lines next → is_held_by sub l ≡ false → AreOthers sub net
+    → (accepted sub lines ≡ []) × AreOthers sub next
+line_quiet set before net next (line.Draw who count) sub lines (gives, is) none others = (draw_quiet set who count sub lines gives, subst (AreOthers sub) (sym is) others)
+line_quiet set before net next (line.Sync who seq bit count) sub lines (gives, is) none others =
+    (ap (accepted sub) gives.lines_are ∙ follows_quiet set who count sub gives.answer gives.more gives.follows, subst (AreOthers sub) (sym is) others)
+line_quiet set before net next (line.Give who n) sub lines (gives, is) none others = (ap (accepted sub) gives.lines_are ∙ give_quiet sub who n gives.answer none, subst (AreOthers sub) (sym is) others)
+line_quiet set before net next (line.Session session who) sub lines gives none others =
+    (event_line_quiet set before net next (event.Open session who) sub lines gives others, others_stay set before net next (event.Open session who) sub lines gives others none)
+line_quiet set before net next (line.Start session) sub lines gives none others =
+    (event_line_quiet set before net next (event.Start session) sub lines gives others, others_stay set before net next (event.Start session) sub lines gives others tt)
+line_quiet set before net next (line.Deliver session at' packet) sub lines gives none others =
+    (event_line_quiet set before net next (event.Deliver session at' packet) sub lines gives others, others_stay set before net next (event.Deliver session at' packet) sub lines gives others tt)
+line_quiet set before net next (line.Repeat session) sub lines gives none others =
+    (event_line_quiet set before net next (event.Repeat session) sub lines gives others, others_stay set before net next (event.Repeat session) sub lines gives others tt)
+line_quiet set before net next (line.GiveUp session at') sub lines gives none others =
+    (event_line_quiet set before net next (event.GiveUp session at') sub lines gives others, others_stay set before net next (event.GiveUp session at') sub lines gives others tt)
+line_quiet set before net next (line.Plain session) sub lines gives none others = plain_quiet set before net next session sub lines gives others
 
 -- a job that doesn't
-pub job_quiet : (set : Setting) (before : Before) (job : List Line) (sub : ℕ) (lines : List LineRecord) → JobGives set before job lines → gives_to sub job ≡ false → accepted sub lines ≡ []
-job_quiet set before [] sub lines gives other = ap (accepted sub) gives
-job_quiet set before (l ∷ job) sub lines (front, rest, is, first, more) other =
-    let (here, there) = or_parts (is_give_to sub l) (gives_to sub job) other in
+lines_quiet : (set : Setting) (before : Before) (net last : Net) (job : List Line) (sub : ℕ) (lines : List LineRecord) → JobGives set before net job lines last → holds sub job ≡ false → AreOthers sub net
+    → accepted sub lines ≡ []
+lines_quiet set before net last [] sub lines (none, is) other others = ap (accepted sub) none
+lines_quiet set before net last (l ∷ job) sub lines (front, rest, next, is, first, more) other others =
+    let (here, there) = or_parts (is_held_by sub l) (holds sub job) other in
+    let (quiet, still) = line_quiet set before net next l sub front first here others in
     ap (accepted sub) is ∙ accepted-append sub front rest
-    ∙ ap (λ (sqns : List (List ℕ)). sqns ++ accepted sub rest) (line_quiet set before l sub front first here) ∙ job_quiet set (behind before front) job sub rest more there
+    ∙ ap (λ (sqns : List (List ℕ)). sqns ++ accepted sub rest) quiet ∙ lines_quiet set (behind before front) next last job sub rest more there still
+
+pub job_quiet : (set : Setting) (before : Before) (job : List Line) (sub : ℕ) (lines : List LineRecord) (last : Net) → JobGives set before (start_of set job) job lines last → holds sub job ≡ false
+    → accepted sub lines ≡ []
+job_quiet set before job sub lines last gives other = lines_quiet set before (start_of set job) last job sub lines gives other (All-nil (λ s. (s.sub == sub) ≡ false))
 
 -- ---- other lines before a job
 
@@ -75,31 +146,100 @@ same_past early own beside done row sub quiet still =
     ∙ ap (λ (sqns : List (List ℕ)). sqns ++ accepted sub done) (accepted-append sub early own ∙ ap (λ (sqns : List (List ℕ)). accepted sub early ++ sqns) (quiet ∙ sym still) ∙ sym (accepted-append sub early beside))
     ∙ sym (accepted-append sub (early ++ beside) done))
 
--- a line gives the same after such lines
-line_beside : (set : Setting) (early own beside done : List LineRecord) (l : Line) (lines : List LineRecord) → ((sub : ℕ) → is_give_to sub l ≡ true → accepted sub own ≡ [])
-    → ((sub : ℕ) → is_give_to sub l ≡ true → accepted sub beside ≡ []) → LineGives set (place early own done) l lines → LineGives set (place early beside done) l lines
-line_beside set early own beside done (line.Draw who count) lines quiet still gives = gives
-line_beside set early own beside done (line.Sync who seq bit count) lines quiet still gives = gives
-line_beside set early own beside done (line.Give who n) lines quiet still gives = record {
-  row = gives.row;
-  there = gives.there;
-  answer = gives.answer;
+-- by lines of a worker and by those of other workers, the USIM has accepted nothing
+record IsStill (own beside : List LineRecord) (sub : ℕ) : Type 0 where
+  pub own_none : accepted sub own ≡ []
+  pub beside_none : accepted sub beside ≡ []
+
+-- an event gives the same after such lines, in a network whose sessions are at such USIMs
+event_beside : (set : Setting) (early own beside done : List LineRecord) (net next : Net) (e : Event) (lines : List LineRecord) → AreOf (IsStill own beside) net.sessions
+    → EventGives set (place early own done) net e lines next → EventGives set (place early beside done) net e lines next
+event_beside set early own beside done net next e lines still gives = record {
+  told = gives.told;
   lines_are = gives.lines_are;
-  given = subst (λ (past : Past). IsGiven (is_released (place early own done) who n) past n gives.answer)
-      (same_past early own beside done gives.row who (quiet who (eq-eqb who who refl)) (still who (eq-eqb who who refl))) gives.given;
+  leads = gives.leads;
+  received = gives.received;
+  notes = gives.notes;
+  centre = gives.centre;
+  usim = by (presented_by net e gives.told) (presented_is_of (IsStill own beside) net e gives.told still) gives.usim;
 }
+  where
+    by : (o : Option Presented) → IsPresentedTo (IsStill own beside) o → IsUsimAsked set (place early own done) o gives.told → IsUsimAsked set (place early beside done) o gives.told
+    by None still asked = tt
+    by (Some p) still asked = record {
+      row = asked.row;
+      there = asked.there;
+      answers = subst (λ (past : Past). UsimNotes p.device.secret past p.challenge gives.told.notes.usim)
+          (same_past early own beside done asked.row p.delivery.session.sub still.own_none still.beside_none) asked.answers;
+      readable = asked.readable;
+    }
+
+event_still : (set : Setting) (before : Before) (own beside : List LineRecord) (net next : Net) (e : Event) (lines : List LineRecord) → AreOf (IsStill own beside) net.sessions
+    → Opens (IsStill own beside) e → EventGives set before net e lines next → AreOf (IsStill own beside) next.sessions
+event_still set before own beside net next e lines still opens gives =
+    subst (λ (w : Net). AreOf (IsStill own beside) w.sessions) (sym gives.leads) (sessions_stay (IsStill own beside) set net e gives.told still opens)
+
+relay_beside : (set : Setting) (early own beside done : List LineRecord) (net next : Net) (session : ℕ) (at' : End) (o : Option ℕ) (lines : List LineRecord) → AreOf (IsStill own beside) net.sessions
+    → RelayGives set (place early own done) net session at' o lines next → RelayGives set (place early beside done) net session at' o lines next × AreOf (IsStill own beside) next.sessions
+relay_beside set early own beside done net next session at' None [] still gives = (gives, subst (λ (w : Net). AreOf (IsStill own beside) w.sessions) (sym gives) still)
+relay_beside set early own beside done net next session at' None (line ∷ lines) still gives = absurd gives
+relay_beside set early own beside done net next session at' (Some packet) [] still gives = absurd gives
+relay_beside set early own beside done net next session at' (Some packet) (line ∷ lines) still (mid, first, more) =
+    let e = event.Deliver session at' packet in
+    let (rest, last) = relay_beside set early own beside (done ++ line ∷ []) mid next session (other at') (packet_of line) lines
+    (event_still set (place early own done) own beside net mid e (line ∷ []) still tt first) more in
+    ((mid, event_beside set early own beside done net mid e (line ∷ []) still first, rest), last)
+
+plain_beside : (set : Setting) (early own beside done : List LineRecord) (net next : Net) (session : ℕ) (lines : List LineRecord) → AreOf (IsStill own beside) net.sessions
+    → PlainGives set (place early own done) net session lines next → PlainGives set (place early beside done) net session lines next × AreOf (IsStill own beside) next.sessions
+plain_beside set early own beside done net next session [] still gives = absurd gives
+plain_beside set early own beside done net next session (line ∷ lines) still (mid, first, more) =
+    let e = event.Start session in
+    let (rest, last) = relay_beside set early own beside (done ++ line ∷ []) mid next session end.Peer (packet_of line) lines
+    (event_still set (place early own done) own beside net mid e (line ∷ []) still tt first) more in
+    ((mid, event_beside set early own beside done net mid e (line ∷ []) still first, rest), last)
+
+-- a line gives the same after such lines
+line_beside : (set : Setting) (early own beside done : List LineRecord) (net next : Net) (l : Line) (lines : List LineRecord) → ((sub : ℕ) → is_held_by sub l ≡ true → IsStill own beside sub)
+    → AreOf (IsStill own beside) net.sessions → LineGives set (place early own done) net l lines next
+    → LineGives set (place early beside done) net l lines next × AreOf (IsStill own beside) next.sessions
+line_beside set early own beside done net next (line.Draw who count) lines held still gives = (gives, subst (λ (w : Net). AreOf (IsStill own beside) w.sessions) (sym gives.1) still)
+line_beside set early own beside done net next (line.Sync who seq bit count) lines held still gives = (gives, subst (λ (w : Net). AreOf (IsStill own beside) w.sessions) (sym gives.1) still)
+line_beside set early own beside done net next (line.Give who n) lines held still (gives, is) =
+    let own_still = held who (eq-eqb who who refl) in (
+      (
+        record {
+          row = gives.row;
+          there = gives.there;
+          answer = gives.answer;
+          lines_are = gives.lines_are;
+          given = subst (λ (past : Past). IsGiven (is_released (place early own done) who n) past n gives.answer)
+              (same_past early own beside done gives.row who own_still.own_none own_still.beside_none) gives.given;
+        },
+        is,
+      ),
+      subst (λ (w : Net). AreOf (IsStill own beside) w.sessions) (sym is) still,
+    )
+line_beside set early own beside done net next (line.Session session who) lines held still gives =
+    let e = event.Open session who in
+    (event_beside set early own beside done net next e lines still gives, event_still set (place early own done) own beside net next e lines still (held who (eq-eqb who who refl)) gives)
+line_beside set early own beside done net next (line.Start session) lines held still gives =
+    let e = event.Start session in (event_beside set early own beside done net next e lines still gives, event_still set (place early own done) own beside net next e lines still tt gives)
+line_beside set early own beside done net next (line.Deliver session at' packet) lines held still gives =
+    let e = event.Deliver session at' packet in (event_beside set early own beside done net next e lines still gives, event_still set (place early own done) own beside net next e lines still tt gives)
+line_beside set early own beside done net next (line.Repeat session) lines held still gives =
+    let e = event.Repeat session in (event_beside set early own beside done net next e lines still gives, event_still set (place early own done) own beside net next e lines still tt gives)
+line_beside set early own beside done net next (line.GiveUp session at') lines held still gives =
+    let e = event.GiveUp session at' in (event_beside set early own beside done net next e lines still gives, event_still set (place early own done) own beside net next e lines still tt gives)
+line_beside set early own beside done net next (line.Plain session) lines held still gives = plain_beside set early own beside done net next session lines still gives
 
 -- so does a job
-job_beside : (set : Setting) (early own beside done : List LineRecord) (job : List Line) (lines : List LineRecord) → IsQuiet own job → IsQuiet beside job
-    → JobGives set (place early own done) job lines → JobGives set (place early beside done) job lines
-job_beside set early own beside done [] lines quiet still gives = gives
-job_beside set early own beside done (l ∷ job) lines quiet still (front, rest, is, first, more) = (
-  front,
-  rest,
-  is,
-  line_beside set early own beside done l front (λ sub gives. quiet sub (or_left (is_give_to sub l) (gives_to sub job) gives)) (λ sub gives. still sub (or_left (is_give_to sub l) (gives_to sub job) gives)) first,
-  job_beside set early own beside (done ++ front) job rest (λ sub gives. quiet sub (or_right (is_give_to sub l) (gives_to sub job) gives)) (λ sub gives. still sub (or_right (is_give_to sub l) (gives_to sub job) gives)) more,
-)
+job_beside : (set : Setting) (early own beside done : List LineRecord) (net last : Net) (job : List Line) (lines : List LineRecord) → ((sub : ℕ) → holds sub job ≡ true → IsStill own beside sub)
+    → AreOf (IsStill own beside) net.sessions → JobGives set (place early own done) net job lines last → JobGives set (place early beside done) net job lines last
+job_beside set early own beside done net last [] lines held still gives = gives
+job_beside set early own beside done net last (l ∷ job) lines held still (front, rest, next, is, first, more) =
+    let (here, later) = line_beside set early own beside done net next l front (λ sub is. held sub (or_left (is_held_by sub l) (holds sub job) is)) still first in
+    (front, rest, next, is, here, job_beside set early own beside (done ++ front) next last job rest (λ sub is. held sub (or_right (is_held_by sub l) (holds sub job) is)) later more)
 
 -- ---- all jobs
 
@@ -108,23 +248,25 @@ all_from_both : {X : Type 0} (P Q R : X → Type 0) (xs : List X) → ((x : X) �
 all_from_both P Q R xs f ps qs k d within = f _ (ps k d within) (qs k d within)
 
 -- the USIMs of one job are none of another's
-not_given : (sub : ℕ) (job other : List Line) → AreApart job other → gives_to sub other ≡ true → gives_to sub job ≡ false
-not_given sub job other apart to = false_from_ne_true (gives_to sub job) (λ is. true≢false (sym to ∙ apart sub is))
+not_given : (sub : ℕ) (job other : List Line) → AreApart job other → holds sub other ≡ true → holds sub job ≡ false
+not_given sub job other apart to = false_from_ne_true (holds sub job) (λ is. true≢false (sym to ∙ apart sub is))
 
 -- jobs that are apart give their pieces' lines after the lines of all earlier jobs
-jobs_beside : (set : Setting) (early beside : List LineRecord) (jobs : List (List Line)) (pieces : List Piece) → AllPairs AreApart jobs → All (IsQuiet beside) jobs
-    → PiecesGive set early jobs pieces → JobsGive set early beside jobs (lines_of_pieces pieces)
-jobs_beside set early beside [] pieces apart still give = ap lines_of_pieces give
-jobs_beside set early beside (job ∷ jobs) [] apart still give = absurd give
-jobs_beside set early beside (job ∷ jobs) (piece ∷ pieces) apart still (quiet, gives, more) = (
-  job_beside set early piece.earlier beside [] job piece.lines quiet (All-head (IsQuiet beside) job jobs still) gives,
-  jobs_beside set early (beside ++ piece.lines) jobs pieces (AllPairs-tail AreApart job jobs apart)
+jobs_beside : (set : Setting) (early beside : List LineRecord) (jobs : List (List Line)) (pieces : List Piece) (nets : List Net) → AllPairs AreApart jobs → All (IsQuiet beside) jobs
+    → PiecesGive set early jobs pieces nets → JobsGive set early beside jobs (lines_of_pieces pieces) nets
+jobs_beside set early beside [] pieces nets apart still (none, is) = (ap lines_of_pieces none, is)
+jobs_beside set early beside (job ∷ jobs) [] nets apart still give = absurd give
+jobs_beside set early beside (job ∷ jobs) (piece ∷ pieces) [] apart still give = absurd give
+jobs_beside set early beside (job ∷ jobs) (piece ∷ pieces) (net ∷ nets) apart still (quiet, gives, more) = (
+  job_beside set early piece.earlier beside [] (start_of set job) net job piece.lines
+      (λ sub is. record { own_none = quiet sub is; beside_none = All-head (IsQuiet beside) job jobs still sub is }) (All-nil (λ s. IsStill piece.earlier beside s.sub)) gives,
+  jobs_beside set early (beside ++ piece.lines) jobs pieces nets (AllPairs-tail AreApart job jobs apart)
       (all_from_both (IsQuiet beside) (AreApart job) (IsQuiet (beside ++ piece.lines)) jobs
       (λ other was far sub to. accepted-append sub beside piece.lines ∙ ap (λ (sqns : List (List ℕ)). sqns ++ accepted sub piece.lines) (was sub to)
-      ∙ job_quiet set (place early piece.earlier []) job sub piece.lines gives (not_given sub job other far to))
+      ∙ job_quiet set (place early piece.earlier []) job sub piece.lines net gives (not_given sub job other far to))
       (All-tail (IsQuiet beside) job jobs still) (AllPairs-head AreApart job jobs apart)) more,
 )
 
 -- the same of a round
 pub jobs_give_after_all_lines : JobsGiveAfterAllLines
-jobs_give_after_all_lines set early jobs pieces apart give = jobs_beside set early [] jobs pieces apart (λ k d within sub to. refl) give
+jobs_give_after_all_lines set early jobs pieces nets apart give = jobs_beside set early [] jobs pieces nets apart (λ k d within sub to. refl) give

@@ -1,8 +1,8 @@
 -- For Net: the premise of a few deliveries, by hand.
 use Rattle.std.proofs.Common.{◌≡◌, ℕ, Bool, true, false, List, [], ◌∷◌, Option, Some, None, refl}
 use Rattle.auc_world.specs.Net.{Finding, judged}
-use Rattle.auc_world.specs.declared.event.End.{End}
-use Rattle.auc_world.specs.declared.event.End.TheVariants as end
+use Rattle.auc_lines.specs.declared.part.End.{End}
+use Rattle.auc_lines.specs.declared.part.End.TheVariants as end
 use Rattle.auc_world.specs.declared.net.Breach.{Breach}
 use Rattle.auc_world.specs.declared.net.Inputs.{Inputs}
 use Rattle.auc_world.specs.declared.net.SentPacket.{SentPacket}

@@ -1,6 +1,12 @@
 -- What other crates may cite of the proofs here; every other module is private.
+pub use Rattle.auc_world.proofs.AgreementLemmas.{HoldsOf, AsksWhatItNeeds, Laws, agreed}
 pub use Rattle.auc_world.proofs.ApartLemmas.{accepted-append, job_quiet, jobs_give_after_all_lines}
 pub use Rattle.auc_world.proofs.BitLemmas.{bit_mask_is_bytes}
 pub use Rattle.auc_world.proofs.HeldLemmas.{withheld_of-held_of, none_held}
+pub use Rattle.auc_world.proofs.JobLemmas.{of_sub}
+pub use Rattle.auc_world.proofs.JobRunLemmas.{IsKnown, IsOfJob, counted_once, job_runs, number_counts}
 pub use Rattle.auc_world.proofs.LimitLemmas.{get_or-greater, length-opened, opened_above}
+pub use Rattle.auc_world.proofs.NetLemmas.{AreAt, IsPresentedAt, OpensAt, places_stay, presented_is_at}
+pub use Rattle.auc_world.proofs.PastLemmas.{each_accepted_in_past}
 pub use Rattle.auc_world.proofs.PieceLemmas.{pieces_split_the_round}
+pub use Rattle.auc_world.proofs.RunLemmas.{one_challenge_is_of_one_number, peer_success_is_drawn, server_success_is_drawn}

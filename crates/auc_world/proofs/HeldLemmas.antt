@@ -1,11 +1,15 @@
 -- The withheld numbers of a subscriber, with their causes and without.
 use Rattle.std.proofs.Common.{◌≡◌, ℕ, Bool, true, false, List, [], ◌∷◌, ◌++◌, refl, sym, ap, ◌∙◌}
-use Rattle.std.specs.Prelude.{◌==◌, map, if◌then◌else◌}
+use Rattle.std.specs.Prelude.{◌==◌, map, if◌then◌else◌, Option, Some, None}
 use Rattle.std.proofs.lemmas.List.{map-append}
 use Rattle.auc_edge.specs.declared.stop.Stop.{Stop}
+use Rattle.auc_vector.specs.Notes.{withheld_noted}
+use Rattle.auc_vector.specs.declared.notes.NumberNote.{NumberNote}
+use Rattle.auc_vector.specs.declared.notes.NumberNote.TheVariants as number
+use Rattle.auc_world.specs.Event.{number_for, number_withheld}
 use Rattle.auc_world.specs.Lines.{withheld_by, withheld_of, held_by, held_of}
 use Rattle.auc_world.specs.declared.record.LineRecord.{LineRecord}
-use Rattle.auc_world.specs.declared.record.LineRecord.TheVariants.{Vector, Withheld, Exhausted, Sync, Give}
+use Rattle.auc_world.specs.declared.record.LineRecord.TheVariants.{Vector, Withheld, Exhausted, Sync, Give, Event}
 
 -- a line's withheld number is the one that has the cause
 withheld_held : (sub : ℕ) (line : LineRecord) → withheld_by sub line ≡ map (λ (h : ℕ × Stop). h.0) (held_by sub line)
@@ -18,6 +22,13 @@ withheld_held sub (Withheld s n stop) = by (s == sub)
 withheld_held sub (Exhausted s word) = refl
 withheld_held sub (Sync s verdict) = refl
 withheld_held sub (Give s n verdict) = refl
+withheld_held sub (Event r) = by (number_for sub r)
+  where
+    by : (note : Option NumberNote) → number_withheld note ≡ map (λ (h : ℕ × Stop). h.0) (withheld_noted note)
+    by None = refl
+    by (Some (number.Drew n)) = refl
+    by (Some (number.Exhausted word)) = refl
+    by (Some (number.Withheld n stop)) = refl
 
 -- the withheld numbers of lines are those that have a cause, in their order
 pub withheld_of-held_of : (sub : ℕ) (lines : List LineRecord) → withheld_of sub lines ≡ map (λ (h : ℕ × Stop). h.0) (held_of sub lines)

@@ -1,26 +1,26 @@
 -- For the set of released numbers: room for lines' numbers, and the lines whose numbers it has.
 use Rattle.std.proofs.Common.{◌≡◌, ℕ, ◌+◌, Bool, ◌||◌, List, [], ◌∷◌, ◌++◌, take, sym, ap, ◌∙◌, subst, append_assoc, append-nil}
-use Rattle.std.specs.Prelude.{◌==◌, All}
+use Rattle.std.specs.Prelude.{◌==◌, All, Option, Some, None}
+use Rattle.auc_released.specs.declared.numbers.Number.{Number}
 use Rattle.std.proofs.lemmas.List.Concat.{flat_map-append}
 use Rattle.std.proofs.lemmas.List.Elements.{All-push, All-weaker}
 use Rattle.std.proofs.lemmas.List.Folds.{list_any-append}
 use Rattle.auc_released.specs.Room.{KeepsRoom}
 use Rattle.auc_world.specs.Given.{is_in}
-use Rattle.auc_world.specs.InnerRoom.{HasRoomForLine, HasRoomForLines}
+use Rattle.auc_world.specs.InnerRoom.{HasRoomFor, HasRoomForLine, HasRoomForLines, number_of}
 use Rattle.auc_world.specs.Lines.{numbers_of, released_by, all_lines}
 use Rattle.auc_world.specs.Released.{Released, has, AreReleased}
 use Rattle.auc_world.specs.declared.record.LineRecord.{LineRecord}
-use Rattle.auc_world.specs.declared.record.LineRecord.TheVariants.{Vector, Withheld, Exhausted, Sync, Give}
 
 -- ---- room
 
 -- room for a line's number stays
 pub line_room_stays : (old new : Released) → KeepsRoom old new → (line : LineRecord) → HasRoomForLine old line → HasRoomForLine new line
-line_room_stays old new kept (Vector sub n) there = kept (record { sub = sub; n = n }) there
-line_room_stays old new kept (Withheld sub n stop) there = tt
-line_room_stays old new kept (Exhausted sub word) there = tt
-line_room_stays old new kept (Sync sub verdict) there = tt
-line_room_stays old new kept (Give sub n verdict) there = tt
+line_room_stays old new kept line there = by (number_of line) there
+  where
+    by : (number : Option Number) → HasRoomFor old number → HasRoomFor new number
+    by None there = tt
+    by (Some number) there = kept number there
 
 -- room for those of some lines
 pub lines_room_stays : (old new : Released) → KeepsRoom old new → (lines : List LineRecord) → HasRoomForLines old lines → HasRoomForLines new lines

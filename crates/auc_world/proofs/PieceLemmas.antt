@@ -10,10 +10,16 @@ use Rattle.auc_history.specs.Recut.{LeavesOutLooks, EachLeavesOutLooks}
 use Rattle.auc_history.specs.Split.{all_entries, times}
 use Rattle.auc_history.proofs.Facts.{leaves_out-append, leaves_out_none, split_without_looks_is_a_split, times-append, times-cons}
 use Rattle.auc_world.specs.declared.record.LineRecord.{LineRecord}
-use Rattle.auc_world.specs.declared.record.LineRecord.TheVariants.{Vector, Withheld, Exhausted, Sync, Give}
+use Rattle.std.specs.Prelude.{Option, Some, None}
+use Rattle.auc_vector.specs.declared.notes.NumberNote.{NumberNote}
+use Rattle.auc_vector.specs.declared.notes.NumberNote.TheVariants as number
+use Rattle.auc_vector.specs.declared.notes.ResyncNote.{ResyncNote}
+use Rattle.auc_vector.specs.declared.notes.ResyncNote.TheVariants as resync
+use Rattle.auc_world.specs.Event.{is_exhausted, number_for, resync_for}
+use Rattle.auc_world.specs.declared.record.LineRecord.TheVariants.{Vector, Withheld, Exhausted, Sync, Give, Event}
 use Rattle.auc_world.specs.declared.record.SyncVerdict.{SyncVerdict}
 use Rattle.auc_world.specs.declared.record.SyncVerdict.TheVariants as verdict
-use Rattle.auc_world.specs.Entries.{reports, is_reported, entries_of_verdict, entries_of_line, entries_of_lines, entries_of_jobs}
+use Rattle.auc_world.specs.Entries.{reports, is_reported, entries_of_number, entries_of_resync, entries_of_verdict, entries_of_line, entries_of_lines, entries_of_jobs}
 use Rattle.auc_world.specs.Pieces.{Piece, lines_of_pieces, entries_of_pieces, ReportsAreEarlier, PiecesSplitTheRound}
 
 -- ---- lines after a worker's earlier lines, and after those of all earlier jobs
@@ -82,6 +88,24 @@ exhausted_leaves_out false own all word more apart = refl
 reports_itself : (sub s word : ℕ) (lines : List LineRecord) → (s == sub) ≡ true → is_reported sub word (Exhausted s word ∷ lines) ≡ true
 reports_itself sub s word lines same = or_left (s == sub && word == word) (is_reported sub word lines) (and_from (s == sub) (word == word) same (eq-eqb word word refl))
 
+-- the entries of an event's resynchronisation, and of the number that it asked for
+resync_leaves_out : (sub : ℕ) (own all : List LineRecord) (note : Option ResyncNote) → ((word : ℕ) → is_reported sub word own ≡ true → is_reported sub word all ≡ true)
+    → LeavesOutLooks (entries_of_resync sub own note) (entries_of_resync sub all note)
+resync_leaves_out sub own all None more = refl
+resync_leaves_out sub own all (Some (resync.Moved from to)) more = leaves_out_none (Moved from to ∷ [])
+resync_leaves_out sub own all (Some (resync.InRange seen seq)) more = look_left_out (is_reported sub seen own) (is_reported sub seen all) seen (more seen)
+resync_leaves_out sub own all (Some (resync.Beyond seen seq)) more = look_left_out (is_reported sub seen own) (is_reported sub seen all) seen (more seen)
+resync_leaves_out sub own all (Some resync.BadAuts) more = refl
+
+number_leaves_out : (sub : ℕ) (own all : List LineRecord) (note : Option NumberNote) → ((word : ℕ) → is_reported sub word own ≡ true → is_reported sub word all ≡ true)
+    → ((word : ℕ) → is_exhausted word note ≡ true → is_reported sub word all ≡ true → is_reported sub word own ≡ true)
+    → LeavesOutLooks (entries_of_number sub own note) (entries_of_number sub all note)
+number_leaves_out sub own all None more apart = refl
+number_leaves_out sub own all (Some (number.Drew n)) more apart = leaves_out_none (Drawn n ∷ [])
+number_leaves_out sub own all (Some (number.Exhausted word)) more apart =
+    mark_stays (is_reported sub word own) (is_reported sub word all) (Drawn (word + 1) ∷ []) (more word) (apart word (eq-eqb word word refl))
+number_leaves_out sub own all (Some (number.Withheld n stop)) more apart = leaves_out_none (Drawn n ∷ [])
+
 -- the entries of a line
 line_leaves_out : (sub : ℕ) (own all : List LineRecord) (line : LineRecord) (lines : List LineRecord) → IsAmong sub own all (line ∷ lines)
     → LeavesOutLooks (entries_of_line sub own line) (entries_of_line sub all line)
@@ -91,6 +115,12 @@ line_leaves_out sub own all (Exhausted s word) lines among =
     exhausted_leaves_out (s == sub) (is_reported sub word own) (is_reported sub word all) word (among.more word) (λ same is. among.apart word (reports_itself sub s word lines same) is)
 line_leaves_out sub own all (Sync s answer) lines among = of_subscriber (s == sub) (entries_of_verdict sub own answer) (entries_of_verdict sub all answer) (verdict_leaves_out sub own all answer among.more)
 line_leaves_out sub own all (Give s n answer) lines among = refl
+line_leaves_out sub own all (Event r) lines among =
+    leaves_out-append (entries_of_resync sub own (resync_for sub r)) (entries_of_resync sub all (resync_for sub r))
+    (entries_of_number sub own (number_for sub r)) (entries_of_number sub all (number_for sub r))
+    (resync_leaves_out sub own all (resync_for sub r) among.more)
+    (number_leaves_out sub own all (number_for sub r) among.more
+    (λ word says is. among.apart word (or_left (is_exhausted word (number_for sub r)) (is_reported sub word lines) says) is))
 
 -- the entries of some lines
 lines_leave_out : (sub : ℕ) (own all lines : List LineRecord) → IsAmong sub own all lines → LeavesOutLooks (entries_of_lines sub own lines) (entries_of_lines sub all lines)
@@ -117,6 +147,17 @@ mark_once word = times-cons (word + 1) (word + 1) [] ∙ by (word + 1 == word + 
     by true is = refl
     by false is = absurd (false≢true is)
 
+-- a number that was asked for stands for the mark after the word that is reported first
+number_marks : (sub word : ℕ) (own : List LineRecord) (note : Option NumberNote) → is_reported sub word own ≡ false → is_exhausted word note ≡ true
+    → 1 ≤ marks word (entries_of_number sub own note)
+number_marks sub word own None fresh says = absurd (false≢true says)
+number_marks sub word own (Some (number.Drew n)) fresh says = absurd (false≢true says)
+number_marks sub word own (Some (number.Exhausted read)) fresh says =
+    let here : entries_of_number sub own (Some (number.Exhausted read)) ≡ Drawn (word + 1) ∷ [] =
+    ap (λ k. if is_reported sub k own then [] else Drawn (k + 1) ∷ []) (eqb-true read word says) ∙ ap (λ b. if b then [] else Drawn (word + 1) ∷ []) fresh in
+    omega (arith, ap (marks word) here, mark_once word)
+number_marks sub word own (Some (number.Withheld n stop)) fresh says = absurd (false≢true says)
+
 -- the first line that reports a word stands for the mark after it
 line_marks : (sub word : ℕ) (own : List LineRecord) (line : LineRecord) → is_reported sub word own ≡ false → reports sub word line ≡ true → 1 ≤ marks word (entries_of_line sub own line)
 line_marks sub word own (Vector s n) fresh says = absurd (false≢true says)
@@ -129,6 +170,9 @@ line_marks sub word own (Exhausted s read) fresh says =
     omega (arith, ap (marks word) here, mark_once word)
 line_marks sub word own (Sync s answer) fresh says = absurd (false≢true says)
 line_marks sub word own (Give s n answer) fresh says = absurd (false≢true says)
+line_marks sub word own (Event r) fresh says =
+    let mark = number_marks sub word own (number_for sub r) fresh says in
+    omega (arith, marks-append word (entries_of_resync sub own (resync_for sub r)) (entries_of_number sub own (number_for sub r)), mark)
 
 -- lines that report a word first stand for the mark after it
 lines_mark : (sub word : ℕ) (own lines : List LineRecord) → is_reported sub word own ≡ false → is_reported sub word lines ≡ true → 1 ≤ marks word (entries_of_lines sub own lines)

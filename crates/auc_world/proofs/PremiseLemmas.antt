@@ -8,8 +8,8 @@ use Rattle.auc_server.specs.Setting.{Setting}
 use Rattle.auc_world.specs.Agreement.{BreachIsFirst, BrokenTells, Happening, IsFirst, IsHonest, IsHonestAt, IsHonestFinding, Noted, Occurs, SentBefore, after, after_one}
 use Rattle.auc_world.specs.Happened.{found}
 use Rattle.auc_world.specs.Net.{Finding, Net, breaks, judged, other, same_end, same_inputs, share_inputs, was_sent}
-use Rattle.auc_world.specs.declared.event.End.{End}
-use Rattle.auc_world.specs.declared.event.End.TheVariants as end
+use Rattle.auc_lines.specs.declared.part.End.{End}
+use Rattle.auc_lines.specs.declared.part.End.TheVariants as end
 use Rattle.auc_world.specs.declared.net.Breach.{Breach}
 use Rattle.auc_world.specs.declared.net.Inputs.{Inputs}
 use Rattle.auc_world.specs.declared.net.SentPacket.{SentPacket}

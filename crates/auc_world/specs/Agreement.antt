@@ -11,7 +11,7 @@ use Rattle.auc_subs.specs.declared.row.Row.{Row}
 use Rattle.auc_vector.specs.declared.turn.Outcome.TheVariants as outcome
 use Rattle.auc_world.specs.Happened.{Told, found, happened}
 use Rattle.auc_world.specs.Net.{Finding, Net, device_place, inputs_of_peer, inputs_of_server, other}
-use Rattle.auc_world.specs.declared.event.End.{End}
+use Rattle.auc_lines.specs.declared.part.End.{End}
 use Rattle.auc_world.specs.declared.event.Event.{Event}
 use Rattle.auc_world.specs.declared.net.Breach.{Breach}
 use Rattle.auc_world.specs.declared.net.Inputs.{Inputs}

@@ -1,23 +1,43 @@
--- What the lines of a job give, by what came before them. The centre's answers are free here; the rule of the
--- round (`specs/Round`) says which of them a legal history allows.
-use Rattle.std.specs.Prelude.{◌≡◌, ℕ, ◌-◌, ◌/◌, ◌%◌, ◌^◌, ◌<◌, ◌≤◌, ◌||◌, ◌==◌, zero, suc, Bool, true, false, Option, Some, None, List, [], ◌∷◌, ◌++◌, length, replicate, fold, slice_get, slice_set, All, Contains}
+-- What the lines of a job give, by what came before them and in the network of its sessions. The centre's answers are free
+-- here; the rule of the round (`specs/Round`) says which of them a legal history allows.
+use Rattle.std.specs.Prelude.{◌≡◌, ℕ, ◌-◌, ◌/◌, ◌%◌, ◌^◌, ◌<◌, ◌≤◌, ◌||◌, ◌==◌, zero, suc, Bool, true, false, Option, Some, None, Ok, Err, List, [], ◌∷◌, ◌++◌, length, replicate, fold, slice_get, slice_set, All, Contains}
 use Rattle.std.specs.List.{list_any}
 use Rattle.auc_aes.specs.Bytes.{xor}
 use Rattle.auc_history.specs.Resynchronise.{resynchronise_of}
 use Rattle.auc_history.specs.Resynchronise.{Resynchronisation}
 use Rattle.auc_history.specs.Resynchronise as found
 use Rattle.auc_milenage.specs.Milenage.{auts}
+use Rattle.auc_milenage.specs.declared.secret.Secret.{Secret}
+use Rattle.auc_lines.specs.declared.part.End.{End}
+use Rattle.auc_lines.specs.declared.part.End.TheVariants as end
 use Rattle.auc_lines.specs.declared.part.Line.{Line}
 use Rattle.auc_lines.specs.declared.part.Line.TheVariants as line
+use Rattle.auc_peer.specs.Asking.{answer_noted}
+use Rattle.auc_peer.specs.Turn.{Decrypts, decryption_noted}
+use Rattle.auc_peer.specs.declared.peer.Challenge.{Challenge}
 use Rattle.auc_sqn.specs.Number.{ind_of, max_seq, seq_of, sqn_bytes}
 use Rattle.auc_sqn.specs.Past.{Past, opening_past, verdict_of, IsSqnMs}
 use Rattle.auc_sqn.specs.declared.verdict.Verdict.{Verdict}
 use Rattle.auc_sqn.specs.declared.verdict.Verdict.TheVariants.{Fresh, Old, Far}
 use Rattle.auc_subs.specs.declared.row.Row.{Row}
+use Rattle.auc_usim.specs.Usim.{IsAnswer}
 use Rattle.auc_vector.specs.Auts.{read_auts_of}
+use Rattle.auc_vector.specs.Notes.{Asking}
 use Rattle.auc_vector.specs.Random.{rand_of}
 use Rattle.auc_vector.specs.declared.auts.Auts.{Auts}
 use Rattle.auc_vector.specs.declared.auts.Auts.TheVariants as read
+use Rattle.auc_vector.specs.declared.notes.Notes.{Notes}
+use Rattle.auc_vector.specs.declared.notes.NumberNote.{NumberNote}
+use Rattle.auc_vector.specs.declared.notes.NumberNote.TheVariants as number
+use Rattle.auc_vector.specs.declared.notes.ResyncNote.{ResyncNote}
+use Rattle.auc_vector.specs.declared.notes.ResyncNote.TheVariants as resync
+use Rattle.auc_vector.specs.declared.notes.UsimNote.{UsimNote}
+use Rattle.auc_world.specs.Came.{AreReceived, Came, Presented, TellsNotes, asking_of, bytes_named, came, presented_by}
+use Rattle.auc_world.specs.Happened.{Told, happened}
+use Rattle.auc_world.specs.Net.{Net, other}
+use Rattle.auc_world.specs.Start.{start_of}
+use Rattle.auc_world.specs.declared.event.Event.{Event}
+use Rattle.auc_world.specs.declared.event.Event.TheVariants as event
 use Rattle.auc_world.specs.declared.record.LineRecord.{LineRecord}
 use Rattle.auc_world.specs.declared.record.LineRecord.TheVariants as record_of
 use Rattle.auc_world.specs.declared.record.GiveVerdict.{GiveVerdict}
@@ -33,6 +53,10 @@ pub record Before : Type 0 where
   pub early : List LineRecord
   pub beside : List LineRecord
   pub own : List LineRecord
+
+-- the lines before what comes after some lines of the same job
+abbrev pub behind : Before → List LineRecord → Before
+behind before lines = record { early = before.early; beside = before.beside; own = before.own ++ lines }
 
 -- ---- draw
 
@@ -52,6 +76,7 @@ DrawGives set sub (suc count) (record_of.Withheld s n stop ∷ lines) = (s ≡ s
 DrawGives set sub (suc count) (record_of.Exhausted s word ∷ lines) = (s ≡ sub) × (max_seq ≤ word) × (lines ≡ [])
 DrawGives set sub (suc count) (record_of.Sync s answer ∷ lines) = ⊥
 DrawGives set sub (suc count) (record_of.Give s n answer ∷ lines) = ⊥
+DrawGives set sub (suc count) (record_of.Event r ∷ lines) = ⊥
 
 -- ---- sync
 
@@ -140,27 +165,127 @@ pub record GiveGives (set : Setting) (before : Before) (sub n : ℕ) (lines : Li
   pub lines_are : lines ≡ record_of.Give sub n answer ∷ []
   pub given : IsGiven (is_released before sub n) (past_before before row sub) n answer
 
+-- ---- events of sessions
+
+-- the centre's answer to a draw is a number that a vector may have, or the word of a spent subscriber
+abbrev pub IsNumberNote : NumberNote → Type 0
+IsNumberNote (number.Drew n) = (1 ≤ n) × (n ≤ max_seq)
+IsNumberNote (number.Exhausted word) = max_seq ≤ word
+IsNumberNote (number.Withheld n stop) = (1 ≤ n) × (n ≤ max_seq)
+
+abbrev pub IsNumberAnswer : Option NumberNote → Type 0
+IsNumberAnswer None = ⊥
+IsNumberAnswer (Some note) = IsNumberNote note
+
+-- the note of a resynchronisation
+abbrev pub resync_note : Resynchronisation → ResyncNote
+resync_note (found.Moved seen seq_ms) = resync.Moved seen seq_ms
+resync_note (found.InRange seen seq_ms) = resync.InRange seen seq_ms
+resync_note (found.Beyond seen seq_ms) = resync.Beyond seen seq_ms
+
+-- what follows it: a number is asked for, if the centre's number moved or is in range
+abbrev pub NumberFollows : Resynchronisation → Option NumberNote → Type 0
+NumberFollows (found.Moved seen seq_ms) answer = IsNumberAnswer answer
+NumberFollows (found.InRange seen seq_ms) answer = IsNumberAnswer answer
+NumberFollows (found.Beyond seen seq_ms) answer = answer ≡ None
+
+-- the centre answered a request for a number, after a SEQ was reported or without one
+abbrev pub CentreAnswers : Option ℕ → Notes → Type 0
+CentreAnswers None notes = IsNumberAnswer notes.number
+CentreAnswers (Some seq_ms) notes = (seen : ℕ) × (notes.resync ≡ Some (resync_note (resynchronise_of seen seq_ms)))
+    × NumberFollows (resynchronise_of seen seq_ms) notes.number
+
+-- if it was asked, for a subscriber that there is
+pub record AsksCentre (set : Setting) (request : Asking) (notes : Notes) : Type 0 where
+  pub known : request.sub < length set.rows
+  pub answers : CentreAnswers request.reported notes
+
+abbrev pub IsCentreAsked : Setting → Option Asking → Notes → Type 0
+IsCentreAsked set None notes = Unit {0}
+IsCentreAsked set (Some request) notes = AsksCentre set request notes
+
+-- a USIM answered what it was handed, by its past, as the note tells
+abbrev pub UsimNotes : Secret → Past → Option Challenge → Option UsimNote → Type 0
+UsimNotes secret past None note = note ≡ None
+UsimNotes secret past (Some challenge) None = ⊥
+UsimNotes secret past (Some challenge) (Some note) = IsAnswer secret past challenge.rand challenge.autn (answer_noted secret challenge note)
+
+-- the device of a session's subscriber received a packet: its USIM answered, by all that it had accepted; and what was
+-- encrypted was readable or not
+pub record AsksUsim (set : Setting) (before : Before) (p : Presented) (told : Told) : Type 0 where
+  pub row : Row
+  pub there : slice_get set.rows p.delivery.session.sub ≡ Some row
+  pub answers : UsimNotes p.device.secret (past_before before row p.delivery.session.sub) p.challenge told.notes.usim
+  pub readable : Decrypts (decryption_noted p.device p.delivery.session.peer told.seen p.challenge told.notes.usim) told.readable
+
+abbrev pub IsUsimAsked : Setting → Before → Option Presented → Told → Type 0
+IsUsimAsked set before None told = Unit {0}
+IsUsimAsked set before (Some p) told = AsksUsim set before p told
+
+-- what an event gives in a job's network, and the network after it
+pub record EventGives (set : Setting) (before : Before) (net : Net) (e : Event) (lines : List LineRecord) (next : Net) : Type 0 where
+  pub told : Told
+  pub lines_are : lines ≡ record_of.Event (record { event = e; result = came set net e told }) ∷ []
+  pub leads : next ≡ happened set net e told
+  pub received : AreReceived (bytes_named net e) told.seen
+  pub notes : TellsNotes told (came set net e told)
+  pub centre : IsCentreAsked set (asking_of set net e told) told.notes
+  pub usim : IsUsimAsked set before (presented_by net e told) told
+
+-- the packet that an event made, if it made one
+abbrev pub packet_in : Came → Option ℕ
+packet_in (Ok note) = note.packet
+packet_in (Err why) = None
+
+abbrev pub packet_of : LineRecord → Option ℕ
+packet_of (record_of.Vector s n) = None
+packet_of (record_of.Withheld s n stop) = None
+packet_of (record_of.Exhausted s word) = None
+packet_of (record_of.Sync s answer) = None
+packet_of (record_of.Give s n answer) = None
+packet_of (record_of.Event r) = packet_in r.result
+
+-- a packet is delivered to an end, if there is one; each packet that follows is delivered to the other end
+abbrev pub RelayGives : Setting → Before → Net → ℕ → End → Option ℕ → List LineRecord → Net → Type 0
+RelayGives set before net session at' None [] next = next ≡ net
+RelayGives set before net session at' None (line ∷ lines) next = ⊥
+RelayGives set before net session at' (Some packet) [] next = ⊥
+RelayGives set before net session at' (Some packet) (line ∷ lines) next = (mid : Net)
+    × EventGives set before net (event.Deliver session at' packet) (line ∷ []) mid
+    × RelayGives set (behind before (line ∷ [])) mid session (other at') (packet_of line) lines next
+
+-- a session is started, and its packets are delivered until one makes none
+abbrev pub PlainGives : Setting → Before → Net → ℕ → List LineRecord → Net → Type 0
+PlainGives set before net session [] next = ⊥
+PlainGives set before net session (line ∷ lines) next = (mid : Net) × EventGives set before net (event.Start session) (line ∷ []) mid
+    × RelayGives set (behind before (line ∷ [])) mid session end.Peer (packet_of line) lines next
+
 -- ---- lines, jobs
 
--- what a line of a job gives
-abbrev pub LineGives : Setting → Before → Line → List LineRecord → Type 0
-LineGives set before (line.Draw sub count) lines = DrawGives set sub count lines
-LineGives set before (line.Sync sub seq bit count) lines = SyncGives set sub seq bit count lines
-LineGives set before (line.Give sub n) lines = GiveGives set before sub n lines
+-- what a line of a job gives, in the job's network, and the network after it
+abbrev pub LineGives : Setting → Before → Net → Line → List LineRecord → Net → Type 0
+LineGives set before net (line.Draw sub count) lines next = DrawGives set sub count lines × (next ≡ net)
+LineGives set before net (line.Sync sub seq bit count) lines next = SyncGives set sub seq bit count lines × (next ≡ net)
+LineGives set before net (line.Give sub n) lines next = GiveGives set before sub n lines × (next ≡ net)
+LineGives set before net (line.Session session sub) lines next = EventGives set before net (event.Open session sub) lines next
+LineGives set before net (line.Start session) lines next = EventGives set before net (event.Start session) lines next
+LineGives set before net (line.Deliver session at' packet) lines next = EventGives set before net (event.Deliver session at' packet) lines next
+LineGives set before net (line.Repeat session) lines next = EventGives set before net (event.Repeat session) lines next
+LineGives set before net (line.GiveUp session at') lines next = EventGives set before net (event.GiveUp session at') lines next
+LineGives set before net (line.Plain session) lines next = PlainGives set before net session lines next
 
--- the lines before what comes after some lines of the same job
-abbrev pub behind : Before → List LineRecord → Before
-behind before lines = record { early = before.early; beside = before.beside; own = before.own ++ lines }
+-- what the lines of a job give, one line after the other, and the network after the last
+abbrev pub JobGives : Setting → Before → Net → List Line → List LineRecord → Net → Type 0
+JobGives set before net [] records last = (records ≡ []) × (last ≡ net)
+JobGives set before net (line ∷ lines) records last = (front : List LineRecord) × (rest : List LineRecord) × (next : Net)
+    × (records ≡ front ++ rest) × LineGives set before net line front next × JobGives set (behind before front) next lines rest last
 
--- what the lines of a job give, one line after the other
-abbrev pub JobGives : Setting → Before → List Line → List LineRecord → Type 0
-JobGives set before [] records = records ≡ []
-JobGives set before (line ∷ lines) records = (front : List LineRecord) × (rest : List LineRecord)
-    × (records ≡ front ++ rest) × LineGives set before line front × JobGives set (behind before front) lines rest
-
--- what the jobs of a round give, each its own record, by the lines of earlier rounds and of earlier jobs
-abbrev pub JobsGive : Setting → List LineRecord → List LineRecord → List (List Line) → List (List LineRecord) → Type 0
-JobsGive set early beside [] records = records ≡ []
-JobsGive set early beside (job ∷ jobs) [] = ⊥
-JobsGive set early beside (job ∷ jobs) (lines ∷ records) =
-    JobGives set (record { early = early; beside = beside; own = [] }) job lines × JobsGive set early (beside ++ lines) jobs records
+-- what the jobs of a round give, each its own record, by the lines of earlier rounds and of earlier jobs; and the network
+-- of each after its last line
+abbrev pub JobsGive : Setting → List LineRecord → List LineRecord → List (List Line) → List (List LineRecord) → List Net → Type 0
+JobsGive set early beside [] records nets = (records ≡ []) × (nets ≡ [])
+JobsGive set early beside (job ∷ jobs) [] nets = ⊥
+JobsGive set early beside (job ∷ jobs) (lines ∷ records) [] = ⊥
+JobsGive set early beside (job ∷ jobs) (lines ∷ records) (net ∷ nets) =
+    JobGives set (record { early = early; beside = beside; own = [] }) (start_of set job) job lines net
+    × JobsGive set early (beside ++ lines) jobs records nets

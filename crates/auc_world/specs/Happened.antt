@@ -21,8 +21,8 @@ use Rattle.auc_vector.specs.declared.turn.Step.{Step}
 use Rattle.auc_vector.specs.declared.turn.Step.TheVariants as step
 use Rattle.auc_vector.specs.declared.turn.Turn.{Turn}
 use Rattle.auc_world.specs.Net.{Finding, Net, device_place, inputs_of_peer, inputs_of_server, judged, packet_at, posted, session_place}
-use Rattle.auc_world.specs.declared.event.End.{End}
-use Rattle.auc_world.specs.declared.event.End.TheVariants as end
+use Rattle.auc_lines.specs.declared.part.End.{End}
+use Rattle.auc_lines.specs.declared.part.End.TheVariants as end
 use Rattle.auc_world.specs.declared.event.Event.{Event}
 use Rattle.auc_world.specs.declared.event.Event.TheVariants as event
 use Rattle.auc_world.specs.declared.net.Breach.{Breach}
@@ -144,9 +144,11 @@ found_by set w end.Peer told (Some d) = peer_finds d told (slice_get w.devices d
 
 -- ---- the other events
 
-abbrev pub opened : Net → ℕ → ℕ → Option ℕ → Net
-opened w session sub None = w
-opened w session sub (Some place) = record w {
+-- a session is opened at the device of a place, unless one of its number is open
+abbrev pub opened : Net → ℕ → ℕ → Option ℕ → Option ℕ → Net
+opened w session sub (Some first) place = w
+opened w session sub None None = w
+opened w session sub None (Some place) = record w {
   sessions = w.sessions ++ record { number = session; sub = sub; device = place; server = None; peer = new_peer; peer_keys = None } ∷ [];
 }
 
@@ -183,12 +185,11 @@ at_session w session does = at_place w does (session_place w.sessions session)
 
 -- sessions and packets after an event; a refused event changes nothing
 abbrev pub moved : Setting → Net → Event → Told → Net
-moved set w (event.Open session sub) told = opened w session sub (device_place set.rows w.devices sub)
+moved set w (event.Open session sub) told = opened w session sub (session_place w.sessions session) (device_place set.rows w.devices sub)
 moved set w (event.Start session) told = at_session w session (λ place s. start w place s s.server)
 moved set w (event.Deliver session at' packet) told = delivered set w at' told (delivery_in w session packet)
 moved set w (event.Repeat session) told = at_session w session (λ place s. repeat w place s s.server)
 moved set w (event.GiveUp session at') told = at_session w session (give_up w at')
-moved set w (event.Give sub n earlier) told = w
 
 -- what an end finds in an event
 abbrev pub found : Setting → Net → Event → Told → Option Finding

@@ -4,11 +4,13 @@ use Rattle.std.specs.Prelude.{◌≡◌, ℕ, true, List, [], ◌∷◌, ◌++�
 use Rattle.auc_history.specs.declared.entry.Entry.{Entry}
 use Rattle.auc_history.specs.Split.{Splits}
 use Rattle.auc_lines.specs.declared.part.Line.{Line}
-use Rattle.auc_lines.specs.Part.{AreApart, gives_to}
+use Rattle.auc_lines.specs.Part.{AreApart, holds}
 use Rattle.auc_world.specs.declared.record.LineRecord.{LineRecord}
 use Rattle.auc_world.specs.Lines.{accepted}
 use Rattle.auc_world.specs.Entries.{is_reported, entries_of_lines, entries_of_jobs}
 use Rattle.auc_world.specs.Given.{JobGives, JobsGive}
+use Rattle.auc_world.specs.Net.{Net}
+use Rattle.auc_world.specs.Start.{start_of}
 use Rattle.auc_world.specs.Setting.{Setting}
 
 -- a job's lines, and the lines of the jobs that its worker served earlier in the round
@@ -38,20 +40,22 @@ PiecesSplitTheRound = (top opening closing sub : ℕ) (pieces : List Piece) → 
     → Splits top opening closing (entries_of_pieces sub pieces)
     → Splits top opening closing (entries_of_jobs sub [] (lines_of_pieces pieces))
 
--- by these lines, no USIM to which the job gives has accepted a number
+-- by these lines, no USIM that the job holds has accepted a number
 abbrev pub IsQuiet : List LineRecord → List Line → Type 0
-IsQuiet lines job = (sub : ℕ) → gives_to sub job ≡ true → accepted sub lines ≡ []
+IsQuiet lines job = (sub : ℕ) → holds sub job ≡ true → accepted sub lines ≡ []
 
--- each job gives the lines of its piece, after its worker's earlier lines, by which its USIMs have accepted nothing
-abbrev pub PiecesGive : Setting → List LineRecord → List (List Line) → List Piece → Type 0
-PiecesGive set early [] pieces = pieces ≡ []
-PiecesGive set early (job ∷ jobs) [] = ⊥
-PiecesGive set early (job ∷ jobs) (piece ∷ pieces) = IsQuiet piece.earlier job
-    × JobGives set (record { early = early; beside = piece.earlier; own = [] }) job piece.lines
-    × PiecesGive set early jobs pieces
+-- each job gives the lines of its piece and its network, after its worker's earlier lines, by which its USIMs have accepted
+-- nothing
+abbrev pub PiecesGive : Setting → List LineRecord → List (List Line) → List Piece → List Net → Type 0
+PiecesGive set early [] pieces nets = (pieces ≡ []) × (nets ≡ [])
+PiecesGive set early (job ∷ jobs) [] nets = ⊥
+PiecesGive set early (job ∷ jobs) (piece ∷ pieces) [] = ⊥
+PiecesGive set early (job ∷ jobs) (piece ∷ pieces) (net ∷ nets) = IsQuiet piece.earlier job
+    × JobGives set (record { early = early; beside = piece.earlier; own = [] }) (start_of set job) job piece.lines net
+    × PiecesGive set early jobs pieces nets
 
--- if each job gives the lines of its piece after its worker's earlier lines, and no two jobs give to one USIM, then
+-- if each job gives the lines of its piece after its worker's earlier lines, and no two jobs hold one USIM, then
 -- each job gives them after the lines of all earlier jobs
 abbrev pub JobsGiveAfterAllLines : Type 0
-JobsGiveAfterAllLines = (set : Setting) (early : List LineRecord) (jobs : List (List Line)) (pieces : List Piece)
-    → AllPairs AreApart jobs → PiecesGive set early jobs pieces → JobsGive set early [] jobs (lines_of_pieces pieces)
+JobsGiveAfterAllLines = (set : Setting) (early : List LineRecord) (jobs : List (List Line)) (pieces : List Piece) (nets : List Net)
+    → AllPairs AreApart jobs → PiecesGive set early jobs pieces nets → JobsGive set early [] jobs (lines_of_pieces pieces) nets

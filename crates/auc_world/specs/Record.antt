@@ -1,22 +1,29 @@
 -- The subscribers that records name.
-use Rattle.std.specs.Prelude.{ℕ, ◌<◌, All}
+use Rattle.std.specs.Prelude.{ℕ, ◌<◌, Option, Some, None, All}
+use Rattle.auc_world.specs.Event.{asked_in}
 use Rattle.auc_world.specs.declared.record.LineRecord.{LineRecord}
-use Rattle.auc_world.specs.declared.record.LineRecord.TheVariants.{Vector, Withheld, Exhausted, Sync, Give}
+use Rattle.auc_world.specs.declared.record.LineRecord.TheVariants.{Vector, Withheld, Exhausted, Sync, Give, Event}
 use Rattle.auc_world.specs.declared.record.PartRecord.{PartRecord}
 use Rattle.auc_world.specs.declared.record.PartRecord.TheVariants.{Round, Restart}
 use Rattle.auc_world.specs.declared.record.RoundRecord.{RoundRecord}
 
--- the subscriber that a record of a job's line names
-abbrev pub subscriber_of : LineRecord → ℕ
-subscriber_of (Vector sub n) = sub
-subscriber_of (Withheld sub n stop) = sub
-subscriber_of (Exhausted sub word) = sub
-subscriber_of (Sync sub verdict) = sub
-subscriber_of (Give sub n verdict) = sub
+-- the subscriber whose numbers a record of a job's line is about; an event's is the one for whom the centre was asked
+abbrev pub subscriber_of : LineRecord → Option ℕ
+subscriber_of (Vector sub n) = Some sub
+subscriber_of (Withheld sub n stop) = Some sub
+subscriber_of (Exhausted sub word) = Some sub
+subscriber_of (Sync sub verdict) = Some sub
+subscriber_of (Give sub n verdict) = Some sub
+subscriber_of (Event r) = asked_in r.result
+
+-- a subscriber, if there is one, is one of so many
+abbrev pub IsBelow : ℕ → Option ℕ → Type 0
+IsBelow count None = Unit {0}
+IsBelow count (Some sub) = sub < count
 
 -- each subscriber that a round's record names is one of the first `count` subscribers
 pub record NamesBelow (count : ℕ) (round : RoundRecord) : Type 0 where
-  pub jobs : All (All (λ line. subscriber_of line < count)) round.jobs
+  pub jobs : All (All (λ line. IsBelow count (subscriber_of line))) round.jobs
   pub closings : All (λ closing. closing.sub < count) round.closings
 
 -- the same of a part's record; a restart names none

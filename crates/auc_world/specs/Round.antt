@@ -1,6 +1,6 @@
 -- A lawful round: what its jobs ask of its records, and what the records say of each subscriber's history.
 -- Nothing here speaks of an order between the steps of different jobs.
-use Rattle.std.specs.Prelude.{◌≡◌, ℕ, ◌+◌, ◌^◌, ◌<◌, ◌==◌, Option, Some, None, List, [], ◌∷◌, ◌++◌, All, length, slice_index, if◌then◌else◌}
+use Rattle.std.specs.Prelude.{◌≡◌, ℕ, ◌+◌, ◌^◌, ◌<◌, ◌==◌, Option, Some, None, List, [], ◌∷◌, ◌++◌, All, length, map, slice_index, if◌then◌else◌}
 use Rattle.auc_edge.specs.declared.stop.Stop.{Stop}
 use Rattle.auc_history.specs.History.{drawn, skipped}
 use Rattle.auc_history.specs.Split.{Splits, all_entries}
@@ -8,11 +8,16 @@ use Rattle.auc_lines.specs.declared.part.Line.{Line}
 use Rattle.auc_sqn.specs.Number.{max_seq}
 use Rattle.auc_world.specs.declared.record.Closing.{Closing}
 use Rattle.auc_world.specs.declared.record.LineRecord.{LineRecord}
-use Rattle.auc_world.specs.declared.record.LineRecord.TheVariants.{Vector, Withheld, Exhausted, Sync, Give}
+use Rattle.auc_world.specs.declared.record.LineRecord.TheVariants.{Vector, Withheld, Exhausted, Sync, Give, Event}
+use Rattle.auc_world.specs.Event.{number_in}
+use Rattle.auc_vector.specs.declared.notes.NumberNote.{NumberNote}
+use Rattle.auc_vector.specs.declared.notes.NumberNote.TheVariants as number
 use Rattle.auc_world.specs.declared.record.RoundRecord.{RoundRecord}
 use Rattle.auc_world.specs.Entries.{entries_of_jobs}
 use Rattle.auc_world.specs.Given.{JobsGive}
 use Rattle.auc_world.specs.Lines.{numbers_of, withheld_of, all_lines}
+use Rattle.auc_world.specs.Net.{Net}
+use Rattle.auc_world.specs.Sessions.{AreVerdicts, job_sessions, premise_from}
 use Rattle.auc_world.specs.Setting.{Setting}
 
 -- the closing of a subscriber whose word moved from an opening to a closing, with the counts of its entries and of
@@ -36,6 +41,13 @@ closings_from sub (opening ∷ openings) [] jobs = []
 closings_from sub (opening ∷ openings) (word ∷ words) jobs =
     closing_of sub opening word jobs ++ closings_from (sub + 1) openings words jobs
 
+-- a note that a number was withheld names this cause
+abbrev pub NotesStop : Stop → Option NumberNote → Type 0
+NotesStop stop None = Unit {0}
+NotesStop stop (Some (number.Drew n)) = Unit {0}
+NotesStop stop (Some (number.Exhausted word)) = Unit {0}
+NotesStop stop (Some (number.Withheld n cause)) = cause ≡ stop
+
 -- a line that withholds a number names this cause
 abbrev pub NamesStop : Stop → LineRecord → Type 0
 NamesStop stop (Vector s n) = Unit {0}
@@ -43,6 +55,7 @@ NamesStop stop (Withheld s n cause) = cause ≡ stop
 NamesStop stop (Exhausted s word) = Unit {0}
 NamesStop stop (Sync s answer) = Unit {0}
 NamesStop stop (Give s n answer) = Unit {0}
+NamesStop stop (Event r) = NotesStop stop (number_in r.result)
 
 -- what is withheld in a round in which the reservation of numbers stopped: each line names the cause of the stop, and each
 -- withheld number is above each number that the round releases for its subscriber
@@ -61,9 +74,13 @@ Withholds (Some stop) lines = WithholdsAbove stop lines
 pub record IsLawfulRound (set : Setting) (stop : Option Stop) (early : List LineRecord) (openings : List ℕ) (jobs : List (List Line)) (round : RoundRecord) (words : List ℕ) : Type 0 where
   pub sizes : length words ≡ length openings
   pub fits : (sub : ℕ) → sub < length words → slice_index words sub < 2 ^ 64
-  pub given : JobsGive set early [] jobs round.jobs
+  -- the networks of the jobs' sessions after the last lines
+  pub nets : List Net
+  pub given : JobsGive set early [] jobs round.jobs nets
   pub split : (sub : ℕ) → sub < length openings
       → Splits max_seq (slice_index openings sub) (slice_index words sub) (entries_of_jobs sub [] round.jobs)
   pub closings : round.closings ≡ closings_from 0 openings words round.jobs
   -- each drawn number that isn't a mark was released or withheld
   pub withheld : Withholds stop (all_lines round.jobs)
+  pub sessions : AreVerdicts (map job_sessions nets) round.sessions
+  pub premise : round.premise ≡ premise_from 1 (map job_sessions nets)

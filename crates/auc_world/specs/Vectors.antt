@@ -8,7 +8,9 @@ use Rattle.auc_vector.specs.declared.parts.Vector.{Vector as AuthVector}
 use Rattle.auc_world.specs.Given.{IsReleasable}
 use Rattle.auc_world.specs.Setting.{Setting}
 use Rattle.auc_world.specs.declared.record.LineRecord.{LineRecord}
-use Rattle.auc_world.specs.declared.record.LineRecord.TheVariants.{Vector, Withheld, Exhausted, Sync, Give}
+use Rattle.auc_released.specs.declared.numbers.Number.{Number}
+use Rattle.auc_world.specs.Event.{event_number}
+use Rattle.auc_world.specs.declared.record.LineRecord.TheVariants.{Vector, Withheld, Exhausted, Sync, Give, Event}
 
 -- the vector of a number, made with a row and a RAND; a subscriber without a row has no vectors, and no line that is
 -- served names one
@@ -20,6 +22,11 @@ vector_with (Some row) n rand = vector_of row.secret row.amf n rand ∷ []
 abbrev pub vector_at : Setting → ℕ → ℕ → List AuthVector
 vector_at set sub n = vector_with (slice_get set.rows sub) n (rand_of set.key sub n)
 
+-- the vector of a number that was released, if one was
+abbrev pub vector_of_number : Setting → Option Number → List AuthVector
+vector_of_number set None = []
+vector_of_number set (Some number) = vector_at set number.sub number.n
+
 -- the vector that a line releases
 abbrev pub vector_in : Setting → LineRecord → List AuthVector
 vector_in set (Vector sub n) = vector_at set sub n
@@ -27,6 +34,7 @@ vector_in set (Withheld sub n stop) = []
 vector_in set (Exhausted sub word) = []
 vector_in set (Sync sub verdict) = []
 vector_in set (Give sub n verdict) = []
+vector_in set (Event r) = vector_of_number set (event_number r.result)
 
 -- the vectors that some lines release, in the order of the lines
 abbrev pub vectors_in : Setting → List LineRecord → List AuthVector
@@ -48,6 +56,11 @@ pub record IsOfRow (key : List ℕ) (rows : List Row) (sub n : ℕ) (vector : Au
   pub is_row : IsRow row
   pub made : vector ≡ vector_of row.secret row.amf n (rand_of key sub n)
 
+-- a number that was released, if one was, is one that a vector may have, of a known subscriber
+abbrev pub IsReleasableNumber : Setting → Option Number → Type 0
+IsReleasableNumber set None = Unit {0}
+IsReleasableNumber set (Some number) = IsReleasable set number.sub number.n
+
 -- a line that releases a vector names a number that a vector may have, and a known subscriber
 abbrev pub IsReleasableLine : Setting → LineRecord → Type 0
 IsReleasableLine set (Vector s n) = IsReleasable set s n
@@ -55,3 +68,4 @@ IsReleasableLine set (Withheld s n stop) = Unit {0}
 IsReleasableLine set (Exhausted s word) = Unit {0}
 IsReleasableLine set (Sync s answer) = Unit {0}
 IsReleasableLine set (Give s n answer) = Unit {0}
+IsReleasableLine set (Event r) = IsReleasableNumber set (event_number r.result)

@@ -1,7 +1,13 @@
 //! Laws of a job's sessions, over every list of events.
 
 ghost use Rattle.auc_world.specs.Agreement.{BreachIsFirst, BrokenTells, EachHonestRunAgrees};
+ghost use Rattle.auc_world.specs.Plain.{EachPlainSessionSucceeds};
 
+use auc_ident::permanent_identities_are_read_back;
+use auc_packet::{
+    equal_bytes_are_received_alike, sealed_messages_are_read, sealed_messages_are_right,
+    written_packets_are_read,
+};
 use auc_peer::{
     each_turn_keeps_the_keys_of_its_inputs as each_peer_keeps_its_keys,
     each_turn_keeps_what_keys_are_made_from,
@@ -9,7 +15,10 @@ use auc_peer::{
 use auc_server::{
     each_turn_keeps_the_challenge_or_sends_one, each_turn_keeps_the_keys_of_its_inputs,
 };
-use auc_vector::each_autn_carries_the_sqn_of_its_number;
+use auc_vector::{
+    each_autn_carries_the_sqn_of_its_number, each_autn_has_the_mac_of_its_sqn,
+    each_auts_is_read_back,
+};
 
 /// A network knows no breach of the premise exactly if each delivery was honest: if an end found a right MAC, an end of the
 /// other role had sent these bytes with the same inputs of its keys. A breach is the first delivery that wasn't.
@@ -28,4 +37,18 @@ pub fn each_honest_run_agrees()
     each_turn_keeps_the_challenge_or_sends_one();
     each_turn_keeps_the_keys_of_its_inputs();
     each_autn_carries_the_sqn_of_its_number();
+}
+
+/// A plain session ends in Success at both ends under the same keys, unless one of its lines tells why not: the centre gave no
+/// number, or the USIM reported a SEQ that is too far above, or two synchronisation failures.
+pub fn each_plain_session_succeeds()
+    ensures { EachPlainSessionSucceeds }
+{
+    equal_bytes_are_received_alike();
+    written_packets_are_read();
+    sealed_messages_are_read();
+    sealed_messages_are_right();
+    permanent_identities_are_read_back();
+    each_autn_has_the_mac_of_its_sqn();
+    each_auts_is_read_back();
 }

@@ -7,6 +7,7 @@ ghost use Rattle.auc_world.specs.InnerVectors.{IsSourceOf};
 
 use crate::record::{JobVectors, LineRecord};
 use auc_edge::{Items, NoMemory};
+use auc_released::Number;
 use auc_server::Setting;
 use auc_vector::{Vector, Vectors};
 use std::alloc::Global;
@@ -62,7 +63,7 @@ fn job_vectors(alloc: Global, set: &Setting, lines: &[LineRecord]) -> Result<Job
     let mut all = Items::new(alloc);
     let mut last = None;
     for line in lines {
-        if let LineRecord::Vector { sub, n } = *line {
+        if let Some(Number { sub, n }) = line.number() {
             let mut source = source_of(set, last, sub);
             all.push(source.vectors.vector_of(n))?;
             last = Some(source);

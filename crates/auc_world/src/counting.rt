@@ -3,10 +3,12 @@
 ghost use Rattle.std.specs.Prelude.{◌≡◌, ◌++◌, ◌∷◌, [], List, length, IfOk};
 ghost use Rattle.auc_world.specs.declared.record.LineRecord.{LineRecord};
 ghost use Rattle.auc_world.specs.Lines.{all_lines};
-ghost use Rattle.auc_world.specs.Counts.{passed, count_with, AreCounted};
+ghost use Rattle.auc_world.specs.Counts.{passed, count_event, count_with, AreCounted};
 
+use crate::event::EventRecord;
 use crate::record::{JobRecord, LineRecord, SyncVerdict};
 use auc_edge::NoMemory;
+use auc_vector::{NumberNote, ResyncNote};
 use std::alloc::Global;
 
 /// What some lines did to a subscriber's numbers. A count ends at the greatest machine word.
@@ -34,13 +36,32 @@ fn passed(verdict: SyncVerdict) -> u64
 fn count_line(mut count: Count, line: &LineRecord) -> Count
     ensures { result ≡ count_with count line.now }
 {
-    match *line {
+    match line {
         LineRecord::Vector { .. } => count.released = count.released.saturating_add(1),
         LineRecord::Withheld { .. } => count.withheld = count.withheld.saturating_add(1),
         LineRecord::Sync { verdict, .. } => {
-            count.skipped = count.skipped.saturating_add(passed(verdict));
+            count.skipped = count.skipped.saturating_add(passed(*verdict));
         }
         LineRecord::Exhausted { .. } | LineRecord::Give { .. } => {}
+        LineRecord::Event(event) => return count_event(count, event.record()),
+    }
+    count
+}
+
+/// A count with an event in which the centre was asked for its subscriber.
+fn count_event(mut count: Count, event: &EventRecord) -> Count
+    ensures { result ≡ count_event count event.now }
+{
+    let Ok(note) = &event.result else {
+        return count;
+    };
+    match note.notes.number {
+        Some(NumberNote::Drew(_)) => count.released = count.released.saturating_add(1),
+        Some(NumberNote::Withheld(..)) => count.withheld = count.withheld.saturating_add(1),
+        Some(NumberNote::Exhausted(_)) | None => {}
+    }
+    if let Some(ResyncNote::Moved(from, to)) = note.notes.resync {
+        count.skipped = count.skipped.saturating_add(to.saturating_sub(from));
     }
     count
 }
@@ -50,7 +71,10 @@ fn add_line(counts: &mut [Count], line: &LineRecord)
     ensures { (before : List LineRecord) → AreCounted before counts.old
         → AreCounted (before ++ line.now ∷ []) counts.new }
 {
-    let sub = line.subscriber() as usize;
+    let Some(sub) = line.subscriber() else {
+        return;
+    };
+    let sub = sub as usize;
     if sub < counts.len() {
         counts[sub] = count_line(counts[sub], line);
     }

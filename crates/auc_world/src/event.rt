@@ -1,13 +1,15 @@
-//! The events of a job's sessions.
+//! The events of a job's sessions, and what came of them.
 
-/// An end of a session.
-#[derive(Clone, Copy, Debug, PartialEq, Eq)]
-pub enum End {
-    /// The server (RFC 3748 §1.2).
-    Server,
-    /// The peer, which has the USIM.
-    Peer,
-}
+ghost use Rattle.std.specs.Prelude.{◌≡◌, IfOk};
+
+use auc_edge::NoMemory;
+use auc_lines::End;
+use auc_peer::PeerWhy;
+use auc_released::Number;
+use auc_server::ServerWhy;
+use auc_vector::{Notes, NumberNote, Step};
+use std::alloc::Global;
+use std::marker::Model;
 
 /// An event. A packet's number counts the packets of the job from 1.
 #[derive(Clone, Copy, Debug, PartialEq, Eq)]
@@ -22,7 +24,107 @@ pub enum Event {
     Repeat(u32),
     /// An end of the session gives up.
     GiveUp { session: u32, end: End },
-    /// The vector of a number is presented to the subscriber's USIM. `earlier` says whether an earlier round released the
-    /// number.
-    Give { sub: u32, n: u64, earlier: bool },
+}
+
+/// What the end that an event concerns did.
+#[derive(Drop)]
+pub enum NoteStep {
+    /// The session was opened.
+    Opened,
+    /// The server did this.
+    Server(Step<ServerWhy>),
+    /// The peer did this.
+    Peer(Step<PeerWhy>),
+}
+
+/// What came of an event.
+#[derive(Drop)]
+pub struct Note {
+    /// What the centre and the USIM answered.
+    pub notes: Notes,
+    /// What the end did.
+    pub step: NoteStep,
+    /// The number of the packet that it sent, if it sent one.
+    pub packet: Option<u32>,
+    /// The subscriber for whom the centre was asked, if it was asked.
+    pub asked: Option<u32>,
+    /// The subscriber whose device received a packet, if one did.
+    pub device: Option<u32>,
+}
+
+/// Why nothing came of an event.
+#[derive(Clone, Copy, Debug, PartialEq, Eq)]
+pub enum WorldRefusal {
+    /// No packet of the job has the number.
+    NoSuchPacket,
+    /// The session isn't open, or its server hasn't started.
+    NoSuchEnd,
+    /// The server had started before.
+    Started,
+}
+
+/// An event with what came of it.
+#[derive(Drop)]
+pub struct EventRecord {
+    pub event: Event,
+    pub result: Result<Note, WorldRefusal>,
+}
+
+impl EventRecord {
+    ghost use Rattle.auc_world.specs.Event.{asked_in, event_number};
+
+    /// The subscriber for whom the centre was asked, if it was asked.
+    pub fn asked(&self) -> Option<u32>
+        ensures { result ≡ asked_in self.now.result }
+    {
+        match &self.result {
+            Ok(note) => note.asked,
+            Err(_) => None,
+        }
+    }
+
+    /// The number that was released, if one was.
+    pub fn number(&self) -> Option<Number>
+        ensures { result ≡ event_number self.now.result }
+    {
+        let Ok(note) = &self.result else {
+            return None;
+        };
+        match (note.asked, note.notes.number) {
+            (Some(sub), Some(NumberNote::Drew(n))) => Some(Number { sub, n }),
+            _ => None,
+        }
+    }
+}
+
+/// The record of an event, in memory of its own, so that other records stay small. Contracts see the record.
+#[derive(Drop)]
+pub struct BoxedEvent {
+    inner: Box<EventRecord>,
+}
+
+impl Model for BoxedEvent {
+    ghost use Rattle.auc_world.specs.declared.event.EventRecord.{EventRecord};
+
+    ghost Value = { EventRecord };
+
+    ghost view = { λ e. e.inner.value };
+}
+
+impl BoxedEvent {
+    /// Keeps a record.
+    pub fn new(alloc: Global, event: EventRecord) -> Result<BoxedEvent, NoMemory>
+        ensures { IfOk result (λ kept. kept ≡ event) }
+    {
+        Ok(BoxedEvent {
+            inner: Box::new(alloc, event)?,
+        })
+    }
+
+    /// The record.
+    pub fn record(&self) -> &EventRecord
+        ensures { result.now ≡ self.now }
+    {
+        &self.inner
+    }
 }

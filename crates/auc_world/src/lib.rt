@@ -19,24 +19,35 @@
 //! round opens ([`reopened`]).
 #![tactic(auto)]
 
+mod acting;
 mod agreement;
 mod auts;
 mod bytes;
 mod closing;
 mod counting;
 mod event;
+mod inputs;
 mod law;
 mod net;
 mod noting;
+mod places;
+mod posting;
 mod record;
+mod turning;
+mod verdicts;
+mod world;
 
-pub use agreement::{breach_is_the_first_delivery_that_is_not_honest, each_honest_run_agrees};
+pub use agreement::{
+    breach_is_the_first_delivery_that_is_not_honest, each_honest_run_agrees,
+    each_plain_session_succeeds,
+};
+pub use auc_lines::End;
 pub use auc_server::Setting;
 pub use auts::auts_of;
 pub use bytes::{printed_vectors, vector_at};
 pub use closing::{closings, reopened};
 pub use counting::{Count, counts};
-pub use event::{End, Event};
+pub use event::{BoxedEvent, Event, EventRecord, Note, NoteStep, WorldRefusal};
 pub use law::{
     jobs_give_after_all_lines, past_has_each_accepted_sqn, pieces_split_the_round,
     restart_opens_above_released_numbers,
@@ -44,5 +55,8 @@ pub use law::{
 pub use net::{Breach, Inputs, SentPacket, Session};
 pub use noting::{note, note_all};
 pub use record::{
-    Closing, GiveVerdict, JobRecord, JobVectors, LineRecord, PartRecord, RoundRecord, SyncVerdict,
+    Closing, GiveVerdict, JobRecord, JobSessions, JobVectors, LineRecord, PartRecord, Premise,
+    RoundRecord, SessionVerdict, SyncVerdict,
 };
+pub use verdicts::{round_premise, round_verdicts};
+pub use world::{DeviceList, HomeList, World};

@@ -1,8 +1,8 @@
 //! The network of a job's sessions: packets, sessions, and the first breach of the premise of equal keys.
 
-use crate::event::End;
 use auc_edge::Octets;
 use auc_hmac::KeySet;
+use auc_lines::End;
 use auc_peer::Peer;
 use auc_server::Server;
 

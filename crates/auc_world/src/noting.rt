@@ -10,7 +10,7 @@ ghost use Rattle.auc_world.specs.InnerRoom.{HasRoomForLine, HasRoomForLines};
 
 use crate::record::{JobRecord, LineRecord};
 use auc_edge::NoMemory;
-use auc_released::{Number, Numbers};
+use auc_released::Numbers;
 
 /// Notes the number that a line releases, if it releases one.
 pub fn note(released: &mut Numbers, line: &LineRecord) -> Result<(), NoMemory>
@@ -44,9 +44,9 @@ fn make_room_for_line(released: &mut Numbers, line: &LineRecord) -> Result<(), N
     ensures there { OnOk result (HasRoomForLine released.new line.now) }
     ensures kept { OnErr result (released.new ≡ released.old) }
 {
-    match *line {
-        LineRecord::Vector { sub, n } => released.make_room(Number { sub, n }),
-        _ => Ok(()),
+    match line.number() {
+        Some(number) => released.make_room(number),
+        None => Ok(()),
     }
 }
 
@@ -79,8 +79,8 @@ fn note_line(released: &mut Numbers, line: &LineRecord)
         → has released.new s m ≡ (has released.old s m || is_in m (released_by s line.now)) }
     ensures room { KeepsRoom released.old released.new }
 {
-    if let LineRecord::Vector { sub, n } = *line {
-        released.note(Number { sub, n });
+    if let Some(number) = line.number() {
+        released.note(number);
     }
 }
 

@@ -1,10 +1,13 @@
 //! The records.
 
+use crate::event::BoxedEvent;
+use crate::net::Breach;
 use auc_edge::{Items, Stop};
+use auc_released::Number;
 use auc_vector::Vector;
 
 /// What one line of the output says of a job.
-#[derive(Debug, Drop, PartialEq, Eq)]
+#[derive(Drop)]
 pub enum LineRecord {
     /// The authentication vector of the number was released for the subscriber.
     Vector {
@@ -34,22 +37,41 @@ pub enum LineRecord {
         n: u64,
         verdict: GiveVerdict,
     },
+    /// An event of the job's sessions.
+    Event(BoxedEvent),
 }
 
 impl LineRecord {
     ghost use Rattle.std.specs.Prelude.{◌≡◌};
+    ghost use Rattle.auc_world.specs.InnerRoom.{number_of};
     ghost use Rattle.auc_world.specs.Record.{subscriber_of};
 
-    /// The subscriber that the line names, by its place.
-    pub fn subscriber(&self) -> u32
+    /// The subscriber whose numbers the line is about, by its place: an event's is the one for whom the centre was asked,
+    /// if it was asked.
+    pub fn subscriber(&self) -> Option<u32>
         ensures { result ≡ subscriber_of self.now }
     {
-        match *self {
+        match self {
             LineRecord::Vector { sub, .. }
             | LineRecord::Withheld { sub, .. }
             | LineRecord::Exhausted { sub, .. }
             | LineRecord::Sync { sub, .. }
-            | LineRecord::Give { sub, .. } => sub,
+            | LineRecord::Give { sub, .. } => Some(*sub),
+            LineRecord::Event(event) => event.record().asked(),
+        }
+    }
+
+    /// The number that the line releases, if it releases one.
+    pub(crate) fn number(&self) -> Option<Number>
+        ensures { result ≡ number_of self.now }
+    {
+        match self {
+            LineRecord::Vector { sub, n } => Some(Number { sub: *sub, n: *n }),
+            LineRecord::Event(event) => event.record().number(),
+            LineRecord::Withheld { .. }
+            | LineRecord::Exhausted { .. }
+            | LineRecord::Sync { .. }
+            | LineRecord::Give { .. } => None,
         }
     }
 }
@@ -105,13 +127,49 @@ pub struct Closing {
     pub withheld: u64,
 }
 
-/// What a round did: its number, counted from 1, its jobs' records in the order of the jobs, and the
-/// closings of the subscribers whose numbers moved, in the subscribers' order.
+/// Whether the ends of a session of which both ended in Success have equal keys.
+#[derive(Clone, Copy, Debug, PartialEq, Eq)]
+pub struct SessionVerdict {
+    pub session: u32,
+    pub agree: bool,
+}
+
+/// What the sessions of a job came to.
+#[derive(Drop)]
+pub struct JobSessions {
+    /// The sessions of which both ends ended in Success, in the order in which they were opened.
+    pub verdicts: Items<SessionVerdict>,
+    /// Whether the job opened a session.
+    pub any: bool,
+    /// The first delivery that breaks the premise of equal keys.
+    pub broken: Option<Breach>,
+}
+
+/// Whether the premise of equal keys held in a round: each delivery in which an end found a right MAC was of bytes that
+/// an end of the other role had sent in the same job, with the same inputs of its keys.
+#[derive(Clone, Copy, Debug, PartialEq, Eq)]
+pub enum Premise {
+    /// The round has no session.
+    NoSession,
+    /// It held.
+    Held,
+    /// It didn't: the first delivery that breaks it, in the first job that has one, by the job's number from 1.
+    Broken { job: u32, breach: Breach },
+}
+
+/// What a round did.
 #[derive(Drop)]
 pub struct RoundRecord {
+    /// Its number, counted from 1.
     pub number: u32,
+    /// Its jobs' records, in the order of the jobs.
     pub jobs: Items<JobRecord>,
+    /// The closings of the subscribers whose numbers moved, in the subscribers' order.
     pub closings: Items<Closing>,
+    /// The sessions of which both ends ended in Success, in the order of their numbers.
+    pub sessions: Items<SessionVerdict>,
+    /// Whether the premise of equal keys held.
+    pub premise: Premise,
 }
 
 /// What one part of a scenario did.

@@ -14,7 +14,7 @@ pub serve_pieces-requires-clause-round : goal.serve_pieces-requires-clause-round
 serve_pieces-requires-clause-round g c = λ lifetimes within.
     let inside : Standing = record { words = c.state.inside.words; usims = c.state.inside.usims; released = c.state.inside.released } in
     servable c.args.set.now c.args.state.now c.args.jobs.now c.args.full (beginning c.args.set.now inside c.args.jobs.now c.args.full)
-    (ap (λ (s : Standing). beginning c.args.set.now s c.args.jobs.now c.args.full) c.state.view_is) c.requires.state c.requires.known c.requires.few c.requires.apart
+    (ap (λ (s : Standing). beginning c.args.set.now s c.args.jobs.now c.args.full) c.state.view_is) c.requires.state c.requires.known c.requires.few c.requires.apart c.requires.subscribers c.requires.realm
 
 pub serve_pieces-requires-clause-openings : goal.serve_pieces-requires-clause-openings
 serve_pieces-requires-clause-openings g c = λ lifetimes within.
@@ -28,10 +28,10 @@ returns-clause-served g c =
     let same : beginning c.args.set.now inside c.args.jobs.now c.args.full ≡ beginning c.args.set.now c.args.state.now c.args.jobs.now c.args.full =
     ap (λ (s : Standing). beginning c.args.set.now s c.args.jobs.now c.args.full) c.state.view_is in
     if_ok_map (λ (done : RoundPieces). (early : List LineRecord) → Begins (beginning c.args.set.now inside c.args.jobs.now c.args.full) early
-    → AreServed c.args.set.now early c.as_slice.result.now c.args.jobs.now done.jobs.records done.jobs.usims done.words)
-    (λ done. (early : List LineRecord) → StandsAt c.args.set.now early c.args.state.now → AreServed c.args.set.now early c.args.state.now.words c.args.jobs.now done.jobs.records done.jobs.usims done.words)
+    → AreServed c.args.set.now early c.as_slice.result.now c.args.jobs.now done.jobs.records done.jobs.devices done.jobs.sessions done.words)
+    (λ done. (early : List LineRecord) → StandsAt c.args.set.now early c.args.state.now → AreServed c.args.set.now early c.args.state.now.words c.args.jobs.now done.jobs.records done.jobs.devices done.jobs.sessions done.words)
     c.serve_pieces.result.result
     (λ done served early stands.
-    subst (λ (ws : List ℕ). AreServed c.args.set.now early ws c.args.jobs.now done.jobs.records done.jobs.usims done.words) (c.as_slice.ensures ∙ opened)
+    subst (λ (ws : List ℕ). AreServed c.args.set.now early ws c.args.jobs.now done.jobs.records done.jobs.devices done.jobs.sessions done.words) (c.as_slice.ensures ∙ opened)
     (served early (begins_with c.args.set.now early c.args.state.now c.args.jobs.now c.args.full (beginning c.args.set.now inside c.args.jobs.now c.args.full) same stands)))
     c.serve_pieces.ensures.served

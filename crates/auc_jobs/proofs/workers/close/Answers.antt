@@ -10,7 +10,7 @@ close-closed-requires-clause-own c = passes_own c.args.book.id c.args.round.now 
 pub returns-clause-served : goal.returns-clause-served
 returns-clause-served c =
     served_by_workers c.args.book.id c.args.round.now c.args.book.openings c.args.book c.args.keeper c.args.all.items c.in_ok-passes.passes.items c.close-closed.result c.in_ok-passes.done.items
-    c.in_ok-in_order.field-0.items c.in_ok-jobs.jobs.records c.in_ok-jobs.jobs.usims c.in_ok-words.words (record {
+    c.in_ok-in_order.field-0.items c.in_ok-jobs.jobs.records c.in_ok-jobs.jobs.devices c.in_ok-jobs.jobs.sessions c.in_ok-words.words (record {
       recut = c.recut_split_is_a_split.ensures;
       some = c.requires.all.0;
       finished = c.requires.all.1;
@@ -22,7 +22,7 @@ returns-clause-served c =
       known = c.requires.round.known;
       sized = c.requires.book;
     })
-    c.in_ok-jobs.ensures.records c.in_ok-jobs.ensures.usims c.in_ok-words.ensures
+    c.in_ok-jobs.ensures.records c.in_ok-jobs.ensures.devices c.in_ok-jobs.ensures.sessions c.in_ok-words.ensures
 
 pub returns-clause-limits : goal.returns-clause-limits
 returns-clause-limits c =

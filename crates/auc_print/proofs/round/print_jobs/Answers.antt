@@ -1,7 +1,8 @@
 -- The text of the job at the place is that of its lines, with the bytes of its vectors in a full print.
-use Rattle.std.proofs.Common.{◌∙◌, ap, arith}
+use Rattle.std.proofs.Common.{◌∙◌, ap, subst, All, arith}
 use Rattle.auc_world.specs.Setting.{Setting}
-use Rattle.auc_print.proofs.TextLemmas.{front_more, jobs_step}
+use Rattle.auc_print.specs.OneText.{AnswerFits}
+use Rattle.auc_print.proofs.TextLemmas.{all_more, front_more, jobs_step}
 use Rattle.auc_print.proofs.round.print_jobs.Goals as goal
 
 pub loop-place-preserved : goal.loop-place-preserved
@@ -12,4 +13,6 @@ loop-place-preserved c =
           rows c.requires.named c.requires.vectors (omega arith) c.index-jobs-place.is c.as_slice.ensures c.vectors_of-own.ensures c.in_ok-print_job.ensures.printed
           ∙ c.loop-place.invariant.printed;
       grows = front_more _ _ _ c.loop-place.invariant.grows c.in_ok-print_job.ensures.grows;
+      fits = all_more (All AnswerFits) c.args.jobs.now c.loop-place.place _ (omega arith) c.index-jobs-place.is c.loop-place.invariant.fits
+          (subst (All AnswerFits) c.as_slice.ensures c.in_ok-print_job.ensures.fits);
     }

@@ -1,7 +1,8 @@
 -- Each digit is written before those that were, and at last a space.
-use Rattle.std.proofs.Common.{◌∙◌, ap, ◌∷◌, ◌-◌, arith}
+use Rattle.std.proofs.Common.{◌∙◌, ap, sym, ◌∷◌, ◌-◌, arith}
 use Rattle.std.proofs.lemmas.List.{length-set}
 use Rattle.auc_print.proofs.NumberLemmas.{digit_fewer, digit_written, first_written}
+use Rattle.auc_print.proofs.NumeralLemmas.{numeral_small}
 use Rattle.auc_print.proofs.word.write_number.Goals as goal
 
 pub loop-rest-preserved : goal.loop-rest-preserved
@@ -21,4 +22,4 @@ pub returns-clause-written : goal.returns-clause-written
 returns-clause-written c =
     let l = c.loop-rest in
     first_written l.room l.place l.rest l.invariant.low (omega (arith, l.invariant.high, l.invariant.size)) c.loop-rest-test.false
-    ∙ ap (λ t. 32 ∷ t) l.invariant.digits
+    ∙ ap (λ t. 32 ∷ t) (l.invariant.digits ∙ sym (numeral_small c.args.number (omega (arith, c.ranges.number.fits))))

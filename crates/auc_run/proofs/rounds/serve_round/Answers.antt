@@ -1,10 +1,10 @@
-use Rattle.std.proofs.Common.{◌<◌, ◌^◌, List, AllPairs, refl, subst, sym, arith}
+use Rattle.std.proofs.Common.{List, AllPairs, refl, subst, sym}
 use Rattle.auc_jobs.specs.Round.{Serves}
 use Rattle.auc_lines.specs.Part.{AreApart}
 use Rattle.auc_lines.specs.declared.part.Line.{Line}
 use Rattle.auc_world.specs.Round.{IsLawfulRound}
 use Rattle.auc_run.proofs.OutputLemmas.{IfOk-ok, OnErr-at}
-use Rattle.auc_run.proofs.PrintableLemmas.{round_prints}
+use Rattle.auc_run.proofs.PrintableLemmas.{round_named}
 use Rattle.auc_run.proofs.StandLemmas.{covers_more, round_leads}
 use Rattle.auc_run.proofs.StepLemmas.{EachLeads, quiet_round, round_ends, round_goes}
 use Rattle.auc_run.proofs.rounds.serve_round.Goals as goal
@@ -26,8 +26,7 @@ write_round-result-requires-clause-named g c =
     let serves = IfOk-ok c.serve-journal.result.result c.in-Ok.ran _ (cc c.in-Ok.is) c.serve-journal.ensures.served at.early on.stands in
     let lawful : IsLawfulRound set c.in-Ok.ran.stop at.early c.args.stand.state.words c.args.jobs.now round serves.words =
     subst (λ (jobs : List (List Line)). IsLawfulRound set c.in-Ok.ran.stop at.early c.args.stand.state.words jobs round serves.words) c.as_slice.ensures serves.lawful in
-    let number : round.number < 2 ^ 64 = omega (arith, IfOk-ok c.serve-journal.result.result c.in-Ok.ran _ (cc c.in-Ok.is) c.serve-journal.ensures.number, c.requires.number) in
-    (round_prints set c.in-Ok.ran.stop at.early c.args.stand.state.words c.args.jobs.now round serves.words c.requires.subscribers on.stands.subscribers.size c.requires.known number lawful).named
+    round_named set c.in-Ok.ran.stop at.early c.args.stand.state.words c.args.jobs.now round serves.words on.stands.subscribers.size c.requires.known.known lawful
 
 pub returns-clause-goes : goal.returns-clause-goes
 returns-clause-goes g c =
@@ -70,4 +69,4 @@ returns-clause-ends g c =
 pub returns-clause-quiet_store : goal.returns-clause-quiet_store
 returns-clause-quiet_store g c = λ quiet.
     IfOk-ok c.serve-journal.result.result c.in-Ok.ran _ (cc c.in-Ok.is) c.serve-journal.ensures.quiet
-    (quiet_round c.in-Ok.ran.stop c.write_round-result.result _ (g.K.Sink.written c.args.out.now) (g.K.Sink.written c.write_round-result.new.out) c.write_round-result.ensures.written quiet)
+    (quiet_round c.in-Ok.ran.round c.in-Ok.ran.stop c.write_round-result.result _ (g.K.Sink.written c.args.out.now) (g.K.Sink.written c.write_round-result.new.out) c.write_round-result.ensures.written quiet)

@@ -2,7 +2,7 @@ use Rattle.std.proofs.Common.{inl}
 use Rattle.auc_run.specs.Crash.{MayLeave}
 use Rattle.auc_run.specs.Inner.{status_in}
 use Rattle.auc_run.proofs.KnownLemmas.{known}
-use Rattle.auc_run.proofs.OutcomeLemmas.{files_run}
+use Rattle.auc_run.proofs.OutcomeLemmas.{Laws, files_run}
 use Rattle.auc_run.proofs.RefusalLemmas.{leave_runs}
 use Rattle.auc_run.proofs.TopLemmas.{journal_stops}
 use Rattle.auc_run.proofs.top_call.run_input.Goals as goal
@@ -15,8 +15,17 @@ returns-in-Ok-clause-ran g c = λ told files read.
     let old = g.K.Sink.written c.args.out.now in
     let new = g.K.Sink.written c.serve_parts.new.out in
     let begins = c.in-Ok.ensures.opened in
+    let laws : Laws = record {
+      told = c.each_told_transcript_is_one.ensures;
+      nets = c.each_breach_is_told.ensures.nets;
+      keys = c.each_authentication_agrees.ensures;
+      breaches = c.each_breach_is_told.ensures.told;
+      in_sessions = c.each_failure_in_sessions_is_by_place.ensures.stretches;
+      macs = c.each_failure_in_sessions_is_by_place.ensures.mac;
+      plain = c.each_plain_session_agrees.ensures;
+    } in
     leave_runs told files (g.D.Disk.seen c.args.disk) (MayLeave g.D.Disk.seen g.D.Disk.may_leave c.args.disk c.serve_parts.result.disk) ended old new
-    (files_run g.D.Disk.seen g.D.Disk.may_leave g.D.Disk.faults told files script rows c.args.disk c.serve_parts.result.disk c.in-Ok.journal ended old new
+    (files_run laws g.D.Disk.seen g.D.Disk.may_leave g.D.Disk.faults told files script rows c.args.disk c.serve_parts.result.disk c.in-Ok.journal ended old new
     read (known rows script c.requires) begins (c.serve_parts.ensures.ran c.args.disk begins))
 
 pub serve_parts-requires-clause-known : goal.serve_parts-requires-clause-known

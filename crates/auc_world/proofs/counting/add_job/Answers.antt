@@ -1,9 +1,12 @@
-use Rattle.std.proofs.Common.{◌++◌, take}
+use Rattle.std.proofs.Common.{◌++◌, ◌∷◌, [], subst, take}
 use Rattle.std.proofs.lemmas.List.{take_more}
 use Rattle.auc_world.proofs.CountLemmas.{counted_take}
+use Rattle.auc_world.specs.Counts.{AreCounted}
+use Rattle.auc_world.specs.declared.record.LineRecord.{LineRecord}
 use Rattle.auc_world.proofs.counting.add_job.Goals as goal
 
 pub loop-line-preserved : goal.loop-line-preserved
 loop-line-preserved c = λ before are.
-    counted_take _ before c.args.lines.now c.loop-line.line-index _ (take_more _ _ _ c.loop-line-test.true)
-    (c.add_line.ensures (before ++ take c.loop-line.line-index c.args.lines.now) (c.loop-line.invariant before are))
+    let done = before ++ take c.loop-line.line-index c.args.lines.now in
+    counted_take c.add_line.new.counts before c.args.lines.now c.loop-line.line-index _ (take_more _ _ c.line-item.result c.loop-line-test.true)
+    (subst (λ (line : LineRecord). AreCounted (done ++ line ∷ []) c.add_line.new.counts) c.line-item.is (c.add_line.ensures done (c.loop-line.invariant before are)))

@@ -1,7 +1,7 @@
 use Rattle.std.proofs.Common.{subst}
 use Rattle.std.proofs.lemmas.List.{take_all, take_more}
 use Rattle.auc_released.proofs.Facts.{roomier_room, roomier_twice}
-use Rattle.auc_world.specs.InnerRoom.{HasRoomForLines}
+use Rattle.auc_world.specs.InnerRoom.{HasRoomForLine, HasRoomForLines}
 use Rattle.auc_world.proofs.NotingLemmas.{lines_room_take}
 use Rattle.auc_world.proofs.noting.make_room_for_lines.Goals as goal
 
@@ -13,7 +13,8 @@ loop-line-preserved c =
       roomier = roomier_twice c.args.released.now c.loop-line.released made c.loop-line.invariant.roomier roomier;
       there =
           lines_room_take c.loop-line.released made c.args.lines.now c.loop-line.line-index _ (roomier_room c.loop-line.released made roomier)
-          (take_more _ _ _ c.loop-line-test.true) c.loop-line.invariant.there c.in_ok-make_room_for_line.ensures.there;
+          (take_more _ _ c.line-item.result c.loop-line-test.true) c.loop-line.invariant.there
+          (subst (HasRoomForLine made) c.line-item.is c.in_ok-make_room_for_line.ensures.there);
     }
 
 pub returns-clause-there : goal.returns-clause-there

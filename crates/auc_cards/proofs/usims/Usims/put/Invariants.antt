@@ -1,7 +1,13 @@
-use Rattle.std.proofs.Common.{take}
-use Rattle.auc_cards.specs.JobUsims.{usim_in}
+use Rattle.std.proofs.Common.{◌≤◌, drop, length}
+use Rattle.auc_cards.specs.Devices.{usim_among}
 use Rattle.auc_cards.specs.Usims.{ArePut}
 use Rattle.auc_cards.proofs.usims.Usims.put.Given as goal
 
-abbrev pub invariant-loop-line : goal.invariant-loop-line
-invariant-loop-line l = ArePut l.initial.self (take l.line-index l.job) (usim_in l.own) l.self
+abbrev pub invariant-loop-left : goal.invariant-loop-left
+invariant-loop-left l = record {
+  low : l.left ≤ length l.homes;
+  put : ArePut l.initial.self (usim_among (drop l.left l.homes) (drop l.left l.devices)) l.self;
+}
+
+abbrev pub decreases-loop-left : goal.decreases-loop-left
+decreases-loop-left l = l.left

@@ -10,7 +10,7 @@ pub returns-clause-advanced : goal.returns-clause-advanced
 returns-clause-advanced c = record {
   opened = c.in_ok-openings.ensures.value;
   within = c.in_ok-openings.ensures.bound;
-  put = subst (λ (s : Standing). ArePutBack s.usims c.args.jobs.now c.args.usims.now c.put_back.new.self) c.self.view_is c.put_back.ensures;
+  put = subst (λ (s : Standing). ArePutBack s.usims c.args.devices.now c.put_back.new.self) c.self.view_is c.put_back.ensures;
   noted = subst (λ (s : Standing). (before : List LineRecord) → AreReleased s.released before → AreReleased c.note_all.new.released (before ++ all_lines c.args.records.now)) c.self.view_is
       c.in_ok-note_all.ensures.noted;
 }

@@ -1,4 +1,3 @@
-use Rattle.auc_jobs.specs.InnerUsims.{usim_in}
 use Rattle.std.proofs.Common.{◌≡◌, ◌-◌, ◌+◌, ◌++◌, ◌∙◌, arith, ap, subst, true, false}
 use Rattle.std.proofs.Math.Nat.{sub-zero}
 use Rattle.auc_world.specs.Given.{DrawGives}
@@ -10,10 +9,10 @@ use Rattle.auc_jobs.proofs.worker.Worker.draw.Goals as goal
 
 pub loop-init : goal.loop-init
 loop-init g c = record {
-  rows = subst (λ (w : WorkerState g.row.C.Denot). AreForRows w.set.rows (g.C.Centre.subs c.self.inside.centre.now) (g.C.Centre.top c.self.inside.centre.now) (usim_in w.usims)) c.self.view_is c.self.invariant;
+  rows = subst (λ (w : WorkerState g.row.C.Denot). AreForRows w.set.rows (g.C.Centre.subs c.self.inside.centre.now) (g.C.Centre.top c.self.inside.centre.now) w.world) c.self.view_is c.self.invariant;
   set = ap (λ (w : WorkerState g.row.C.Denot). w.set) c.self.view_is;
   released = ap (λ (w : WorkerState g.row.C.Denot). w.released) c.self.view_is;
-  usims = ap (λ (w : WorkerState g.row.C.Denot). w.usims) c.self.view_is;
+  world = ap (λ (w : WorkerState g.row.C.Denot). w.world) c.self.view_is;
   name = ap (λ (w : WorkerState g.row.C.Denot). g.C.Centre.name w.centre) c.self.view_is;
   lent = ap (λ (w : WorkerState g.row.C.Denot). w.lent) c.self.view_is;
   adding = λ beside. subst (λ (w : WorkerState g.row.C.Denot). AreTold (g.C.Centre.kept w.centre) (beside ++ w.lines)
@@ -27,7 +26,7 @@ pub returns-then-not-goes_on-clause-drawn : goal.returns-then-not-goes_on-clause
 returns-then-not-goes_on-clause-drawn g c = λ early beside stands.
     let ends : is_vector c.draw_one-line.result ≡ false = cc in
     worker_adds (λ i es ws. g.C.Centre.goes c.args.self.now.centre i es ws c.draw_one-line.new.centre) (g.C.Centre.kept c.args.self.now.centre) (g.C.Centre.kept c.draw_one-line.new.centre)
-    early beside c.args.self.now c.loop.self-inside.usims c.push.new.self (DrawGives c.args.self.now.set c.args.sub c.args.count) c.loop.invariant.usims stands
+    early beside c.args.self.now c.loop.self-inside.world c.push.new.self (DrawGives c.args.self.now.set c.args.sub c.args.count) c.loop.invariant.world stands
     (adding_end (λ i es ws. g.C.Centre.goes c.args.self.now.centre i es ws c.loop.self-inside.centre.now)
     (λ i es ws. g.C.Centre.goes c.loop.self-inside.centre.now i es ws c.draw_one-line.new.centre)
     (λ i es ws. g.C.Centre.goes c.args.self.now.centre i es ws c.draw_one-line.new.centre) (g.C.Centre.kept c.loop.self-inside.centre.now) (g.C.Centre.kept c.draw_one-line.new.centre)
@@ -44,11 +43,14 @@ loop-preserved g c = record {
       size = c.draw_one-line.ensures.subs ∙ c.loop.invariant.rows.is_centre.size;
       greatest = λ sub. c.draw_one-line.ensures.top sub ∙ c.loop.invariant.rows.is_centre.greatest sub;
     };
+    subscribers = c.loop.invariant.rows.subscribers;
     secrets = c.loop.invariant.rows.secrets;
+    homes = c.loop.invariant.rows.homes;
+    placed = c.loop.invariant.rows.placed;
   };
   set = c.loop.invariant.set;
   released = c.loop.invariant.released;
-  usims = c.loop.invariant.usims;
+  world = c.loop.invariant.world;
   name = c.draw_one-line.ensures.name ∙ c.loop.invariant.name;
   lent = c.loop.invariant.lent;
   adding = λ beside told.
@@ -66,6 +68,6 @@ loop-preserved g c = record {
 pub returns-clause-drawn : goal.returns-clause-drawn
 returns-clause-drawn g c = λ early beside stands.
     worker_adds (λ i es ws. g.C.Centre.goes c.args.self.now.centre i es ws c.loop.self-inside.centre.now) (g.C.Centre.kept c.args.self.now.centre) (g.C.Centre.kept c.loop.self-inside.centre.now)
-    early beside c.args.self.now c.loop.self-inside.usims c.loop.self-inside.lines (DrawGives c.args.self.now.set c.args.sub c.args.count) c.loop.invariant.usims stands
+    early beside c.args.self.now c.loop.self-inside.world c.loop.self-inside.lines (DrawGives c.args.self.now.set c.args.sub c.args.count) c.loop.invariant.world stands
     (adding_all (λ i es ws. g.C.Centre.goes c.args.self.now.centre i es ws c.loop.self-inside.centre.now) (g.C.Centre.kept c.loop.self-inside.centre.now) c.args.self.now.set
     c.args.sub (c.args.count - c.loop.counter) c.args.count beside c.args.self.now.lines c.loop.self-inside.lines (omega arith) (c.loop.invariant.adding beside stands.told))

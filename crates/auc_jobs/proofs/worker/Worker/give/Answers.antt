@@ -1,4 +1,4 @@
-use Rattle.auc_jobs.specs.InnerUsims.{usim_in}
+use Rattle.auc_jobs.specs.InnerUsims.{usim_of}
 use Rattle.std.proofs.Common.{◌≡◌, [], ◌∷◌, ◌++◌, ap, sym, subst, ◌∙◌}
 use Rattle.auc_world.specs.Given.{GiveGives}
 use Rattle.auc_world.specs.declared.record.LineRecord.TheVariants.{Give}
@@ -17,16 +17,16 @@ returns-clause-given g c =
       lent = c.self.inside.centre.ghost_name;
       set = c.self.inside.set.now;
       released = c.self.inside.released.now;
-      usims = c.self.inside.usims;
+      world = c.self.inside.world;
       lines = c.self.inside.lines;
     } in
-    let same : inside ≡ record c.args.self.now { usims = c.answered.new.self.usims } = c.self.view_is ∙ c.in_ok-verdict.ensures.rest in
+    let same : inside ≡ record c.args.self.now { world = c.answered.new.self.world } = c.self.view_is ∙ c.in_ok-verdict.ensures.rest in
     let lines = ap (λ (w : WorkerState g.row.C.Denot). w.lines ++ Give c.args.sub c.args.n c.in_ok-verdict.verdict ∷ []) same in
     subst (λ (w : WorkerState g.row.C.Denot). Serves (λ i es ws. g.C.Centre.goes c.args.self.now.centre i es ws w.centre) c.args.self.now.set.rows
-    (before_at early beside c.args.self.now.lines) (g.C.Centre.kept w.centre) c.args.self.now.released (usim_in w.usims)
+    (before_at early beside c.args.self.now.lines) (g.C.Centre.kept w.centre) c.args.self.now.released (usim_of c.args.self.now.set.rows w.world)
     (GiveGives c.args.self.now.set (before_at early beside c.args.self.now.lines) c.args.sub c.args.n) c.push.new.self) (sym same)
     (serves_give (λ i es ws. g.C.Centre.goes c.args.self.now.centre i es ws c.args.self.now.centre) c.args.self.now.set early beside c.args.self.now.lines c.push.new.self
-    (g.C.Centre.kept c.args.self.now.centre) c.args.self.now.released (usim_in c.args.self.now.usims) (usim_in c.answered.new.self.usims) c.args.sub c.args.n
+    (g.C.Centre.kept c.args.self.now.centre) c.args.self.now.released (usim_of c.args.self.now.set.rows c.args.self.now.world) (usim_of c.args.self.now.set.rows c.answered.new.self.world) c.args.sub c.args.n
     (λ i. g.met.C.Centre.stays c.args.self.now.centre i) stands
-    (give_added c.args.self.now.set early beside c.args.self.now.lines c.push.new.self c.args.sub c.args.n c.in_ok-verdict.verdict (usim_in c.answered.new.self.usims)
+    (give_added c.args.self.now.set early beside c.args.self.now.lines c.push.new.self c.args.sub c.args.n c.in_ok-verdict.verdict (usim_of c.args.self.now.set.rows c.answered.new.self.world)
     row.0 row.1 (pushed ∙ lines) (c.in_ok-verdict.ensures.answered early beside stands.earlier stands.pasts))))

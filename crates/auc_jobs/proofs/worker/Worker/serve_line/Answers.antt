@@ -1,10 +1,42 @@
+use Rattle.std.proofs.Common.{List}
+use Rattle.auc_world.specs.Given.{Before, DrawGives, GiveGives, SyncGives}
+use Rattle.auc_world.specs.declared.record.LineRecord.{LineRecord}
+use Rattle.auc_jobs.proofs.LineLemmas.{on_ok_map}
+use Rattle.auc_jobs.proofs.WorkerLemmas.{still_serves}
 use Rattle.auc_jobs.proofs.worker.Worker.serve_line.Goals as goal
 
 pub returns-in-Draw-clause-served : goal.returns-in-Draw-clause-served
-returns-in-Draw-clause-served g c = rw c.in-Draw.is c.draw.ensures.drawn
+returns-in-Draw-clause-served g c =
+    rw c.in-Draw.is (on_ok_map c.draw.result c.draw.ensures.drawn (λ serves.
+    still_serves g.C.Centre.kept g.C.Centre.goes c.args.self.now c.draw.new.self (λ (before : Before) (lines : List LineRecord). DrawGives c.args.self.now.set c.in-Draw.sub c.in-Draw.count lines)
+    c.draw.ensures.net serves))
 
 pub returns-in-Sync-clause-served : goal.returns-in-Sync-clause-served
-returns-in-Sync-clause-served g c = rw c.in-Sync.is c.sync.ensures.synced
+returns-in-Sync-clause-served g c =
+    rw c.in-Sync.is (on_ok_map c.sync.result c.sync.ensures.synced (λ serves.
+    still_serves g.C.Centre.kept g.C.Centre.goes c.args.self.now c.sync.new.self
+    (λ (before : Before) (lines : List LineRecord). SyncGives c.args.self.now.set c.in-Sync.sub c.in-Sync.seq c.in-Sync.bit c.in-Sync.count lines) c.sync.ensures.net serves))
 
 pub returns-in-Give-clause-served : goal.returns-in-Give-clause-served
-returns-in-Give-clause-served g c = rw c.in-Give.is c.give.ensures.given
+returns-in-Give-clause-served g c =
+    rw c.in-Give.is (on_ok_map c.give.result c.give.ensures.given (λ serves.
+    still_serves g.C.Centre.kept g.C.Centre.goes c.args.self.now c.give.new.self (λ (before : Before) (lines : List LineRecord). GiveGives c.args.self.now.set before c.in-Give.sub c.in-Give.n lines)
+    c.give.ensures.net serves))
+
+pub returns-in-Session-clause-served : goal.returns-in-Session-clause-served
+returns-in-Session-clause-served g c = rw c.in-Session.is c.happen_alone.ensures.happened
+
+pub returns-in-Start-clause-served : goal.returns-in-Start-clause-served
+returns-in-Start-clause-served g c = rw c.in-Start.is c.happen_alone-in-Start.ensures.happened
+
+pub returns-in-Deliver-clause-served : goal.returns-in-Deliver-clause-served
+returns-in-Deliver-clause-served g c = rw c.in-Deliver.is c.happen_alone-in-Deliver.ensures.happened
+
+pub returns-in-Repeat-clause-served : goal.returns-in-Repeat-clause-served
+returns-in-Repeat-clause-served g c = rw c.in-Repeat.is c.happen_alone-in-Repeat.ensures.happened
+
+pub returns-in-GiveUp-clause-served : goal.returns-in-GiveUp-clause-served
+returns-in-GiveUp-clause-served g c = rw c.in-GiveUp.is c.happen_alone-in-GiveUp.ensures.happened
+
+pub returns-in-Plain-clause-served : goal.returns-in-Plain-clause-served
+returns-in-Plain-clause-served g c = rw c.in-Plain.is c.play.ensures.played

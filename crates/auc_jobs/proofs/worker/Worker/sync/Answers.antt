@@ -1,4 +1,4 @@
-use Rattle.auc_jobs.specs.InnerUsims.{usim_in}
+use Rattle.auc_jobs.specs.InnerUsims.{usim_of}
 use Rattle.std.proofs.Common.{◌≡◌, true, false, subst}
 use Rattle.auc_world.specs.Given.{SyncGives}
 use Rattle.auc_jobs.specs.InnerServing.{is_accepted_next}
@@ -16,13 +16,13 @@ returns-then-not-is_accepted_next-clause-synced g c =
       lent = c.self.inside.centre.ghost_name;
       set = c.self.inside.set.now;
       released = c.self.inside.released.now;
-      usims = c.self.inside.usims;
+      world = c.self.inside.world;
       lines = c.push.new.self;
     } in
     subst (λ (w : WorkerState g.row.C.Denot). WorkerServes g.C.Centre.kept g.C.Centre.goes w new (λ before. SyncGives w.set c.args.sub c.args.seq c.args.bit c.args.count)) c.self.view_is
     (λ early beside stands.
     serves_adds (λ i es ws. g.C.Centre.goes c.self.inside.centre.now i es ws c.verdict_on-verdict.new.centre) c.self.inside.set.now.rows early beside c.self.inside.lines c.push.new.self
-    (g.C.Centre.kept c.self.inside.centre.now) (g.C.Centre.kept c.verdict_on-verdict.new.centre) c.self.inside.released.now (usim_in c.self.inside.usims)
+    (g.C.Centre.kept c.self.inside.centre.now) (g.C.Centre.kept c.verdict_on-verdict.new.centre) c.self.inside.released.now (usim_of c.self.inside.set.now.rows c.self.inside.world)
     (SyncGives c.self.inside.set.now c.args.sub c.args.seq c.args.bit c.args.count) stands
     (sync_alone (λ i es ws. g.C.Centre.goes c.self.inside.centre.now i es ws c.verdict_on-verdict.new.centre) (g.C.Centre.kept c.self.inside.centre.now)
     (g.C.Centre.kept c.verdict_on-verdict.new.centre) c.self.inside.set.now c.args.sub c.args.seq c.args.bit c.args.count beside c.self.inside.lines c.push.new.self
@@ -39,6 +39,6 @@ returns-clause-synced g c =
     (λ i es ws. g.C.Centre.goes c.verdict_on-verdict.new.centre i es ws c.draw.new.self.centre) (λ i es ws. g.C.Centre.goes c.self.inside.centre.now i es ws c.draw.new.self.centre)
     (g.C.Centre.kept c.self.inside.centre.now) (g.C.Centre.kept c.verdict_on-verdict.new.centre) (g.C.Centre.kept c.draw.new.self.centre)
     c.self.inside.set.now c.args.sub c.args.seq c.args.bit c.args.count early beside c.self.inside.lines c.push.new.self c.draw.new.self.lines
-    c.self.inside.released.now (usim_in c.self.inside.usims) (usim_in c.draw.new.self.usims) c.reported-auts.result c.verdict_on-verdict.result
+    c.self.inside.released.now (usim_of c.self.inside.set.now.rows c.self.inside.world) (usim_of c.self.inside.set.now.rows c.draw.new.self.world) c.reported-auts.result c.verdict_on-verdict.result
     (λ i es fs ws vs. g.met.C.Centre.joins c.self.inside.centre.now c.verdict_on-verdict.new.centre c.draw.new.self.centre i es fs ws vs)
     c.reported-auts.ensures.value c.verdict_on-verdict.ensures.verdict goes_on c.in_ok-push.ensures c.verdict_on-verdict.ensures.said stands (drawn early beside)))

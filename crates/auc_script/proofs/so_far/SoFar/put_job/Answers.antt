@@ -6,7 +6,7 @@ use Rattle.auc_script.proofs.so_far.SoFar.put_job.Goals as goal
 
 pub returns-clause-kept : goal.returns-clause-kept
 returns-clause-kept c rows kept =
-    rw c.in_ok-begin_job.ensures (kept_job rows c.args.self.now c.in-Some.round (at_round rows c.args.self.now (Some c.in-Some.round) (cc c.in-Some.is) kept) (omega arith))
+    rw (c.in_ok-begin_job.ensures, c.begin_job-2.ensures) (kept_job rows c.args.self.now c.in-Some.round (at_round rows c.args.self.now (Some c.in-Some.round) (cc c.in-Some.is) kept) (omega arith))
 
 pub returns-then-self-ge-MAX_JOBS-clause-becomes : goal.returns-then-self-ge-MAX_JOBS-clause-becomes
 returns-then-self-ge-MAX_JOBS-clause-becomes c rows kept = job_refused (scenario rows c.args.self.now) (words_of c.args.fields.now) c.in-Some.round c.in_ok-no_field.field-0 c.args.self.now.jobs (cc c.in-Some.is) (cc c.in_ok-no_field.ensures) kept.jobs c.if-self-ge-MAX_JOBS.true

@@ -1,0 +1,89 @@
+#!/usr/bin/env python3
+"""Runs 1,000 and 10,000 sessions of EAP-AKA with the built program, both ends of each, and shows that the time grows
+linearly.
+
+    bench/sessions.py [PROGRAM]      PROGRAM: crates/auc_cli/out/auc_cli, unless it is given
+
+Each session is run by a `plain` line, five packets long. One worker serves them in one of three ways: all in one job at
+one device; all in one job, each at a device of its own; each in a job of its own. The figures are those of one run: the
+program's own processor time, its ratio to the row before (10 is linear), sessions a second of that time, and the greatest
+resident size. The time includes the reading of the scenario and the calls that sync the journal: with a device each every
+session reserves numbers of a subscriber of its own, so TMPDIR=/dev/shm, where a sync is free, shows what the sessions cost.
+
+If hostapd and eapol_test are there (apt-get install hostapd eapoltest), 200 sessions of theirs follow, and the ratio of our
+sessions a second at one device to theirs. Their time is that of the two processes, from their start: it has RADIUS in it,
+and at the peer its debugging output, which can't be switched off; it has no Milenage and no journal in it.
+"""
+import sys
+import tempfile
+from pathlib import Path
+
+import hostapd
+from measure import KEYS, measured, ratio
+
+COUNTS = (1_000, 10_000)
+THEIRS = 200
+
+
+def session(number, sub):
+    return [f"session {number} {sub:015} aka - - - held", f"plain {number}"]
+
+
+def one_device(count):
+    return ["job"] + [line for number in range(1, count + 1) for line in session(number, 0)]
+
+
+def device_each(count):
+    return ["job"] + [line for number in range(1, count + 1) for line in session(number, number - 1)]
+
+
+def job_each(count):
+    return [line for number in range(1, count + 1) for line in ["job", *session(number, number - 1)]]
+
+
+def scenario(lines, subscribers):
+    rows = [f"subscriber {sub:015} {' '.join(KEYS)}" for sub in range(subscribers)]
+    return "".join(line + "\n" for line in [*rows, "round", *lines])
+
+
+def row(name, count, seconds, before=None, more=""):
+    print(f"{name:>15} {count:>7} {seconds:>8.3f} {ratio(seconds, before):>6} {count / seconds:>9.0f} {more:>7}", flush=True)
+
+
+def ours():
+    """Prints our rows, and answers the seconds of each way and count."""
+    found = {}
+    with tempfile.TemporaryDirectory() as folder:
+        path = Path(folder) / "scenario"
+        for name, lines_of in ("at one device", one_device), ("a device each", device_each), ("a job each", job_each):
+            before = None
+            for count in COUNTS:
+                path.write_text(scenario(lines_of(count), 1 if lines_of == one_device else count))
+                seconds, size, status, lines = measured(["run", str(path)], b"session ")
+                # A line as it is opened, and one more if both of its ends succeed.
+                if status != 0 or lines != 2 * count:
+                    sys.exit(f"{name}, {count}: status {status}, {lines} lines")
+                row(name, count, seconds, before, f"{size / 1e6:.1f}")
+                before = found[name, count] = seconds
+    return found
+
+
+def theirs(found):
+    """Prints the rows of hostapd's server and wpa_supplicant's peer, and the ratios."""
+    if not hostapd.are_there():
+        print("hostapd or eapol_test is missing: nothing was compared")
+        return
+    server, peer = hostapd.sessions(THEIRS)
+    row("hostapd", THEIRS, server)
+    row("eapol_test", THEIRS, peer)
+    rate = COUNTS[-1] / found["at one device", COUNTS[-1]]
+    both, alone = rate * (server + peer) / THEIRS, rate * server / THEIRS
+    print(f"our sessions a second: {both:.2f} times those of their two ends, {alone:.2f} times those of hostapd alone")
+
+
+def main():
+    print(f"{'sessions':>15} {'count':>7} {'seconds':>8} {'ratio':>6} {'a second':>9} {'MB':>7}")
+    theirs(ours())
+
+
+main()

@@ -1,0 +1,6 @@
+use Rattle.std.proofs.Common.{◌≡◌, take}
+use Rattle.auc_cards.specs.Devices.{devices_of}
+use Rattle.auc_cards.proofs.devices.JobDevices.of_job.Given as goal
+
+abbrev pub invariant-loop-sub : goal.invariant-loop-sub
+invariant-loop-sub l = l.own ≡ devices_of l.set l.usims (take l.sub-index l.sub-items)

@@ -1,0 +1,198 @@
+-- For events: what they hand a USIM, and the USIMs after that.
+use Rattle.std.proofs.lemmas.Bool.{ne_eqb}
+use Rattle.std.proofs.Common.{◌≡◌, ◌≢◌, ℕ, ◌⊎◌, not, Bool, true, false, List, [], ◌∷◌, ◌++◌, refl, sym, ◌∙◌, ap, subst, inl, inr, append-nil, eq-eqb}
+use Rattle.std.specs.Prelude.{Option, Some, None, slice_get, if◌then◌else◌}
+use Rattle.std.proofs.lemmas.List.Sums.{fold_push}
+use Rattle.auc_hmac.specs.declared.keys.KeySet.{KeySet}
+use Rattle.auc_hmac.specs.declared.method.Method.TheVariants as method
+use Rattle.auc_lines.specs.Part.{is_that}
+use Rattle.auc_packet.specs.Received.{Seen, is_sealed}
+use Rattle.auc_peer.specs.Asking.{answer_noted, note_of}
+use Rattle.auc_peer.specs.Attributes.{checkcode, differs}
+use Rattle.auc_peer.specs.Rows.{peer_row}
+use Rattle.auc_peer.specs.Subscription.{Subscription}
+use Rattle.auc_peer.specs.Table.{accepted as accepted_turn, accepting, by_answer, client, genuine, keys_for, opened, peer_does, text_or_none}
+use Rattle.auc_peer.specs.Turn.{Asked as AsksDevice, asked}
+use Rattle.auc_peer.specs.declared.peer.Challenge.{Challenge}
+use Rattle.auc_peer.specs.declared.peer.Peer.{Peer}
+use Rattle.auc_peer.specs.declared.rows.Row.{Row as PeerRow}
+use Rattle.auc_peer.specs.declared.rows.Row.TheVariants as row
+use Rattle.auc_peer.specs.declared.why.PeerWhy.{PeerWhy}
+use Rattle.auc_peer.specs.declared.why.PeerWhy.TheVariants as why
+use Rattle.auc_sqn.specs.Number.{ind_of, seq_of}
+use Rattle.auc_sqn.specs.Past.{Past, Remembers, opening_past}
+use Rattle.auc_subs.specs.Subscriber.{AreSubscribers}
+use Rattle.auc_subs.specs.declared.row.Row.{Row}
+use Rattle.auc_usim.specs.Usim.{Memory, past_after_answer}
+use Rattle.auc_usim.specs.declared.answer.Answer.{Answer}
+use Rattle.auc_usim.specs.declared.answer.Answer.TheVariants as answer
+use Rattle.auc_vector.specs.declared.notes.UsimNote.{UsimNote}
+use Rattle.auc_vector.specs.declared.notes.UsimNote.TheVariants as note
+use Rattle.auc_vector.specs.declared.turn.Turn.{Turn}
+use Rattle.auc_world.proofs.Facts.{accepted-append}
+use Rattle.auc_world.specs.Came.{Came, Presented}
+use Rattle.auc_world.specs.Event.{device_in, sqn_accepted, usim_in}
+use Rattle.auc_world.specs.Given.{AsksUsim, Before, UsimNotes, past_before, past_of}
+use Rattle.auc_world.specs.Happened.{Told, peer_turn}
+use Rattle.auc_world.specs.Lines.{accepted, accepted_by}
+use Rattle.auc_world.specs.Net.{device_place}
+use Rattle.auc_world.specs.Setting.{Setting}
+use Rattle.auc_world.specs.World.{IsHanded, WorldState, memory_of, usim_at, usim_of}
+use Rattle.auc_world.specs.declared.event.EventRecord.{EventRecord}
+use Rattle.auc_world.specs.declared.record.LineRecord.{LineRecord}
+use Rattle.auc_world.specs.declared.record.LineRecord.TheVariants.{Event as Happening}
+use Rattle.auc_jobs.specs.Usims.{AreBehind}
+use Rattle.auc_jobs.proofs.PlaceLemmas.{one_place, placed_row}
+use Rattle.auc_jobs.proofs.UsimLemmas.{Changes, changed_cases}
+
+-- ---- the note of a USIM's answer
+
+if_note : (b : Bool) (x y : Peer × Turn PeerWhy) (n : Option UsimNote) → x.1.notes.usim ≡ n → y.1.notes.usim ≡ n → (if b then x else y).1.notes.usim ≡ n
+if_note true x y n first second = first
+if_note false x y n first second = second
+
+-- the turn tells the answer's note
+noted_is : (p : Peer) (seen : Seen) (c : Challenge) (a : Answer) (readable : Bool) → (by_answer p seen c a readable).1.notes.usim ≡ Some (note_of a)
+noted_is p seen c answer.WrongMac readable = refl
+noted_is p seen c (answer.SyncFailure auts sqn) readable = refl
+noted_is p seen c (answer.Accepted res ck ik ak amf sqn) readable = with_keys (keys_for (text_or_none p.identity) ik ck)
+  where
+    opened_note : (q : Peer) (keys : KeySet) (b : Bool) → (opened q seen res sqn keys b).1.notes.usim ≡ Some (note.Accepted sqn)
+    opened_note q keys true = refl
+    opened_note q keys false = refl
+
+    with_keys : (keys : KeySet) → (accepted_turn p seen c res sqn keys readable).1.notes.usim ≡ Some (note.Accepted sqn)
+    with_keys keys =
+        if_note (not (is_sealed method.Aka keys.k_aut [] seen)) (client p seen why.WrongMac (Some (note.Accepted sqn)) false) (genuine (accepting p c) seen res sqn keys readable)
+        (Some (note.Accepted sqn)) refl
+        (if_note (differs (checkcode seen)) (client (accepting p c) seen why.WrongCheckcode (Some (note.Accepted sqn)) true) (opened (accepting p c) seen res sqn keys readable)
+        (Some (note.Accepted sqn)) refl (opened_note (accepting p c) keys readable))
+
+-- the row of a challenge that is handed to the USIM
+challenged_row : (r : PeerRow) (c : Challenge) → asked r ≡ Some c → r ≡ row.Challenged c
+challenged_row (row.Challenged d) c e = ap row.Challenged (one d c e)
+  where
+    one : (a b : Challenge) → Some a ≡ Some b → a ≡ b
+    one a b e = cc
+challenged_row (row.Ignore cause) c e = absurd (cc)
+challenged_row row.Again c e = absurd (cc)
+challenged_row row.First c e = absurd (cc)
+challenged_row (row.Client cause) c e = absurd (cc)
+challenged_row (row.Notified code) c e = absurd (cc)
+challenged_row row.Success c e = absurd (cc)
+challenged_row (row.Failure cause) c e = absurd (cc)
+
+turn_note : (s : Subscription) (p : Peer) (seen : Seen) (r : PeerRow) (c : Challenge) (n : UsimNote) (readable : Bool) → r ≡ row.Challenged c
+    → (peer_does s p seen r (Some n) readable).1.notes.usim ≡ Some (note_of (answer_noted s.secret c n))
+turn_note s p seen r c n readable is =
+    ap (λ (x : PeerRow). (peer_does s p seen x (Some n) readable).1.notes.usim) is ∙ noted_is p seen c (answer_noted s.secret c n) readable
+
+-- so the told note is the one of its answer
+told_note : (told : Told) (p : Presented) (c : Challenge) (n : UsimNote) → told.notes.usim ≡ Some n → p.challenge ≡ Some c → p.challenge ≡ asked (peer_row p.delivery.session.peer told.seen)
+    → told.notes.usim ≡ (peer_turn p.device p.delivery.session told).1.notes.usim → told.notes.usim ≡ Some (note_of (answer_noted p.device.secret c n))
+told_note told p c n is handed row_is turn =
+    turn ∙ ap (λ (o : Option UsimNote). (peer_does p.device p.delivery.session.peer told.seen (peer_row p.delivery.session.peer told.seen) o told.readable).1.notes.usim) is
+    ∙ turn_note p.device p.delivery.session.peer told.seen (peer_row p.delivery.session.peer told.seen) c n told.readable
+    (challenged_row (peer_row p.delivery.session.peer told.seen) c (sym row_is ∙ handed))
+
+-- the past after an answer, by its note
+past_noted : (opening : ℕ) (sqns : List (List ℕ)) (a : Answer) → past_of opening (sqns ++ sqn_accepted (Some (note_of a))) ≡ past_after_answer (past_of opening sqns) a
+past_noted opening sqns answer.WrongMac = ap (past_of opening) (append-nil sqns)
+past_noted opening sqns (answer.SyncFailure auts sqn) = ap (past_of opening) (append-nil sqns)
+past_noted opening sqns (answer.Accepted res ck ik ak amf sqn) = fold_push (λ (past : Past) (s : List ℕ). (seq_of s, ind_of s) ∷ past) (opening_past opening) sqns sqn
+
+-- ---- the USIMs
+
+-- what an event that reaches a device says of its USIM
+pub record Hands (rows : List Row) (w new : WorldState) (told : Told) (c : Came) (p : Presented) : Type 0 where
+  pub at : device_place rows w.net.devices p.delivery.session.sub ≡ Some p.delivery.session.device
+  pub same : new.net.devices ≡ w.net.devices
+  pub subscribers : AreSubscribers rows
+  pub handed : IsHanded p told w.devices new.devices
+  pub reaches : device_in c ≡ Some p.delivery.session.sub
+  pub usim : usim_in c ≡ told.notes.usim
+  pub turn : told.notes.usim ≡ (peer_turn p.device p.delivery.session told).1.notes.usim
+  pub hands : p.challenge ≡ asked (peer_row p.delivery.session.peer told.seen)
+
+module _ (rows : List Row) (w new : WorldState) (told : Told) (c : Came) (p : Presented) (h : Hands rows w new told c p) where
+  -- the other places stay
+  pub elsewhere : (i : ℕ) → i ≢ p.delivery.session.sub → (o : Option ℕ) → device_place rows w.net.devices i ≡ o → usim_at new.devices o ≡ usim_at w.devices o
+  elsewhere i other None is = refl
+  elsewhere i other (Some place) is =
+      ap memory_of (h.handed.others place (λ same. other (one_place rows w.net.devices i p.delivery.session.sub place h.subscribers is (h.at ∙ ap Some (sym same)))))
+
+  -- its USIM changes
+  abbrev pub hands_changes : Changes (usim_of rows w) p.delivery.session.sub (usim_of rows new)
+  hands_changes = record {
+    before = h.handed.before.usim;
+    there = ap (usim_at w.devices) h.at ∙ ap memory_of h.handed.there;
+    after = h.handed.after.usim;
+    here = ap (λ (ds : List Subscription). usim_at new.devices (device_place rows ds p.delivery.session.sub)) h.same ∙ ap (usim_at new.devices) h.at ∙ ap memory_of h.handed.here;
+    others = λ i other. ap (λ (ds : List Subscription). usim_at new.devices (device_place rows ds i)) h.same ∙ elsewhere i other (device_place rows w.net.devices i) refl;
+    secret = h.handed.secret;
+  }
+
+  -- what it remembers of its answers
+  remembers : (challenge : Option Challenge) (n : Option UsimNote) (row : Row) (lines : List LineRecord) → p.challenge ≡ challenge → told.notes.usim ≡ n
+      → AsksDevice p.device challenge n h.handed.before.usim.array h.handed.after.usim.array
+      → Remembers h.handed.before.usim.array (past_of row.usim (accepted p.delivery.session.sub lines))
+      → Remembers h.handed.after.usim.array (past_of row.usim (accepted p.delivery.session.sub lines ++ sqn_accepted told.notes.usim))
+  remembers None n row lines handed is asks past =
+      subst (λ (array : List ℕ). Remembers array (past_of row.usim (accepted p.delivery.session.sub lines ++ sqn_accepted told.notes.usim))) (sym asks.1)
+      (subst (λ (sqns : List (List ℕ)). Remembers h.handed.before.usim.array (past_of row.usim sqns))
+      (sym (ap (λ (o : Option UsimNote). accepted p.delivery.session.sub lines ++ sqn_accepted o) (is ∙ asks.0) ∙ append-nil (accepted p.delivery.session.sub lines))) past)
+  remembers (Some challenge) None row lines handed is asks past = absurd asks
+  remembers (Some challenge) (Some n) row lines handed is asks past =
+      subst (λ (x : Past). Remembers h.handed.after.usim.array x)
+      (sym (ap (λ (o : Option UsimNote). past_of row.usim (accepted p.delivery.session.sub lines ++ sqn_accepted o)) (told_note told p challenge n is handed h.hands h.turn)
+      ∙ past_noted row.usim (accepted p.delivery.session.sub lines) (answer_noted p.device.secret challenge n)))
+      (asks (past_of row.usim (accepted p.delivery.session.sub lines)) past).1
+
+  -- what the line says that it accepted
+  accepted_own : (r : EventRecord) (lines : List LineRecord) → r.result ≡ c
+      → accepted p.delivery.session.sub (lines ++ Happening r ∷ []) ≡ accepted p.delivery.session.sub lines ++ sqn_accepted told.notes.usim
+  accepted_own r lines is =
+      accepted-append p.delivery.session.sub lines (Happening r ∷ [])
+      ∙ ap (λ (sqns : List (List ℕ)). accepted p.delivery.session.sub lines ++ sqns) (append-nil (accepted_by p.delivery.session.sub (Happening r))
+      ∙ rw (is, h.reaches, eq-eqb p.delivery.session.sub p.delivery.session.sub refl, h.usim) refl)
+
+  accepted_other : (i : ℕ) (r : EventRecord) (lines : List LineRecord) → r.result ≡ c → p.delivery.session.sub ≢ i → accepted i (lines ++ Happening r ∷ []) ≡ accepted i lines
+  accepted_other i r lines is other =
+      accepted-append i lines (Happening r ∷ []) ∙ ap (λ (sqns : List (List ℕ)). accepted i lines ++ sqns) (none (is_that i (device_in c)) (ap (is_that i) h.reaches ∙ ne_eqb p.delivery.session.sub i other))
+      ∙ append-nil (accepted i lines)
+    where
+      none : (b : Bool) → is_that i (device_in c) ≡ false → accepted i (Happening r ∷ []) ≡ []
+      none b e = append-nil (accepted_by i (Happening r)) ∙ rw (is, e) refl
+
+  -- all of them after it
+  pub hands_behind : (r : EventRecord) (lines : List LineRecord) → r.result ≡ c → AreBehind rows lines (usim_of rows w) → AreBehind rows (lines ++ Happening r ∷ []) (usim_of rows new)
+  hands_behind r lines is behind i row usim at there = step (changed_cases (usim_of rows w) (usim_of rows new) p.delivery.session.sub i usim hands_changes there)
+    where
+      step : ((p.delivery.session.sub ≡ i) × (h.handed.after.usim ≡ usim)) ⊎ ((p.delivery.session.sub ≢ i) × (usim_of rows w i ≡ Some usim))
+          → Remembers usim.array (past_of row.usim (accepted i (lines ++ Happening r ∷ [])))
+      step (inl (same, one)) =
+          subst (λ (m : Memory). Remembers m.array (past_of row.usim (accepted i (lines ++ Happening r ∷ [])))) one
+          (subst (λ (s : ℕ). Remembers h.handed.after.usim.array (past_of row.usim (accepted s (lines ++ Happening r ∷ [])))) same
+          (subst (λ (sqns : List (List ℕ)). Remembers h.handed.after.usim.array (past_of row.usim sqns)) (sym (accepted_own r lines is))
+          (remembers p.challenge told.notes.usim row lines refl refl h.handed.asked
+          (behind p.delivery.session.sub row h.handed.before.usim (subst (λ (s : ℕ). slice_get rows s ≡ Some row) (sym same) at) hands_changes.there))))
+      step (inr (other, one)) =
+          subst (λ (sqns : List (List ℕ)). Remembers usim.array (past_of row.usim sqns)) (sym (accepted_other i r lines is other)) (behind i row usim at one)
+
+  -- what it answered
+  notes : (past : Past) (challenge : Option Challenge) (n : Option UsimNote) → AsksDevice p.device challenge n h.handed.before.usim.array h.handed.after.usim.array
+      → Remembers h.handed.before.usim.array past → UsimNotes p.device.secret past challenge n
+  notes past None n asks remember = asks.0
+  notes past (Some challenge) None asks remember = asks
+  notes past (Some challenge) (Some n) asks remember = (asks past remember).0
+
+  pub hands_asked : (set : Setting) (before : Before) → set.rows ≡ rows → AreBehind rows (before.early ++ before.beside ++ before.own) (usim_of rows w) → AsksUsim set before p told
+  hands_asked set before is behind =
+      let (row, there) = placed_row rows w.net.devices p.delivery.session.sub p.delivery.session.device h.at in
+      let past : Remembers h.handed.before.usim.array (past_before before row p.delivery.session.sub) = behind p.delivery.session.sub row h.handed.before.usim there hands_changes.there in
+      record {
+        row = row;
+        there = ap (λ (rs : List Row). slice_get rs p.delivery.session.sub) is ∙ there;
+        answers = notes (past_before before row p.delivery.session.sub) p.challenge told.notes.usim h.handed.asked past;
+        readable = h.handed.readable (past_before before row p.delivery.session.sub) past;
+      }

@@ -1,0 +1,161 @@
+-- For a job's devices: at which place each subscriber's is.
+use Rattle.std.proofs.Common.{◌≡◌, ◌≢◌, ℕ, zero, suc, ◌+◌, ◌<◌, ◌⊎◌, eqb, Bool, true, false, cond, List, [], ◌∷◌, ◌++◌, All, length, get_or, refl, sym, ◌∙◌, ap, arith, inl, inr, eq-eqb}
+use Rattle.std.specs.Prelude.{◌==◌, nat_lt, not, Option, Some, None, flat_map, map, position, slice_get, if◌then◌else◌}
+use Rattle.std.specs.List.{position_or_len}
+use Rattle.std.proofs.lemmas.Bool.{and_from, and_parts, eqb-true, false_from_ne_true}
+use Rattle.std.proofs.lemmas.Bool.Decides.{eqb_tells, nat_tests}
+use Rattle.std.proofs.lemmas.List.Elements.{All-head, All-tail}
+use Rattle.std.proofs.lemmas.List.Quantifiers.{position-Some}
+use Rattle.std.proofs.lemmas.Option.{get_or_from_slice_get, slice_get_within}
+use Rattle.auc_cards.specs.Devices.{usim_among}
+use Rattle.auc_edge.specs.Identity.{Identity}
+use Rattle.auc_peer.specs.Subscription.{Subscription}
+use Rattle.auc_peer.specs.declared.device.Device.{Device}
+use Rattle.auc_subs.specs.Subscriber.{AreSubscribers, same_identity}
+use Rattle.auc_subs.specs.declared.row.Row.{Row}
+use Rattle.auc_usim.specs.Usim.{Memory}
+use Rattle.auc_world.specs.Net.{device_place, place_with}
+use Rattle.auc_world.specs.Setting.{Setting}
+use Rattle.auc_world.specs.Start.{home_of, subscription_at, subscription_by}
+use Rattle.auc_world.specs.World.{WorldState, memory_of, usim_at, usim_of}
+use Rattle.auc_jobs.proofs.LineLemmas.{some_at}
+
+-- ---- identities
+
+one_identity : (a b : Identity) → same_identity a b ≡ true → a ≡ b
+one_identity a b e =
+    let (digits, number) = and_parts (a.digits == b.digits) (a.number == b.number) e in
+    fields a.digits b.digits a.number b.number (eqb-true a.digits b.digits digits) (eqb-true a.number b.number number)
+  where
+    fields : (d e n m : ℕ) → d ≡ e → n ≡ m → ◌≡◌ {A = Identity} (record { digits = d; number = n }) (record { digits = e; number = m })
+    fields d e n m f g = cc
+
+identity_itself : (a : Identity) → same_identity a a ≡ true
+identity_itself a = and_from (a.digits == a.digits) (a.number == a.number) (eq-eqb a.digits a.digits refl) (eq-eqb a.number a.number refl)
+
+-- rows at two places differ
+differ_at : (rows : List Row) (i j : ℕ) (a b : Row) → AreSubscribers rows → slice_get rows i ≡ Some a → slice_get rows j ≡ Some b → i < j → a.imsi ≢ b.imsi
+differ_at rows i j a b are at_i at_j below same =
+    are.differ i j a below (slice_get_within rows j b at_j)
+    (ap (λ (r : Row). r.imsi) (get_or_from_slice_get rows i a a at_i) ∙ same ∙ sym (ap (λ (r : Row). r.imsi) (get_or_from_slice_get rows j b a at_j)))
+
+order : (i j : ℕ) → i ≢ j → (i < j) ⊎ (j < i)
+order zero zero other = absurd (other refl)
+order zero (suc j) other = inl (omega arith)
+order (suc i) zero other = inr (omega arith)
+order (suc i) (suc j) other = by (order i j (λ e. other (omega (arith, e))))
+  where
+    by : (i < j) ⊎ (j < i) → (suc i < suc j) ⊎ (suc j < suc i)
+    by (inl low) = inl (omega (arith, low))
+    by (inr high) = inr (omega (arith, high))
+
+-- the test of two rows' identities is that of their places
+identity_test : (rows : List Row) (i j : ℕ) (a b : Row) → AreSubscribers rows → slice_get rows i ≡ Some a → slice_get rows j ≡ Some b → same_identity a.imsi b.imsi ≡ eqb i j
+identity_test rows i j a b are at_i at_j = by (eqb_tells i j)
+  where
+    just : (x y : Row) → Some x ≡ Some y → x ≡ y
+    just x y e = cc
+
+    apart : (i < j) ⊎ (j < i) → same_identity a.imsi b.imsi ≡ true → ⊥
+    apart (inl low) e = differ_at rows i j a b are at_i at_j low (one_identity a.imsi b.imsi e)
+    apart (inr high) e = differ_at rows j i b a are at_j at_i high (sym (one_identity a.imsi b.imsi e))
+
+    by : ((eqb i j ≡ true) × (i ≡ j)) ⊎ ((eqb i j ≡ false) × (i ≢ j)) → same_identity a.imsi b.imsi ≡ eqb i j
+    by (inl (e, same)) =
+        let one : a ≡ b = just a b (sym at_i ∙ ap (slice_get rows) same ∙ at_j) in
+        ap (λ (r : Row). same_identity r.imsi b.imsi) one ∙ identity_itself b.imsi ∙ sym e
+    by (inr (e, other)) = false_from_ne_true (same_identity a.imsi b.imsi) (apart (order i j other)) ∙ sym e
+
+-- ---- places
+
+-- no two subscribers have their devices at one place
+pub one_place : (rows : List Row) (devices : List Subscription) (i j place : ℕ) → AreSubscribers rows → device_place rows devices i ≡ Some place → device_place rows devices j ≡ Some place → i ≡ j
+one_place rows devices i j place are first second = by (slice_get rows i) (slice_get rows j) refl refl first second
+  where
+    no_place : ◌≡◌ {A = Option ℕ} None (Some place) → ⊥
+    no_place e = cc
+
+    by : (a b : Option Row) → slice_get rows i ≡ a → slice_get rows j ≡ b → place_with devices a ≡ Some place → place_with devices b ≡ Some place → i ≡ j
+    by None b at_i at_j e f = absurd (no_place e)
+    by (Some a) None at_i at_j e f = absurd (no_place f)
+    by (Some a) (Some b) at_i at_j e f =
+        let d : Subscription = record { imsi = a.imsi; realm = []; secret = a.secret } in
+        let p = position-Some (λ (s : Subscription). same_identity s.imsi a.imsi) devices place d e in
+        let q = position-Some (λ (s : Subscription). same_identity s.imsi b.imsi) devices place d f in
+        let same : a.imsi ≡ b.imsi = sym (one_identity (get_or devices place d).imsi a.imsi p.1) ∙ one_identity (get_or devices place d).imsi b.imsi q.1 in
+        let test : eqb i j ≡ true = sym (identity_test rows i j a b are at_i at_j) ∙ ap (λ (x : Identity). same_identity x b.imsi) same ∙ identity_itself b.imsi in
+        eqb-true i j test
+
+-- the subscriber of a device has a row
+pub placed_row : (rows : List Row) (devices : List Subscription) (sub place : ℕ) → device_place rows devices sub ≡ Some place → (row : Row) × (slice_get rows sub ≡ Some row)
+placed_row rows devices sub place is = by (slice_get rows sub) refl is
+  where
+    no_place : ◌≡◌ {A = Option ℕ} None (Some place) → ⊥
+    no_place e = cc
+
+    by : (o : Option Row) → slice_get rows sub ≡ o → place_with devices o ≡ Some place → (row : Row) × (slice_get rows sub ≡ Some row)
+    by None at e = absurd (no_place e)
+    by (Some row) at e = (row, at)
+
+-- what the USIM of a list's first device keeps
+first_usim : (devices : List Device) (d : Device) (p : Subscription → Bool) (s : Subscription) (ss : List Subscription)
+    → usim_at (d ∷ devices) (position p (s ∷ ss)) ≡ (if p s then Some d.usim else usim_at devices (position p ss))
+first_usim devices d p s ss = by (p s) (position_or_len p ss) (length ss)
+  where
+    at_next : (n : ℕ) (b : Bool) → usim_at (d ∷ devices) (cond b (Some (1 + n)) None) ≡ usim_at devices (cond b (Some n) None)
+    at_next n false = refl
+    at_next n true = let next : ◌≡◌ {A = ℕ} (1 + n) (suc n) = omega arith in ap (λ (k : ℕ). memory_of (slice_get (d ∷ devices) k)) next
+
+    less : (n len : ℕ) → nat_lt (1 + n) (suc len) ≡ nat_lt n len
+    less n len = grind (arith, nat_tests)
+
+    some : (len : ℕ) → nat_lt 0 (suc len) ≡ true
+    some len = grind (arith, nat_tests)
+
+    by : (b : Bool) (n len : ℕ)
+        → usim_at (d ∷ devices) (cond (nat_lt (cond (not b) (1 + n) 0) (suc len)) (Some (cond (not b) (1 + n) 0)) None) ≡ (if b then Some d.usim else usim_at devices (cond (nat_lt n len) (Some n) None))
+    by true n len = ap (λ (t : Bool). usim_at (d ∷ devices) (cond t (Some 0) None)) (some len)
+    by false n len = ap (λ (t : Bool). usim_at (d ∷ devices) (cond t (Some (1 + n)) None)) (less n len) ∙ at_next n (nat_lt n len)
+
+no_usim : (o : Option ℕ) → usim_at [] o ≡ None
+no_usim None = refl
+no_usim (Some place) = refl
+
+-- the USIM of a subscriber's device is found by its home
+found_usim : (set : Setting) (subs : List ℕ) (devices : List Device) (sub : ℕ) (row : Row) → AreSubscribers set.rows → slice_get set.rows sub ≡ Some row → All (λ s. s < length set.rows) subs
+    → usim_at devices (place_with (flat_map (subscription_at set) subs) (Some row)) ≡ usim_among (map home_of subs) devices sub
+found_usim set [] [] sub row are at known = refl
+found_usim set [] (d ∷ devices) sub row are at known = refl
+found_usim set (s ∷ subs) [] sub row are at known = no_usim (place_with (flat_map (subscription_at set) (s ∷ subs)) (Some row))
+found_usim set (s ∷ subs) (d ∷ devices) sub row are at known =
+    let (first, here) = some_at set.rows s (All-head (λ (n : ℕ). n < length set.rows) s subs known) in
+    let more = flat_map (subscription_at set) subs in
+    ap (λ (o : Option Row). usim_at (d ∷ devices) (place_with (subscription_by set o ++ more) (Some row))) here
+    ∙ first_usim devices d (λ (x : Subscription). same_identity x.imsi row.imsi) (record { imsi = first.imsi; realm = set.realm; secret = first.secret }) more
+    ∙ ap (λ (b : Bool). if b then Some d.usim else usim_at devices (place_with more (Some row))) (identity_test set.rows s sub first row are here at)
+    ∙ ap (λ (o : Option Memory). if eqb s sub then Some d.usim else o) (found_usim set subs devices sub row are at (All-tail (λ (n : ℕ). n < length set.rows) s subs known))
+
+-- a subscriber without a row has no home
+no_home : (set : Setting) (subs : List ℕ) (devices : List Device) (sub : ℕ) → slice_get set.rows sub ≡ None → All (λ s. s < length set.rows) subs → usim_among (map home_of subs) devices sub ≡ None
+no_home set [] devices sub none known = refl
+no_home set (s ∷ subs) [] sub none known = refl
+no_home set (s ∷ subs) (d ∷ devices) sub none known = by (eqb_tells s sub) (no_home set subs devices sub none (All-tail (λ (n : ℕ). n < length set.rows) s subs known))
+  where
+    there : (x : Row) → slice_get set.rows s ≡ Some x → s ≡ sub → ⊥
+    there x at same = nothing x (sym (sym at ∙ ap (slice_get set.rows) same ∙ none))
+      where
+        nothing : (y : Row) → ◌≡◌ {A = Option Row} None (Some y) → ⊥
+        nothing y e = cc
+
+    by : ((eqb s sub ≡ true) × (s ≡ sub)) ⊎ ((eqb s sub ≡ false) × (s ≢ sub)) → usim_among (map home_of subs) devices sub ≡ None
+        → (if eqb s sub then Some d.usim else usim_among (map home_of subs) devices sub) ≡ None
+    by (inl (e, same)) rest = let (x, at) = some_at set.rows s (All-head (λ (n : ℕ). n < length set.rows) s subs known) in absurd (there x at same)
+    by (inr (e, other)) rest = rw e rest
+
+pub usim_found : (set : Setting) (subs : List ℕ) (w : WorldState) (sub : ℕ) → AreSubscribers set.rows → w.net.devices ≡ flat_map (subscription_at set) subs → All (λ s. s < length set.rows) subs
+    → usim_of set.rows w sub ≡ usim_among (map home_of subs) w.devices sub
+usim_found set subs w sub are same known = ap (λ (ds : List Subscription). usim_at w.devices (device_place set.rows ds sub)) same ∙ by (slice_get set.rows sub) refl
+  where
+    by : (o : Option Row) → slice_get set.rows sub ≡ o → usim_at w.devices (place_with (flat_map (subscription_at set) subs) o) ≡ usim_among (map home_of subs) w.devices sub
+    by None at = sym (no_home set subs w.devices sub at known)
+    by (Some row) at = found_usim set subs w.devices sub row are at known

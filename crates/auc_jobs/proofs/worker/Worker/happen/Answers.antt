@@ -1,0 +1,27 @@
+use Rattle.std.proofs.Common.{ℕ, [], ◌∷◌, ◌++◌, ◌∙◌, ap, sym, subst}
+use Rattle.std.specs.Prelude.{Option}
+use Rattle.auc_world.specs.declared.event.EventRecord.{EventRecord}
+use Rattle.auc_world.specs.declared.record.LineRecord.TheVariants.{Event as Happening}
+use Rattle.auc_jobs.specs.InnerServing.{Happens, Serves, before_at}
+use Rattle.auc_jobs.specs.InnerUsims.{usim_of}
+use Rattle.auc_jobs.specs.InnerWorker.{WorkerState}
+use Rattle.auc_jobs.proofs.HappenLemmas.{event_serves}
+use Rattle.auc_jobs.proofs.worker.Worker.happen.Goals as goal
+
+pub returns-clause-happened : goal.returns-clause-happened
+returns-clause-happened g c = λ early beside stands.
+    let rows = c.in_ok-result.ensures.rows in
+    subst (λ (w : WorkerState g.row.C.Denot). Serves (λ i es ws. g.C.Centre.goes c.args.self.now.centre i es ws w.centre) c.args.self.now.set.rows (before_at early beside c.args.self.now.lines)
+    (g.C.Centre.kept w.centre) c.args.self.now.released (usim_of c.args.self.now.set.rows w.world)
+    (λ lines. Happens c.args.self.now.set (before_at early beside c.args.self.now.lines) c.args.self.now.world.net c.args.event c.packet_in-packet.result lines w.world.net) c.push.new.self)
+    (sym c.self.view_is)
+    (subst (λ (o : Option ℕ). Serves (λ i es ws. g.C.Centre.goes c.args.self.now.centre i es ws c.apply.new.self.centre) c.args.self.now.set.rows (before_at early beside c.args.self.now.lines)
+    (g.C.Centre.kept c.apply.new.self.centre) c.args.self.now.released (usim_of c.args.self.now.set.rows c.apply.new.self.world)
+    (λ lines. Happens c.args.self.now.set (before_at early beside c.args.self.now.lines) c.args.self.now.world.net c.args.event o lines c.apply.new.self.world.net) c.push.new.self)
+    (sym c.packet_in-packet.ensures)
+    (event_serves g.C.Centre.goes g.C.Centre.kept g.C.Centre.top c.args.self.now.set c.args.self.now.world c.apply.new.self.world c.args.event c.args.self.now.centre c.apply.new.self.centre
+    c.in_ok-result.result early beside c.args.self.now.lines c.push.new.self c.args.self.now.released
+    (record { applies = c.in_ok-result.ensures.applied; subscribers = rows.subscribers; placed = rows.placed; same = c.in_ok-result.ensures.same.devices })
+    rows.is_centre.greatest c.in_ok-result.ensures.asked stands
+    (c.in_ok-push.ensures ∙ ap (λ (r : EventRecord). c.self.inside.lines ++ Happening r ∷ []) c.in_ok-record.ensures
+    ∙ ap (λ (w : WorkerState g.row.C.Denot). w.lines ++ Happening (record { event = c.args.event; result = c.in_ok-result.result }) ∷ []) (c.self.view_is ∙ c.in_ok-result.ensures.rest))))

@@ -1,0 +1,180 @@
+-- In a lawful transcript what comes of each event is a step of the end that the event concerns.
+use Rattle.std.proofs.Common.{ℕ, ◌≡◌, sym, subst, List, [], ◌∷◌, ◌++◌, Option, Some, None, zero, suc, All}
+use Rattle.std.proofs.lemmas.List.Elements.{All-nil, All-cons, All-append}
+use Rattle.auc_edge.specs.declared.stop.Stop.{Stop}
+use Rattle.auc_lines.specs.declared.part.End.{End}
+use Rattle.auc_lines.specs.declared.part.End.TheVariants as end
+use Rattle.auc_lines.specs.declared.part.Line.{Line}
+use Rattle.auc_lines.specs.declared.part.Line.TheVariants as line
+use Rattle.auc_lines.specs.declared.part.Part.{Part}
+use Rattle.auc_lines.specs.declared.part.Part.TheVariants as part
+use Rattle.auc_peer.specs.Subscription.{Subscription}
+use Rattle.auc_server.specs.Server.{ServerEnd}
+use Rattle.auc_world.specs.Came.{Came, came, came_at_peer, came_at_server, came_delivered, came_given_up, came_in, came_opened, came_repeated, came_started, server_came_to_give_up, session_of}
+use Rattle.auc_world.specs.Given.{Before, DrawGives, EventGives, JobGives, JobsGive, LineGives, PlainGives, RelayGives, VectorsFollow, behind, packet_of}
+use Rattle.auc_world.specs.Happened.{Delivery, Told, delivery_in}
+use Rattle.auc_world.specs.Net.{Net, device_place, other, packet_at, session_place}
+use Rattle.auc_world.specs.Setting.{Setting}
+use Rattle.auc_world.specs.Start.{start_of}
+use Rattle.auc_world.specs.Transcript.{Course, Leads, ServesPart, stop_before}
+use Rattle.auc_world.specs.declared.event.Event.{Event}
+use Rattle.auc_world.specs.declared.event.Event.TheVariants as event
+use Rattle.auc_world.specs.declared.net.SentPacket.{SentPacket}
+use Rattle.auc_world.specs.declared.net.Session.{Session}
+use Rattle.auc_world.specs.declared.record.LineRecord.{LineRecord}
+use Rattle.auc_world.specs.declared.record.LineRecord.TheVariants as record_of
+use Rattle.auc_world.specs.declared.record.PartRecord.{PartRecord}
+use Rattle.auc_world.specs.declared.record.PartRecord.TheVariants as made
+use Rattle.auc_world.specs.declared.record.SyncVerdict.{SyncVerdict}
+use Rattle.auc_world.specs.declared.record.SyncVerdict.TheVariants as verdict
+use Rattle.auc_print.specs.OneText.{AreAtTheirEnds, CameAt, IsAtItsEnd, PartIsAtItsEnds, end_of}
+
+-- ---- an event
+
+opened_at : (first place : Option ℕ) → CameAt None (came_opened first place)
+opened_at (Some first) place = tt
+opened_at None None = tt
+opened_at None (Some place) = tt
+
+started_at : (w : Net) (s : Option ServerEnd) → CameAt (Some end.Server) (came_started w s)
+started_at w None = tt
+started_at w (Some s) = tt
+
+repeated_at : (w : Net) (s : Option ServerEnd) → CameAt (Some end.Server) (came_repeated w s)
+repeated_at w None = tt
+repeated_at w (Some s) = tt
+
+server_given_up_at : (w : Net) (s : Option ServerEnd) → CameAt (Some end.Server) (server_came_to_give_up w s)
+server_given_up_at w None = tt
+server_given_up_at w (Some s) = tt
+
+given_up_at : (w : Net) (at' : End) (s : Session) → CameAt (Some at') (came_given_up w at' s)
+given_up_at w end.Server s = server_given_up_at w s.server
+given_up_at w end.Peer s = tt
+
+at_server : (set : Setting) (w : Net) (told : Told) (s : Option ServerEnd) → CameAt (Some end.Server) (came_at_server set w told s)
+at_server set w told None = tt
+at_server set w told (Some s) = tt
+
+at_peer : (w : Net) (d : Delivery) (told : Told) (device : Option Subscription) → CameAt (Some end.Peer) (came_at_peer w d told device)
+at_peer w d told None = tt
+at_peer w d told (Some device) = tt
+
+delivered_at : (set : Setting) (w : Net) (at' : End) (told : Told) (sent : Option SentPacket) (d : Option Delivery)
+    → CameAt (Some at') (came_delivered set w at' told sent d)
+delivered_at set w at' told None d = tt
+delivered_at set w at' told (Some sent) None = tt
+delivered_at set w end.Server told (Some sent) (Some d) = at_server set w told d.session.server
+delivered_at set w end.Peer told (Some sent) (Some d) = at_peer w d told _
+
+in_session : (at' : Option End) (does : Session → Came) → ((s : Session) → CameAt at' (does s)) → (found : Option Session) → CameAt at' (came_in does found)
+in_session at' does each None = tt
+in_session at' does each (Some s) = each s
+
+-- what comes of an event is a step of its end
+pub came_at_end : (set : Setting) (w : Net) (e : Event) (told : Told) → CameAt (end_of e) (came set w e told)
+came_at_end set w (event.Open session sub) told = opened_at (session_place w.sessions session) (device_place set.rows w.devices sub)
+came_at_end set w (event.Start session) told =
+    in_session (Some end.Server) (λ s. came_started w s.server) (λ s. started_at w s.server) (session_of w session)
+came_at_end set w (event.Deliver session at' packet) told = delivered_at set w at' told (packet_at w.packets packet) (delivery_in w session packet)
+came_at_end set w (event.Repeat session) told =
+    in_session (Some end.Server) (λ s. came_repeated w s.server) (λ s. repeated_at w s.server) (session_of w session)
+came_at_end set w (event.GiveUp session at') told = in_session (Some at') (came_given_up w at') (given_up_at w at') (session_of w session)
+
+-- ---- lines
+
+-- the same of some lines
+abbrev AreAt : List LineRecord → Type 0
+AreAt lines = All IsAtItsEnd lines
+
+none_at : (lines : List LineRecord) → lines ≡ [] → AreAt lines
+none_at lines none = subst AreAt (sym none) (All-nil IsAtItsEnd)
+
+event_at : (set : Setting) (before : Before) (net : Net) (e : Event) (lines : List LineRecord) (next : Net) → EventGives set before net e lines next → AreAt lines
+event_at set before net e lines next gives =
+    subst AreAt (sym gives.lines_are)
+    (All-cons IsAtItsEnd (record_of.Event (record { event = e; result = came set net e gives.told })) [] (came_at_end set net e gives.told) (All-nil IsAtItsEnd))
+
+relay_at : (set : Setting) (before : Before) (net : Net) (session : ℕ) (at' : End) (packet : Option ℕ) (lines : List LineRecord) (next : Net)
+    → RelayGives set before net session at' packet lines next → AreAt lines
+relay_at set before net session at' None [] next gives = All-nil IsAtItsEnd
+relay_at set before net session at' None (first ∷ lines) next gives = absurd gives
+relay_at set before net session at' (Some packet) [] next gives = absurd gives
+relay_at set before net session at' (Some packet) (first ∷ lines) next (mid, here, rest) =
+    All-append IsAtItsEnd (first ∷ []) lines (event_at set before net (event.Deliver session at' packet) (first ∷ []) mid here)
+    (relay_at set (behind before (first ∷ [])) mid session (other at') (packet_of first) lines next rest)
+
+plain_at : (set : Setting) (before : Before) (net : Net) (session : ℕ) (lines : List LineRecord) (next : Net)
+    → PlainGives set before net session lines next → AreAt lines
+plain_at set before net session [] next gives = absurd gives
+plain_at set before net session (first ∷ lines) next (mid, here, rest) =
+    All-append IsAtItsEnd (first ∷ []) lines (event_at set before net (event.Start session) (first ∷ []) mid here)
+    (relay_at set (behind before (first ∷ [])) mid session end.Peer (packet_of first) lines next rest)
+
+draw_at : (set : Setting) (sub count : ℕ) (lines : List LineRecord) → DrawGives set sub count lines → AreAt lines
+draw_at set sub zero lines gives = none_at lines gives
+draw_at set sub (suc count) [] gives = absurd gives
+draw_at set sub (suc count) (record_of.Vector s n ∷ lines) (same, fits, rest) =
+    All-cons IsAtItsEnd (record_of.Vector s n) lines tt (draw_at set sub count lines rest)
+draw_at set sub (suc count) (record_of.Withheld s n stop ∷ lines) (same, low, high, none) =
+    All-cons IsAtItsEnd (record_of.Withheld s n stop) lines tt (none_at lines none)
+draw_at set sub (suc count) (record_of.Exhausted s word ∷ lines) (same, above, none) =
+    All-cons IsAtItsEnd (record_of.Exhausted s word) lines tt (none_at lines none)
+draw_at set sub (suc count) (record_of.Sync s answer ∷ lines) gives = absurd gives
+draw_at set sub (suc count) (record_of.Give s n answer ∷ lines) gives = absurd gives
+draw_at set sub (suc count) (record_of.Event r ∷ lines) gives = absurd gives
+
+vectors_at : (set : Setting) (sub count : ℕ) (answer : SyncVerdict) (lines : List LineRecord) → VectorsFollow set sub count answer lines → AreAt lines
+vectors_at set sub count (verdict.Moved seen seq_ms) lines follow = draw_at set sub count lines follow
+vectors_at set sub count (verdict.InRange seen seq_ms) lines follow = draw_at set sub count lines follow
+vectors_at set sub count (verdict.Beyond seen seq_ms) lines follow = none_at lines follow
+vectors_at set sub count verdict.WrongMac lines follow = none_at lines follow
+
+line_at : (set : Setting) (before : Before) (net : Net) (asked : Line) (lines : List LineRecord) (next : Net) → LineGives set before net asked lines next → AreAt lines
+line_at set before net (line.Draw sub count) lines next gives = draw_at set sub count lines gives.0
+line_at set before net (line.Sync sub seq bit count) lines next gives =
+    let did = gives.0 in
+    subst AreAt (sym did.lines_are)
+    (All-cons IsAtItsEnd (record_of.Sync sub did.answer) did.more tt (vectors_at set sub count did.answer did.more did.follows))
+line_at set before net (line.Give sub n) lines next gives =
+    let did = gives.0 in
+    subst AreAt (sym did.lines_are) (All-cons IsAtItsEnd (record_of.Give sub n did.answer) [] tt (All-nil IsAtItsEnd))
+line_at set before net (line.Session session sub) lines next gives = event_at set before net (event.Open session sub) lines next gives
+line_at set before net (line.Start session) lines next gives = event_at set before net (event.Start session) lines next gives
+line_at set before net (line.Deliver session at' packet) lines next gives = event_at set before net (event.Deliver session at' packet) lines next gives
+line_at set before net (line.Repeat session) lines next gives = event_at set before net (event.Repeat session) lines next gives
+line_at set before net (line.GiveUp session at') lines next gives = event_at set before net (event.GiveUp session at') lines next gives
+line_at set before net (line.Plain session) lines next gives = plain_at set before net session lines next gives
+
+-- ---- jobs and parts
+
+job_at : (set : Setting) (before : Before) (net : Net) (asked : List Line) (records : List LineRecord) (last : Net) → JobGives set before net asked records last → AreAt records
+job_at set before net [] records last (none, same) = none_at records none
+job_at set before net (first ∷ asked) records last (front, rest, next, parts, here, more) =
+    subst AreAt (sym parts) (All-append IsAtItsEnd front rest (line_at set before net first front next here)
+    (job_at set (behind before front) next asked rest last more))
+
+jobs_at : (set : Setting) (early beside : List LineRecord) (jobs : List (List Line)) (records : List (List LineRecord)) (nets : List Net)
+    → JobsGive set early beside jobs records nets → All AreAt records
+jobs_at set early beside [] records nets (none, same) = subst (All AreAt) (sym none) (All-nil AreAt)
+jobs_at set early beside (job ∷ jobs) [] nets gives = absurd gives
+jobs_at set early beside (job ∷ jobs) (lines ∷ records) [] gives = absurd gives
+jobs_at set early beside (job ∷ jobs) (lines ∷ records) (net ∷ nets) (here, rest) =
+    All-cons AreAt lines records (job_at set (record { early = early; beside = beside; own = [] }) (start_of set job) job lines net here)
+    (jobs_at set early (beside ++ lines) jobs records nets rest)
+
+part_at : (set : Setting) (stop : Option Stop) (at : Course) (part : Part) (made : PartRecord) (next : Course) → ServesPart set stop at part made next → PartIsAtItsEnds made
+part_at set stop at (part.Round jobs) (made.Round round) next serves =
+    jobs_at set at.early [] jobs round.jobs serves.lawful.nets serves.lawful.given
+part_at set stop at (part.Round jobs) made.Restart next serves = absurd serves
+part_at set stop at part.Restart (made.Round round) next serves = absurd serves
+part_at set stop at part.Restart made.Restart next serves = tt
+
+-- in a lawful transcript what comes of each event is a step of its end
+pub lawful_at_ends : (set : Setting) (stop : Option Stop) (at : Course) (parts : List Part) (records : List PartRecord) (last : Course)
+    → Leads set stop at parts records last → AreAtTheirEnds records
+lawful_at_ends set stop at [] records last (none, same) = subst AreAtTheirEnds (sym none) (All-nil PartIsAtItsEnds)
+lawful_at_ends set stop at (part ∷ parts) [] last leads = absurd leads
+lawful_at_ends set stop at (part ∷ parts) (first ∷ records) last (next, serves, rest) =
+    All-cons PartIsAtItsEnds first records (part_at set (stop_before stop records) at part first next serves)
+    (lawful_at_ends set stop next parts records last rest)

@@ -1,0 +1,127 @@
+//! The lines that a full print adds after an event's.
+
+ghost use Rattle.std.specs.Prelude.{◌≡◌, ◌++◌, ◌∷◌, [], OnOk};
+ghost use Rattle.hex.specs.Hex.{encode_lower};
+ghost use Rattle.auc_print.specs.EventText.{came_lines, keys_words, packet_lines, packet_words, step_lines, step_sent, what_lines, what_sent};
+ghost use Rattle.auc_print.specs.Inner.{IsFrontOf, after_spaces, lines_text};
+ghost use Rattle.auc_print.specs.Text.{spaced};
+
+use crate::word::{print_hex, print_number};
+use auc_edge::{NoMemory, Octets};
+use auc_hmac::KeySet;
+use auc_vector::{Outcome, Step};
+use auc_world::{Note, NoteStep, WorldRefusal};
+
+/// Appends the lines that a full print adds: the packet that was sent, and the keys of Success.
+pub fn print_came_lines(came: &Result<Note, WorldRefusal>, out: &mut Octets) -> Result<(), NoMemory>
+    ensures printed { OnOk result (out.new ≡ out.old ++ lines_text (came_lines came.now)) }
+    ensures grows { IsFrontOf out.old out.new }
+{
+    match came {
+        Ok(note) => {
+            print_packet(note.packet, bytes_of_step(&note.step), out)?;
+            print_step_lines(&note.step, out)
+        }
+        Err(_) => Ok(()),
+    }
+}
+
+/// Appends the line of a packet, if there is one.
+fn print_packet(packet: Option<u32>, bytes: &[u8], out: &mut Octets) -> Result<(), NoMemory>
+    ensures printed { OnOk result
+        (out.new ≡ out.old ++ lines_text (packet_lines packet bytes.now)) }
+    ensures grows { IsFrontOf out.old out.new }
+{
+    match packet {
+        None => Ok(()),
+        Some(packet) => print_packet_line(packet, bytes, out),
+    }
+}
+
+/// Appends the line of a packet.
+fn print_packet_line(packet: u32, bytes: &[u8], out: &mut Octets) -> Result<(), NoMemory>
+    ensures printed { OnOk result
+        (out.new ≡ out.old ++ spaced (packet_words packet bytes.now)) }
+    ensures grows { IsFrontOf out.old out.new }
+{
+    out.append(b"packet")?;
+    print_number(u64::from(packet), out)?;
+    print_hex(bytes, out)?;
+    out.append(b"\n")
+}
+
+/// The bytes that a step sent, if it sent any.
+fn bytes_of_step(step: &NoteStep) -> &[u8]
+    ensures { result.now ≡ step_sent step.now }
+{
+    match step {
+        NoteStep::Opened => &[],
+        NoteStep::Server(what) => bytes_of(what),
+        NoteStep::Peer(what) => bytes_of(what),
+    }
+}
+
+fn bytes_of<W: Drop>(what: &Step<W>) -> &[u8]
+    ensures { result.now ≡ what_sent what.now }
+{
+    match what {
+        Step::Sent(bytes) => bytes.as_slice(),
+        Step::Ended(_, bytes) => bytes.as_slice(),
+        Step::Ignored(_) => &[],
+    }
+}
+
+/// Appends the line of the keys of Success, if a step ended so.
+fn print_step_lines(step: &NoteStep, out: &mut Octets) -> Result<(), NoMemory>
+    ensures printed { OnOk result (out.new ≡ out.old ++ lines_text (step_lines step.now)) }
+    ensures grows { IsFrontOf out.old out.new }
+{
+    match step {
+        NoteStep::Opened => Ok(()),
+        NoteStep::Server(what) => print_what_lines(what, out),
+        NoteStep::Peer(what) => print_what_lines(what, out),
+    }
+}
+
+fn print_what_lines<W: Drop>(what: &Step<W>, out: &mut Octets) -> Result<(), NoMemory>
+    ensures printed { OnOk result (out.new ≡ out.old ++ lines_text (what_lines what.now)) }
+    ensures grows { IsFrontOf out.old out.new }
+{
+    match what {
+        Step::Ended(Outcome::Success(keys), _) => print_keys(keys, out),
+        Step::Ended(Outcome::Failure(_), _) | Step::Sent(_) | Step::Ignored(_) => Ok(()),
+    }
+}
+
+/// Appends the line of the keys of Success.
+fn print_keys(keys: &KeySet, out: &mut Octets) -> Result<(), NoMemory>
+    ensures printed { OnOk result (out.new ≡ out.old ++ spaced (keys_words keys.now)) }
+    ensures grows { IsFrontOf out.old out.new }
+{
+    out.append(b"keys")?;
+    print_own_keys(keys, out)?;
+    print_session_keys(keys, out)?;
+    out.append(b"\n")
+}
+
+/// Appends K_encr, K_aut and K_re, each after a space.
+fn print_own_keys(keys: &KeySet, out: &mut Octets) -> Result<(), NoMemory>
+    ensures printed { OnOk result (out.new ≡ out.old ++ after_spaces
+        (encode_lower keys.now.k_encr ∷ encode_lower keys.now.k_aut ∷ encode_lower keys.now.k_re
+        ∷ [])) }
+    ensures grows { IsFrontOf out.old out.new }
+{
+    print_hex(&keys.k_encr, out)?;
+    print_hex(&keys.k_aut, out)?;
+    print_hex(&keys.k_re, out)
+}
+
+/// Appends MSK and EMSK, each after a space.
+fn print_session_keys(keys: &KeySet, out: &mut Octets) -> Result<(), NoMemory>
+    ensures printed { OnOk result (out.new ≡ out.old ++ after_spaces
+        (encode_lower keys.now.msk ∷ encode_lower keys.now.emsk ∷ [])) }
+    ensures grows { IsFrontOf out.old out.new }
+{
+    print_hex(&keys.msk, out)?;
+    print_hex(&keys.emsk, out)
+}

@@ -1,0 +1,198 @@
+-- For the rounds: the lines of a lawful round name subscribers alone.
+use Rattle.std.proofs.Common.{◌≡◌, ℕ, zero, suc, ◌<◌, List, [], ◌∷◌, ◌++◌, length, All, Option, Some, None, arith}
+use Rattle.std.specs.Prelude.{◌+◌, slice_get}
+use Rattle.std.proofs.lemmas.List.Elements.{All-nil, All-cons, All-append, All-same}
+use Rattle.auc_jobs.specs.Serving.{IsKnownLine, AreAllKnown}
+use Rattle.auc_lines.specs.declared.part.End.{End}
+use Rattle.auc_lines.specs.declared.part.End.TheVariants as end
+use Rattle.auc_lines.specs.declared.part.Line.{Line}
+use Rattle.auc_lines.specs.declared.part.Line.TheVariants as line
+use Rattle.auc_server.specs.Server.{ServerEnd}
+use Rattle.auc_vector.specs.Notes.{Asking}
+use Rattle.auc_vector.specs.declared.notes.Notes.{Notes}
+use Rattle.auc_world.specs.Came.{asked_sub, asking_at, asking_in, asking_of, came, came_at_peer, came_at_server, came_delivered, came_given_up, came_in, came_opened, came_repeated, came_started, server_came_to_give_up, session_of}
+use Rattle.auc_peer.specs.Subscription.{Subscription}
+use Rattle.auc_world.specs.Event.{asked_in}
+use Rattle.auc_world.specs.Given.{Before, DrawGives, EventGives, IsCentreAsked, JobGives, JobsGive, LineGives, PlainGives, RelayGives, SyncGives, VectorsFollow, behind, packet_of}
+use Rattle.auc_world.specs.Happened.{Delivery, Told, delivery_in}
+use Rattle.auc_world.specs.Net.{Net, device_place, other, packet_at, session_place}
+use Rattle.auc_world.specs.Record.{IsBelow, subscriber_of}
+use Rattle.auc_world.specs.Setting.{Setting}
+use Rattle.auc_world.specs.Start.{start_of}
+use Rattle.auc_world.specs.declared.event.Event.{Event}
+use Rattle.auc_world.specs.declared.event.Event.TheVariants as event
+use Rattle.auc_world.specs.declared.net.SentPacket.{SentPacket}
+use Rattle.auc_world.specs.declared.net.Session.{Session}
+use Rattle.auc_world.specs.declared.record.LineRecord.{LineRecord}
+use Rattle.auc_world.specs.declared.record.LineRecord.TheVariants as record_of
+use Rattle.auc_world.specs.declared.record.SyncVerdict.{SyncVerdict}
+use Rattle.auc_world.specs.declared.record.SyncVerdict.TheVariants as verdict
+
+-- a line names one of so many subscribers, if it names one
+abbrev pub IsNamed : ℕ → LineRecord → Type 0
+IsNamed count line = IsBelow count (subscriber_of line)
+
+-- no lines
+none_named : (count : ℕ) (lines : List LineRecord) → lines ≡ [] → All (IsNamed count) lines
+none_named count lines none = All-same (IsNamed count) lines [] none (All-nil (IsNamed count))
+
+-- ---- draws and resynchronisations
+
+-- what a request gives
+draw_named : (set : Setting) (sub count : ℕ) (lines : List LineRecord) → sub < length set.rows → DrawGives set sub count lines → All (IsNamed (length set.rows)) lines
+draw_named set sub zero lines inside gives = none_named (length set.rows) lines gives
+draw_named set sub (suc count) [] inside gives = absurd gives
+draw_named set sub (suc count) (record_of.Vector s n ∷ lines) inside (same, is, more) =
+    All-cons (IsNamed (length set.rows)) (record_of.Vector s n) lines (omega (arith, same, inside)) (draw_named set sub count lines inside more)
+draw_named set sub (suc count) (record_of.Withheld s n stop ∷ lines) inside (same, first, last, none) =
+    All-cons (IsNamed (length set.rows)) (record_of.Withheld s n stop) lines (omega (arith, same, inside)) (none_named (length set.rows) lines none)
+draw_named set sub (suc count) (record_of.Exhausted s word ∷ lines) inside (same, spent, none) =
+    All-cons (IsNamed (length set.rows)) (record_of.Exhausted s word) lines (omega (arith, same, inside)) (none_named (length set.rows) lines none)
+draw_named set sub (suc count) (record_of.Sync s answer ∷ lines) inside gives = absurd gives
+draw_named set sub (suc count) (record_of.Give s n answer ∷ lines) inside gives = absurd gives
+draw_named set sub (suc count) (record_of.Event r ∷ lines) inside gives = absurd gives
+
+-- what follows a verdict
+follows_named : (set : Setting) (sub count : ℕ) (answer : SyncVerdict) (lines : List LineRecord) → sub < length set.rows
+    → VectorsFollow set sub count answer lines → All (IsNamed (length set.rows)) lines
+follows_named set sub count (verdict.Moved seen seq_ms) lines inside follows = draw_named set sub count lines inside follows
+follows_named set sub count (verdict.InRange seen seq_ms) lines inside follows = draw_named set sub count lines inside follows
+follows_named set sub count (verdict.Beyond seen seq_ms) lines inside follows = none_named (length set.rows) lines follows
+follows_named set sub count verdict.WrongMac lines inside follows = none_named (length set.rows) lines follows
+
+-- what an AUTS gives
+sync_named : (set : Setting) (sub seq : ℕ) (bit : Option ℕ) (count : ℕ) (lines : List LineRecord) → sub < length set.rows
+    → SyncGives set sub seq bit count lines → All (IsNamed (length set.rows)) lines
+sync_named set sub seq bit count lines inside gives =
+    All-same (IsNamed (length set.rows)) lines (record_of.Sync sub gives.answer ∷ gives.more) gives.lines_are
+    (All-cons (IsNamed (length set.rows)) (record_of.Sync sub gives.answer) gives.more inside
+    (follows_named set sub count gives.answer gives.more inside gives.follows))
+
+-- ---- events
+
+-- for whom the centre was asked
+asked_below : (set : Setting) (asking : Option Asking) (notes : Notes) → IsCentreAsked set asking notes → IsBelow (length set.rows) (asked_sub asking)
+asked_below set None notes asks = tt
+asked_below set (Some asking) notes asks = asks.known
+
+server_below : (set : Setting) (w : Net) (told : Told) (server : Option ServerEnd) → IsCentreAsked set (asking_at set w told server) told.notes
+    → IsBelow (length set.rows) (asked_in (came_at_server set w told server))
+server_below set w told None asks = tt
+server_below set w told (Some s) asks = asked_below set (asking_at set w told (Some s)) told.notes asks
+
+peer_below : (count : ℕ) (w : Net) (d : Delivery) (told : Told) (device : Option Subscription) → IsBelow count (asked_in (came_at_peer w d told device))
+peer_below count w d told None = tt
+peer_below count w d told (Some device) = tt
+
+delivered_below : (set : Setting) (w : Net) (at' : End) (told : Told) (packet : Option SentPacket) (d : Option Delivery)
+    → IsCentreAsked set (asking_in set w at' told d) told.notes → IsBelow (length set.rows) (asked_in (came_delivered set w at' told packet d))
+delivered_below set w at' told None d asks = tt
+delivered_below set w at' told (Some sent) None asks = tt
+delivered_below set w end.Server told (Some sent) (Some d) asks = server_below set w told d.session.server asks
+delivered_below set w end.Peer told (Some sent) (Some d) asks = peer_below (length set.rows) w d told (slice_get w.devices d.session.device)
+
+opened_below : (count : ℕ) (first place : Option ℕ) → IsBelow count (asked_in (came_opened first place))
+opened_below count (Some first) place = tt
+opened_below count None None = tt
+opened_below count None (Some place) = tt
+
+started_below : (count : ℕ) (w : Net) (server : Option ServerEnd) → IsBelow count (asked_in (came_started w server))
+started_below count w None = tt
+started_below count w (Some s) = tt
+
+start_below : (count : ℕ) (w : Net) (session : Option Session) → IsBelow count (asked_in (came_in (λ s. came_started w s.server) session))
+start_below count w None = tt
+start_below count w (Some s) = started_below count w s.server
+
+repeated_below : (count : ℕ) (w : Net) (server : Option ServerEnd) → IsBelow count (asked_in (came_repeated w server))
+repeated_below count w None = tt
+repeated_below count w (Some s) = tt
+
+repeat_below : (count : ℕ) (w : Net) (session : Option Session) → IsBelow count (asked_in (came_in (λ s. came_repeated w s.server) session))
+repeat_below count w None = tt
+repeat_below count w (Some s) = repeated_below count w s.server
+
+given_up_below : (count : ℕ) (w : Net) (server : Option ServerEnd) → IsBelow count (asked_in (server_came_to_give_up w server))
+given_up_below count w None = tt
+given_up_below count w (Some s) = tt
+
+give_up_below : (count : ℕ) (w : Net) (at' : End) (session : Option Session) → IsBelow count (asked_in (came_in (came_given_up w at') session))
+give_up_below count w at' None = tt
+give_up_below count w end.Server (Some s) = given_up_below count w s.server
+give_up_below count w end.Peer (Some s) = tt
+
+came_below : (set : Setting) (w : Net) (e : Event) (told : Told) → IsCentreAsked set (asking_of set w e told) told.notes
+    → IsBelow (length set.rows) (asked_in (came set w e told))
+came_below set w (event.Open session sub) told asks = opened_below (length set.rows) (session_place w.sessions session) (device_place set.rows w.devices sub)
+came_below set w (event.Start session) told asks = start_below (length set.rows) w (session_of w session)
+came_below set w (event.Deliver session at' packet) told asks = delivered_below set w at' told (packet_at w.packets packet) (delivery_in w session packet) asks
+came_below set w (event.Repeat session) told asks = repeat_below (length set.rows) w (session_of w session)
+came_below set w (event.GiveUp session at') told asks = give_up_below (length set.rows) w at' (session_of w session)
+
+-- what an event gives
+event_named : (set : Setting) (before : Before) (net : Net) (e : Event) (lines : List LineRecord) (next : Net) → EventGives set before net e lines next
+    → All (IsNamed (length set.rows)) lines
+event_named set before net e lines next gives =
+    let made = record_of.Event (record { event = e; result = came set net e gives.told }) in
+    All-same (IsNamed (length set.rows)) lines (made ∷ []) gives.lines_are
+    (All-cons (IsNamed (length set.rows)) made []
+    (came_below set net e gives.told gives.centre) (All-nil (IsNamed (length set.rows))))
+
+-- a first line, and those after it
+first_named : (count : ℕ) (line : LineRecord) (lines : List LineRecord) → All (IsNamed count) (line ∷ []) → All (IsNamed count) lines → All (IsNamed count) (line ∷ lines)
+first_named count line lines first rest = All-append (IsNamed count) (line ∷ []) lines first rest
+
+-- what a relay gives
+relay_named : (set : Setting) (before : Before) (net : Net) (session : ℕ) (at' : End) (packet : Option ℕ) (lines : List LineRecord) (next : Net)
+    → RelayGives set before net session at' packet lines next → All (IsNamed (length set.rows)) lines
+relay_named set before net session at' None [] next gives = All-nil (IsNamed (length set.rows))
+relay_named set before net session at' None (line ∷ lines) next gives = absurd gives
+relay_named set before net session at' (Some packet) [] next gives = absurd gives
+relay_named set before net session at' (Some packet) (line ∷ lines) next (mid, gives, more) =
+    first_named (length set.rows) line lines (event_named set before net (event.Deliver session at' packet) (line ∷ []) mid gives)
+    (relay_named set (behind before (line ∷ [])) mid session (other at') (packet_of line) lines next more)
+
+-- what a plain session gives
+plain_named : (set : Setting) (before : Before) (net : Net) (session : ℕ) (lines : List LineRecord) (next : Net)
+    → PlainGives set before net session lines next → All (IsNamed (length set.rows)) lines
+plain_named set before net session [] next gives = absurd gives
+plain_named set before net session (line ∷ lines) next (mid, gives, more) =
+    first_named (length set.rows) line lines (event_named set before net (event.Start session) (line ∷ []) mid gives)
+    (relay_named set (behind before (line ∷ [])) mid session end.Peer (packet_of line) lines next more)
+
+-- ---- jobs
+
+-- what a line of a job gives
+line_named : (set : Setting) (before : Before) (net : Net) (asked : Line) (lines : List LineRecord) (next : Net) → IsKnownLine (length set.rows) asked
+    → LineGives set before net asked lines next → All (IsNamed (length set.rows)) lines
+line_named set before net (line.Draw sub count) lines next known (gives, same) = draw_named set sub count lines known gives
+line_named set before net (line.Sync sub seq bit count) lines next known (gives, same) = sync_named set sub seq bit count lines known.0 gives
+line_named set before net (line.Give sub n) lines next known (gives, same) =
+    All-same (IsNamed (length set.rows)) lines (record_of.Give sub n gives.answer ∷ []) gives.lines_are
+    (All-cons (IsNamed (length set.rows)) (record_of.Give sub n gives.answer) [] known.0 (All-nil (IsNamed (length set.rows))))
+line_named set before net (line.Session session sub) lines next known gives = event_named set before net (event.Open session sub) lines next gives
+line_named set before net (line.Start session) lines next known gives = event_named set before net (event.Start session) lines next gives
+line_named set before net (line.Deliver session at' packet) lines next known gives = event_named set before net (event.Deliver session at' packet) lines next gives
+line_named set before net (line.Repeat session) lines next known gives = event_named set before net (event.Repeat session) lines next gives
+line_named set before net (line.GiveUp session at') lines next known gives = event_named set before net (event.GiveUp session at') lines next gives
+line_named set before net (line.Plain session) lines next known gives = plain_named set before net session lines next gives
+
+-- what a job gives
+job_named : (set : Setting) (before : Before) (net : Net) (job : List Line) (lines : List LineRecord) (last : Net) → All (IsKnownLine (length set.rows)) job
+    → JobGives set before net job lines last → All (IsNamed (length set.rows)) lines
+job_named set before net [] lines last known gives = none_named (length set.rows) lines gives.0
+job_named set before net (asked ∷ job) lines last known (front, rest, next, cut, gives, more) =
+    All-same (IsNamed (length set.rows)) lines (front ++ rest) cut
+    (All-append (IsNamed (length set.rows)) front rest (line_named set before net asked front next (known 0 asked (omega arith)) gives)
+    (job_named set (behind before front) next job rest last (λ k d inside. known (suc k) d (omega arith)) more))
+
+-- what the jobs of a round give
+pub jobs_named : (set : Setting) (early beside : List LineRecord) (jobs : List (List Line)) (records : List (List LineRecord)) (nets : List Net)
+    → AreAllKnown (length set.rows) jobs → JobsGive set early beside jobs records nets → All (All (IsNamed (length set.rows))) records
+jobs_named set early beside [] records nets known gives = All-same (All (IsNamed (length set.rows))) records [] gives.0 (All-nil (All (IsNamed (length set.rows))))
+jobs_named set early beside (job ∷ jobs) [] nets known gives = absurd gives
+jobs_named set early beside (job ∷ jobs) (lines ∷ records) [] known gives = absurd gives
+jobs_named set early beside (job ∷ jobs) (lines ∷ records) (net ∷ nets) known (gives, more) =
+    All-cons (All (IsNamed (length set.rows))) lines records
+    (job_named set (record { early = early; beside = beside; own = [] }) (start_of set job) job lines net (known 0 job (omega arith)) gives)
+    (jobs_named set early (beside ++ lines) jobs records nets (λ k d inside. known (suc k) d (omega arith)) more)

@@ -1,0 +1,187 @@
+-- What a server and its notes tell of the turn after which they stand.
+use Rattle.std.proofs.Common.{◌≡◌, ◌≤◌, ◌+◌, ◌⊎◌, ℕ, max, Bool, true, List, ◌∷◌, ◌++◌, length, arith, length-append, Option, Some, None, is_some, refl, sym, ap, ◌∙◌, inl, inr}
+use Rattle.std.specs.Int.{w16, to_be_bytes}
+use Rattle.auc_attr.specs.Frame.{IsIdentityPacket}
+use Rattle.auc_packet.specs.Received.{IsReading, IsReceived, Seen}
+use Rattle.auc_packet.specs.declared.packet.Packet.TheVariants as packet
+use Rattle.auc_packet.specs.declared.received.Reading.{Reading}
+use Rattle.auc_packet.specs.declared.received.Reading.TheVariants as reading
+use Rattle.auc_vector.specs.Notes.{AnswersReport, Asking}
+use Rattle.auc_vector.specs.declared.notes.Notes.{Notes}
+use Rattle.auc_vector.specs.declared.notes.NumberNote.{NumberNote}
+use Rattle.auc_vector.specs.declared.notes.NumberNote.TheVariants as number
+use Rattle.auc_vector.specs.declared.notes.ResyncNote.{ResyncNote}
+use Rattle.auc_vector.specs.declared.notes.ResyncNote.TheVariants as resync
+use Rattle.auc_vector.specs.declared.parts.Vector.{Vector}
+use Rattle.auc_vector.specs.declared.turn.Turn.{Turn}
+use Rattle.auc_server.specs.Asked.{asked_after, sub_of}
+use Rattle.auc_server.specs.Rows.{server_row, subscriber_in, text_in}
+use Rattle.auc_server.specs.Server.{ServerEnd}
+use Rattle.auc_server.specs.Setting.{Setting}
+use Rattle.auc_server.specs.Steps.{AsksAsNeeded, asking, challenges_again}
+use Rattle.auc_server.specs.Table.{challenged, challenged_with, identified, noted, resynchronised, resynchronising, server_does, server_step, succeeded, vector_at}
+use Rattle.auc_server.specs.declared.rows.Row.{Row}
+use Rattle.auc_server.specs.declared.rows.Row.TheVariants as row
+use Rattle.auc_server.specs.declared.server.Challenged.{Challenged}
+use Rattle.auc_server.specs.declared.setting.HomeRow.{HomeRow}
+use Rattle.auc_server.specs.declared.why.ServerWhy.{ServerWhy}
+use Rattle.auc_server.proofs.LawLemmas.{IsLast, Says, says_row}
+
+-- ---- the identity after a turn
+
+with_keeps : (s : ServerEnd) (sub : ℕ) (v : Option Vector) (notes : Notes) → (challenged_with s sub v notes).0.identity ≡ s.identity
+with_keeps s sub None notes = refl
+with_keeps s sub (Some v) notes = refl
+
+challenged_keeps : (set : Setting) (s : ServerEnd) (sub : ℕ) (resynced : Option ResyncNote) (drawn : Option NumberNote) → (challenged set s sub resynced drawn).0.identity ≡ s.identity
+challenged_keeps set s sub resynced None = refl
+challenged_keeps set s sub resynced (Some (number.Drew n)) = with_keeps s sub (vector_at set sub n) (noted resynced (Some (number.Drew n)))
+challenged_keeps set s sub resynced (Some (number.Exhausted w)) = refl
+challenged_keeps set s sub resynced (Some (number.Withheld n stop)) = refl
+
+resynchronised_keeps : (set : Setting) (s : ServerEnd) (sub : ℕ) (resynced : Option ResyncNote) (drawn : Option NumberNote) → (resynchronised set s sub resynced drawn).0.identity ≡ s.identity
+resynchronised_keeps set s sub None drawn = refl
+resynchronised_keeps set s sub (Some resync.BadAuts) drawn = refl
+resynchronised_keeps set s sub (Some (resync.Beyond seen seq)) drawn = refl
+resynchronised_keeps set s sub (Some (resync.InRange seen seq)) drawn = challenged_keeps set (resynchronising s) sub (Some (resync.InRange seen seq)) drawn
+resynchronised_keeps set s sub (Some (resync.Moved seen seq)) drawn = challenged_keeps set (resynchronising s) sub (Some (resync.Moved seen seq)) drawn
+
+succeeded_keeps : (s : ServerEnd) (c : Option Challenged) → (succeeded s c).0.identity ≡ s.identity
+succeeded_keeps s None = refl
+succeeded_keeps s (Some sent) = refl
+
+does_identity : (set : Setting) (s : ServerEnd) (text : List ℕ) (r : Row) (notes : Notes)
+    → ((server_does set s text r notes).0.identity ≡ s.identity) ⊎ ((server_does set s text r notes).0.identity ≡ text)
+does_identity set s text (row.Ignore cause) notes = inl refl
+does_identity set s text row.UnknownIdentity notes = inr refl
+does_identity set s text (row.Challenge sub) notes = inr (challenged_keeps set (identified s text) sub None notes.number)
+does_identity set s text row.WrongMac notes = inl refl
+does_identity set s text row.WrongRes notes = inl refl
+does_identity set s text row.WrongCheckcode notes = inl refl
+does_identity set s text row.Success notes = inl (succeeded_keeps s s.challenged)
+does_identity set s text row.SecondSync notes = inl refl
+does_identity set s text row.BadAuts notes = inl refl
+does_identity set s text (row.Resynchronise sub seq) notes = inl (resynchronised_keeps set s sub notes.resync notes.number)
+does_identity set s text row.Rejected notes = inl refl
+does_identity set s text (row.ClientError code) notes = inl refl
+does_identity set s text (row.Notified cause) notes = inl refl
+
+-- it is that before it, or the one that was received
+pub identity_is : (set : Setting) (homes : List HomeRow) (s : ServerEnd) (seen : Seen) (notes : Notes)
+    → ((server_step set homes s seen notes).0.identity ≡ s.identity) ⊎ ((server_step set homes s seen notes).0.identity ≡ text_in seen.reading)
+identity_is set homes s seen notes = does_identity set s (text_in seen.reading) (server_row set homes s seen) notes
+
+-- ---- for whom the centre was asked
+
+-- the subscriber of what was asked
+abbrev pub sub_asked : Option Asking → Option ℕ
+sub_asked None = None
+sub_asked (Some request) = Some request.sub
+
+-- what a turn notes of the centre
+abbrev AsksFor : Setting → List HomeRow → Option ℕ → ServerEnd × Turn ServerWhy → Type 0
+AsksFor set homes sub t = asked_after set homes t.0 t.1.notes.resync t.1.notes.number ≡ sub
+
+-- an identity by which a subscriber is found
+with_asks : (set : Setting) (homes : List HomeRow) (s : ServerEnd) (sub : ℕ) (v : Option Vector) (drawn : NumberNote)
+    → subscriber_in set homes s.identity ≡ Some sub → (challenged_with s sub v (noted None (Some drawn))).1.notes.number ≡ Some drawn
+    → AsksFor set homes (Some sub) (challenged_with s sub v (noted None (Some drawn)))
+with_asks set homes s sub None drawn found there = absurd cc
+with_asks set homes s sub (Some v) drawn found there = found
+
+first_asks : (set : Setting) (homes : List HomeRow) (s : ServerEnd) (sub : ℕ) (drawn : Option NumberNote) → subscriber_in set homes s.identity ≡ Some sub
+    → is_some drawn ≡ true → (challenged set s sub None drawn).1.notes.number ≡ drawn → AsksFor set homes (Some sub) (challenged set s sub None drawn)
+first_asks set homes s sub None found there told = absurd cc
+first_asks set homes s sub (Some (number.Drew n)) found there told = with_asks set homes s sub (vector_at set sub n) (number.Drew n) found told
+first_asks set homes s sub (Some (number.Exhausted w)) found there told = found
+first_asks set homes s sub (Some (number.Withheld n stop)) found there told = found
+
+-- the subscriber that was challenged last
+last_is : (s : ServerEnd) (sub : ℕ) → IsLast s sub → sub_of s.challenged ≡ Some sub
+last_is s sub last = ap sub_of last.1 ∙ ap (λ (n : ℕ). Some n) last.2
+
+again_with : (set : Setting) (homes : List HomeRow) (s : ServerEnd) (sub : ℕ) (r : ResyncNote) (v : Option Vector) (drawn : NumberNote)
+    → ((t : ServerEnd) (d : Option NumberNote) → asked_after set homes t (Some r) d ≡ sub_of t.challenged)
+    → (challenged_with s sub v (noted (Some r) (Some drawn))).1.notes.number ≡ Some drawn
+    → AsksFor set homes (Some sub) (challenged_with s sub v (noted (Some r) (Some drawn)))
+again_with set homes s sub r None drawn asks told = absurd cc
+again_with set homes s sub r (Some v) drawn asks told = asks (challenged_with s sub (Some v) (noted (Some r) (Some drawn))).0 (Some drawn)
+
+again_asks : (set : Setting) (homes : List HomeRow) (s : ServerEnd) (sub : ℕ) (r : ResyncNote) (drawn : Option NumberNote) → sub_of s.challenged ≡ Some sub
+    → ((t : ServerEnd) (d : Option NumberNote) → asked_after set homes t (Some r) d ≡ sub_of t.challenged)
+    → is_some drawn ≡ true → (challenged set s sub (Some r) drawn).1.notes.number ≡ drawn → AsksFor set homes (Some sub) (challenged set s sub (Some r) drawn)
+again_asks set homes s sub r None last asks there told = absurd cc
+again_asks set homes s sub r (Some (number.Drew n)) last asks there told = again_with set homes s sub r (vector_at set sub n) (number.Drew n) asks told
+again_asks set homes s sub r (Some (number.Exhausted w)) last asks there told = asks s (Some (number.Exhausted w)) ∙ last
+again_asks set homes s sub r (Some (number.Withheld n stop)) last asks there told = asks s (Some (number.Withheld n stop)) ∙ last
+
+resynchronised_asks : (set : Setting) (homes : List HomeRow) (s : ServerEnd) (sub seq : ℕ) (k : Option ℕ) (r : Option ResyncNote) (drawn : Option NumberNote)
+    → sub_of s.challenged ≡ Some sub → AnswersReport k (Some seq) r → is_some drawn ≡ challenges_again r
+    → (resynchronised set s sub r drawn).1.notes.number ≡ drawn → AsksFor set homes (Some sub) (resynchronised set s sub r drawn)
+resynchronised_asks set homes s sub seq k None drawn last answer need told = absurd answer
+resynchronised_asks set homes s sub seq k (Some resync.BadAuts) drawn last answer need told = absurd answer
+resynchronised_asks set homes s sub seq k (Some (resync.Beyond at' to)) drawn last answer need told = last
+resynchronised_asks set homes s sub seq k (Some (resync.InRange at' to)) drawn last answer need told =
+    again_asks set homes (resynchronising s) sub (resync.InRange at' to) drawn last (λ t d. refl) need told
+resynchronised_asks set homes s sub seq k (Some (resync.Moved at' to)) drawn last answer need told =
+    again_asks set homes (resynchronising s) sub (resync.Moved at' to) drawn last (λ t d. refl) need told
+
+succeeded_asks : (set : Setting) (homes : List HomeRow) (s : ServerEnd) (c : Option Challenged) → AsksFor set homes None (succeeded s c)
+succeeded_asks set homes s None = refl
+succeeded_asks set homes s (Some sent) = refl
+
+-- a SEQ that a row reports was answered
+abbrev pub IsReported : Option Asking → Notes → Type 0
+IsReported None notes = Unit {0}
+IsReported (Some request) notes = (kept : Option ℕ) × AnswersReport kept request.reported notes.resync
+
+does_asks : (set : Setting) (homes : List HomeRow) (s : ServerEnd) (seen : Seen) (text : List ℕ) (r : Row) (notes : Notes) → Says (subscriber_in set homes text) s seen r
+    → AsksAsNeeded r notes → IsReported (asking r) notes → (server_does set s text r notes).1.notes ≡ notes
+    → AsksFor set homes (sub_asked (asking r)) (server_does set s text r notes)
+does_asks set homes s seen text (row.Ignore cause) notes says need report told = refl
+does_asks set homes s seen text row.UnknownIdentity notes says need report told = refl
+does_asks set homes s seen text (row.Challenge sub) notes says need report told =
+    first_asks set homes (identified s text) sub notes.number says.1 need (ap (λ (n : Notes). n.number) told)
+does_asks set homes s seen text row.WrongMac notes says need report told = refl
+does_asks set homes s seen text row.WrongRes notes says need report told = refl
+does_asks set homes s seen text row.WrongCheckcode notes says need report told = refl
+does_asks set homes s seen text row.Success notes says need report told = succeeded_asks set homes s s.challenged
+does_asks set homes s seen text row.SecondSync notes says need report told = refl
+does_asks set homes s seen text row.BadAuts notes says need report told = refl
+does_asks set homes s seen text (row.Resynchronise sub seq) notes says need report told =
+    resynchronised_asks set homes s sub seq report.0 notes.resync notes.number (last_is s sub says) report.1 need (ap (λ (n : Notes). n.number) told)
+does_asks set homes s seen text row.Rejected notes says need report told = refl
+does_asks set homes s seen text (row.ClientError code) notes says need report told = refl
+does_asks set homes s seen text (row.Notified cause) notes says need report told = refl
+
+-- the server and its notes tell it
+pub asked_is : (set : Setting) (homes : List HomeRow) (s : ServerEnd) (seen : Seen) (notes : Notes)
+    → AsksAsNeeded (server_row set homes s seen) notes → IsReported (asking (server_row set homes s seen)) notes → (server_step set homes s seen notes).1.notes ≡ notes
+    → asked_after set homes (server_step set homes s seen notes).0 notes.resync notes.number ≡ sub_asked (asking (server_row set homes s seen))
+asked_is set homes s seen notes need report told =
+    ap (λ (n : Notes). asked_after set homes (server_step set homes s seen notes).0 n.resync n.number) (sym told)
+    ∙ does_asks set homes s seen (text_in seen.reading) (server_row set homes s seen) notes (says_row set homes s seen) need report told
+
+-- ---- the text that was received
+
+framed_fits : (request : Bool) (id : ℕ) (text bytes : List ℕ) → IsIdentityPacket request id text bytes → length text ≤ length bytes
+framed_fits request id text bytes framed =
+    rw framed.parts (omega (arith, length-append text framed.past, length-append (to_be_bytes w16 (5 + length text)) (1 ∷ (text ++ framed.past))))
+
+reading_fits : (bytes : List ℕ) (r : Reading) → IsReading bytes r → length (text_in r) ≤ length bytes
+reading_fits bytes (reading.Read (packet.Identity request id text)) is = framed_fits request id text bytes is.0
+reading_fits bytes (reading.Read (packet.Aka request id m kind list)) is = omega arith
+reading_fits bytes (reading.Read (packet.Success id)) is = omega arith
+reading_fits bytes (reading.Read (packet.Failure id)) is = omega arith
+reading_fits bytes (reading.Fault fault) is = omega arith
+
+fits_with : (before text received : List ℕ) (new : List ℕ) → (new ≡ before) ⊎ (new ≡ text) → length text ≤ length received → length new ≤ max (length before) (length received)
+fits_with before text received new (inl same) fits = let n : length new ≡ length before = ap (λ (b : List ℕ). length b) same in omega (arith, n)
+fits_with before text received new (inr same) fits = let n : length new ≡ length text = ap (λ (b : List ℕ). length b) same in omega (arith, n, fits)
+
+-- the identity after a turn is no longer than that before it, or than what was received
+pub identity_fits : (set : Setting) (homes : List HomeRow) (s : ServerEnd) (seen : Seen) (notes : Notes) → IsReceived seen
+    → length (server_step set homes s seen notes).0.identity ≤ max (length s.identity) (length seen.bytes)
+identity_fits set homes s seen notes received =
+    fits_with s.identity (text_in seen.reading) seen.bytes (server_step set homes s seen notes).0.identity (identity_is set homes s seen notes)
+    (reading_fits seen.bytes seen.reading received.reads)

@@ -1,0 +1,274 @@
+-- For the laws: what the record of an event is, by all lines before it.
+use Rattle.std.proofs.Common.{◌≡◌, ◌≢◌, ℕ, ◌≤◌, ◌==◌, Bool, true, false, cond, not, Option, Some, None, List, [], ◌++◌, refl, sym, ◌∙◌, ap, subst}
+use Rattle.std.specs.Prelude.{if◌then◌else◌, slice_get}
+use Rattle.std.specs.Str.{bytes_eq}
+use Rattle.std.proofs.lemmas.Bool.{eqb-true}
+use Rattle.std.proofs.lemmas.Slice.Eq.{bytes_eq-Decides}
+use Rattle.auc_history.specs.Resynchronise.{Resynchronisation, resynchronise_of}
+use Rattle.auc_history.specs.Resynchronise as found
+use Rattle.auc_hmac.specs.declared.keys.KeySet.{KeySet}
+use Rattle.auc_hmac.specs.declared.method.Method.TheVariants as method
+use Rattle.auc_lines.specs.Part.{is_that}
+use Rattle.auc_lines.specs.declared.part.End.{End}
+use Rattle.auc_lines.specs.declared.part.End.TheVariants as end
+use Rattle.auc_milenage.specs.declared.secret.Secret.{Secret}
+use Rattle.auc_packet.specs.Received.{Seen, is_sealed}
+use Rattle.auc_peer.specs.Attributes.{checkcode, differs}
+use Rattle.auc_peer.specs.Rows.{peer_row}
+use Rattle.auc_peer.specs.Subscription.{Subscription}
+use Rattle.auc_peer.specs.Table.{accepted as peer_accepts, accepting, client, genuine, opened, peer_does}
+use Rattle.auc_peer.specs.Turn.{asked}
+use Rattle.auc_peer.specs.declared.peer.Challenge.{Challenge}
+use Rattle.auc_peer.specs.declared.peer.Peer.{Peer}
+use Rattle.auc_peer.specs.declared.rows.Row.{Row as PeerRow}
+use Rattle.auc_peer.specs.declared.rows.Row.TheVariants as row
+use Rattle.auc_peer.specs.declared.why.PeerWhy.{PeerWhy}
+use Rattle.auc_peer.specs.declared.why.PeerWhy.TheVariants as why
+use Rattle.auc_server.specs.Server.{ServerEnd}
+use Rattle.auc_sqn.specs.Number.{ind_of, max_seq, seq_of}
+use Rattle.auc_sqn.specs.Past.{Past, verdict_of}
+use Rattle.auc_sqn.specs.declared.verdict.Verdict.{Verdict}
+use Rattle.auc_sqn.specs.declared.verdict.Verdict.TheVariants.{Fresh, Old, Far}
+use Rattle.auc_subs.specs.declared.row.Row.{Row}
+use Rattle.auc_usim.specs.Usim.{FollowsVerdict, IsAnswer, acceptance, mac_in, sqn_in, verdict_on, xmac}
+use Rattle.auc_usim.specs.declared.answer.Answer.TheVariants as answer
+use Rattle.auc_vector.specs.Notes.{Asking}
+use Rattle.auc_vector.specs.declared.notes.Notes.{Notes}
+use Rattle.auc_vector.specs.declared.notes.NumberNote.{NumberNote}
+use Rattle.auc_vector.specs.declared.notes.NumberNote.TheVariants as number
+use Rattle.auc_vector.specs.declared.notes.UsimNote.{UsimNote}
+use Rattle.auc_vector.specs.declared.notes.UsimNote.TheVariants as usim
+use Rattle.auc_vector.specs.declared.turn.Turn.{Turn}
+use Rattle.auc_world.specs.Came.{Came, TellsNotes, asked_sub, asking_at, asking_in, asking_of, came, came_at_peer, came_at_server, came_delivered, came_given_up, came_in, came_opened, came_repeated, came_started, presented_at, presented_by, presented_in, server_came_to_give_up, session_of}
+use Rattle.auc_world.specs.Event.{asked_in, device_in, number_in, usim_in}
+use Rattle.auc_world.specs.Given.{Before, CentreAnswers, IsCentreAsked, IsNumberAnswer, IsUsimAsked, NumberFollows, UsimNotes, past_before, past_of}
+use Rattle.auc_world.specs.Happened.{Delivery, Told, delivery_in, peer_turn, server_turn}
+use Rattle.auc_world.specs.Lines.{accepted}
+use Rattle.auc_world.specs.Net.{Net, device_place, packet_at, session_place}
+use Rattle.auc_world.specs.Setting.{Setting}
+use Rattle.auc_world.specs.declared.event.Event.{Event}
+use Rattle.auc_world.specs.declared.event.Event.TheVariants as event
+use Rattle.auc_world.specs.declared.net.SentPacket.{SentPacket}
+use Rattle.auc_world.specs.declared.net.Session.{Session}
+use Rattle.auc_world.specs.declared.record.LineRecord.{LineRecord}
+
+-- all earlier lines
+abbrev pub all_before : Before → List LineRecord
+all_before place = place.early ++ place.beside ++ place.own
+
+-- a drawn number is one that a vector may have, and the word of a spent subscriber is none that one may still have
+abbrev pub IsNoteServed : Option NumberNote → Type 0
+IsNoteServed None = Unit {0}
+IsNoteServed (Some (number.Drew n)) = n ≤ max_seq
+IsNoteServed (Some (number.Exhausted word)) = max_seq ≤ word
+IsNoteServed (Some (number.Withheld n stop)) = Unit {0}
+
+-- an SQN is fresh for a subscriber's USIM, by all that it accepted before
+pub record IsFreshFor (set : Setting) (before : List LineRecord) (sub : ℕ) (sqn : List ℕ) : Type 0 where
+  pub row : Row
+  pub there : slice_get set.rows sub ≡ Some row
+  pub fresh : verdict_of (past_of row.usim (accepted sub before)) (seq_of sqn) (ind_of sqn) ≡ Fresh
+
+-- what an event came to: what the centre answered, and that the USIM accepts fresh SQNs alone
+pub record IsEventServed (set : Setting) (before : List LineRecord) (result : Came) : Type 0 where
+  pub numbers : (sub : ℕ) → IsNoteServed (if is_that sub (asked_in result) then number_in result else None)
+  pub fresh : (sub : ℕ) (sqn : List ℕ) → (if is_that sub (device_in result) then usim_in result else None) ≡ Some (usim.Accepted sqn)
+      → IsFreshFor set before sub sqn
+
+-- ---- nobody was asked
+
+no_note : (sqn : List ℕ) → ◌≡◌ {A = Option UsimNote} None (Some (usim.Accepted sqn)) → ⊥
+no_note sqn e = cc
+
+silent_served : (set : Setting) (before : List LineRecord) (result : Came) → asked_in result ≡ None → device_in result ≡ None → IsEventServed set before result
+silent_served set before result no_sub no_device = record {
+  numbers = λ sub. subst (λ (o : Option ℕ). IsNoteServed (if is_that sub o then number_in result else None)) (sym no_sub) tt;
+  fresh = λ sub sqn is. absurd (no_note sqn (ap (λ (o : Option ℕ). if is_that sub o then usim_in result else None) (sym no_device) ∙ is));
+}
+
+-- ---- the centre's answer
+
+number_served : (note : Option NumberNote) → IsNumberAnswer note → IsNoteServed note
+number_served None is = tt
+number_served (Some (number.Drew n)) is = is.1
+number_served (Some (number.Exhausted word)) is = is
+number_served (Some (number.Withheld n stop)) is = tt
+
+following_served : (r : Resynchronisation) (note : Option NumberNote) → NumberFollows r note → IsNoteServed note
+following_served (found.Moved seen seq_ms) drew is = number_served drew is
+following_served (found.InRange seen seq_ms) drew is = number_served drew is
+following_served (found.Beyond seen seq_ms) drew is = subst IsNoteServed (sym is) tt
+
+answer_served : (reported : Option ℕ) (notes : Notes) → CentreAnswers reported notes → IsNoteServed notes.number
+answer_served None notes is = number_served notes.number is
+answer_served (Some seq_ms) notes (seen, noted, follows) = following_served (resynchronise_of seen seq_ms) notes.number follows
+
+asked_served : (set : Setting) (request : Option Asking) (told notes : Notes) (sub : ℕ) → told ≡ notes → IsCentreAsked set request told
+    → IsNoteServed (if is_that sub (asked_sub request) then notes.number else None)
+asked_served set None told notes sub same centre = tt
+asked_served set (Some request) told notes sub same centre = by (request.sub == sub)
+  where
+    by : (b : Bool) → IsNoteServed (if b then notes.number else None)
+    by true = subst (λ (n : Notes). IsNoteServed n.number) same (answer_served request.reported told centre.answers)
+    by false = tt
+
+server_served : (set : Setting) (place : Before) (w : Net) (told : Told) (o : Option ServerEnd) → TellsNotes told (came_at_server set w told o)
+    → IsCentreAsked set (asking_at set w told o) told.notes → IsEventServed set (all_before place) (came_at_server set w told o)
+server_served set place w told None tells centre = silent_served set (all_before place) (came_at_server set w told None) refl refl
+server_served set place w told (Some s) tells centre = record {
+  numbers = λ sub. asked_served set (asking_at set w told (Some s)) told.notes (server_turn set w s told).1.notes sub tells centre;
+  fresh = λ sub sqn is. absurd (no_note sqn is);
+}
+
+-- ---- the USIM's answer
+
+not_accepted : (s : Secret) (rand autn : List ℕ) → acceptance s rand autn ≡ answer.WrongMac → ⊥
+unfolding acceptance
+not_accepted s rand autn e = cc
+
+no_failure : (s : Secret) (rand autn auts sqn : List ℕ) → acceptance s rand autn ≡ answer.SyncFailure auts sqn → ⊥
+unfolding acceptance
+no_failure s rand autn auts sqn e = cc
+
+-- a USIM accepts a fresh SQN alone
+accepts_fresh : (s : Secret) (past : Past) (rand autn : List ℕ) → IsAnswer s past rand autn (acceptance s rand autn) → verdict_on s past rand autn ≡ Fresh
+accepts_fresh s past rand autn is =
+    by (bytes_eq (mac_in autn) (xmac s rand autn)) refl
+  where
+    follows : (v : Verdict) → FollowsVerdict s past rand autn v (acceptance s rand autn) → v ≡ Fresh
+    follows Fresh same = refl
+    follows (Old entry) (sqn_ms, highest, same) = absurd (no_failure s rand autn _ sqn_ms same)
+    follows (Far greatest) (sqn_ms, highest, same) = absurd (no_failure s rand autn _ sqn_ms same)
+
+    apart : bytes_eq (mac_in autn) (xmac s rand autn) ≡ false → mac_in autn ≢ xmac s rand autn
+    apart differ same = let alike = (bytes_eq-Decides (mac_in autn) (xmac s rand autn)).1 same in let bad : ⊥ = cc in bad
+
+    by : (b : Bool) → bytes_eq (mac_in autn) (xmac s rand autn) ≡ b → verdict_on s past rand autn ≡ Fresh
+    by true same = follows (verdict_on s past rand autn) (is.right_mac ((bytes_eq-Decides (mac_in autn) (xmac s rand autn)).0 same))
+    by false differ = absurd (not_accepted s rand autn (is.wrong_mac (apart differ)))
+
+-- the note of two turns, of which a test picks one
+picked_note : (b : Bool) (x y : Peer × Turn PeerWhy) (n : Option UsimNote) → x.1.notes.usim ≡ n → y.1.notes.usim ≡ n → (cond b x y).1.notes.usim ≡ n
+picked_note true x y n e f = e
+picked_note false x y n e f = f
+
+opened_note : (p : Peer) (seen : Seen) (res sqn : List ℕ) (keys : KeySet) (readable : Bool) → (opened p seen res sqn keys readable).1.notes.usim ≡ Some (usim.Accepted sqn)
+opened_note p seen res sqn keys true = refl
+opened_note p seen res sqn keys false = refl
+
+-- the note of a turn in which the USIM accepted names the SQN that AUTN has
+accepted_note : (p : Peer) (seen : Seen) (c : Challenge) (res sqn : List ℕ) (keys : KeySet) (readable : Bool)
+    → (peer_accepts p seen c res sqn keys readable).1.notes.usim ≡ Some (usim.Accepted sqn)
+accepted_note p seen c res sqn keys readable =
+    picked_note (not (is_sealed method.Aka keys.k_aut [] seen)) (client p seen why.WrongMac (Some (usim.Accepted sqn)) false) (genuine (accepting p c) seen res sqn keys readable)
+    (Some (usim.Accepted sqn)) refl
+    (picked_note (differs (checkcode seen)) (client (accepting p c) seen why.WrongCheckcode (Some (usim.Accepted sqn)) true) (opened (accepting p c) seen res sqn keys readable)
+    (Some (usim.Accepted sqn)) refl (opened_note (accepting p c) seen res sqn keys readable))
+
+challenged_note : (s : Subscription) (p : Peer) (seen : Seen) (c : Challenge) (m : List ℕ) (readable : Bool)
+    → (peer_does s p seen (row.Challenged c) (Some (usim.Accepted m)) readable).1.notes.usim ≡ Some (usim.Accepted (sqn_in s.secret c.rand c.autn))
+unfolding acceptance
+challenged_note s p seen c m readable = accepted_note p seen c _ (sqn_in s.secret c.rand c.autn) _ readable
+
+one_sqn : (o : Option UsimNote) (a b : List ℕ) → o ≡ Some (usim.Accepted a) → o ≡ Some (usim.Accepted b) → a ≡ b
+one_sqn o a b e f = cc
+
+no_asking : (n x : Option UsimNote) (sqn : List ℕ) → n ≡ None → n ≡ x → x ≡ Some (usim.Accepted sqn) → ⊥
+no_asking n x sqn e f g = cc
+
+no_sync : (x : Option UsimNote) (m sqn : List ℕ) → Some (usim.Sync m) ≡ x → x ≡ Some (usim.Accepted sqn) → ⊥
+no_sync x m sqn e f = cc
+
+no_wrong : (x : Option UsimNote) (sqn : List ℕ) → Some usim.WrongMac ≡ x → x ≡ Some (usim.Accepted sqn) → ⊥
+no_wrong x sqn e f = cc
+
+-- an SQN that a turn notes as accepted is fresh by the USIM's past
+turn_fresh : (s : Subscription) (p : Peer) (seen : Seen) (r : PeerRow) (past : Past) (n : Option UsimNote) (readable : Bool) (sqn : List ℕ)
+    → UsimNotes s.secret past (asked r) n → n ≡ (peer_does s p seen r n readable).1.notes.usim → (peer_does s p seen r n readable).1.notes.usim ≡ Some (usim.Accepted sqn)
+    → verdict_of past (seq_of sqn) (ind_of sqn) ≡ Fresh
+turn_fresh s p seen (row.Ignore cause) past n readable sqn is same accepts = absurd (no_asking n _ sqn is same accepts)
+turn_fresh s p seen row.Again past n readable sqn is same accepts = absurd (no_asking n _ sqn is same accepts)
+turn_fresh s p seen row.First past n readable sqn is same accepts = absurd (no_asking n _ sqn is same accepts)
+turn_fresh s p seen (row.Client cause) past n readable sqn is same accepts = absurd (no_asking n _ sqn is same accepts)
+turn_fresh s p seen (row.Notified code) past n readable sqn is same accepts = absurd (no_asking n _ sqn is same accepts)
+turn_fresh s p seen (row.Challenged c) past None readable sqn is same accepts = absurd is
+turn_fresh s p seen (row.Challenged c) past (Some (usim.Accepted m)) readable sqn is same accepts =
+    subst (λ (x : List ℕ). verdict_of past (seq_of x) (ind_of x) ≡ Fresh) (one_sqn _ (sqn_in s.secret c.rand c.autn) sqn (challenged_note s p seen c m readable) accepts)
+    (accepts_fresh s.secret past c.rand c.autn is)
+turn_fresh s p seen (row.Challenged c) past (Some (usim.Sync m)) readable sqn is same accepts = absurd (no_sync _ m sqn same accepts)
+turn_fresh s p seen (row.Challenged c) past (Some usim.WrongMac) readable sqn is same accepts = absurd (no_wrong _ sqn same accepts)
+turn_fresh s p seen row.Success past n readable sqn is same accepts = absurd (no_asking n _ sqn is same accepts)
+turn_fresh s p seen (row.Failure cause) past n readable sqn is same accepts = absurd (no_asking n _ sqn is same accepts)
+
+peer_served : (set : Setting) (place : Before) (w : Net) (d : Delivery) (told : Told) (o : Option Subscription) → TellsNotes told (came_at_peer w d told o)
+    → IsUsimAsked set place (presented_at d told o) told → IsEventServed set (all_before place) (came_at_peer w d told o)
+peer_served set place w d told None tells is = silent_served set (all_before place) (came_at_peer w d told None) refl refl
+peer_served set place w d told (Some device) tells is = record {
+  numbers = λ sub. tt;
+  fresh = λ sub sqn accepts. by sub sqn (d.session.sub == sub) refl accepts;
+}
+  where
+    notes : Option UsimNote
+    notes = (peer_turn device d.session told).1.notes.usim
+
+    here : (sqn : List ℕ) → notes ≡ Some (usim.Accepted sqn) → IsFreshFor set (all_before place) d.session.sub sqn
+    here sqn accepts = record {
+      row = is.row;
+      there = is.there;
+      fresh = turn_fresh device d.session.peer told.seen (peer_row d.session.peer told.seen) (past_before place is.row d.session.sub) told.notes.usim told.readable sqn
+          is.answers (ap (λ (n : Notes). n.usim) tells) accepts;
+    }
+
+    by : (sub : ℕ) (sqn : List ℕ) (b : Bool) → (d.session.sub == sub) ≡ b → (if b then notes else None) ≡ Some (usim.Accepted sqn) → IsFreshFor set (all_before place) sub sqn
+    by sub sqn true mine accepts = subst (λ (k : ℕ). IsFreshFor set (all_before place) k sqn) (eqb-true d.session.sub sub mine) (here sqn accepts)
+    by sub sqn false mine accepts = absurd (no_note sqn accepts)
+
+-- ---- events
+
+delivered_served : (set : Setting) (place : Before) (w : Net) (at' : End) (told : Told) (sent : Option SentPacket) (d : Option Delivery)
+    → TellsNotes told (came_delivered set w at' told sent d) → IsCentreAsked set (asking_in set w at' told d) told.notes → IsUsimAsked set place (presented_in w at' told d) told
+    → IsEventServed set (all_before place) (came_delivered set w at' told sent d)
+delivered_served set place w at' told None d tells centre is = silent_served set (all_before place) (came_delivered set w at' told None d) refl refl
+delivered_served set place w at' told (Some sent) None tells centre is = silent_served set (all_before place) (came_delivered set w at' told (Some sent) None) refl refl
+delivered_served set place w end.Server told (Some sent) (Some d) tells centre is = server_served set place w told d.session.server tells centre
+delivered_served set place w end.Peer told (Some sent) (Some d) tells centre is = peer_served set place w d told (slice_get w.devices d.session.device) tells is
+
+in_served : (set : Setting) (before : List LineRecord) (does : Session → Came) (o : Option Session) → ((s : Session) → IsEventServed set before (does s))
+    → IsEventServed set before (came_in does o)
+in_served set before does None each = silent_served set before (came_in does None) refl refl
+in_served set before does (Some s) each = each s
+
+opened_served : (set : Setting) (before : List LineRecord) (first place : Option ℕ) → IsEventServed set before (came_opened first place)
+opened_served set before (Some first) place = silent_served set before (came_opened (Some first) place) refl refl
+opened_served set before None None = silent_served set before (came_opened None None) refl refl
+opened_served set before None (Some place) = silent_served set before (came_opened None (Some place)) refl refl
+
+started_served : (set : Setting) (before : List LineRecord) (w : Net) (o : Option ServerEnd) → IsEventServed set before (came_started w o)
+started_served set before w None = silent_served set before (came_started w None) refl refl
+started_served set before w (Some s) = silent_served set before (came_started w (Some s)) refl refl
+
+repeated_served : (set : Setting) (before : List LineRecord) (w : Net) (o : Option ServerEnd) → IsEventServed set before (came_repeated w o)
+repeated_served set before w None = silent_served set before (came_repeated w None) refl refl
+repeated_served set before w (Some s) = silent_served set before (came_repeated w (Some s)) refl refl
+
+server_over_served : (set : Setting) (before : List LineRecord) (w : Net) (o : Option ServerEnd) → IsEventServed set before (server_came_to_give_up w o)
+server_over_served set before w None = silent_served set before (server_came_to_give_up w None) refl refl
+server_over_served set before w (Some s) = silent_served set before (server_came_to_give_up w (Some s)) refl refl
+
+given_up_served : (set : Setting) (before : List LineRecord) (w : Net) (at' : End) (s : Session) → IsEventServed set before (came_given_up w at' s)
+given_up_served set before w end.Server s = server_over_served set before w s.server
+given_up_served set before w end.Peer s = silent_served set before (came_given_up w end.Peer s) refl refl
+
+-- what an event of a job comes to
+pub event_served : (set : Setting) (place : Before) (w : Net) (e : Event) (told : Told) → TellsNotes told (came set w e told) → IsCentreAsked set (asking_of set w e told) told.notes
+    → IsUsimAsked set place (presented_by w e told) told → IsEventServed set (all_before place) (came set w e told)
+event_served set place w (event.Open session sub) told tells centre is =
+    opened_served set (all_before place) (session_place w.sessions session) (device_place set.rows w.devices sub)
+event_served set place w (event.Start session) told tells centre is =
+    in_served set (all_before place) (λ s. came_started w s.server) (session_of w session) (λ s. started_served set (all_before place) w s.server)
+event_served set place w (event.Deliver session at' packet) told tells centre is =
+    delivered_served set place w at' told (packet_at w.packets packet) (delivery_in w session packet) tells centre is
+event_served set place w (event.Repeat session) told tells centre is =
+    in_served set (all_before place) (λ s. came_repeated w s.server) (session_of w session) (λ s. repeated_served set (all_before place) w s.server)
+event_served set place w (event.GiveUp session at') told tells centre is =
+    in_served set (all_before place) (came_given_up w at') (session_of w session) (λ s. given_up_served set (all_before place) w at' s)

@@ -1,0 +1,171 @@
+-- For OneTold: an event of which the same is told comes to the same, and leads to the same network.
+use Rattle.std.proofs.Common.{◌≡◌, ℕ, Bool, true, List, Option, Some, None, Ok, Err, refl, sym, ap, subst, ◌∙◌}
+use Rattle.std.specs.Prelude.{slice_get}
+use Rattle.auc_lines.specs.declared.part.End.{End}
+use Rattle.auc_lines.specs.declared.part.End.TheVariants as end
+use Rattle.auc_packet.specs.Received.{OneReceived, Seen}
+use Rattle.auc_peer.proofs.Facts.{row_once}
+use Rattle.auc_peer.specs.Rows.{peer_row}
+use Rattle.auc_peer.specs.Subscription.{Subscription}
+use Rattle.auc_peer.specs.Table.{peer_step}
+use Rattle.auc_peer.specs.Turn.{Decrypts, asked, decryption_noted}
+use Rattle.auc_peer.specs.declared.peer.Peer.{Peer}
+use Rattle.auc_peer.specs.declared.why.PeerWhy.{PeerWhy}
+use Rattle.auc_seal.specs.Laws.{OneOpening}
+use Rattle.auc_server.specs.Server.{ServerEnd}
+use Rattle.auc_server.specs.Table.{silent}
+use Rattle.auc_vector.specs.declared.notes.Notes.{Notes}
+use Rattle.auc_vector.specs.declared.turn.Turn.{Turn}
+use Rattle.auc_world.specs.Came.{AreReceived, Came, TellsNotes, bytes_named, by_peer, came, came_at_peer, came_at_server, came_delivered, presented_at, presented_by, presented_in, received_at, received_by}
+use Rattle.auc_world.specs.Given.{Before, IsUsimAsked}
+use Rattle.auc_world.specs.Happened.{Delivery, Told, breach_at, delivered, delivery_at, delivery_of, found_by, happened, moved, found, peer_finds, peer_turn, server_finds, to_peer, to_server, with_peer}
+use Rattle.auc_world.specs.Net.{Finding, Net, inputs_of_peer, judged, packet_at, session_place}
+use Rattle.auc_world.specs.Setting.{Setting}
+use Rattle.auc_world.specs.Told.{told_came}
+use Rattle.auc_world.specs.declared.event.Event.{Event}
+use Rattle.auc_world.specs.declared.event.Event.TheVariants as event
+use Rattle.auc_world.specs.declared.net.SentPacket.{SentPacket}
+use Rattle.auc_world.specs.declared.net.Session.{Session}
+
+-- equal bytes are received alike, and opened alike
+pub record Laws : Type 0 where
+  pub received : OneReceived
+  pub opening : OneOpening
+
+-- an event comes to the same by what was told of it twice
+pub record AreOne (came other : Came) (moved moved_other : Net) (found found_other : Option Finding) : Type 0 where
+  pub same : came ≡ other
+  pub leads : moved ≡ moved_other
+  pub finds : found ≡ found_other
+
+-- ---- what is told
+
+one_seen : Laws → (bytes : List ℕ) (seen other : Seen) → AreReceived (Some bytes) seen → AreReceived (Some bytes) other → seen ≡ other
+one_seen laws bytes seen other (is, of) (also, like) = laws.received seen other (of ∙ sym like) is also
+
+-- the notes of an event are told
+abbrev notes_or : Came → Notes
+notes_or (Ok note) = note.notes
+notes_or (Err why) = silent
+
+abbrev told_with : Seen → Notes → Told
+told_with seen notes = record { seen = seen; notes = notes; readable = true }
+
+-- ---- a delivery to a server
+
+server_one : Laws → (set : Setting) (w : Net) (d : Delivery) (o : Option ServerEnd) (a b : Told) → AreReceived (received_by d.bytes o) a.seen → AreReceived (received_by d.bytes o) b.seen
+    → TellsNotes a (came_at_server set w a o) → TellsNotes b (came_at_server set w b o) → told_came (came_at_server set w a o) ≡ told_came (came_at_server set w b o)
+    → AreOne (came_at_server set w a o) (came_at_server set w b o) (to_server set w d a o) (to_server set w d b o) (server_finds set w d a o) (server_finds set w d b o)
+server_one laws set w d None a b first second tells also same = record { same = refl; leads = refl; finds = refl }
+server_one laws set w d (Some s) a b first second tells also same =
+    let seen = one_seen laws d.bytes a.seen b.seen first second in
+    let notes : a.notes ≡ b.notes = tells ∙ ap notes_or same ∙ sym also in
+    record {
+      same = ap (λ (x : Seen). came_at_server set w (told_with x a.notes) (Some s)) seen ∙ ap (λ (n : Notes). came_at_server set w (told_with b.seen n) (Some s)) notes;
+      leads = ap (λ (x : Seen). to_server set w d (told_with x a.notes) (Some s)) seen ∙ ap (λ (n : Notes). to_server set w d (told_with b.seen n) (Some s)) notes;
+      finds = ap (λ (x : Seen). server_finds set w d (told_with x a.notes) (Some s)) seen ∙ ap (λ (n : Notes). server_finds set w d (told_with b.seen n) (Some s)) notes;
+    }
+
+-- ---- a delivery to a peer
+
+abbrev Decrypted : Subscription → Peer → Seen → Notes → Bool → Type 0
+Decrypted s p seen notes readable = Decrypts (decryption_noted s p seen (asked (peer_row p seen)) notes.usim) readable
+
+turn_one : Laws → (s : Subscription) (p : Peer) (a b : Told) → a.seen ≡ b.seen → a.notes ≡ b.notes → Decrypted s p a.seen a.notes a.readable → Decrypted s p b.seen b.notes b.readable
+    → peer_step s p a.seen a.notes.usim a.readable ≡ peer_step s p b.seen b.notes.usim b.readable
+turn_one laws s p a b seen notes first second =
+    let back : Decrypted s p a.seen a.notes b.readable =
+    subst (λ (x : Seen). Decrypted s p x a.notes b.readable) (sym seen) (subst (λ (n : Notes). Decrypted s p b.seen n b.readable) (sym notes) second) in
+    row_once laws.opening s p a.seen (peer_row p a.seen) a.notes.usim a.readable b.readable first back
+    ∙ ap (λ (x : Seen). peer_step s p x a.notes.usim b.readable) seen ∙ ap (λ (n : Notes). peer_step s p b.seen n.usim b.readable) notes
+
+peer_one : Laws → (set : Setting) (before also_before : Before) (w : Net) (d : Delivery) (o : Option Subscription) (a b : Told)
+    → AreReceived (received_by d.bytes o) a.seen → AreReceived (received_by d.bytes o) b.seen → TellsNotes a (came_at_peer w d a o) → TellsNotes b (came_at_peer w d b o)
+    → IsUsimAsked set before (presented_at d a o) a → IsUsimAsked set also_before (presented_at d b o) b → told_came (came_at_peer w d a o) ≡ told_came (came_at_peer w d b o)
+    → AreOne (came_at_peer w d a o) (came_at_peer w d b o) (to_peer w d a o) (to_peer w d b o) (peer_finds d a o) (peer_finds d b o)
+peer_one laws set before also_before w d None a b first second tells also is was same = record { same = refl; leads = refl; finds = refl }
+peer_one laws set before also_before w d (Some device) a b first second tells also is was same =
+    let seen = one_seen laws d.bytes a.seen b.seen first second in
+    let notes : a.notes ≡ b.notes = tells ∙ ap notes_or same ∙ sym also in
+    let turn : peer_turn device d.session a ≡ peer_turn device d.session b = turn_one laws device d.session.peer a b seen notes is.readable was.readable in
+    record {
+      same = ap (λ (t : Peer × Turn PeerWhy). Ok (by_peer w t.1.notes t.1.step (Some d.session.sub))) turn;
+      leads = ap (λ (t : Peer × Turn PeerWhy). with_peer w d.place d.session t.0 t.1.step) turn;
+      finds = ap (λ (t : Peer × Turn PeerWhy). finding t) turn;
+    }
+  where
+    finding : Peer × Turn PeerWhy → Option Finding
+    finding t = Some (record { checked = t.1.checked; inputs = inputs_of_peer d.session.sub t.0; bytes = d.bytes; delivery = breach_at d end.Peer })
+
+-- ---- deliveries
+
+-- what two deliveries come to
+abbrev DeliveriesAreOne : Setting → Net → End → Option SentPacket → Option Delivery → Told → Told → Type 0
+DeliveriesAreOne set w at' sent d a b =
+    AreOne (came_delivered set w at' a sent d) (came_delivered set w at' b sent d) (delivered set w at' a d) (delivered set w at' b d) (found_by set w at' a d) (found_by set w at' b d)
+
+-- what is known of a delivery
+record IsDelivered (set : Setting) (before : Before) (w : Net) (at' : End) (sent : Option SentPacket) (d : Option Delivery) (told : Told) : Type 0 where
+  received : AreReceived (received_at w at' d) told.seen
+  tells : TellsNotes told (came_delivered set w at' told sent d)
+  usim : IsUsimAsked set before (presented_in w at' told d) told
+
+none_one : (set : Setting) (w : Net) (at' : End) (sent : Option SentPacket) (a b : Told) → DeliveriesAreOne set w at' sent None a b
+none_one set w at' None a b = record { same = refl; leads = refl; finds = refl }
+none_one set w at' (Some sent) a b = record { same = refl; leads = refl; finds = refl }
+
+some_one : Laws → (set : Setting) (before also_before : Before) (w : Net) (at' : End) (sent : SentPacket) (d : Delivery) (a b : Told)
+    → IsDelivered set before w at' (Some sent) (Some d) a → IsDelivered set also_before w at' (Some sent) (Some d) b
+    → told_came (came_delivered set w at' a (Some sent) (Some d)) ≡ told_came (came_delivered set w at' b (Some sent) (Some d)) → DeliveriesAreOne set w at' (Some sent) (Some d) a b
+some_one laws set before also_before w end.Server sent d a b is was same =
+    let one = server_one laws set w d d.session.server a b is.received was.received is.tells was.tells same in record { same = one.same; leads = one.leads; finds = one.finds }
+some_one laws set before also_before w end.Peer sent d a b is was same =
+    let one = peer_one laws set before also_before w d (slice_get w.devices d.session.device) a b is.received was.received is.tells was.tells is.usim was.usim same in
+    record { same = one.same; leads = one.leads; finds = one.finds }
+
+delivery_one : Laws → (set : Setting) (before also_before : Before) (w : Net) (at' : End) (packet place : ℕ) (x : Option Session) (y : Option SentPacket) (a b : Told)
+    → IsDelivered set before w at' y (delivery_of packet place x y) a → IsDelivered set also_before w at' y (delivery_of packet place x y) b
+    → told_came (came_delivered set w at' a y (delivery_of packet place x y)) ≡ told_came (came_delivered set w at' b y (delivery_of packet place x y))
+    → DeliveriesAreOne set w at' y (delivery_of packet place x y) a b
+delivery_one laws set before also_before w at' packet place (Some session) (Some sent) a b is was same =
+    some_one laws set before also_before w at' sent (record { place = place; session = session; bytes = sent.bytes; packet = packet }) a b is was same
+delivery_one laws set before also_before w at' packet place (Some session) None a b is was same = none_one set w at' None a b
+delivery_one laws set before also_before w at' packet place None (Some sent) a b is was same = none_one set w at' (Some sent) a b
+delivery_one laws set before also_before w at' packet place None None a b is was same = none_one set w at' None a b
+
+delivered_one : Laws → (set : Setting) (before also_before : Before) (w : Net) (at' : End) (packet : ℕ) (o : Option ℕ) (a b : Told)
+    → IsDelivered set before w at' (packet_at w.packets packet) (delivery_at w packet o) a → IsDelivered set also_before w at' (packet_at w.packets packet) (delivery_at w packet o) b
+    → told_came (came_delivered set w at' a (packet_at w.packets packet) (delivery_at w packet o)) ≡ told_came (came_delivered set w at' b (packet_at w.packets packet) (delivery_at w packet o))
+    → DeliveriesAreOne set w at' (packet_at w.packets packet) (delivery_at w packet o) a b
+delivered_one laws set before also_before w at' packet None a b is was same = none_one set w at' (packet_at w.packets packet) a b
+delivered_one laws set before also_before w at' packet (Some place) a b is was same =
+    delivery_one laws set before also_before w at' packet place (slice_get w.sessions place) (packet_at w.packets packet) a b is was same
+
+-- ---- events
+
+-- what is known of an event
+pub record IsTold (set : Setting) (before : Before) (w : Net) (e : Event) (told : Told) : Type 0 where
+  pub received : AreReceived (bytes_named w e) told.seen
+  pub tells : TellsNotes told (came set w e told)
+  pub usim : IsUsimAsked set before (presented_by w e told) told
+
+-- two events of which the same is told
+pub record ComeToOne (set : Setting) (w : Net) (e : Event) (a b : Told) : Type 0 where
+  pub same : came set w e a ≡ came set w e b
+  pub leads : happened set w e a ≡ happened set w e b
+
+pub event_one : Laws → (set : Setting) (before also_before : Before) (w : Net) (e : Event) (a b : Told) → IsTold set before w e a → IsTold set also_before w e b
+    → told_came (came set w e a) ≡ told_came (came set w e b) → ComeToOne set w e a b
+event_one laws set before also_before w (event.Open session sub) a b is was same = record { same = refl; leads = refl }
+event_one laws set before also_before w (event.Start session) a b is was same = record { same = refl; leads = refl }
+event_one laws set before also_before w (event.Deliver session at' packet) a b is was same =
+    let one = delivered_one laws set before also_before w at' packet (session_place w.sessions session) a b
+    (record { received = is.received; tells = is.tells; usim = is.usim }) (record { received = was.received; tells = was.tells; usim = was.usim }) same in
+    let e = event.Deliver session at' packet in
+    record {
+      same = one.same;
+      leads = ap (λ (m : Net). record m { broken = judged w.packets w.broken (found set w e a) }) one.leads
+          ∙ ap (λ (f : Option Finding). record (moved set w e b) { broken = judged w.packets w.broken f }) one.finds;
+    }
+event_one laws set before also_before w (event.Repeat session) a b is was same = record { same = refl; leads = refl }
+event_one laws set before also_before w (event.GiveUp session at') a b is was same = record { same = refl; leads = refl }

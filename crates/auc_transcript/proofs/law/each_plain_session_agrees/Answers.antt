@@ -1,0 +1,9 @@
+-- The law is a lemma on transcripts, by the law of a plain session in a job's network, and by the laws of bytes and of decryption.
+use Rattle.auc_transcript.proofs.PlainLemmas.{each_plain_session_agrees}
+use Rattle.auc_transcript.proofs.law.each_plain_session_agrees.Goals as goal
+
+pub returns : goal.returns
+returns c = each_plain_session_agrees (record {
+  telling = record { received = c.equal_bytes_are_received_alike.ensures; opening = c.opening_has_one_answer.ensures };
+  plain = c.each_plain_session_succeeds.ensures;
+})

@@ -1,0 +1,6 @@
+-- The law is a lemma on transcripts, by the laws of bytes and of decryption.
+use Rattle.auc_transcript.proofs.OneToldLemmas.{each_told_transcript_is_one}
+use Rattle.auc_transcript.proofs.law.each_told_transcript_is_one.Goals as goal
+
+pub returns : goal.returns
+returns c = each_told_transcript_is_one (record { received = c.equal_bytes_are_received_alike.ensures; opening = c.opening_has_one_answer.ensures })

@@ -1,0 +1,99 @@
+-- Completeness of plain sessions in whole transcripts: a session that has its `plain` line and no other event line ends in
+-- Success at both ends under the same keys, unless a record of it tells why not (RFC 4187 §3).
+use Rattle.std.specs.Prelude.{◌≡◌, ◌≢◌, ℕ, ◌<◌, ◌≤◌, ◌==◌, Bool, true, false, List, [], ◌∷◌, ◌++◌, length, filter, All, Contains, Option, Some, None}
+use Rattle.auc_edge.specs.declared.stop.Stop.{Stop}
+use Rattle.auc_lines.specs.declared.part.Line.{Line}
+use Rattle.auc_lines.specs.declared.part.Line.TheVariants as line
+use Rattle.auc_lines.specs.declared.part.Part.{Part}
+use Rattle.auc_lines.specs.declared.part.Part.TheVariants.{Round, Restart}
+use Rattle.auc_subs.specs.Subscriber.{AreSubscribers}
+use Rattle.auc_subs.specs.declared.row.Row.{Row}
+use Rattle.auc_world.specs.Net.{Net}
+use Rattle.auc_world.specs.Plain.{Succeeds, TellNoCause}
+use Rattle.auc_world.specs.Setting.{Setting}
+use Rattle.auc_world.specs.Transcript.{IsLawful}
+use Rattle.auc_world.specs.declared.event.Event.{Event as Happens}
+use Rattle.auc_world.specs.declared.event.Event.TheVariants as event
+use Rattle.auc_world.specs.declared.record.LineRecord.{LineRecord}
+use Rattle.auc_world.specs.declared.record.LineRecord.TheVariants.{Vector, Withheld, Exhausted, Sync, Give, Event}
+use Rattle.auc_world.specs.declared.record.PartRecord.{PartRecord}
+use Rattle.auc_world.specs.declared.record.PartRecord.TheVariants as record_of
+use Rattle.auc_world.specs.declared.record.SessionVerdict.{SessionVerdict}
+use Rattle.auc_transcript.specs.Keys.{AreNets}
+
+-- ---- the lines of a session
+
+-- the session of an event line; a line that opens a session is none
+abbrev pub session_named : Line → Option ℕ
+session_named (line.Draw sub count) = None
+session_named (line.Sync sub seq bit count) = None
+session_named (line.Give sub n) = None
+session_named (line.Session session sub) = None
+session_named (line.Start session) = Some session
+session_named (line.Deliver session end packet) = Some session
+session_named (line.Repeat session) = Some session
+session_named (line.GiveUp session end) = Some session
+session_named (line.Plain session) = Some session
+
+-- a plain line between some lines of its job is its session's only event line: a line before it opens the session for a
+-- subscriber that there is, and no other event line is of the session
+pub record IsOnlyEvent (rows : List Row) (front : List Line) (session : ℕ) (back : List Line) : Type 0 where
+  pub sub : ℕ
+  pub opened : Contains front (line.Session session sub)
+  pub known : sub < length rows
+  pub first : All (λ l. session_named l ≢ Some session) front
+  pub last : All (λ l. session_named l ≢ Some session) back
+
+-- ---- the records of a session
+
+-- the session in which an event happens
+abbrev pub session_in : Happens → ℕ
+session_in (event.Open session sub) = session
+session_in (event.Start session) = session
+session_in (event.Deliver session end packet) = session
+session_in (event.Repeat session) = session
+session_in (event.GiveUp session end) = session
+
+-- whether a record is that of an event in a session
+abbrev pub is_of_session : ℕ → LineRecord → Bool
+is_of_session session (Vector sub n) = false
+is_of_session session (Withheld sub n stop) = false
+is_of_session session (Exhausted sub word) = false
+is_of_session session (Sync sub answer) = false
+is_of_session session (Give sub n answer) = false
+is_of_session session (Event r) = session_in r.event == session
+
+abbrev pub records_of : ℕ → List LineRecord → List LineRecord
+records_of session records = filter (is_of_session session) records
+
+-- ---- jobs, rounds
+
+-- each plain session of a job succeeds in the job's last network, and its round has the verdict that its ends agree, if the
+-- session's records tell no cause of a failure; one synchronisation failure is none
+abbrev pub PlainSessionsSucceed : List Row → List SessionVerdict → List Line → List LineRecord → Net → Type 0
+PlainSessionsSucceed rows verdicts job records net = (front back : List Line) (session : ℕ) → job ≡ front ++ line.Plain session ∷ back
+    → IsOnlyEvent rows front session back → TellNoCause 1 (records_of session records)
+    → Succeeds net session × Contains verdicts (record { session = session; agree = true })
+
+-- those of each job of a round, with the job's records and its last network
+abbrev pub EachJobSucceeds : List Row → List SessionVerdict → List (List Line) → List (List LineRecord) → List Net → Type 0
+EachJobSucceeds rows verdicts [] [] [] = Unit {0}
+EachJobSucceeds rows verdicts (job ∷ jobs) (lines ∷ records) (net ∷ nets) =
+    PlainSessionsSucceed rows verdicts job lines net × EachJobSucceeds rows verdicts jobs records nets
+EachJobSucceeds rows verdicts jobs records nets = ⊥
+
+-- those of each round of a transcript, with the networks to which the round's jobs lead
+abbrev pub PlainSessionsAgree : List Row → List Part → List PartRecord → List (List Net) → Type 0
+PlainSessionsAgree rows [] records nets = Unit {0}
+PlainSessionsAgree rows (Round jobs ∷ parts) (record_of.Round round ∷ records) (first ∷ nets) =
+    EachJobSucceeds rows round.sessions jobs round.jobs first × PlainSessionsAgree rows parts records nets
+PlainSessionsAgree rows (Restart ∷ parts) (record_of.Restart ∷ records) nets = PlainSessionsAgree rows parts records nets
+PlainSessionsAgree rows (part ∷ parts) records nets = ⊥
+
+-- ---- the law
+
+abbrev pub EachPlainSessionAgrees : Type 0
+EachPlainSessionAgrees =
+    (set : Setting) (reserved : List ℕ) (stop : Option Stop) (parts : List Part) (records : List PartRecord) (nets : List (List Net))
+    → AreSubscribers set.rows → length set.realm ≤ 255 → IsLawful set reserved stop parts records → AreNets set [] parts records nets
+    → PlainSessionsAgree set.rows parts records nets

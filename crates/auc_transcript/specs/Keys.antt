@@ -1,0 +1,82 @@
+-- The two ends of an authentication have equal keys, in whichever jobs and rounds they are, if the premise of equal keys
+-- held; and what the records of rounds tell of the premise.
+use Rattle.std.specs.Prelude.{◌≡◌, ◌↔◌, ℕ, List, [], ◌∷◌, ◌++◌, Option, None, All, Contains}
+use Rattle.auc_edge.specs.declared.stop.Stop.{Stop}
+use Rattle.auc_hmac.specs.declared.keys.KeySet.{KeySet}
+use Rattle.auc_lines.specs.declared.part.Part.{Part}
+use Rattle.auc_lines.specs.declared.part.Part.TheVariants.{Round, Restart}
+use Rattle.auc_subs.specs.Subscriber.{AreSubscribers}
+use Rattle.auc_world.specs.Agreement.{AreOfOneChallenge, PeerWon, ServerWon}
+use Rattle.auc_world.specs.Given.{JobsGive}
+use Rattle.auc_world.specs.Lines.{all_lines}
+use Rattle.auc_world.specs.Net.{Net}
+use Rattle.auc_world.specs.Setting.{Setting}
+use Rattle.auc_world.specs.Transcript.{IsLawful}
+use Rattle.auc_world.specs.declared.net.Inputs.{Inputs}
+use Rattle.auc_world.specs.declared.net.Session.{Session}
+use Rattle.auc_world.specs.declared.record.LineRecord.{LineRecord}
+use Rattle.auc_world.specs.declared.record.PartRecord.{PartRecord}
+use Rattle.auc_world.specs.declared.record.PartRecord.TheVariants as record_of
+use Rattle.auc_world.specs.declared.record.Premise.{Premise}
+use Rattle.auc_world.specs.declared.record.Premise.TheVariants as premise
+
+-- ---- networks
+
+-- the networks to which the jobs of some parts lead, a list for each round, after the lines of earlier rounds
+abbrev pub AreNets : Setting → List LineRecord → List Part → List PartRecord → List (List Net) → Type 0
+AreNets set early [] records nets = (records ≡ []) × (nets ≡ [])
+AreNets set early (Round jobs ∷ parts) (record_of.Round round ∷ records) (first ∷ nets) =
+    JobsGive set early [] jobs round.jobs first × AreNets set (early ++ all_lines round.jobs) parts records nets
+AreNets set early (Restart ∷ parts) (record_of.Restart ∷ records) nets = AreNets set early parts records nets
+AreNets set early (part ∷ parts) records nets = ⊥
+
+-- ---- keys
+
+-- a session of a job in which the premise of equal keys held: no delivery broke it
+pub record IsOfUnbrokenJob (nets : List (List Net)) (a : Session) : Type 0 where
+  pub round : List Net
+  pub is_round : Contains nets round
+  pub net : Net
+  pub is_job : Contains round net
+  pub is_in : Contains net.sessions a
+  pub unbroken : net.broken ≡ None
+
+-- a server and a peer that ended in Success over one challenge have equal keys, if the premise held in the jobs of both
+abbrev pub EndsAgree : List (List Net) → Type 0
+EndsAgree nets = (a b : Session) (k l : KeySet) (i j : Inputs) → IsOfUnbrokenJob nets a → IsOfUnbrokenJob nets b
+    → ServerWon a k i → PeerWon b l j → AreOfOneChallenge i j → k ≡ l
+
+abbrev pub EachAuthenticationAgrees : Type 0
+EachAuthenticationAgrees =
+    (set : Setting) (reserved : List ℕ) (stop : Option Stop) (parts : List Part) (records : List PartRecord) (nets : List (List Net))
+    → AreSubscribers set.rows → IsLawful set reserved stop parts records → AreNets set [] parts records nets → EndsAgree nets
+
+-- ---- what is told of the premise
+
+-- no breach is told
+abbrev pub HasNoBreach : Premise → Type 0
+HasNoBreach premise.NoSession = Unit {0}
+HasNoBreach premise.Held = Unit {0}
+HasNoBreach (premise.Broken job breach) = ⊥
+
+-- no delivery broke the premise in a job, unless the job has no session
+abbrev pub IsUnbroken : Net → Type 0
+IsUnbroken net = (a : Session) → Contains net.sessions a → net.broken ≡ None
+
+-- each round tells of a breach exactly if a delivery broke the premise in one of its jobs
+abbrev pub BreachesAreTold : List PartRecord → List (List Net) → Type 0
+BreachesAreTold [] nets = Unit {0}
+BreachesAreTold (record_of.Round round ∷ records) [] = ⊥
+BreachesAreTold (record_of.Round round ∷ records) (first ∷ nets) = (HasNoBreach round.premise ↔ All IsUnbroken first) × BreachesAreTold records nets
+BreachesAreTold (record_of.Restart ∷ records) nets = BreachesAreTold records nets
+
+abbrev pub EachBreachIsTold : Type 0
+EachBreachIsTold =
+    (set : Setting) (reserved : List ℕ) (stop : Option Stop) (parts : List Part) (records : List PartRecord) (nets : List (List Net))
+    → IsLawful set reserved stop parts records → AreNets set [] parts records nets → BreachesAreTold records nets
+
+-- a lawful transcript leads to networks, and to no others
+abbrev pub EachTranscriptHasItsNets : Type 0
+EachTranscriptHasItsNets =
+    (set : Setting) (reserved : List ℕ) (stop : Option Stop) (parts : List Part) (records : List PartRecord) → IsLawful set reserved stop parts records
+    → (nets : List (List Net)) × AreNets set [] parts records nets × ((others : List (List Net)) → AreNets set [] parts records others → others ≡ nets)

@@ -1,0 +1,118 @@
+-- For plain sessions: a server finds the subscriber whose permanent identity it receives.
+use Rattle.std.proofs.Common.{◌≡◌, ◌≢◌, ◌⊎◌, ℕ, zero, suc, ◌+◌, ◌/◌, ◌%◌, ◌<◌, ◌≤◌, ◌==◌, ◌&&◌, Bool, true, false, cond, if◌then◌else◌, ltb, List, [], ◌∷◌, ◌++◌, length, take, get_or, Option, Some, None, slice_get, refl, sym, ap, ◌∙◌, subst, arith, eq-eqb, ⊎_elim, length-append}
+use Rattle.std.proofs.lemmas.Bool.{and_from, and_parts, eqb-true, le-ltb, lt-ltb, ltb-false, ltb-true, ne_eqb}
+use Rattle.std.proofs.lemmas.List.{get_or_append_left, get_or_push, take_at}
+use Rattle.std.proofs.lemmas.List.Sums.{position_or_len_is}
+use Rattle.std.proofs.Math.Seq.{get_or-append_seam}
+use Rattle.std.proofs.lemmas.Option.{get_or_from_slice_get, slice_get_within}
+use Rattle.std.specs.Prelude.{position}
+use Rattle.auc_edge.specs.Identity.{Identity, IsIdentity, digits_of, last_digits}
+use Rattle.auc_hmac.specs.declared.method.Method.TheVariants as method
+use Rattle.auc_ident.specs.Permanent.{permanent_in, permanent_text, up_to, username}
+use Rattle.auc_peer.specs.Subscription.{Subscription, identity_text, with_realm}
+use Rattle.auc_server.specs.Rows.{held_place, if_held, is_held, subscriber_in}
+use Rattle.auc_server.specs.Setting.{Setting}
+use Rattle.auc_server.specs.declared.setting.HomeRow.{HomeRow}
+use Rattle.auc_subs.specs.Subscriber.{AreSubscribers, IsRow, place_of, same_identity}
+use Rattle.auc_subs.specs.declared.row.Row.{Row}
+use Rattle.auc_world.proofs.PlainNetLemmas.{position_is}
+use Rattle.auc_world.proofs.PlainPacketLemmas.{Laws}
+use Rattle.auc_world.proofs.VectorLemmas.{all_at}
+
+-- ---- the username
+
+abbrev is_at : ℕ → Bool
+is_at byte = byte == 64
+
+pub length-last_digits : (count number : ℕ) → length (last_digits count number) ≡ count
+length-last_digits zero number = refl
+length-last_digits (suc count) number = omega (arith, length-append (last_digits count (number / 10)) ((48 + number % 10) ∷ []), length-last_digits count (number / 10))
+
+-- no digit is `@`
+no_digit_at : (count number k : ℕ) → k < count → is_at (get_or (last_digits count number) k 0) ≡ false
+no_digit_at zero number k lt = absurd (omega arith)
+no_digit_at (suc count) number k lt =
+    let front = last_digits count (number / 10) in
+    let digit = 48 + number % 10 in
+    let long : length front ≡ count = length-last_digits count (number / 10) in
+    by front digit long (ltb k count) refl (λ less. no_digit_at count (number / 10) k less)
+  where
+    below : (a b : ℕ) → ltb a b ≡ true → a < b
+    below a b e = ltb-true a b e
+
+    by : (front : List ℕ) (digit : ℕ) → length front ≡ count → (b : Bool) → ltb k count ≡ b → (k < count → is_at (get_or front k 0) ≡ false) → is_at (get_or (front ++ (48 + number % 10) ∷ []) k 0) ≡ false
+    by front digit long true e before =
+        let less = below k count e in ap is_at (get_or_append_left front ((48 + number % 10) ∷ []) 0 k (omega (arith, long, less))) ∙ before less
+    by front digit long false e before =
+        let last : length front ≡ k = omega (arith, long, ltb-false k count e, lt) in
+        ap is_at (get_or_push front (48 + number % 10) 0 k last) ∙ ne_eqb (48 + number % 10) 64 (λ same. omega (arith, same))
+
+-- the leading digit and the digits of an IMSI have none
+no_at : (imsi : Identity) (k : ℕ) → k < length (permanent_text method.Aka imsi) → is_at (get_or (permanent_text method.Aka imsi) k 0) ≡ false
+no_at imsi zero lt = refl
+no_at imsi (suc k) lt = no_digit_at imsi.digits imsi.number k (omega (arith, lt, length-last_digits imsi.digits imsi.number))
+
+-- the username of a permanent identity
+pub username_is : (imsi : Identity) (realm : List ℕ) → username (with_realm (permanent_text method.Aka imsi) realm) ≡ permanent_text method.Aka imsi
+username_is imsi [] =
+    let text = permanent_text method.Aka imsi in
+    let long = length text in
+    let none = position_or_len_is is_at text long 0 (omega arith) (λ k lt. no_at imsi k lt) (λ lt. absurd (omega (arith, lt))) in
+    ap (λ (o : Option ℕ). up_to o text) (ap (λ (k : ℕ). cond (ltb k long) (Some k) None) none ∙ ap (λ (b : Bool). cond b (Some long) None) (le-ltb long long (omega arith)))
+username_is imsi (letter ∷ letters) =
+    let text = permanent_text method.Aka imsi in
+    let whole = text ++ 64 ∷ letter ∷ letters in
+    let long : length whole ≡ length text + length (64 ∷ letter ∷ letters) = length-append text (64 ∷ letter ∷ letters) in
+    let before : (k : ℕ) → k < length text → is_at (get_or whole k 0) ≡ false = λ k lt. ap is_at (get_or_append_left text (64 ∷ letter ∷ letters) 0 k lt) ∙ no_at imsi k lt in
+    let here : is_at (get_or whole (length text) 0) ≡ true = ap is_at (get_or-append_seam text 64 (letter ∷ letters) 0) in
+    let first = position_or_len_is is_at whole (length text) 0 (omega (arith, long)) before (λ lt. here) in
+    let within : length text < length whole = omega (arith, long) in
+    ap (λ (o : Option ℕ). up_to o whole)
+    (ap (λ (k : ℕ). cond (ltb k (length whole)) (Some k) None) first ∙ ap (λ (b : Bool). cond b (Some (length text)) None) (lt-ltb (length text) (length whole) within))
+    ∙ take_at text (64 ∷ letter ∷ letters) (length text) refl
+
+-- a permanent identity takes a byte more than the IMSI has digits, and one more than that with its realm
+pub identity_size : (device : Subscription) → device.imsi.digits ≤ 15 → length device.realm ≤ 255 → length (identity_text device) ≤ 4091
+identity_size device few short = by device.realm short
+  where
+    digits : length (digits_of device.imsi) ≡ device.imsi.digits
+    digits = length-last_digits device.imsi.digits device.imsi.number
+
+    by : (realm : List ℕ) → length realm ≤ 255 → length (with_realm (permanent_text method.Aka device.imsi) realm) ≤ 4091
+    by [] h = omega (arith, digits, few)
+    by (letter ∷ letters) h = omega (arith, digits, few, h, length-append (permanent_text method.Aka device.imsi) (64 ∷ letter ∷ letters))
+
+-- ---- the row
+
+one_identity : (d e m n : ℕ) → d ≡ e → m ≡ n → ◌≡◌ {A = Identity} (record { digits = d; number = m }) (record { digits = e; number = n })
+one_identity d e m n same number = cc
+
+not_same : (a b : Identity) → a ≢ b → same_identity a b ≡ false
+not_same a b differ = by (same_identity a b) refl
+  where
+    by : (t : Bool) → same_identity a b ≡ t → t ≡ false
+    by true e =
+        let (digits, number) = and_parts (a.digits == b.digits) (a.number == b.number) e in
+        absurd (differ (one_identity a.digits b.digits a.number b.number (eqb-true a.digits b.digits digits) (eqb-true a.number b.number number)))
+    by false e = refl
+
+-- a subscriber is found by its IMSI
+pub place_is : (rows : List Row) (sub : ℕ) (row : Row) → AreSubscribers rows → slice_get rows sub ≡ Some row → place_of rows row.imsi ≡ Some sub
+place_is rows sub row subscribers there =
+    let here = get_or_from_slice_get rows sub row row there in
+    position_is (λ (r : Row). same_identity r.imsi row.imsi) rows sub row there
+    (and_from (row.imsi.digits == row.imsi.digits) (row.imsi.number == row.imsi.number) (eq-eqb row.imsi.digits row.imsi.digits refl) (eq-eqb row.imsi.number row.imsi.number refl))
+    (λ k lt. not_same (get_or rows k row).imsi row.imsi
+    (subst (λ (r : Row). (get_or rows k row).imsi ≢ r.imsi) here (subscribers.differ k sub row lt (slice_get_within rows sub row there))))
+
+-- and by its permanent identity with any realm, if it is held
+pub subscriber_is : Laws → (set : Setting) (homes : List HomeRow) (sub : ℕ) (row : Row) (device : Subscription) → AreSubscribers set.rows → slice_get set.rows sub ≡ Some row → device.imsi ≡ row.imsi
+    → is_held homes sub ≡ true → subscriber_in set homes (identity_text device) ≡ Some sub
+subscriber_is laws set homes sub row device subscribers there same held =
+    let text = permanent_text method.Aka device.imsi in
+    let is_row = all_at IsRow set.rows sub row subscribers.each there in
+    let read : permanent_in method.Aka text ≡ Some device.imsi =
+    (laws.permanent method.Aka text device.imsi (subst (λ (i : Identity). IsIdentity i.digits i.number) (sym same) is_row.identity)).1 refl in
+    ap (λ (t : List ℕ). held_place set.rows homes (permanent_in method.Aka t)) (username_is device.imsi device.realm) ∙ ap (held_place set.rows homes) read
+    ∙ ap (λ (i : Identity). if_held homes (place_of set.rows i)) same ∙ ap (if_held homes) (place_is set.rows sub row subscribers there)
+    ∙ ap (λ (b : Bool). if b then Some sub else None) held

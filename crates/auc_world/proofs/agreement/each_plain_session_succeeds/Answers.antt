@@ -1,0 +1,13 @@
+use Rattle.auc_world.proofs.PlainLemmas.{plain_succeeds}
+use Rattle.auc_world.proofs.agreement.each_plain_session_succeeds.Goals as goal
+
+pub returns : goal.returns
+returns c = plain_succeeds (record {
+  alike = c.equal_bytes_are_received_alike.ensures;
+  written = c.written_packets_are_read.ensures;
+  sealed_read = c.sealed_messages_are_read.ensures;
+  sealed_right = c.sealed_messages_are_right.ensures;
+  permanent = c.permanent_identities_are_read_back.ensures;
+  macs = c.each_autn_has_the_mac_of_its_sqn.ensures;
+  auts = c.each_auts_is_read_back.ensures;
+})

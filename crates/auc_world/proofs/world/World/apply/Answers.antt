@@ -1,0 +1,101 @@
+use Rattle.std.proofs.Common.{Err, ◌∙◌, ap, sym, subst}
+use Rattle.auc_world.proofs.ApplyLemmas.{answered_applies, both_ok, each_ok, give_up_applies, open_applies, repeat_applies, served_applies, start_applies, unreached_applies}
+use Rattle.auc_world.proofs.AskedLemmas.{acted_asks_nobody, asks_nobody, opened_asks_nobody}
+use Rattle.auc_world.specs.Came.{Came, session_of}
+use Rattle.auc_world.specs.Event.{asked_in}
+use Rattle.auc_world.specs.declared.acting.Deed.TheVariants as deed
+use Rattle.auc_world.specs.World.{Applies, RememberPasts}
+use Rattle.auc_lines.specs.declared.part.End.{End}
+use Rattle.auc_world.specs.declared.event.Event.{Event}
+use Rattle.auc_world.specs.declared.event.Event.TheVariants as event
+use Rattle.auc_world.proofs.world.World.apply.Goals as goal
+
+pub returns-in-Open-clause-applied : goal.returns-in-Open-clause-applied
+returns-in-Open-clause-applied g c =
+    let now = c.args.self.now in
+    let new = c.open.new.self in
+    let centre = c.args.centre.now in
+    both_ok c.open.result _ _ _
+    (λ came is leads pasts. subst (λ (e : Event). Applies g.C.Centre.goes g.C.Centre.kept g.C.Centre.top c.args.set.now now e centre new came centre) (sym c.in-Open.is)
+    (open_applies g.C.Centre.goes g.C.Centre.kept g.C.Centre.top c.args.set.now now new centre centre g.met.C.Centre.stays c.in-Open.session c.in-Open.sub came is leads))
+    c.open.ensures.came c.open.ensures.opened
+
+pub returns-in-Start-clause-applied : goal.returns-in-Start-clause-applied
+returns-in-Start-clause-applied g c =
+    let now = c.args.self.now in
+    let new = c.act.new.self in
+    let centre = c.args.centre.now in
+    both_ok c.act.result _ _ _
+    (λ came is leads pasts. subst (λ (e : Event). Applies g.C.Centre.goes g.C.Centre.kept g.C.Centre.top c.args.set.now now e centre new came centre) (sym c.in-Start.is)
+    (start_applies g.C.Centre.goes g.C.Centre.kept g.C.Centre.top c.args.set.now now new centre centre g.met.C.Centre.stays c.in-Start.session came is leads))
+    c.act.ensures.came c.act.ensures.acted
+
+pub returns-in-Repeat-clause-applied : goal.returns-in-Repeat-clause-applied
+returns-in-Repeat-clause-applied g c =
+    let now = c.args.self.now in
+    let new = c.act-in-Repeat.new.self in
+    let centre = c.args.centre.now in
+    both_ok c.act-in-Repeat.result _ _ _
+    (λ came is leads pasts. subst (λ (e : Event). Applies g.C.Centre.goes g.C.Centre.kept g.C.Centre.top c.args.set.now now e centre new came centre) (sym c.in-Repeat.is)
+    (repeat_applies g.C.Centre.goes g.C.Centre.kept g.C.Centre.top c.args.set.now now new centre centre g.met.C.Centre.stays c.in-Repeat.session came is leads))
+    c.act-in-Repeat.ensures.came c.act-in-Repeat.ensures.acted
+
+pub returns-in-GiveUp-clause-applied : goal.returns-in-GiveUp-clause-applied
+returns-in-GiveUp-clause-applied g c =
+    let now = c.args.self.now in
+    let new = c.act-in-GiveUp.new.self in
+    let centre = c.args.centre.now in
+    both_ok c.act-in-GiveUp.result _ _ _
+    (λ came is leads pasts. subst (λ (e : Event). Applies g.C.Centre.goes g.C.Centre.kept g.C.Centre.top c.args.set.now now e centre new came centre) (sym c.in-GiveUp.is)
+    (give_up_applies g.C.Centre.goes g.C.Centre.kept g.C.Centre.top c.args.set.now now new centre centre g.met.C.Centre.stays c.in-GiveUp.session came c.in-GiveUp.end is leads))
+    c.act-in-GiveUp.ensures.came c.act-in-GiveUp.ensures.acted
+
+pub returns-in-Err-default-clause-applied : goal.returns-in-Err-default-clause-applied
+returns-in-Err-default-clause-applied g c pasts =
+    let now = c.args.self.now in
+    let centre = c.args.centre.now in
+    subst (λ (e : Event). Applies g.C.Centre.goes g.C.Centre.kept g.C.Centre.top c.args.set.now now e centre now (Err c.in-Err-default.why) centre) (sym c.in-Deliver.is)
+    (unreached_applies g.C.Centre.goes g.C.Centre.kept g.C.Centre.top c.args.set.now now now centre centre g.met.C.Centre.stays c.in-Deliver.session c.in-Deliver.packet c.in-Deliver.end
+    c.in-Err-default.why c.in-Err-default.ensures.refused)
+
+pub returns-in-Ok-Server-clause-applied : goal.returns-in-Ok-Server-clause-applied
+returns-in-Ok-Server-clause-applied g c =
+    let now = c.args.self.now in
+    let new = c.to_server.new.self in
+    let centre = c.args.centre.now in
+    each_ok c.to_server.result _ _
+    (λ came serves pasts. subst (λ (e : Event). Applies g.C.Centre.goes g.C.Centre.kept g.C.Centre.top c.args.set.now now e centre new came c.to_server.new.centre) (sym (c.in-Deliver.is ∙ ap (λ (e : End). event.Deliver c.in-Deliver.session e c.in-Deliver.packet) c.in-Ok-Server.is-1))
+    (served_applies g.C.Centre.goes g.C.Centre.kept g.C.Centre.top c.args.set.now now new centre c.to_server.new.centre g.met.C.Centre.stays c.in-Deliver.session c.in-Ok-Server.place c.in-Deliver.packet came
+    c.in-Ok-Server.ensures.place c.in-Ok-Server.ensures.reached serves))
+    c.to_server.ensures.served
+
+pub returns-in-Ok-Peer-clause-applied : goal.returns-in-Ok-Peer-clause-applied
+returns-in-Ok-Peer-clause-applied g c =
+    let now = c.args.self.now in
+    let new = c.to_peer.new.self in
+    let centre = c.args.centre.now in
+    each_ok c.to_peer.result _ _
+    (λ came answers pasts. subst (λ (e : Event). Applies g.C.Centre.goes g.C.Centre.kept g.C.Centre.top c.args.set.now now e centre new came centre) (sym (c.in-Deliver.is ∙ ap (λ (e : End). event.Deliver c.in-Deliver.session e c.in-Deliver.packet) c.in-Ok-Peer.is-1))
+    (answered_applies g.C.Centre.goes g.C.Centre.kept g.C.Centre.top c.args.set.now now new centre centre g.met.C.Centre.stays c.in-Deliver.session c.in-Ok-Peer.place c.in-Deliver.packet came
+    c.in-Ok-Peer.ensures.place c.in-Ok-Peer.ensures.reached (answers pasts)))
+    c.to_peer.ensures.answered
+
+-- ---- for whom the centre was asked
+
+pub returns-in-Open-clause-asked : goal.returns-in-Open-clause-asked
+returns-in-Open-clause-asked g c =
+    each_ok c.open.result _ _ (λ came is. asks_nobody _ _ (ap asked_in is ∙ opened_asks_nobody _ _)) c.open.ensures.came
+
+pub returns-in-Start-clause-asked : goal.returns-in-Start-clause-asked
+returns-in-Start-clause-asked g c = each_ok c.act.result _ _ (λ came is. asks_nobody _ _ (ap asked_in is ∙ acted_asks_nobody c.args.self.now.net deed.Start (session_of c.args.self.now.net c.in-Start.session))) c.act.ensures.came
+
+pub returns-in-Repeat-clause-asked : goal.returns-in-Repeat-clause-asked
+returns-in-Repeat-clause-asked g c =
+    each_ok c.act-in-Repeat.result _ _ (λ came is. asks_nobody _ _ (ap asked_in is ∙ acted_asks_nobody c.args.self.now.net deed.Repeat (session_of c.args.self.now.net c.in-Repeat.session))) c.act-in-Repeat.ensures.came
+
+pub returns-in-GiveUp-clause-asked : goal.returns-in-GiveUp-clause-asked
+returns-in-GiveUp-clause-asked g c =
+    each_ok c.act-in-GiveUp.result _ _ (λ came is. asks_nobody _ _ (ap asked_in is ∙ acted_asks_nobody c.args.self.now.net (deed.GiveUp c.in-GiveUp.end) (session_of c.args.self.now.net c.in-GiveUp.session))) c.act-in-GiveUp.ensures.came
+
+pub returns-in-Ok-Peer-clause-asked : goal.returns-in-Ok-Peer-clause-asked
+returns-in-Ok-Peer-clause-asked g c = each_ok c.to_peer.result _ _ (λ came is. asks_nobody _ _ is) c.to_peer.ensures.asked

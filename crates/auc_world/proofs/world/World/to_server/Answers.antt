@@ -1,0 +1,127 @@
+use Rattle.std.proofs.Common.{◌≡◌, ℕ, ◌<◌, ◌≤◌, ◌∙◌, List, length, Some, refl, sym, ap, subst}
+use Rattle.std.specs.Prelude.{IfSome, Option, slice_get, slice_set}
+use Rattle.auc_server.specs.Asked.{asked_after}
+use Rattle.auc_server.specs.declared.setting.HomeRow.{HomeRow}
+use Rattle.auc_world.proofs.AskedLemmas.{asked_listed}
+use Rattle.indexmap.proofs.CallerLemmas.{keys-with_value_at}
+use Rattle.indexmap.specs.IndexMap.{get, keys, values}
+use Rattle.auc_server.specs.Server.{ServerEnd}
+use Rattle.auc_server.specs.Steps.{IsHeld}
+use Rattle.auc_world.proofs.ServingLemmas.{has_packet, packet_read, serves, serves_nobody, serves_now}
+use Rattle.auc_world.proofs.WorldLemmas.{kept_homes, kept_session, of_all, on_error, same_session, served_states, served_there, set_same, values_set}
+use Rattle.auc_world.specs.InnerWorld.{is_key, state_of}
+use Rattle.auc_world.specs.World.{AreHomes, HasHeld, WorldState}
+use Rattle.auc_world.specs.declared.net.Session.{Session}
+use Rattle.auc_world.proofs.world.World.to_server.Goals as goal
+
+pub invariant_of-self-in_default : goal.invariant_of-self-in_default
+invariant_of-self-in_default g c =
+    let inside = c.self.inside in
+    let session = c.index_mut-session.result.now in
+    kept_session (keys inside.sessions) (get is_key inside.places) inside.packets.items (values inside.sessions) inside.released.items inside.homes.items inside.broken inside.devices.items c.self.invariant
+    _ _ _ _ _ c.args.place session session (keys-with_value_at inside.sessions c.args.place session) (values_set inside.sessions.entries c.args.place session) c.index_mut-session.ensures.value refl
+    (of_all (λ (s : Session). HasHeld inside.homes.items s.server) (values inside.sessions) c.args.place session c.self.invariant.world.held c.index_mut-session.ensures.value)
+
+pub returns-in_default-clause-served : goal.returns-in_default-clause-served
+returns-in_default-clause-served g c =
+    let inside = c.self.inside in
+    let session = c.index_mut-session.result.now in
+    let last : c.args.packet ≤ length inside.packets.items = subst (λ (w : WorldState). c.args.packet ≤ length w.net.packets) (sym c.self.view_is) c.requires.reached.last in
+    let there = has_packet inside.packets.items c.args.packet c.requires.reached.first last in
+    let same : state_of c.make_place.new.packets.items _ c.reserve.new.self.items inside.homes.items inside.broken inside.devices.items
+    ≡ state_of inside.packets.items (values inside.sessions) inside.released.items inside.homes.items inside.broken inside.devices.items
+    = served_states _ inside.packets.items _ (values inside.sessions) _ inside.released.items _ inside.homes.items inside.broken inside.devices.items
+    c.in_ok-make_place.ensures.same (values_set inside.sessions.entries c.args.place session ∙ set_same (values inside.sessions) c.args.place session c.index_mut-session.ensures.value)
+    c.in_ok-reserve.ensures.items refl in
+    serves_now g.C.Centre.goes g.C.Centre.kept g.C.Centre.top c.args.set.now inside.packets.items (values inside.sessions) inside.released.items inside.homes.items inside.broken inside.devices.items
+    c.args.place c.args.packet session there.sent c.index_mut-session.ensures.value there.of_number c.args.self.now c.self.view_is _ c.args.centre.now c.args.centre.now _
+    (serves_nobody g.C.Centre.goes g.C.Centre.kept g.C.Centre.top c.args.set.now inside.packets.items (values inside.sessions) inside.released.items inside.homes.items inside.broken inside.devices.items
+    c.args.place c.args.packet session there.sent c.args.centre.now g.met.C.Centre.stays c.in_default.is _ same)
+
+pub invariant_of-self-in_err-before : goal.invariant_of-self-in_err-before
+invariant_of-self-in_err-before g c =
+    let inside = c.self.inside in
+    let session = c.index_mut-session.result.now in
+    let same : Session = record session { server = Some c.in-Some.server } in
+    kept_session (keys inside.sessions) (get is_key inside.places) inside.packets.items (values inside.sessions) inside.released.items inside.homes.items inside.broken inside.devices.items c.self.invariant
+    _ _ _ _ _ c.args.place session same (keys-with_value_at inside.sessions c.args.place same) (values_set inside.sessions.entries c.args.place same) c.index_mut-session.ensures.value refl
+    (subst (HasHeld inside.homes.items) c.in-Some.is (of_all (λ (s : Session). HasHeld inside.homes.items s.server) (values inside.sessions) c.args.place session c.self.invariant.world.held c.index_mut-session.ensures.value))
+
+pub returns-in_err-before-clause-world : goal.returns-in_err-before-clause-world
+returns-in_err-before-clause-world g c =
+    let inside = c.self.inside in
+    let session = c.index_mut-session.result.now in
+    let same : Session = record session { server = Some c.in-Some.server } in
+    on_error _ _ (served_states _ inside.packets.items _ (values inside.sessions) _ inside.released.items _ inside.homes.items inside.broken inside.devices.items
+    c.in_ok-make_place.ensures.same
+    (values_set inside.sessions.entries c.args.place same ∙ ap (slice_set (values inside.sessions) c.args.place) (same_session session c.in-Some.server c.in-Some.server c.in-Some.is refl)
+    ∙ set_same (values inside.sessions) c.args.place session c.index_mut-session.ensures.value)
+    c.in_ok-reserve.ensures.items refl ∙ c.self.view_is)
+
+pub serve-requires : goal.serve-requires
+serve-requires g c =
+    let inside = c.self.inside in
+    let session = c.index_mut-session.result.now in
+    served_there c.args.set.now.rows _ _ inside.homes.items session c.in-Some.server c.in-Some.is
+    (of_all (λ (s : Session). HasHeld inside.homes.items s.server) (values inside.sessions) c.args.place session c.self.invariant.world.held c.index_mut-session.ensures.value)
+    (subst (λ (w : WorldState). AreHomes c.args.set.now.rows (g.C.Centre.subs c.args.centre.now) (g.C.Centre.top c.args.centre.now) w.net.homes) (sym c.self.view_is) c.requires.homes)
+
+pub invariant_of-self-in_err-turn : goal.invariant_of-self-in_err-turn
+invariant_of-self-in_err-turn g c =
+    let inside = c.self.inside in
+    let session = c.index_mut-session.result.now in
+    let same : Session = record session { server = Some c.serve.new.server } in
+    kept_homes _ _ _ _ _ inside.homes.items _ _ _ c.in_err-turn.ensures.homes
+    (kept_session (keys inside.sessions) (get is_key inside.places) inside.packets.items (values inside.sessions) inside.released.items inside.homes.items inside.broken inside.devices.items c.self.invariant
+    _ _ _ _ _ c.args.place session same (keys-with_value_at inside.sessions c.args.place same) (values_set inside.sessions.entries c.args.place same) c.index_mut-session.ensures.value refl
+    c.in_err-turn.ensures.held)
+
+pub returns-in_err-turn-clause-world : goal.returns-in_err-turn-clause-world
+returns-in_err-turn-clause-world g c =
+    let inside = c.self.inside in
+    let session = c.index_mut-session.result.now in
+    let same : Session = record session { server = Some c.serve.new.server } in
+    on_error _ _ (served_states _ inside.packets.items _ (values inside.sessions) _ inside.released.items _ inside.homes.items inside.broken inside.devices.items
+    c.in_ok-make_place.ensures.same
+    (values_set inside.sessions.entries c.args.place same ∙ ap (slice_set (values inside.sessions) c.args.place) (same_session session c.in-Some.server c.serve.new.server c.in-Some.is c.in_err-turn.ensures.server)
+    ∙ set_same (values inside.sessions) c.args.place session c.index_mut-session.ensures.value)
+    c.in_ok-reserve.ensures.items c.in_err-turn.ensures.homes ∙ c.self.view_is)
+
+pub invariant_of-self-2 : goal.invariant_of-self-2
+invariant_of-self-2 g c =
+    let inside = c.self.inside in
+    let session = c.index_mut-session.result.now in
+    let new : Session = record session { server = Some c.serve.new.server } in
+    kept_homes _ _ _ _ _ inside.homes.items _ _ _ c.in_ok-turn.ensures.homes
+    (kept_session (keys inside.sessions) (get is_key inside.places) inside.packets.items (values inside.sessions) inside.released.items inside.homes.items inside.broken inside.devices.items c.self.invariant
+    _ _ _ _ _ c.args.place session new (keys-with_value_at inside.sessions c.args.place new) (values_set inside.sessions.entries c.args.place new) c.index_mut-session.ensures.value refl
+    c.in_ok-turn.ensures.held)
+
+pub returns-clause-served : goal.returns-clause-served
+returns-clause-served g c =
+    let inside = c.self.inside in
+    let session = c.index_mut-session.result.now in
+    let new : Session = record session { server = Some c.serve.new.server } in
+    let last : c.args.packet ≤ length inside.packets.items = subst (λ (w : WorldState). c.args.packet ≤ length w.net.packets) (sym c.self.view_is) c.requires.reached.last in
+    let here = packet_read inside.packets.items c.make_place.new.packets.items c.args.packet c.index.result.now c.in_ok-make_place.ensures.same c.requires.reached.first last c.index.ensures in
+    serves_now g.C.Centre.goes g.C.Centre.kept g.C.Centre.top c.args.set.now inside.packets.items (values inside.sessions) inside.released.items inside.homes.items inside.broken inside.devices.items
+    c.args.place c.args.packet session c.index.result.now c.index_mut-session.ensures.value here c.args.self.now c.self.view_is _ c.args.centre.now c.serve.new.centre _
+    (serves g.C.Centre.goes g.C.Centre.kept g.C.Centre.top c.args.set.now inside.packets.items (values inside.sessions) inside.released.items inside.homes.items inside.broken inside.devices.items
+    c.args.place c.args.packet session c.index.result.now c.in-Some.server c.serve.new.server c.in_ok-turn.field-0.turn c.args.centre.now c.serve.new.centre c.as_slice-bytes.result.now
+    c.in-Some.is c.as_slice-bytes.ensures c.in_ok-turn.ensures.step
+    c.make_place.new.packets.items c.deref.result.now c.post.new.packets.items _ c.reserve.new.self.items c.release.new.released.items c.as_slice.result.now c.serve.new.homes.items
+    c.judged-self-inside.result c.in_ok-turn.field-0.inputs c.in_ok-before.before c.in_ok-turn.field-0.sent c.asked-asked.result c.post.result
+    c.in_ok-make_place.ensures.same (c.deref.ensures.value ∙ c.in_ok-make_place.ensures.same) c.in_ok-reserve.ensures.items (c.as_slice.ensures.value ∙ c.in_ok-turn.ensures.homes) c.in_ok-turn.ensures.homes
+    c.in_ok-before.ensures c.in_ok-turn.ensures.inputs c.in_ok-turn.ensures.sent c.post.ensures.posted c.post.ensures.number c.asked-asked.ensures c.release.ensures c.judged-self-inside.ensures
+    (values_set inside.sessions.entries c.args.place new))
+
+pub returns-clause-asked : goal.returns-clause-asked
+returns-clause-asked g c =
+    let inside = c.self.inside in
+    let notes = c.in_ok-turn.field-0.turn.notes in
+    let homes = subst (λ (w : WorldState). AreHomes c.args.set.now.rows (g.C.Centre.subs c.args.centre.now) (g.C.Centre.top c.args.centre.now) w.net.homes) (sym c.self.view_is) c.requires.homes in
+    let asked : c.asked-asked.result ≡ asked_after c.args.set.now inside.homes.items c.serve.new.server notes.resync notes.number =
+    c.asked-asked.ensures
+    ∙ ap (λ (hs : List HomeRow). asked_after c.args.set.now hs c.serve.new.server notes.resync notes.number) (c.as_slice.ensures.value ∙ c.in_ok-turn.ensures.homes) in
+    subst (λ (o : Option ℕ). IfSome o (λ sub. sub < length c.args.set.now.rows)) (sym asked)
+    (asked_listed c.args.set.now (g.C.Centre.subs c.args.centre.now) (g.C.Centre.top c.args.centre.now) inside.homes.items c.serve.new.server notes.resync notes.number homes c.in_ok-turn.ensures.held)

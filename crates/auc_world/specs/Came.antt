@@ -1,0 +1,206 @@
+-- What comes of an event: a note of it, or a refusal, after which nothing has changed.
+use Rattle.std.specs.Prelude.{◌≡◌, ℕ, ◌+◌, List, length, Option, Some, None, Result, Ok, Err, slice_get}
+use Rattle.auc_lines.specs.declared.part.End.{End}
+use Rattle.auc_lines.specs.declared.part.End.TheVariants as end
+use Rattle.auc_packet.specs.Received.{Seen, IsReceived}
+use Rattle.auc_peer.specs.Rows.{peer_row}
+use Rattle.auc_peer.specs.Subscription.{Subscription}
+use Rattle.auc_peer.specs.Table.{gave_up as peer_gave_up}
+use Rattle.auc_peer.specs.Turn.{asked}
+use Rattle.auc_peer.specs.declared.peer.Challenge.{Challenge}
+use Rattle.auc_peer.specs.declared.why.PeerWhy.{PeerWhy}
+use Rattle.auc_server.specs.Rows.{server_row}
+use Rattle.auc_server.specs.Server.{ServerEnd, started}
+use Rattle.auc_server.specs.Setting.{Setting}
+use Rattle.auc_server.specs.Steps.{AsksAsNeeded, asking}
+use Rattle.auc_server.specs.Table.{gave_up as server_gave_up, repeated, silent}
+use Rattle.auc_server.specs.declared.why.ServerWhy.{ServerWhy}
+use Rattle.auc_vector.specs.Notes.{Asking}
+use Rattle.auc_vector.specs.declared.notes.Notes.{Notes}
+use Rattle.auc_vector.specs.declared.turn.Step.{Step}
+use Rattle.auc_vector.specs.declared.turn.Step.TheVariants as step
+use Rattle.auc_world.specs.Happened.{Delivery, Told, delivery_in, peer_turn, sent_by, server_turn}
+use Rattle.auc_world.specs.Net.{Net, device_place, packet_at, session_place}
+use Rattle.auc_world.specs.declared.event.Event.{Event}
+use Rattle.auc_world.specs.declared.event.Event.TheVariants as event
+use Rattle.auc_world.specs.declared.event.Note.{Note}
+use Rattle.auc_world.specs.declared.event.NoteStep.TheVariants as did
+use Rattle.auc_world.specs.declared.event.WorldRefusal.{WorldRefusal}
+use Rattle.auc_world.specs.declared.event.WorldRefusal.TheVariants as refused
+use Rattle.auc_world.specs.declared.net.SentPacket.{SentPacket}
+use Rattle.auc_world.specs.declared.net.Session.{Session}
+
+-- what an event comes to
+abbrev pub Came : Type 0
+Came = Result Note WorldRefusal
+
+-- ---- notes
+
+-- the number of the packet that is sent, if one is
+abbrev pub packet_number : Net → Option (List ℕ) → Option ℕ
+packet_number w None = None
+packet_number w (Some bytes) = Some (length w.packets + 1)
+
+-- for whom the centre was asked
+abbrev pub asked_sub : Option Asking → Option ℕ
+asked_sub None = None
+asked_sub (Some asking) = Some asking.sub
+
+abbrev pub by_server : Net → Notes → Step ServerWhy → Option Asking → Note
+by_server w notes what asked = record {
+  notes = notes;
+  step = did.Server what;
+  packet = packet_number w (sent_by what);
+  asked = asked_sub asked;
+  device = None;
+}
+
+abbrev pub by_peer : Net → Notes → Step PeerWhy → Option ℕ → Note
+by_peer w notes what device = record {
+  notes = notes;
+  step = did.Peer what;
+  packet = packet_number w (sent_by what);
+  asked = None;
+  device = device;
+}
+
+abbrev pub of_opening : Note
+of_opening = record { notes = silent; step = did.Opened; packet = None; asked = None; device = None }
+
+-- ---- deliveries
+
+-- whom a server that received something asks the centre for
+abbrev pub asking_at : Setting → Net → Told → Option ServerEnd → Option Asking
+asking_at set w told None = None
+asking_at set w told (Some s) = asking (server_row set w.homes s told.seen)
+
+abbrev pub came_at_server : Setting → Net → Told → Option ServerEnd → Came
+came_at_server set w told None = Err refused.NoSuchEnd
+came_at_server set w told (Some s) =
+    let turn = server_turn set w s told in Ok (by_server w turn.1.notes turn.1.step (asking_at set w told (Some s)))
+
+abbrev pub came_at_peer : Net → Delivery → Told → Option Subscription → Came
+came_at_peer w d told None = Err refused.NoSuchEnd
+came_at_peer w d told (Some device) =
+    let turn = peer_turn device d.session told in Ok (by_peer w turn.1.notes turn.1.step (Some d.session.sub))
+
+-- the packet is looked for before the end
+abbrev pub came_delivered : Setting → Net → End → Told → Option SentPacket → Option Delivery → Came
+came_delivered set w at' told None d = Err refused.NoSuchPacket
+came_delivered set w at' told (Some sent) None = Err refused.NoSuchEnd
+came_delivered set w end.Server told (Some sent) (Some d) = came_at_server set w told d.session.server
+came_delivered set w end.Peer told (Some sent) (Some d) = came_at_peer w d told (slice_get w.devices d.session.device)
+
+-- ---- the other events
+
+abbrev pub came_opened : Option ℕ → Option ℕ → Came
+came_opened (Some first) place = Err refused.Started
+came_opened None None = Err refused.NoSuchEnd
+came_opened None (Some place) = Ok of_opening
+
+abbrev pub came_started : Net → Option ServerEnd → Came
+came_started w None = Ok (by_server w silent (step.Sent started.last) None)
+came_started w (Some s) = Err refused.Started
+
+abbrev pub came_repeated : Net → Option ServerEnd → Came
+came_repeated w None = Err refused.NoSuchEnd
+came_repeated w (Some s) = Ok (by_server w silent (repeated s s.state) None)
+
+abbrev pub server_came_to_give_up : Net → Option ServerEnd → Came
+server_came_to_give_up w None = Err refused.NoSuchEnd
+server_came_to_give_up w (Some s) = Ok (by_server w silent (server_gave_up s s.state).1 None)
+
+abbrev pub came_given_up : Net → End → Session → Came
+came_given_up w end.Server session = server_came_to_give_up w session.server
+came_given_up w end.Peer session = Ok (by_peer w silent (peer_gave_up session.peer session.peer.state).1 None)
+
+abbrev pub came_in : (Session → Came) → Option Session → Came
+came_in does None = Err refused.NoSuchEnd
+came_in does (Some session) = does session
+
+abbrev pub session_at : Net → Option ℕ → Option Session
+session_at w None = None
+session_at w (Some place) = slice_get w.sessions place
+
+-- the session of a number, if it is open
+abbrev pub session_of : Net → ℕ → Option Session
+session_of w number = session_at w (session_place w.sessions number)
+
+-- ---- an event
+
+abbrev pub came : Setting → Net → Event → Told → Came
+came set w (event.Open session sub) told = came_opened (session_place w.sessions session) (device_place set.rows w.devices sub)
+came set w (event.Start session) told = came_in (λ s. came_started w s.server) (session_of w session)
+came set w (event.Deliver session at' packet) told = came_delivered set w at' told (packet_at w.packets packet) (delivery_in w session packet)
+came set w (event.Repeat session) told = came_in (λ s. came_repeated w s.server) (session_of w session)
+came set w (event.GiveUp session at') told = came_in (came_given_up w at') (session_of w session)
+
+-- ---- what is told of an event
+
+-- the bytes that an end receives, if it is there
+abbrev pub received_by : {E : Type 0} → List ℕ → Option E → Option (List ℕ)
+received_by bytes None = None
+received_by bytes (Some there) = Some bytes
+
+abbrev pub received_at : Net → End → Option Delivery → Option (List ℕ)
+received_at w at' None = None
+received_at w end.Server (Some d) = received_by d.bytes d.session.server
+received_at w end.Peer (Some d) = received_by d.bytes (slice_get w.devices d.session.device)
+
+-- the bytes that an end receives in it, if one does
+abbrev pub bytes_named : Net → Event → Option (List ℕ)
+bytes_named w (event.Deliver session at' packet) = received_at w at' (delivery_in w session packet)
+bytes_named w other = None
+
+-- what they were received as
+abbrev pub AreReceived : Option (List ℕ) → Seen → Type 0
+AreReceived None seen = Unit {0}
+AreReceived (Some bytes) seen = IsReceived seen × (seen.bytes ≡ bytes)
+
+-- the answers that are told are those of the note
+abbrev pub TellsNotes : Told → Came → Type 0
+TellsNotes told (Ok note) = told.notes ≡ note.notes
+TellsNotes told (Err why) = Unit {0}
+
+-- whom the centre is asked for
+abbrev pub asking_in : Setting → Net → End → Told → Option Delivery → Option Asking
+asking_in set w at' told None = None
+asking_in set w end.Server told (Some d) = asking_at set w told d.session.server
+asking_in set w end.Peer told (Some d) = None
+
+abbrev pub asking_of : Setting → Net → Event → Told → Option Asking
+asking_of set w (event.Deliver session at' packet) told = asking_in set w at' told (delivery_in w session packet)
+asking_of set w other told = None
+
+-- a number is asked for exactly if the server's turn needs one
+abbrev pub AsksAt : Setting → Net → Told → Option ServerEnd → Type 0
+AsksAt set w told None = Unit {0}
+AsksAt set w told (Some s) = AsksAsNeeded (server_row set w.homes s told.seen) told.notes
+
+abbrev pub AsksIn : Setting → Net → End → Told → Option Delivery → Type 0
+AsksIn set w at' told None = Unit {0}
+AsksIn set w end.Server told (Some d) = AsksAt set w told d.session.server
+AsksIn set w end.Peer told (Some d) = Unit {0}
+
+abbrev pub AsksWhatItNeeds : Setting → Net → Event → Told → Type 0
+AsksWhatItNeeds set w (event.Deliver session at' packet) told = AsksIn set w at' told (delivery_in w session packet)
+AsksWhatItNeeds set w other told = Unit {0}
+
+-- a packet that reaches a peer: at which place its device is, and what the USIM is handed
+pub record Presented : Type 0 where
+  pub delivery : Delivery
+  pub device : Subscription
+  pub challenge : Option Challenge
+
+abbrev pub presented_at : Delivery → Told → Option Subscription → Option Presented
+presented_at d told None = None
+presented_at d told (Some device) = Some (record { delivery = d; device = device; challenge = asked (peer_row d.session.peer told.seen) })
+
+abbrev pub presented_in : Net → End → Told → Option Delivery → Option Presented
+presented_in w at' told None = None
+presented_in w end.Server told (Some d) = None
+presented_in w end.Peer told (Some d) = presented_at d told (slice_get w.devices d.session.device)
+
+abbrev pub presented_by : Net → Event → Told → Option Presented
+presented_by w (event.Deliver session at' packet) told = presented_in w at' told (delivery_in w session packet)
+presented_by w other told = None

@@ -1,0 +1,96 @@
+-- Completeness of a plain session: one whose packets reach the other end, each once and in their order, ends in Success at both
+-- ends under the same keys (RFC 4187 §3), unless a line of it tells why not.
+use Rattle.std.specs.Prelude.{◌≡◌, ℕ, ◌≤◌, Bool, true, false, List, [], ◌∷◌, length, flat_map, All, Option, Some, None, slice_get}
+use Rattle.auc_hmac.specs.declared.keys.KeySet.{KeySet}
+use Rattle.auc_peer.specs.Subscription.{Subscription}
+use Rattle.auc_peer.specs.Table.{new_peer}
+use Rattle.auc_server.specs.Rows.{is_held}
+use Rattle.auc_server.specs.Setting.{Setting}
+use Rattle.auc_subs.specs.Subscriber.{AreSubscribers}
+use Rattle.auc_vector.specs.declared.notes.NumberNote.{NumberNote}
+use Rattle.auc_vector.specs.declared.notes.NumberNote.TheVariants as number
+use Rattle.auc_vector.specs.declared.notes.ResyncNote.{ResyncNote}
+use Rattle.auc_vector.specs.declared.notes.ResyncNote.TheVariants as resync
+use Rattle.auc_vector.specs.declared.notes.UsimNote.{UsimNote}
+use Rattle.auc_vector.specs.declared.notes.UsimNote.TheVariants as usim
+use Rattle.auc_world.specs.Came.{Came, session_of}
+use Rattle.auc_world.specs.Event.{number_in, resync_in, usim_in}
+use Rattle.auc_world.specs.Given.{Before, PlainGives}
+use Rattle.auc_world.specs.Net.{Net}
+use Rattle.auc_world.specs.Sessions.{server_keys, verdict_on}
+use Rattle.auc_world.specs.Start.{subscription_at}
+use Rattle.auc_world.specs.declared.net.Session.{Session}
+use Rattle.auc_world.specs.declared.record.LineRecord.{LineRecord}
+use Rattle.auc_world.specs.declared.record.LineRecord.TheVariants.{Vector, Withheld, Exhausted, Sync, Give, Event}
+
+-- ---- the session
+
+-- a session was opened and nothing has happened in it; its device is that of its subscriber, and its server serves that subscriber
+pub record IsReady (set : Setting) (net : Net) (session : ℕ) : Type 0 where
+  pub own : Session
+  pub is : session_of net session ≡ Some own
+  pub server : own.server ≡ None
+  pub peer : own.peer ≡ new_peer
+  pub device : Subscription
+  pub there : slice_get net.devices own.device ≡ Some device
+  pub subscribed : subscription_at set own.sub ≡ device ∷ []
+  pub held : is_held net.homes own.sub ≡ true
+
+-- it ended in Success at both ends under the same keys, and its verdict says so
+pub record Succeeds (net : Net) (session : ℕ) : Type 0 where
+  pub own : Session
+  pub is : session_of net session ≡ Some own
+  pub keys : KeySet
+  pub server : server_keys own.server ≡ Some keys
+  pub peer : own.peer_keys ≡ Some keys
+  pub verdict : verdict_on own ≡ record { session = session; agree = true } ∷ []
+
+-- ---- what its lines tell
+
+-- what came of the events of some lines
+abbrev pub came_of : LineRecord → List Came
+came_of (Vector sub n) = []
+came_of (Withheld sub n stop) = []
+came_of (Exhausted sub word) = []
+came_of (Sync sub answer) = []
+came_of (Give sub n answer) = []
+came_of (Event r) = r.result ∷ []
+
+abbrev pub results : List LineRecord → List Came
+results lines = flat_map came_of lines
+
+-- the centre was asked for a number and gave none
+abbrev pub is_refused : Option NumberNote → Bool
+is_refused None = false
+is_refused (Some (number.Drew n)) = false
+is_refused (Some (number.Exhausted word)) = true
+is_refused (Some (number.Withheld n stop)) = true
+
+-- the SEQ that a USIM reported was too far above the centre's number
+abbrev pub is_too_far : Option ResyncNote → Bool
+is_too_far None = false
+is_too_far (Some (resync.Moved seen seq)) = false
+is_too_far (Some (resync.InRange seen seq)) = false
+is_too_far (Some (resync.Beyond seen seq)) = true
+is_too_far (Some resync.BadAuts) = false
+
+-- the SQN_MS that a USIM reported by a synchronisation failure
+abbrev pub sqn_reported : Option UsimNote → List (List ℕ)
+sqn_reported None = []
+sqn_reported (Some (usim.Accepted sqn)) = []
+sqn_reported (Some (usim.Sync sqn)) = sqn ∷ []
+sqn_reported (Some usim.WrongMac) = []
+
+-- no line tells why a session fails: the centre gave each number that it was asked for, no SEQ was too far above, and the USIM
+-- reported no more than so many synchronisation failures
+pub record TellNoCause (syncs : ℕ) (lines : List LineRecord) : Type 0 where
+  pub given : All (λ came. is_refused (number_in came) ≡ false) (results lines)
+  pub near : All (λ came. is_too_far (resync_in came) ≡ false) (results lines)
+  pub once : length (flat_map (λ came. sqn_reported (usim_in came)) (results lines)) ≤ syncs
+
+-- ---- the law
+
+-- a plain session succeeds, if its lines tell no cause of a failure; one synchronisation failure is none
+abbrev pub EachPlainSessionSucceeds : Type 0
+EachPlainSessionSucceeds = (set : Setting) (before : Before) (net next : Net) (session : ℕ) (lines : List LineRecord) → AreSubscribers set.rows
+    → length set.realm ≤ 255 → IsReady set net session → PlainGives set before net session lines next → TellNoCause 1 lines → Succeeds next session

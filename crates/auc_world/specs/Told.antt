@@ -1,0 +1,75 @@
+-- What the text of a transcript tells of its records. It leaves out what follows from the scenario and from the other lines:
+-- the subscribers of events, and the bytes and keys of a full print.
+use Rattle.std.specs.Prelude.{◌≡◌, ℕ, List, [], map, Option, None, Result, Ok, Err}
+use Rattle.auc_hmac.specs.declared.keys.KeySet.{KeySet}
+use Rattle.auc_vector.specs.declared.turn.Outcome.{Outcome}
+use Rattle.auc_vector.specs.declared.turn.Outcome.TheVariants as outcome
+use Rattle.auc_vector.specs.declared.turn.Step.{Step}
+use Rattle.auc_vector.specs.declared.turn.Step.TheVariants as step
+use Rattle.auc_world.specs.Came.{Came}
+use Rattle.auc_world.specs.declared.event.Event.{Event}
+use Rattle.auc_world.specs.declared.event.Event.TheVariants as event
+use Rattle.auc_world.specs.declared.event.EventRecord.{EventRecord}
+use Rattle.auc_world.specs.declared.event.NoteStep.{NoteStep}
+use Rattle.auc_world.specs.declared.event.NoteStep.TheVariants as did
+use Rattle.auc_world.specs.declared.record.LineRecord.{LineRecord}
+use Rattle.auc_world.specs.declared.record.LineRecord.TheVariants as line
+use Rattle.auc_world.specs.declared.record.PartRecord.{PartRecord}
+use Rattle.auc_world.specs.declared.record.PartRecord.TheVariants as part
+use Rattle.auc_world.specs.declared.record.RoundRecord.{RoundRecord}
+
+-- keys and bytes aren't told
+abbrev pub no_keys : KeySet
+no_keys = record { k_encr = []; k_aut = []; k_re = []; msk = []; emsk = [] }
+
+abbrev pub told_outcome : {W : Type 0} → Outcome W → Outcome W
+told_outcome (outcome.Success keys) = outcome.Success no_keys
+told_outcome (outcome.Failure why) = outcome.Failure why
+
+abbrev pub told_what : {W : Type 0} → Step W → Step W
+told_what (step.Sent bytes) = step.Sent []
+told_what (step.Ended result bytes) = step.Ended (told_outcome result) []
+told_what (step.Ignored why) = step.Ignored why
+
+abbrev pub told_step : NoteStep → NoteStep
+told_step did.Opened = did.Opened
+told_step (did.Server what) = did.Server (told_what what)
+told_step (did.Peer what) = did.Peer (told_what what)
+
+-- nor are subscribers
+abbrev pub told_came : Came → Came
+told_came (Ok note) = Ok (record { notes = note.notes; step = told_step note.step; packet = note.packet; asked = None; device = None })
+told_came (Err why) = Err why
+
+abbrev pub told_event : Event → Event
+told_event (event.Open session sub) = event.Open session 0
+told_event (event.Start session) = event.Start session
+told_event (event.Deliver session at' packet) = event.Deliver session at' packet
+told_event (event.Repeat session) = event.Repeat session
+told_event (event.GiveUp session at') = event.GiveUp session at'
+
+abbrev pub told_record : EventRecord → EventRecord
+told_record r = record { event = told_event r.event; result = told_came r.result }
+
+-- the other lines are told whole
+abbrev pub told_line : LineRecord → LineRecord
+told_line (line.Vector sub n) = line.Vector sub n
+told_line (line.Withheld sub n stop) = line.Withheld sub n stop
+told_line (line.Exhausted sub word) = line.Exhausted sub word
+told_line (line.Sync sub verdict) = line.Sync sub verdict
+told_line (line.Give sub n verdict) = line.Give sub n verdict
+told_line (line.Event r) = line.Event (told_record r)
+
+abbrev pub told_job : List LineRecord → List LineRecord
+told_job job = map told_line job
+
+abbrev pub told_round : RoundRecord → RoundRecord
+told_round round = record round { jobs = map told_job round.jobs }
+
+abbrev pub told_part : PartRecord → PartRecord
+told_part (part.Round round) = part.Round (told_round round)
+told_part part.Restart = part.Restart
+
+-- what is told of a transcript
+abbrev pub told : List PartRecord → List PartRecord
+told records = map told_part records

@@ -1,0 +1,107 @@
+-- A job's network with the devices of its subscribers, and what applying an event does to them.
+use Rattle.std.specs.Prelude.{◌≡◌, ◌≢◌, ℕ, ◌<◌, ◌≤◌, Bool, true, false, List, [], ◌∷◌, ◌++◌, length, map, All, Option, Some, None, Ok, Err, slice_get}
+use Rattle.auc_edge.specs.declared.stop.Stop.{Stop}
+use Rattle.auc_history.specs.declared.entry.Entry.{Entry}
+use Rattle.auc_peer.specs.Subscription.{Subscription, subscription_of}
+use Rattle.auc_peer.specs.Turn.{Asked as AsksDevice, Decrypts, decryption_noted}
+use Rattle.auc_peer.specs.declared.device.Device.{Device}
+use Rattle.auc_peer.specs.declared.peer.Challenge.{Challenge}
+use Rattle.auc_server.specs.Server.{ServerEnd}
+use Rattle.auc_server.specs.Setting.{Setting}
+use Rattle.auc_server.specs.Steps.{IsHeld, IsHome}
+use Rattle.auc_server.specs.declared.setting.HomeRow.{HomeRow}
+use Rattle.auc_sqn.specs.Past.{Past, Remembers}
+use Rattle.auc_subs.specs.declared.row.Row.{Row}
+use Rattle.auc_usim.specs.Usim.{Memory, IsAnswer, past_after_answer}
+use Rattle.auc_usim.specs.declared.answer.Answer.{Answer}
+use Rattle.auc_vector.specs.Notes.{Asked}
+use Rattle.auc_world.specs.Came.{AreReceived, AsksWhatItNeeds, Came, Presented, TellsNotes, asking_of, bytes_named, came, presented_by}
+use Rattle.auc_world.specs.Happened.{Told, happened}
+use Rattle.auc_world.specs.Net.{Net, device_place}
+use Rattle.auc_world.specs.declared.event.Event.{Event}
+use Rattle.auc_world.specs.declared.event.Event.TheVariants as event
+use Rattle.auc_world.specs.declared.net.Session.{Session}
+
+-- a network, and the devices of its subscribers in the same order
+pub record WorldState : Type 0 where
+  pub net : Net
+  pub devices : List Device
+
+abbrev pub memory_of : Option Device → Option Memory
+memory_of None = None
+memory_of (Some device) = Some device.usim
+
+-- what the USIM of a subscriber's device keeps, if the device is among them
+abbrev pub usim_at : List Device → Option ℕ → Option Memory
+usim_at devices None = None
+usim_at devices (Some place) = memory_of (slice_get devices place)
+
+abbrev pub usim_of : List Row → WorldState → ℕ → Option Memory
+usim_of rows w sub = usim_at w.devices (device_place rows w.net.devices sub)
+
+-- ---- what is needed
+
+-- each server's challenged subscriber is one of the homes
+abbrev pub HasHeld : List HomeRow → Option ServerEnd → Type 0
+HasHeld homes None = Unit {0}
+HasHeld homes (Some s) = IsHeld homes s.challenged
+
+-- a world: its network has the subscriptions of the devices, whose realms aren't too long, and its servers serve the homes
+pub record IsWorld (w : WorldState) : Type 0 where
+  pub subscriptions : w.net.devices ≡ map subscription_of w.devices
+  pub realms : All (λ device. length device.realm ≤ 255) w.devices
+  pub held : All (λ s. HasHeld w.net.homes s.server) w.net.sessions
+
+-- the subscriber of a session that is opened has a row
+abbrev pub IsKnownEvent : ℕ → Event → Type 0
+IsKnownEvent count (event.Open session sub) = sub < count
+IsKnownEvent count other = Unit {0}
+
+-- each home is a row of the subscribers, and a subscriber of the centre
+abbrev pub AreHomes : List Row → ℕ → (ℕ → ℕ) → List HomeRow → Type 0
+AreHomes rows subs top homes = All (λ home. IsHome rows subs top home.sub) homes
+
+-- each USIM remembers some past
+abbrev pub RememberPasts : List Device → Type 0
+RememberPasts devices = (place : ℕ) (device : Device) → slice_get devices place ≡ Some device → (past : Past) × Remembers device.usim.array past
+
+-- a USIM answers a challenge, and the others stay as they were
+pub record Challenges (old : ℕ → Option Memory) (sub : ℕ) (rand autn : List ℕ) (answer : Answer) (new : ℕ → Option Memory) : Type 0 where
+  pub before : Memory
+  pub there : old sub ≡ Some before
+  pub after : Memory
+  pub here : new sub ≡ Some after
+  pub others : (i : ℕ) → i ≢ sub → new i ≡ old i
+  pub answers : (past : Past) → Remembers before.array past → IsAnswer before.secret past rand autn answer
+  pub past : (past : Past) → Remembers before.array past → Remembers after.array (past_after_answer past answer)
+  pub secret : after.secret ≡ before.secret
+
+-- ---- an event
+
+-- the USIM of the device that received a packet answered what it was handed; the other USIMs stay as they were
+pub record IsHanded (p : Presented) (told : Told) (old new : List Device) : Type 0 where
+  pub before : Device
+  pub there : slice_get old p.delivery.session.device ≡ Some before
+  pub after : Device
+  pub here : slice_get new p.delivery.session.device ≡ Some after
+  pub secret : after.usim.secret ≡ before.usim.secret
+  pub others : (place : ℕ) → place ≢ p.delivery.session.device → slice_get new place ≡ slice_get old place
+  pub asked : AsksDevice p.device p.challenge told.notes.usim before.usim.array after.usim.array
+  pub readable : (past : Past) → Remembers before.usim.array past
+      → Decrypts (decryption_noted p.device p.delivery.session.peer told.seen p.challenge told.notes.usim) told.readable
+
+abbrev pub AreHanded : Option Presented → Told → List Device → List Device → Type 0
+AreHanded None told old new = new ≡ old
+AreHanded (Some p) told old new = IsHanded p told old new
+
+-- what an event comes to, and the network, the devices and the centre after it
+pub record Applies {S : Type 0} (goes : S → ℕ → List Entry → List (ℕ × Stop) → S → Type 0) (kept : S → ℕ → Option ℕ) (top : S → ℕ → ℕ) (set : Setting) (old : WorldState) (e : Event) (before : S) (new : WorldState) (result : Came) (after : S) : Type 0 where
+  pub told : Told
+  pub is : result ≡ came set old.net e told
+  pub leads : new.net ≡ happened set old.net e told
+  pub received : AreReceived (bytes_named old.net e) told.seen
+  pub notes : TellsNotes told (came set old.net e told)
+  -- the centre was asked what the turn says, and answered as the notes tell
+  pub centre : Asked goes kept top (asking_of set old.net e told) told.notes before after
+  pub drawn : AsksWhatItNeeds set old.net e told
+  pub usims : AreHanded (presented_by old.net e told) told old.devices new.devices

@@ -1,0 +1,143 @@
+//! What ends derive their keys from, and whether a delivery breaks the premise that a right MAC is of a packet that was sent
+//! with the same inputs.
+
+ghost use Rattle.std.specs.Prelude.{◌≡◌, ◌≤◌, ◌<◌, ◌&&◌, [], length, Some, IfOk};
+ghost use Rattle.std.specs.Str.{bytes_eq};
+ghost use Rattle.auc_peer.specs.Table.{text_or_none};
+ghost use Rattle.auc_world.specs.Net.{inputs_of_peer, inputs_of_server, judged, other, same_end, same_inputs, share_inputs, was_sent};
+
+use crate::net::{Breach, Inputs, SentPacket};
+use auc_edge::{NoMemory, Octets, Room};
+use auc_lines::End;
+use auc_peer::{Challenge, Peer};
+use auc_server::{Challenged, Server};
+use auc_vector::Vector;
+use std::alloc::Global;
+
+/// What a server derives its keys from, in memory that was taken before.
+pub(crate) fn put_server_inputs(room: Room, server: &Server) -> Option<Inputs>
+    requires empty { room.written ≡ [] }
+    requires left { length server.now.identity ≤ room.left }
+    ensures { result ≡ inputs_of_server server.now }
+{
+    let Challenged { sub, vector, .. } = server.challenged()?;
+    let Vector { rand, autn, .. } = vector;
+    let mut room = room;
+    room.put(server.identity());
+    Some(Inputs {
+        sub,
+        rand,
+        autn,
+        identity: room.into_octets(),
+    })
+}
+
+/// What a server derives its keys from.
+pub(crate) fn server_inputs(alloc: Global, server: &Server) -> Result<Option<Inputs>, NoMemory>
+    ensures { IfOk result (λ inputs. inputs ≡ inputs_of_server server.now) }
+{
+    let room = Room::new(alloc, server.identity().len())?;
+    Ok(put_server_inputs(room, server))
+}
+
+/// The identity that a peer sent last, empty if it has sent none.
+fn text(peer: &Peer) -> &[u8]
+    ensures { result.now ≡ text_or_none peer.now.identity }
+{
+    match &peer.identity {
+        Some(text) => text.as_slice(),
+        None => &[],
+    }
+}
+
+/// What a subscriber's peer derives its keys from.
+pub(crate) fn peer_inputs(alloc: Global, sub: u32, peer: &Peer) -> Result<Option<Inputs>, NoMemory>
+    ensures { IfOk result (λ inputs. inputs ≡ inputs_of_peer sub peer.now) }
+{
+    let Some(challenge) = peer.accepted else {
+        return Ok(None);
+    };
+    let Challenge { rand, autn } = challenge;
+    Ok(Some(Inputs {
+        sub,
+        rand,
+        autn,
+        identity: Octets::copied_from(alloc, text(peer))?,
+    }))
+}
+
+/// Whether an end sends to another.
+fn sends_to(end: End, to: End) -> bool
+    ensures { result ≡ same_end end (other to) }
+{
+    match (end, to) {
+        (End::Server, End::Peer) | (End::Peer, End::Server) => true,
+        (End::Server, End::Server) | (End::Peer, End::Peer) => false,
+    }
+}
+
+fn same_inputs(a: &Inputs, b: &Inputs) -> bool
+    ensures { result ≡ same_inputs a.now b.now }
+{
+    a.sub == b.sub
+        && (a.rand.as_slice() == b.rand.as_slice()
+            && (a.autn.as_slice() == b.autn.as_slice()
+                && a.identity.as_slice() == b.identity.as_slice()))
+}
+
+fn share_inputs(a: &Option<Inputs>, b: &Option<Inputs>) -> bool
+    ensures { result ≡ share_inputs a.now b.now }
+{
+    match (a, b) {
+        (Some(a), Some(b)) => same_inputs(a, b),
+        _ => false,
+    }
+}
+
+/// Whether a packet was sent to an end of a role, with these inputs and bytes.
+fn is_sent(packet: &SentPacket, to: End, inputs: &Option<Inputs>, bytes: &[u8]) -> bool
+    ensures { result ≡ (same_end packet.now.sender (other to)
+        && (share_inputs packet.now.inputs inputs.now && bytes_eq packet.now.bytes bytes.now)) }
+{
+    sends_to(packet.sender, to)
+        && (share_inputs(&packet.inputs, inputs) && packet.bytes.as_slice() == bytes)
+}
+
+/// Whether one of some packets was. The newest are looked at first.
+fn was_sent(packets: &[SentPacket], to: End, inputs: &Option<Inputs>, bytes: &[u8]) -> bool
+    ensures { result ≡ was_sent (other to) inputs.now bytes.now packets.now }
+{
+    let mut left = packets.len();
+    while left > 0 {
+        left -= 1;
+        if is_sent(&packets[left], to, inputs, bytes) {
+            return true;
+        }
+    }
+    false
+}
+
+/// The first breach of the premise, with a delivery of some bytes in which an end found a right MAC or not. The packet at the
+/// place `near` is looked at first: it nearly always was sent so.
+pub(crate) fn judged(
+    packets: &[SentPacket],
+    near: usize,
+    broken: Option<Breach>,
+    checked: bool,
+    inputs: &Option<Inputs>,
+    bytes: &[u8],
+    delivery: Breach,
+) -> Option<Breach>
+    requires { near < length packets.now }
+    ensures { result ≡ judged packets.now broken
+        (Some (record { checked = checked; inputs = inputs.now; bytes = bytes.now; delivery = delivery })) }
+{
+    if broken.is_some() || !checked {
+        return broken;
+    }
+    let to = delivery.end;
+    if is_sent(&packets[near], to, inputs, bytes) || was_sent(packets, to, inputs, bytes) {
+        return None;
+    }
+    Some(delivery)
+}

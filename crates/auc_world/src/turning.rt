@@ -1,0 +1,134 @@
+//! A turn of an end, with what its packet keeps: all memory is there before the centre is asked, or before a device changes.
+
+ghost use Rattle.std.specs.Prelude.{◌≡◌, ◌≤◌, ℕ, length, IfOk, OnErr};
+ghost use Rattle.auc_peer.specs.Subscription.{subscription_of};
+ghost use Rattle.auc_peer.specs.Turn.{Steps as StepsPeer};
+ghost use Rattle.auc_server.specs.Steps.{IsHeld, IsServed, Steps as StepsServer};
+ghost use Rattle.auc_world.specs.Happened.{keys_won, sent_by};
+ghost use Rattle.auc_world.specs.Net.{inputs_of_peer, inputs_of_server};
+
+use crate::inputs::{peer_inputs, put_server_inputs};
+use crate::net::Inputs;
+use crate::posting::{copy_sent, put_sent};
+use auc_edge::{NoMemory, Octets, Room};
+use auc_hmac::KeySet;
+use auc_peer::{Device, Last, Peer, PeerWhy};
+use auc_server::{HomeRow, Server, ServerWhy, Setting};
+use auc_vector::{Centre, Outcome, Step, Turn};
+use std::alloc::Global;
+use std::sync::Wait;
+
+/// The greatest message that a server sends, the Challenge: 72 bytes.
+const MOST: usize = 72;
+
+/// A turn of an end.
+#[derive(Drop)]
+pub(crate) struct Taken<W> {
+    pub(crate) turn: Turn<W>,
+    /// What the end derives its keys from afterwards.
+    pub(crate) inputs: Option<Inputs>,
+    /// A copy of what it sent.
+    pub(crate) sent: Option<Octets>,
+}
+
+/// A server takes received bytes.
+pub(crate) fn serve<C: Centre, R: Wait>(
+    rt: &R,
+    alloc: Global,
+    set: &Setting,
+    homes: &mut Vec<HomeRow>,
+    centre: &mut C,
+    server: &mut Server,
+    bytes: &[u8],
+) -> Result<Taken<ServerWhy>, NoMemory>
+    requires { IsServed set.now.rows (C.subs centre.old) (C.top centre.old) homes.old.items server.old }
+
+    ensures step { IfOk result (λ t. StepsServer C.goes C.kept C.top set.now homes.old.items server.old bytes.now centre.old server.new t.turn centre.new) }
+    ensures inputs { IfOk result (λ t. t.inputs ≡ inputs_of_server server.new) }
+    ensures sent { IfOk result (λ t. t.sent ≡ sent_by t.turn.step) }
+    ensures held { IsHeld homes.old.items server.new.challenged }
+    ensures homes { homes.new.items ≡ homes.old.items }
+    ensures subs { C.subs centre.new ≡ C.subs centre.old }
+    ensures top { (i : ℕ) → C.top centre.new i ≡ C.top centre.old i }
+    ensures name { C.name centre.new ≡ C.name centre.old }
+
+    ensures server { OnErr result (server.new ≡ server.old) }
+    ensures centre { OnErr result (centre.new ≡ centre.old) }
+{
+    let text = Room::new(alloc, server.identity().len().max(bytes.len()))?;
+    let message = Room::new(alloc, MOST)?;
+    let turn = server.on_bytes(rt, alloc, set, homes.as_mut_slice(), centre, bytes)?;
+    let inputs = put_server_inputs(text, server);
+    let sent = put_sent(message, &turn.step);
+    Ok(Taken { turn, inputs, sent })
+}
+
+/// A copy of the last request that a peer answered.
+fn copy_last(alloc: Global, last: &Last) -> Result<Last, NoMemory>
+    ensures { IfOk result (λ copy. copy ≡ last.now) }
+{
+    Ok(Last {
+        id: last.id,
+        request: Octets::copied_from(alloc, last.request.as_slice())?,
+        answer: Octets::copied_from(alloc, last.answer.as_slice())?,
+    })
+}
+
+/// A copy of a peer.
+fn copy(alloc: Global, peer: &Peer) -> Result<Peer, NoMemory>
+    ensures { IfOk result (λ copy. copy ≡ peer.now) }
+{
+    let last = match &peer.last {
+        Some(last) => Some(copy_last(alloc, last)?),
+        None => None,
+    };
+    let identity = match &peer.identity {
+        Some(text) => Some(Octets::copied_from(alloc, text.as_slice())?),
+        None => None,
+    };
+    Ok(Peer {
+        state: peer.state,
+        last,
+        identity,
+        accepted: peer.accepted,
+    })
+}
+
+/// A subscriber's peer takes received bytes at its device: copies of both do, which are put in their places once all memory
+/// is there.
+pub(crate) fn answer(
+    alloc: Global,
+    device: &mut Device,
+    sub: u32,
+    peer: &mut Peer,
+    bytes: &[u8],
+) -> Result<Taken<PeerWhy>, NoMemory>
+    requires { length device.old.realm ≤ 255 }
+
+    ensures step { IfOk result (λ t. StepsPeer (subscription_of device.old) peer.old bytes.now
+        device.old.usim.array peer.new t.turn device.new.usim.array) }
+    ensures inputs { IfOk result (λ t. t.inputs ≡ inputs_of_peer sub peer.new) }
+    ensures sent { IfOk result (λ t. t.sent ≡ sent_by t.turn.step) }
+    ensures subscription { subscription_of device.new ≡ subscription_of device.old }
+    ensures peer { OnErr result (peer.new ≡ peer.old) }
+    ensures device { OnErr result (device.new ≡ device.old) }
+{
+    let mut own = copy(alloc, peer)?;
+    let mut card = device.copy()?;
+    let turn = own.on_bytes(alloc, &mut card, bytes)?;
+    let inputs = peer_inputs(alloc, sub, &own)?;
+    let sent = copy_sent(alloc, &turn.step)?;
+    *peer = own;
+    *device = card;
+    Ok(Taken { turn, inputs, sent })
+}
+
+/// The keys of a peer after a step: those of Success, or those that it had.
+pub(crate) fn keys_won(before: Option<KeySet>, step: &Step<PeerWhy>) -> Option<KeySet>
+    ensures { result ≡ keys_won before step.now }
+{
+    match step {
+        Step::Ended(Outcome::Success(keys), _) => Some(*keys),
+        _ => before,
+    }
+}

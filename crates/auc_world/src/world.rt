@@ -1,0 +1,355 @@
+//! A job's network, with the devices of its subscribers.
+
+ghost use Rattle.std.specs.Prelude.{◌≡◌, ◌≤◌, ◌<◌, ◌++◌, ℕ, [], Some, None, All, length, map, IfOk, IfErr, IfSome, OnErr, is_some, true, vec_capacity, vec_len};
+ghost use Rattle.auc_world.specs.Came.{came_in, came_opened, session_of};
+ghost use Rattle.auc_world.specs.Event.{asked_in};
+ghost use Rattle.auc_world.specs.Happened.{Delivery, at_session, delivery_at, opened};
+ghost use Rattle.auc_world.specs.InnerWorld.{Answers, IsReached, IsUnreached, Serves, came_of, net_of, released_for};
+ghost use Rattle.auc_world.specs.Net.{device_place, session_place};
+ghost use Rattle.auc_peer.specs.Subscription.{subscription_of};
+ghost use Rattle.auc_subs.specs.Subscriber.{AreSubscribers};
+ghost use Rattle.auc_world.specs.Sessions.{job_sessions};
+ghost use Rattle.auc_world.specs.World.{Applies, AreHomes, Challenges, IsKnownEvent, RememberPasts, usim_of};
+
+use crate::acting::{Came, Deed, act, note};
+use crate::event::{Event, Note, NoteStep, WorldRefusal};
+use crate::inputs::{judged, server_inputs};
+use crate::net::{Breach, SentPacket, Session};
+use crate::places::{DevicePlaces, key, places};
+use crate::posting::{make_place, post};
+use crate::record::JobSessions;
+use crate::turning::{Taken, answer, keys_won, serve};
+use crate::verdicts::job_verdicts;
+use auc_edge::NoMemory;
+use auc_lines::End;
+use auc_peer::{Device, Peer};
+use auc_released::Number;
+use auc_server::{HomeRow, Setting};
+use auc_usim::Answer;
+use auc_vector::{Centre, NumberNote};
+use indexmap::IndexMap;
+use std::alloc::Global;
+use std::marker::Model;
+use std::sync::Wait;
+
+/// The subscribers whose USIMs a job holds.
+pub type HomeList = Vec<HomeRow>;
+
+/// Their devices, in the same order.
+pub type DeviceList = Vec<Device>;
+
+/// A job's network, with the devices of its subscribers. Contracts see its `WorldState`.
+#[derive(Drop)]
+pub struct World {
+    packets: Vec<SentPacket>,
+    sessions: IndexMap<u32, Session>,
+    released: Vec<Number>,
+    homes: HomeList,
+    devices: DeviceList,
+    places: DevicePlaces,
+    broken: Option<Breach>,
+}
+
+impl Model for World {
+    ghost use Rattle.indexmap.specs.IndexMap.{get, keys, values};
+    ghost use Rattle.auc_world.specs.InnerWorld.{IsKept, is_key, state_of};
+    ghost use Rattle.auc_world.specs.World.{WorldState};
+
+    ghost Value = { WorldState };
+
+    ghost view = { λ w. state_of w.packets.items (values w.sessions) w.released.items w.homes.items w.broken w.devices.items };
+
+    ghost invariant = { λ w. IsKept (keys w.sessions) (get is_key w.places)
+        (state_of w.packets.items (values w.sessions) w.released.items w.homes.items w.broken w.devices.items) };
+}
+
+impl World {
+    /// A network in which nothing has happened.
+    pub fn new(alloc: Global, homes: HomeList, devices: DeviceList) -> Result<World, NoMemory>
+        requires { All (λ device. length device.realm ≤ 255) devices.items }
+        ensures { IfOk result (λ w. w ≡ record {
+          net = record {
+            packets = [];
+            sessions = [];
+            released = [];
+            homes = homes.items;
+            devices = map subscription_of devices.items;
+            broken = None;
+          };
+          devices = devices.items;
+        }) }
+    {
+        let places = places(alloc, &devices)?;
+        Ok(World {
+            packets: Vec::new(alloc),
+            sessions: IndexMap::new(alloc),
+            released: Vec::new(alloc),
+            homes,
+            devices,
+            places,
+            broken: None,
+        })
+    }
+
+    /// The homes and the devices as they stand.
+    pub fn parts(self) -> (HomeList, DeviceList)
+        ensures homes { result.0.items ≡ self.net.homes }
+        ensures devices { result.1.items ≡ self.devices }
+    {
+        let World { homes, devices, .. } = self;
+        (homes, devices)
+    }
+
+    /// What the sessions of the job came to.
+    pub fn sessions(&self, alloc: Global) -> Result<JobSessions, NoMemory>
+        ensures { IfOk result (λ sessions. sessions ≡ job_sessions self.now.net) }
+    {
+        Ok(JobSessions {
+            verdicts: job_verdicts(alloc, &self.sessions)?,
+            any: self.sessions.len() > 0,
+            broken: self.broken,
+        })
+    }
+
+    /// The place of a subscriber's device, if it is there.
+    fn device_of(&self, set: &Setting, sub: u32) -> Option<u32>
+        requires { sub < length set.now.rows }
+        ensures { result ≡ device_place set.now.rows self.now.net.devices sub }
+    {
+        let key = key(set.subs.row(sub).imsi);
+        self.places.get(&key).copied()
+    }
+
+    /// Challenges the USIM of a subscriber whose device is there (TS 33.102 §6.3.3).
+    pub fn challenge(&mut self, set: &Setting, sub: u32, rand: [u8; 16], autn: [u8; 16]) -> Answer
+        requires subscribers { AreSubscribers set.now.rows }
+        requires known { sub < length set.now.rows }
+        requires own { is_some (usim_of set.now.rows self.old sub) ≡ true }
+        ensures answer { Challenges (usim_of set.now.rows self.old) sub rand autn result
+            (usim_of set.now.rows self.new) }
+        ensures net { self.new.net ≡ self.old.net }
+    {
+        let Some(place) = self.device_of(set, sub) else {
+            unreachable!()
+        };
+        match self.devices.get_mut(place as usize) {
+            Some(device) => device.usim.challenge(rand, autn),
+            None => unreachable!(),
+        }
+    }
+
+    /// Makes an event happen (RFC 4187 §3). A packet stays where it was sent, and may be delivered again. If memory runs
+    /// out, the network, the devices and the centre stay as they were.
+    pub fn apply<C: Centre, R: Wait>(
+        &mut self,
+        rt: &R,
+        alloc: Global,
+        set: &Setting,
+        centre: &mut C,
+        event: Event,
+    ) -> Result<Result<Note, WorldRefusal>, NoMemory>
+        requires known { IsKnownEvent (length set.now.rows) event }
+        requires homes { AreHomes set.now.rows (C.subs centre.old) (C.top centre.old) self.old.net.homes }
+
+        ensures applied { IfOk result (λ came. RememberPasts self.old.devices
+            → Applies C.goes C.kept C.top set.now self.old event centre.old self.new came centre.new) }
+        ensures asked { IfOk result (λ came. IfSome (asked_in came) (λ sub. sub < length set.now.rows)) }
+        ensures homes { self.new.net.homes ≡ self.old.net.homes }
+        ensures devices { self.new.net.devices ≡ self.old.net.devices }
+        ensures subs { C.subs centre.new ≡ C.subs centre.old }
+        ensures top { (i : ℕ) → C.top centre.new i ≡ C.top centre.old i }
+        ensures name { C.name centre.new ≡ C.name centre.old }
+
+        ensures world { OnErr result (self.new ≡ self.old) }
+        ensures centre { OnErr result (centre.new ≡ centre.old) }
+    {
+        match event {
+            Event::Open { session, sub } => self.open(set, session, sub),
+            Event::Start(session) => self.act(alloc, session, Deed::Start),
+            Event::Repeat(session) => self.act(alloc, session, Deed::Repeat),
+            Event::GiveUp { session, end } => self.act(alloc, session, Deed::GiveUp(end)),
+            Event::Deliver {
+                session,
+                end,
+                packet,
+            } => match (self.reached(session, packet), end) {
+                (Err(why), _) => Ok(Err(why)),
+                (Ok(place), End::Server) => self.to_server(rt, alloc, set, centre, place, packet),
+                (Ok(place), End::Peer) => self.to_peer(alloc, place, packet),
+            },
+        }
+    }
+
+    /// Opens a session at a subscriber's device.
+    fn open(&mut self, set: &Setting, session: u32, sub: u32) -> Result<Came, NoMemory>
+        requires { sub < length set.now.rows }
+        ensures came { IfOk result (λ came. came ≡ came_opened (session_place self.old.net.sessions session) (device_place set.now.rows self.old.net.devices sub)) }
+        ensures opened { IfOk result (λ _. self.new ≡ record self.old { net = opened self.old.net session sub (session_place self.old.net.sessions session) (device_place set.now.rows self.old.net.devices sub) }) }
+        ensures kept { OnErr result (self.new ≡ self.old) }
+    {
+        if self.sessions.get_index_of(&session).is_some() {
+            return Ok(Err(WorldRefusal::Started));
+        }
+        let Some(device) = self.device_of(set, sub) else {
+            return Ok(Err(WorldRefusal::NoSuchEnd));
+        };
+        let opened = Session {
+            number: session,
+            sub,
+            device,
+            server: None,
+            peer: Peer::new(),
+            peer_keys: None,
+        };
+        self.sessions.insert(session, opened)?;
+        Ok(Ok(note(NoteStep::Opened, None)))
+    }
+
+    /// Does in a session what one of its ends does by itself.
+    fn act(&mut self, alloc: Global, session: u32, deed: Deed) -> Result<Came, NoMemory>
+        ensures came { IfOk result (λ came. came ≡ came_in (came_of self.old.net deed) (session_of self.old.net session)) }
+        ensures acted { IfOk result (λ _. self.new ≡ record self.old { net = at_session self.old.net session (net_of self.old.net deed) }) }
+        ensures kept { OnErr result (self.new ≡ self.old) }
+    {
+        let Some(place) = self.sessions.get_index_of(&session) else {
+            return Ok(Err(WorldRefusal::NoSuchEnd));
+        };
+        let came = act(alloc, &mut self.packets, &mut self.sessions[place], deed)?;
+        Ok(came)
+    }
+
+    /// The place of the session that a packet reaches. The packet is looked for first.
+    fn reached(&self, session: u32, packet: u32) -> Result<usize, WorldRefusal>
+        ensures place { IfOk result (λ place. session_place self.now.net.sessions session ≡ Some place) }
+        ensures reached { IfOk result (λ place. IsReached self.now.net place packet) }
+        ensures refused { IfErr result (IsUnreached self.now.net session packet) }
+    {
+        if packet == 0 || self.packets.len() < packet as usize {
+            return Err(WorldRefusal::NoSuchPacket);
+        }
+        match self.sessions.get_index_of(&session) {
+            Some(place) => Ok(place),
+            None => Err(WorldRefusal::NoSuchEnd),
+        }
+    }
+
+    /// Delivers a packet to the server of the session at a place.
+    fn to_server<C: Centre, R: Wait>(
+        &mut self,
+        rt: &R,
+        alloc: Global,
+        set: &Setting,
+        centre: &mut C,
+        place: usize,
+        packet: u32,
+    ) -> Result<Came, NoMemory>
+        requires homes { AreHomes set.now.rows (C.subs centre.old) (C.top centre.old) self.old.net.homes }
+        requires reached { IsReached self.old.net place packet }
+
+        ensures served { IfOk result (λ came. (d : Delivery) → delivery_at self.old.net packet (Some place) ≡ Some d
+            → Serves C.goes C.kept C.top set.now self.old d centre.old self.new came centre.new) }
+        ensures asked { IfOk result (λ came. IfSome (asked_in came) (λ sub. sub < length set.now.rows)) }
+        ensures homes { self.new.net.homes ≡ self.old.net.homes }
+        ensures devices { self.new.net.devices ≡ self.old.net.devices }
+        ensures subs { C.subs centre.new ≡ C.subs centre.old }
+        ensures top { (i : ℕ) → C.top centre.new i ≡ C.top centre.old i }
+        ensures name { C.name centre.new ≡ C.name centre.old }
+
+        ensures world { OnErr result (self.new ≡ self.old) }
+        ensures centre { OnErr result (centre.new ≡ centre.old) }
+    {
+        make_place(&mut self.packets)?;
+        self.released.reserve(1)?;
+        let session = &mut self.sessions[place];
+        let delivery = Breach {
+            session: session.number,
+            end: End::Server,
+            packet,
+        };
+        let Some(server) = &mut session.server else {
+            return Ok(Err(WorldRefusal::NoSuchEnd));
+        };
+        let near = packet as usize - 1;
+        let bytes = self.packets[near].bytes.as_slice();
+        let before = server_inputs(alloc, server)?;
+        let homes = &mut self.homes;
+        let Taken { turn, inputs, sent } = serve(rt, alloc, set, homes, centre, server, bytes)?;
+        let asked = server.asked(set, self.homes.as_slice(), turn.notes);
+        let checked = turn.checked;
+        self.broken = judged(
+            &self.packets,
+            near,
+            self.broken,
+            checked,
+            &before,
+            bytes,
+            delivery,
+        );
+        release(&mut self.released, asked, turn.notes.number);
+        Ok(Ok(Note {
+            notes: turn.notes,
+            step: NoteStep::Server(turn.step),
+            packet: post(&mut self.packets, End::Server, inputs, sent),
+            asked,
+            device: None,
+        }))
+    }
+
+    /// Delivers a packet to the peer of the session at a place, at its subscriber's device.
+    fn to_peer(&mut self, alloc: Global, place: usize, packet: u32) -> Result<Came, NoMemory>
+        requires { IsReached self.old.net place packet }
+        ensures answered { IfOk result (λ came. RememberPasts self.old.devices → (d : Delivery)
+            → delivery_at self.old.net packet (Some place) ≡ Some d → Answers self.old d self.new came) }
+        ensures asked { IfOk result (λ came. asked_in came ≡ None) }
+        ensures homes { self.new.net.homes ≡ self.old.net.homes }
+        ensures devices { self.new.net.devices ≡ self.old.net.devices }
+        ensures world { OnErr result (self.new ≡ self.old) }
+    {
+        make_place(&mut self.packets)?;
+        let session = &mut self.sessions[place];
+        let delivery = Breach {
+            session: session.number,
+            end: End::Peer,
+            packet,
+        };
+        let Some(device) = self.devices.get_mut(session.device as usize) else {
+            return Ok(Err(WorldRefusal::NoSuchEnd));
+        };
+        let near = packet as usize - 1;
+        let bytes = self.packets[near].bytes.as_slice();
+        let sub = session.sub;
+        let Taken { turn, inputs, sent } = answer(alloc, device, sub, &mut session.peer, bytes)?;
+        session.peer_keys = keys_won(session.peer_keys, &turn.step);
+        let checked = turn.checked;
+        self.broken = judged(
+            &self.packets,
+            near,
+            self.broken,
+            checked,
+            &inputs,
+            bytes,
+            delivery,
+        );
+        Ok(Ok(Note {
+            notes: turn.notes,
+            step: NoteStep::Peer(turn.step),
+            packet: post(&mut self.packets, End::Peer, inputs, sent),
+            asked: None,
+            device: Some(sub),
+        }))
+    }
+}
+
+/// Notes the number that was drawn for a subscriber, if one was. There is a place for it.
+fn release(released: &mut Vec<Number>, asked: Option<u32>, drawn: Option<NumberNote>)
+    requires { vec_len released.old < vec_capacity released.old }
+    ensures { released.new.items ≡ released.old.items ++ released_for asked drawn }
+{
+    let (Some(sub), Some(NumberNote::Drew(n))) = (asked, drawn) else {
+        return;
+    };
+    match released.push(Number { sub, n }) {
+        Ok(()) => {}
+        Err(_) => unreachable!(),
+    }
+}

@@ -1,0 +1,179 @@
+#!/usr/bin/env python3
+"""Tests of tools/pcap and tools/chart on the outputs of examples/ and on texts that are no transcripts."""
+import struct
+import subprocess
+import sys
+import tempfile
+import unittest
+from importlib.machinery import SourceFileLoader
+from importlib.util import module_from_spec, spec_from_loader
+from pathlib import Path
+from xml.etree import ElementTree
+
+import transcript
+
+TOOLS = Path(__file__).resolve().parent
+EXAMPLES = TOOLS.parent / "examples"
+FULL = EXAMPLES / "session-full-print.expected"
+
+
+def loaded(name):
+    loader = SourceFileLoader(f"{name}_tool", str(TOOLS / name))
+    module = module_from_spec(spec_from_loader(loader.name, loader))
+    sys.modules[loader.name] = module
+    loader.exec_module(module)
+    return module
+
+
+chart, pcap = loaded("chart"), loaded("pcap")
+
+# The first packet is lost, the second arrives twice, and the answer reaches another session's server.
+PACKETS = """round 1
+job 2
+session 7 open
+session 123456 open
+start 7 sent 1
+packet 1 0101000501
+repeat 7 sent 2
+packet 2 0101000501
+deliver 7 peer 2 sent 3
+packet 3 020100060130
+deliver 7 peer 2 sent 4
+packet 4 020100060130
+start 123456 sent 5
+packet 5 0101000501
+deliver 123456 server 4 exhausted 8796093022207 sent 6
+packet 6 0102000c170c00000c014000
+giveup 7 peer ended failure givenup
+deliver 7 peer 9 nosuchpacket
+closed 001010000000001 8796093022207 8796093022208 1 0 0 0
+premise held
+"""
+
+LADDER = """session 7, round 1, job 2
+
+                     peer                                                           server                         centre
+                       |                                                              |                             |
+                       |                                                              | start                       |
+                       |    x-- 1 Request/Identity -----------------------------------|                             |
+                       |                                                              | repeat                      |
+                       |<-- 2 Request/Identity (copy of 1) ---------------------------|                             |
+                       |--- 3 Response/Identity ---------------------------------x    |                             |
+                       |<-- 2 Request/Identity (copy of 1, again) --------------------|                             |
+                       |--- 4 Response/Identity (copy of 3, to session 123456) -->    |                             |
+              gives up |                                                              |                             |
+packet 9: nosuchpacket |                                                              |                             |
+"""
+
+
+def frames_in(capture):
+    """The frames of a pcapng file, each with its time, its bytes and its comments."""
+    frames, place = [], 0
+    while place < len(capture):
+        kind, size = struct.unpack_from("<II", capture, place)
+        assert size % 4 == 0 and capture[place + size - 4:place + size] == struct.pack("<I", size), (kind, size)
+        if kind == pcap.FRAME:
+            frames.append(frame_in(capture[place + 8:place + size - 4]))
+        place += size
+    return frames
+
+
+def frame_in(body):
+    _, high, low, size, length = struct.unpack_from("<IIIII", body)
+    assert size == length
+    comments, place = [], 20 + size + -size % 4
+    while body[place:place + 4] != bytes(4):
+        code, count = struct.unpack_from("<HH", body, place)
+        comments.append((code, body[place + 4:place + 4 + count].decode()))
+        place += 4 + count + -count % 4
+    return (high << 32) + low, body[20:20 + size], comments
+
+
+class Captures(unittest.TestCase):
+    def test_each_delivery_and_each_lost_packet_is_a_frame(self):
+        frames = frames_in(pcap.capture(pcap.frames_of(transcript.sessions_in(PACKETS))))
+        peer, server, other = (bytes.fromhex(it) for it in ("020000000007", "020001000007", "020001123456"))
+        shown = [(time // 1000, data[:6], data[18:], [text for _, text in comments]) for time, data, comments in frames]
+        request, answer = bytes.fromhex("0101000501"), bytes.fromhex("020100060130")
+        lost = "packet {} is lost: it is never delivered".format
+        self.assertEqual(shown, [
+            (5, peer, request, ["line 5: start 7 sent 1", lost(1)]),
+            (9, peer, request, ["line 7: repeat 7 sent 2", "line 9: deliver 7 peer 2 sent 3"]),
+            (9, server, answer, ["line 9: deliver 7 peer 2 sent 3", lost(3)]),
+            (11, peer, request, ["line 7: repeat 7 sent 2", "line 11: deliver 7 peer 2 sent 4", "packet 2 is delivered again"]),
+            (13, bytes.fromhex("020000123456"), request, ["line 13: start 123456 sent 5", lost(5)]),
+            (15, other, answer, ["line 11: deliver 7 peer 2 sent 4", "line 15: deliver 123456 server 4 exhausted 8796093022207 sent 6",
+                                 "packet 4 was sent in session 7"]),
+            (15, bytes.fromhex("020000123456"), bytes.fromhex("0102000c170c00000c014000"),
+             ["line 15: deliver 123456 server 4 exhausted 8796093022207 sent 6", lost(6)]),
+        ])
+        # EAP over LAN: its type, version 2, packet type 0, and the length of the EAP packet.
+        self.assertTrue(all(data[12:18] == b"\x88\x8e\x02\x00" + len(data[18:]).to_bytes(2, "big") for _, data, _ in frames))
+
+    def test_full_print_is_captured(self):
+        with tempfile.TemporaryDirectory() as folder:
+            path = Path(folder) / "capture"
+            done = subprocess.run([TOOLS / "pcap", FULL, path], capture_output=True, text=True)
+            self.assertEqual((done.returncode, done.stdout, done.stderr), (0, "", ""))
+            self.assertEqual(len(frames_in(path.read_bytes())), 5)
+
+
+class Charts(unittest.TestCase):
+    def ladders(self, text):
+        return [chart.ladder_of(session) for session in transcript.sessions_in(text)]
+
+    def test_ladder_shows_each_event(self):
+        ladders = self.ladders(PACKETS)
+        self.assertEqual(chart.text_ladder(ladders[0], chart.columns_of(ladders)), LADDER)
+
+    def test_picture_has_each_label(self):
+        for path in EXAMPLES.glob("*.expected"):
+            ladders = self.ladders(path.read_text())
+            root = ElementTree.fromstring(chart.picture(ladders))
+            shown = [it.text for it in root.iter("{http://www.w3.org/2000/svg}text")]
+            labels = [row.label for it in ladders for row in it.rows if not isinstance(row, chart.Words)]
+            self.assertEqual([it for it in labels if it not in shown], [], path.name)
+
+
+class Inputs(unittest.TestCase):
+    def test_text_that_is_no_transcript_is_refused_with_its_reason(self):
+        begun = "round 1\njob 1\nsession 1 open\n"
+        cases = [
+            ("hello\n", "line 1: 'hello' is no line of a transcript"),
+            ("refused scenario 3 fields\n", "line 1: 'refused scenario 3 fields' is no line of a transcript"),
+            ("session 1 open\n", "line 1: a session is opened outside of a job"),
+            ("session 1 agree\n", "line 1: session 1 was never opened"),
+            (begun + "start 2 sent 1\n", "line 4: session 2 isn't open in this job"),
+            (begun + "job 2\nstart 1 sent 1\n", "line 5: session 1 isn't open in this job"),
+            (begun + "start 1 sent 2\n", "line 4: packet 2 follows packet 0"),
+            (begun + "deliver 1 peer 1 sent 1\n", "line 4: packet 1 wasn't sent before"),
+            (begun + "start 1 sent 1\ndeliver 1 client 1 sent 2\n", "line 5: 'client' is no end of a session"),
+            (begun + "start 1 sent 1\ndeliver 1 peer 1 sang 2\n", "line 5: 'sang' is nothing that an end does"),
+            (begun + "start 1 sent 1\ndeliver 1 peer 1 drew\n", "line 5: 'deliver 1 peer 1 drew' ends after its notes"),
+            (begun + "start x sent 1\n", "line 4: 'x' isn't a number"),
+            (begun + "start 1 sent 1\npacket 2 0101000501\n", "line 5: the bytes aren't those of the packet"),
+        ]
+        for text, reason in cases:
+            with self.assertRaises(transcript.Unreadable, msg=text) as refused:
+                transcript.sessions_in(text)
+            self.assertTrue(str(refused.exception).startswith(reason), (text, str(refused.exception)))
+
+    def test_tools_tell_what_they_cannot_read(self):
+        brief, empty = EXAMPLES / "session.expected", EXAMPLES / "first.expected"
+        cases = [
+            (["pcap", brief, "/dev/null"], "line 4: the bytes of packet 1 are missing; run the scenario with `print full`"),
+            (["pcap", empty, "/dev/null"], "no session sends a packet"),
+            (["pcap", FULL, "/no/such/folder/file"], "No such file or directory"),
+            (["chart", empty], "it has no session"),
+            (["chart", "/no/such/file"], "No such file or directory"),
+            (["chart", FULL, "--svg", "/no/such/folder/file"], "No such file or directory"),
+        ]
+        for (name, *words), reason in cases:
+            done = subprocess.run([TOOLS / name, *words], capture_output=True, text=True)
+            self.assertEqual((done.returncode, done.stdout), (2, ""), words)
+            self.assertIn(f"{name}: ", done.stderr)
+            self.assertIn(reason, done.stderr)
+
+
+if __name__ == "__main__":
+    unittest.main()

@@ -1,0 +1,211 @@
+"""Reads a transcript, which is what `auc run` prints: its sessions, their events and packets. tools/pcap and tools/chart
+show it.
+
+A packet's number counts the packets of its job, and a session's number is its own in the whole transcript.
+"""
+import re
+import sys
+from dataclasses import dataclass, field
+
+# How many words follow the first one of a note, and the ends that they come from.
+CENTRE_NOTES = {"moved": 2, "inrange": 2, "beyond": 2, "drew": 1, "exhausted": 1, "withheld": 2}
+OWN_NOTES = {"badauts": 0, "accepted": 1, "sync": 1, "wrongmac": 0}
+# The first words of the lines that tell nothing of a session's packets.
+OTHER_LINES = {"restart", "vector", "bytes", "withheld", "exhausted", "sync", "give", "closed", "keys"}
+# Of an event's line, the words before its notes.
+EVENTS = {"start": 2, "repeat": 2, "giveup": 3, "deliver": 4}
+REFUSALS = {"nosuchpacket", "nosuchend", "started"}
+ENDS = ("server", "peer")
+CODES = {1: "Request", 2: "Response", 3: "Success", 4: "Failure"}
+SUBTYPES = {1: "Challenge", 2: "Authentication-Reject", 4: "Synchronization-Failure", 5: "Identity", 12: "Notification",
+            13: "Reauthentication", 14: "Client-Error"}
+IDENTITY, AKA = 1, 23
+
+
+class Unreadable(Exception):
+    """Why a text is no transcript."""
+
+
+@dataclass
+class Packet:
+    number: int
+    session: "Session"
+    sender: str
+    event: "Event"
+    data: bytes | None = None
+    # The events that deliver it.
+    deliveries: list = field(default_factory=list)
+
+
+@dataclass
+class Event:
+    line: int
+    text: str
+    word: str
+    session: "Session"
+    # The end that acts: the server for `start` and `repeat`.
+    end: str
+    delivered: Packet | None = None
+    notes: list = field(default_factory=list)
+    sent: Packet | None = None
+    # What is left of the line: `ended success`, `ignored closed`, `nosuchpacket`; nothing if a packet is all that came.
+    step: str = ""
+
+
+@dataclass
+class Session:
+    number: int
+    round: int
+    job: int
+    events: list = field(default_factory=list)
+    packets: list = field(default_factory=list)
+    verdict: str = ""
+
+
+@dataclass
+class Job:
+    packets: list = field(default_factory=list)
+    sessions: dict = field(default_factory=dict)
+
+
+def other(end):
+    return ENDS[1 - ENDS.index(end)]
+
+
+def name_of(data):
+    """What a packet is called in RFC 3748 and RFC 4187; nothing if its bytes aren't known."""
+    code = CODES.get(data[0], "") if data else ""
+    if data is None or len(data) < 5 or code not in ("Request", "Response"):
+        return code
+    if data[4] == AKA and len(data) > 5 and data[5] in SUBTYPES:
+        return f"{code}/AKA-{SUBTYPES[data[5]]}"
+    return f"{code}/Identity" if data[4] == IDENTITY else f"{code}/type {data[4]}"
+
+
+class Reader:
+    def __init__(self):
+        # All sessions by their numbers, in the order in which they are opened.
+        self.sessions, self.round, self.job_number, self.job, self.event = {}, 0, 0, None, None
+
+    def number(self, word):
+        if not re.fullmatch(r"[0-9]{1,20}", word):
+            raise Unreadable(f"{word!r} isn't a number")
+        return int(word)
+
+    def session(self, word):
+        found = self.job and self.job.sessions.get(self.number(word))
+        if not found:
+            raise Unreadable(f"session {word} isn't open in this job")
+        return found
+
+    def read(self, line, text):
+        words = text.split(" ")
+        word = words[0]
+        if word in ("round", "job") and len(words) == 2:
+            self.begin(word, self.number(words[1]))
+        elif word == "session" and len(words) == 3 and words[2] in ("open", "agree", "differ"):
+            self.open_or_judge(words)
+        elif word == "packet" and len(words) == 3:
+            self.bytes_of_packet(words)
+        elif word in EVENTS and len(words) > EVENTS[word]:
+            self.read_event(line, text, words)
+        elif word not in OTHER_LINES and words[:2] not in (["premise", "held"], ["premise", "broken"]):
+            raise Unreadable(f"{text[:60]!r} is no line of a transcript")
+
+    def begin(self, word, number):
+        if word == "round":
+            self.round, self.job = number, None
+        else:
+            self.job_number, self.job = number, Job()
+
+    def open_or_judge(self, words):
+        number = self.number(words[1])
+        if words[2] != "open":
+            if number not in self.sessions:
+                raise Unreadable(f"session {number} was never opened")
+            self.sessions[number].verdict = words[2]
+        elif self.job is None:
+            raise Unreadable("a session is opened outside of a job")
+        else:
+            session = Session(number, self.round, self.job_number)
+            self.job.sessions[number] = self.sessions[number] = session
+
+    def bytes_of_packet(self, words):
+        packet = self.event and self.event.sent
+        if not packet or packet.number != self.number(words[1]) or not re.fullmatch(r"([0-9a-f]{2}){4,}", words[2]):
+            raise Unreadable("the bytes aren't those of the packet that was sent before")
+        packet.data = bytes.fromhex(words[2])
+
+    def read_event(self, line, text, words):
+        word, session = words[0], self.session(words[1])
+        end = words[2] if word in ("giveup", "deliver") else "server"
+        if end not in ENDS:
+            raise Unreadable(f"{end!r} is no end of a session")
+        event = Event(line, text, word, session, end)
+        rest = words[EVENTS[word]:]
+        if word == "deliver":
+            event.delivered = self.delivered(self.number(words[3]), rest)
+            if event.delivered and rest != ["nosuchend"]:
+                event.delivered.deliveries.append(event)
+        self.read_notes(event, rest)
+        self.read_step(event, rest)
+        session.events.append(event)
+        self.event = event
+
+    def delivered(self, number, rest):
+        if rest == ["nosuchpacket"]:
+            return None
+        if not 1 <= number <= len(self.job.packets):
+            raise Unreadable(f"packet {number} wasn't sent before")
+        return self.job.packets[number - 1]
+
+    def read_notes(self, event, rest):
+        """Takes the notes from the front of the words."""
+        while rest and rest[0] in CENTRE_NOTES | OWN_NOTES:
+            count = 1 + (CENTRE_NOTES | OWN_NOTES)[rest[0]]
+            if len(rest) <= count:
+                raise Unreadable(f"{event.text[:60]!r} ends after its notes")
+            event.notes.append(" ".join(rest[:count]))
+            del rest[:count]
+
+    def read_step(self, event, rest):
+        if rest[0] == "sent" and len(rest) > 1:
+            packets = self.job.packets
+            if self.number(rest[1]) != len(packets) + 1:
+                raise Unreadable(f"packet {rest[1]} follows packet {len(packets)}")
+            event.sent = Packet(len(packets) + 1, event.session, event.end, event)
+            packets.append(event.sent)
+            event.session.packets.append(event.sent)
+            del rest[:2]
+        if rest and rest[0] not in {"ended", "ignored"} | REFUSALS:
+            raise Unreadable(f"{rest[0]!r} is nothing that an end does")
+        event.step = " ".join(rest)
+
+
+def sessions_in(text):
+    """The sessions of a transcript, in the order in which they are opened."""
+    reader = Reader()
+    for line, words in enumerate(text.split("\n"), 1):
+        try:
+            if words:
+                reader.read(line, words)
+        except Unreadable as reason:
+            raise Unreadable(f"line {line}: {reason}") from None
+    return list(reader.sessions.values())
+
+
+def sessions_of(path):
+    """The same of a file, or of standard input if the path is `-`."""
+    try:
+        if path == "-":
+            text = sys.stdin.read()
+        else:
+            with open(path, encoding="utf-8") as file:
+                text = file.read()
+        return sessions_in(text)
+    except OSError as error:
+        raise Unreadable(f"{path}: {error.strerror}") from None
+    except UnicodeDecodeError:
+        raise Unreadable(f"{path}: it is no text") from None
+    except Unreadable as reason:
+        raise Unreadable(f"{path}: {reason}") from None
