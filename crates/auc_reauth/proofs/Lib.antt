@@ -1,0 +1,3 @@
+mod ServerLemmas
+mod IdentityLemmas
+mod DeviceLemmas

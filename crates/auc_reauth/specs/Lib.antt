@@ -1,0 +1,4 @@
+pub mod Store
+pub mod Server
+pub mod Device
+pub mod Laws

@@ -1,0 +1,23 @@
+//! What the two ends of a session keep for fast re-authentication (RFC 4187 §5, RFC 9048 §3.3).
+//!
+//! A [`Context`] is what a full authentication leaves behind: a re-authentication identity, keys and a counter.
+//! A [`ServerStore`] is a subscriber's contexts in the home network: a context that is taken leaves it. A
+//! [`DeviceStore`] is a device's pseudonyms and contexts: a counter that it accepts is never open again. Each keeps
+//! at most one context for each method.
+//!
+//! Contracts see a `ServerStore` as `Contexts`, the context of each method, and a `DeviceStore` as `Keeps`, which has
+//! the pseudonym of each method, too. The laws speak of every list of calls. Nothing here takes memory, waits or
+//! fails.
+#![tactic(auto)]
+
+mod context;
+mod device_store;
+mod law;
+mod server_store;
+#[cfg(test)]
+mod tests;
+
+pub use context::Context;
+pub use device_store::DeviceStore;
+pub use law::{accepted_counters_rise, contexts_are_taken_once, identities_are_taken_once};
+pub use server_store::ServerStore;
