@@ -4,7 +4,7 @@
     tools/eap_rows.py stdin|stdout
 
 It has Milenage (TS 35.206), the USIM's array (TS 33.102 Annex C), the messages, keys and both state machines of EAP-AKA
-(RFC 4187) with permanent identities, and shares nothing with the crates. The rows go through each state of a server and
+(RFC 4187) and EAP-AKA' (RFC 9048) with permanent identities, and shares nothing with the crates. The rows go through each state of a server and
 of a peer: first, in one session, each message that is ignored there; then each other message in a session of its own.
 AES and ChaCha20 are those of Python's `cryptography`; hashes are Python's own.
 """
@@ -20,7 +20,7 @@ K = bytes.fromhex("465b5ce8b199b49faa5f0a2ee238a6bc")
 OPC = bytes.fromhex("cd63cb71954a9f4e48a5994e37a02baf")
 AMF = bytes.fromhex("8000")
 RANDOM_KEY = bytes(range(32))
-IDENTITY = b"0001010000000001"
+IDENTITIES = {23: b"0001010000000001", 50: b"6001010000000001"}
 
 
 # ---- Milenage and the USIM
@@ -67,9 +67,9 @@ def sqn_of(n):
     return (32 * n + n % 32).to_bytes(6)
 
 
-def autn_of(n, rand):
+def autn_of(n, rand, amf=AMF):
     f = Functions(rand)
-    return xor(sqn_of(n), f.ak) + AMF + f.f1(sqn_of(n), AMF)[0]
+    return xor(sqn_of(n), f.ak) + amf + f.f1(sqn_of(n), amf)[0]
 
 
 def auts_of(n, rand):
@@ -124,18 +124,41 @@ def g(value):
     return b"".join(((x + y) & 0xFFFFFFFF).to_bytes(4) for x, y in zip(start, (a, b, c, d, e)))
 
 
+def aka_stream(identity, ck, ik):
+    """The key string of EAP-AKA, with a K_re of zeros (RFC 4187 section 7)."""
+    key = int.from_bytes(hashlib.sha1(identity + ik + ck).digest())
+    stream = b""
+    for _ in range(8):
+        word = g(key.to_bytes(20))
+        key = (1 + key + int.from_bytes(word)) % 2**160
+        stream += word
+    return stream[:32] + bytes(48) + stream[32:]
+
+
+def prime_stream(identity, name, autn, ck, ik):
+    """The key string of EAP-AKA' (RFC 9048 section 3.3)."""
+    message = b"\x20" + name + len(name).to_bytes(2) + autn[:6] + b"\0\6"
+    both = hmac.digest(ck + ik, message, "sha256")
+    stream = block = b""
+    for i in range(1, 8):
+        block = hmac.digest(both[16:] + both[:16], block + b"EAP-AKA'" + identity + bytes([i]), "sha256")
+        stream += block
+    return stream
+
+
 class Keys:
-    def __init__(self, identity, f):
-        key = int.from_bytes(hashlib.sha1(identity + f.ik + f.ck).digest())
-        stream = b""
-        for _ in range(8):
-            word = g(key.to_bytes(20))
-            key = (1 + key + int.from_bytes(word)) % 2**160
-            stream += word
-        self.encr, self.aut, self.msk, self.emsk = stream[:16], stream[16:32], stream[32:96], stream[96:160]
+    """The keys by the method, whose type this is; the name is the network's."""
+
+    def __init__(self, kind, name, identity, autn, f):
+        if kind == 23:
+            stream = aka_stream(identity, f.ck, f.ik)
+        else:
+            stream = prime_stream(identity, name, autn, f.ck, f.ik)
+        self.aut = stream[16:32] if kind == 23 else stream[16:48]
+        self.words = [stream[:16], stream[16:48], stream[48:80], stream[80:144], stream[144:208]]
 
     def text(self):
-        return f"keys {self.encr.hex()} {self.aut.hex()}{'0' * 32} {'0' * 64} {self.msk.hex()} {self.emsk.hex()}"
+        return "keys " + " ".join(word.hex() for word in self.words)
 
 
 # ---- packets
@@ -169,14 +192,18 @@ def packet(code, identifier, rest):
     return bytes([code, identifier]) + (4 + len(rest)).to_bytes(2) + rest
 
 
-def aka(code, identifier, subtype, attrs=b"", kind=23):
+def message(kind, code, identifier, subtype, attrs=b""):
     return packet(code, identifier, bytes([kind, subtype, 0, 0]) + attrs)
 
 
-def sealed(key, code, identifier, subtype, attrs):
+def mac(kind, key, data):
+    return hmac.digest(key, data, "sha1" if kind == 23 else "sha256")[:16]
+
+
+def sealed(kind, key, code, identifier, subtype, attrs):
     """A message with its AT_MAC last."""
-    front = aka(code, identifier, subtype, attrs + sixteen(11, bytes(16)))
-    return front[:-16] + hmac.digest(key, front, "sha1")[:16]
+    front = message(kind, code, identifier, subtype, attrs + sixteen(11, bytes(16)))
+    return front[:-16] + mac(kind, key, front)
 
 
 class Fault(Exception):
@@ -184,7 +211,7 @@ class Fault(Exception):
 
 
 def read_attrs(data):
-    """The values by type. A type from 128 on that isn't known is left out."""
+    """The values by type, of AT_KDF the first. A type from 128 on that isn't known is left out."""
     found, known = {}, set(SIZES) | {3, 130, *TEXTS}
     while data:
         if len(data) < 2:
@@ -202,7 +229,7 @@ def read_attrs(data):
                 raise Fault
             value = value[2:2 + size]
         if kind in known:
-            found[kind] = value
+            found.setdefault(kind, value)
     return found
 
 
@@ -222,37 +249,42 @@ class Head:
             raise Fault
 
 
-# Which attributes below 128 each message may have, by its subtype and whether it is a request.
+# Which attributes below 128 each message may have, by its subtype and whether it is a request; and those of EAP-AKA' alone.
 MAY = {(1, True): {1, 2, 11}, (1, False): {3, 11}, (2, False): set(), (4, False): {4}, (5, True): {10, 13, 17},
        (5, False): {14}, (12, True): {12, 11}, (12, False): set(), (13, True): {11}, (13, False): {11}, (14, False): {22}}
+PRIME_MAY = {(1, True): {23, 24}, (4, False): {24}}
 
 
 def read_message(head):
-    """The subtype and the attributes of a message of EAP-AKA that isn't malformed."""
+    """The subtype and the attributes of a message of EAP-AKA or EAP-AKA' that isn't malformed."""
     subtype, request = head.data[5], head.code == REQUEST
     if subtype not in NAMES:
         raise Fault
     attrs = read_attrs(head.data[8:])
-    if any(it < 128 and it not in MAY.get((subtype, request), set()) for it in attrs):
+    may = MAY.get((subtype, request), set())
+    if head.kind == 50:
+        may = may | PRIME_MAY.get((subtype, request), set())
+    if any(it < 128 and it not in may for it in attrs):
         raise Fault
     # What belongs into AT_ENCR_DATA, and what another message has, doesn't count from 128 on.
     return subtype, attrs
 
 
-def is_sealed(key, data):
+def is_sealed(kind, key, data):
     """Whether AT_MAC, which has to be there, is right."""
     at = 8
     while data[at] != 11:
         at += 4 * data[at + 1]
     value = data[at + 4:at + 20]
-    return hmac.digest(key, data[:at + 4] + bytes(16) + data[at + 20:], "sha1")[:16] == value
+    return mac(kind, key, data[:at + 4] + bytes(16) + data[at + 20:]) == value
 
 
 # ---- the server
 
 class Server:
-    def __init__(self, word, is_held):
+    def __init__(self, word, is_held, kind=23, name=b"", bidding=False):
         self.word, self.is_held = word, is_held
+        self.kind, self.name, self.bidding = kind, name, bidding
         self.state, self.identifier, self.synced = "identity", 1, False
         self.last = packet(REQUEST, 1, b"\x01")
         self.answer = f"sent {self.last.hex()}"
@@ -264,7 +296,7 @@ class Server:
 
     def notify(self, why):
         self.why = why
-        return self.send("notifying", lambda it: aka(REQUEST, it, 12, attr(12, (16384).to_bytes(2))))
+        return self.send("notifying", lambda it: message(self.kind, REQUEST, it, 12, attr(12, (16384).to_bytes(2))))
 
     def end(self, code, text):
         self.state = "ended"
@@ -275,10 +307,18 @@ class Server:
             return f"exhausted {self.word} {self.notify(f'exhausted {self.word}')}"
         self.word += 1
         self.n, self.rand = self.word, rand_of(self.word)
-        self.f = Functions(self.rand)
-        self.keys = Keys(self.identity, self.f)
-        attrs = sixteen(1, self.rand) + sixteen(2, autn_of(self.n, self.rand)) + attr(134, b"\0\0")
-        return f"drew {self.n} " + self.send("challenge", lambda it: sealed(self.keys.aut, REQUEST, it, 1, attrs))
+        self.f, autn = Functions(self.rand), autn_of(self.n, self.rand)
+        self.keys = Keys(self.kind, self.name, self.identity, autn, self.f)
+        attrs = sixteen(1, self.rand) + sixteen(2, autn)
+        if self.kind == 50:
+            attrs += text_attr(23, self.name) + KDF
+        elif self.bidding:
+            attrs += attr(136, b"\x80\0")
+        attrs += EMPTY_CHECKCODE
+        return f"drew {self.n} " + self.send("challenge", lambda it: self.sealed(REQUEST, it, 1, attrs))
+
+    def sealed(self, code, identifier, subtype, attrs):
+        return sealed(self.kind, self.keys.aut, code, identifier, subtype, attrs)
 
     def deliver(self, data):
         if self.state == "ended":
@@ -289,11 +329,11 @@ class Server:
             return "ignored notforme"
         if head.code != RESPONSE or head.identifier != self.identifier:
             return "ignored notforme"
-        if head.kind != (1 if self.state == "identity" else 23):
+        if head.kind != (1 if self.state == "identity" else self.kind):
             return "ignored othertype"
         if self.state == "identity":
             self.identity = head.data[5:]
-            known = self.is_held and self.identity.partition(b"@")[0] == IDENTITY
+            known = self.is_held and self.identity.partition(b"@")[0] == IDENTITIES[self.kind]
             return self.challenge() if known else self.notify("unknownidentity")
         try:
             subtype, attrs = read_message(head)
@@ -312,7 +352,7 @@ class Server:
         return row(attrs, data) if needed <= set(attrs) else "ignored missing"
 
     def judge(self, attrs, data):
-        if not is_sealed(self.keys.aut, data):
+        if not is_sealed(self.kind, self.keys.aut, data):
             return self.notify("wrongmac")
         if attrs[3] != self.f.res:
             return self.notify("wrongres")
@@ -355,7 +395,8 @@ class Server:
 # ---- the peer
 
 class Peer:
-    def __init__(self, opening):
+    def __init__(self, opening, kind=23, name=None, has_prime=False):
+        self.kind, self.name, self.has_prime = kind, name, has_prime
         self.usim, self.state, self.identifier = Usim(opening), "waiting", None
         self.asked = self.answered = None
         self.sent_identity = b""
@@ -364,13 +405,16 @@ class Peer:
         self.state, self.identifier, self.asked, self.answered = state, head.identifier, data, answer
         return f"sent {answer.hex()}"
 
+    def message(self, head, subtype, attrs=b""):
+        return message(self.kind, RESPONSE, head.identifier, subtype, attrs)
+
     def client(self, head, data, why):
         self.why = why
-        return self.send(head, data, aka(RESPONSE, head.identifier, 14, attr(22, b"\0\0")), "refusing")
+        return self.send(head, data, self.message(head, 14, attr(22, b"\0\0")), "refusing")
 
     def reject(self, head, data, why):
         self.why = why
-        return self.send(head, data, aka(RESPONSE, head.identifier, 2), "refusing")
+        return self.send(head, data, self.message(head, 2), "refusing")
 
     def deliver(self, data):
         if self.state == "ended":
@@ -385,7 +429,7 @@ class Peer:
             return f"sent {self.answered.hex()}"
         if head.code > RESPONSE:
             return self.outcome(head)
-        if head.kind not in (1, 23):
+        if head.kind not in (1, self.kind):
             return "ignored othertype"
         if self.state == "waiting":
             return self.waiting(head, data)
@@ -405,8 +449,8 @@ class Peer:
 
     def waiting(self, head, data):
         if head.kind == 1:
-            self.sent_identity = IDENTITY
-            return self.send(head, data, packet(RESPONSE, head.identifier, b"\x01" + IDENTITY))
+            self.sent_identity = IDENTITIES[self.kind]
+            return self.send(head, data, packet(RESPONSE, head.identifier, b"\x01" + self.sent_identity))
         try:
             subtype, attrs = read_message(head)
             if subtype in (2, 4, 14):
@@ -421,7 +465,7 @@ class Peer:
 
     def notified(self, head, data):
         try:
-            subtype, attrs = read_message(head) if head.kind == 23 else (None, {})
+            subtype, attrs = read_message(head) if head.kind == self.kind else (None, {})
         except Fault:
             return "ignored unexpected"
         return self.notification(head, data, attrs) if subtype == 12 and 12 in attrs else "ignored unexpected"
@@ -433,28 +477,43 @@ class Peer:
         if not code & 0x4000 or code & 0x8000:
             return "ignored unexpected"
         self.why = f"notified {code}"
-        return self.send(head, data, aka(RESPONSE, head.identifier, 12), "refusing")
+        return self.send(head, data, self.message(head, 12), "refusing")
 
     def challenge(self, head, data, attrs):
         if not {1, 2, 11} <= set(attrs):
             return self.client(head, data, "missing")
+        if refused := self.refuses(attrs):
+            return self.reject(head, data, refused)
         note, f, auts = self.usim.challenge(attrs[1][2:], attrs[2][2:])
         if auts:
-            return f"{note} {self.send(head, data, aka(RESPONSE, head.identifier, 4, attr(4, auts)))}"
+            answer = attr(4, auts) + (KDF if self.kind == 50 else b"")
+            return f"{note} {self.send(head, data, self.message(head, 4, answer))}"
         if f is None:
             return f"{note} {self.reject(head, data, 'wrongautn')}"
         return f"{note} {self.accepted(head, data, attrs, f)}"
 
+    def refuses(self, attrs):
+        """Why a challenge is rejected before the USIM is asked, if it is."""
+        if self.kind == 23:
+            return "downgrade" if self.has_prime and attrs.get(136, b"\0")[0] & 0x80 else None
+        if attrs.get(24) != b"\0\1":
+            return "badkdf"
+        name = attrs.get(23, b"")
+        if not name or self.name not in (None, name):
+            return "badname"
+        return None if attrs[2][2:][6] & 0x80 else "noseparation"
+
     def accepted(self, head, data, attrs, f):
-        self.keys = Keys(self.sent_identity, f)
-        if not is_sealed(self.keys.aut, head.data):
+        self.keys = Keys(self.kind, attrs.get(23, b""), self.sent_identity, attrs[2][2:], f)
+        if not is_sealed(self.kind, self.keys.aut, head.data):
             return self.client(head, data, "wrongmac")
         if len(attrs.get(134, b"\0\0")) > 2:
             return self.client(head, data, "wrongcheckcode")
         if 130 in attrs:
             return self.client(head, data, "undecryptable")
         answer = res_attr(f.res) + (attr(134, b"\0\0") if 134 in attrs else b"")
-        return self.send(head, data, sealed(self.keys.aut, RESPONSE, head.identifier, 1, answer), "answered")
+        answer = sealed(self.kind, self.keys.aut, RESPONSE, head.identifier, 1, answer)
+        return self.send(head, data, answer, "answered")
 
     def give_up(self):
         if self.state == "ended":
@@ -484,15 +543,25 @@ class Session:
         return self.say(f"bytes {data.hex()}")
 
 
-def server(word=0, held="held", *before):
-    session = Session(f"server {word} {held}", Server(word, held == "held"))
+# What is said behind the line of an end, and what it is made with: none for EAP-AKA without options.
+NAME = b"WLAN"
+BIDDING = " bidding", {"bidding": True}
+HAS_PRIME = " hasprime", {"has_prime": True}
+PRIME = " prime WLAN", {"kind": 50, "name": NAME}
+ANY_NAME = " prime *", {"kind": 50}
+LONG = " prime " + "n" * 255, {"kind": 50, "name": b"n" * 255}
+PLAIN = "", {}
+
+
+def server(word=0, held="held", *before, options=PLAIN):
+    session = Session(f"server {word} {held}{options[0]}", Server(word, held == "held", **options[1]))
     for make in before:
         session.bytes(make(session.end))
     return session
 
 
-def peer(opening=0, *before):
-    session = Session(f"peer {opening}", Peer(opening))
+def peer(opening=0, *before, options=PLAIN):
+    session = Session(f"peer {opening}{options[0]}", Peer(opening, **options[1]))
     for make in before:
         session.bytes(make(session.end))
     return session
@@ -527,34 +596,46 @@ def through(title, make_session, messages, more=()):
 # Messages for a server. A state without keys gets codes of zero bytes.
 
 def key_of(end):
-    return end.keys.aut if hasattr(end, "keys") else bytes(16)
+    return end.keys.aut if hasattr(end, "keys") else bytes(16 if end.kind == 23 else 32)
 
 
 def res_of(end):
     return end.f.res if hasattr(end, "f") else bytes(8)
 
 
-def response(subtype, attrs=b"", kind=23):
-    return lambda end: aka(RESPONSE, end.identifier, subtype, attrs, kind)
+def other_kind(end):
+    return 73 - end.kind
+
+
+def response(subtype, attrs=b"", kind=lambda end: end.kind):
+    return lambda end: message(kind(end), RESPONSE, end.identifier, subtype, attrs)
 
 
 def right_response(end, res=None, more=b"", key=None, add=0):
     attrs = res_attr(res_of(end) if res is None else res) + more
-    return sealed(key_of(end) if key is None else key, RESPONSE, (end.identifier + add) % 256, 1, attrs)
+    return sealed(end.kind, key_of(end) if key is None else key, RESPONSE, (end.identifier + add) % 256, 1, attrs)
 
 
 def identity(text):
     return lambda end: packet(RESPONSE, end.identifier, b"\x01" + text)
 
 
-def sync(seq, wrong=False):
+def permanent(more=b"", other=False, size=16):
+    """The permanent identity of the end's method, or of the other one; its first digits, and more."""
+    def make(end):
+        return identity(IDENTITIES[other_kind(end) if other else end.kind][:size] + more)(end)
+    return make
+
+
+def sync(seq, wrong=False, more=b""):
     def make(end):
         auts = auts_of(seq, end.rand) if hasattr(end, "rand") else bytes(14)
-        return aka(RESPONSE, end.identifier, 4, attr(4, auts[:-1] + bytes([auts[-1] ^ wrong])))
+        return message(end.kind, RESPONSE, end.identifier, 4, attr(4, auts[:-1] + bytes([auts[-1] ^ wrong])) + more)
     return make
 
 
 MAC = sixteen(11, bytes(16))
+KDF = attr(24, b"\0\1")
 EMPTY_CHECKCODE = attr(134, b"\0\0")
 CHECKCODE = attr(134, b"\0\0" + bytes(range(20)))
 UNKNOWN = attr(200, b"\x01\x02")
@@ -568,9 +649,9 @@ TO_SERVER = NO_PACKETS + [
     ("a request", lambda end: packet(REQUEST, end.identifier, b"\x01")),
     ("a Success", lambda end: packet(3, end.identifier, b"")),
     ("another Identifier", lambda end: right_response(end, add=1)),
-    ("the Identifier before", lambda end: packet(RESPONSE, end.identifier - 1, b"\x01" + IDENTITY)),
+    ("the Identifier before", lambda end: packet(RESPONSE, end.identifier - 1, b"\x01" + IDENTITIES[end.kind])),
     ("type 3", lambda end: packet(RESPONSE, end.identifier, b"\x03\x17")),
-    ("type 50", response(1, MAC, 50)),
+    ("the other method's type", response(1, MAC, other_kind)),
     ("subtype 9", response(9)),
     ("an attribute of length 0", response(1, b"\x03\0\0\0")),
     ("an attribute past the end", response(1, b"\x0b\x05\0\0")),
@@ -578,17 +659,17 @@ TO_SERVER = NO_PACKETS + [
     ("AT_MAC twice", response(1, MAC + MAC)),
     ("an attribute of another message", response(1, attr(4, bytes(14)))),
     ("an attribute of another message in a rejection", response(2, MAC)),
-    ("subtype Identity", response(5, text_attr(14, IDENTITY))),
+    ("subtype Identity", response(5, text_attr(14, IDENTITIES[23]))),
     ("subtype Reauthentication", response(13, MAC)),
     ("no AT_RES", response(1, MAC)),
-    ("no AT_MAC", lambda end: aka(RESPONSE, end.identifier, 1, res_attr(res_of(end)))),
+    ("no AT_MAC", lambda end: message(end.kind, RESPONSE, end.identifier, 1, res_attr(res_of(end)))),
     ("no AT_AUTS", response(4)),
     ("no AT_CLIENT_ERROR_CODE", response(14)),
-    ("the permanent identity", identity(IDENTITY)),
-    ("the permanent identity with a realm", identity(IDENTITY + b"@home@there")),
+    ("the permanent identity", permanent()),
+    ("the permanent identity with a realm", permanent(b"@home@there")),
     ("the empty identity", identity(b"")),
-    ("the identity of EAP-AKA'", identity(b"6" + IDENTITY[1:])),
-    ("an identity of one digit less", identity(IDENTITY[:-1])),
+    ("the identity of the other method", permanent(other=True)),
+    ("an identity of one digit less", permanent(size=15)),
     ("the identity of another subscriber", identity(b"0001010000000009")),
     ("a Notification", response(12)),
     ("an Authentication-Reject", response(2)),
@@ -596,20 +677,21 @@ TO_SERVER = NO_PACKETS + [
     ("an AUTS above the number", sync(500)),
     ("an AUTS at the number", sync(1)),
     ("an AUTS with a wrong MAC-S", sync(500, True)),
+    ("an AUTS with AT_KDF", sync(500, more=KDF)),
     ("the right answer", right_response),
     ("the right answer, an empty checkcode, an unknown attribute and bytes past Length",
      lambda end: right_response(end, more=UNKNOWN + EMPTY_CHECKCODE + UNKNOWN) + b"past"),
-    ("a wrong AT_MAC", lambda end: right_response(end, key=b"k" * 16)),
+    ("a wrong AT_MAC", lambda end: right_response(end, key=b"k" * len(key_of(end)))),
     ("a wrong AT_RES", lambda end: right_response(end, res=b"r" * 8)),
     ("the first half of AT_RES", lambda end: right_response(end, res=res_of(end)[:4])),
-    ("both wrong", lambda end: right_response(end, res=b"r" * 8, key=b"k" * 16)),
+    ("both wrong", lambda end: right_response(end, res=b"r" * 8, key=b"k" * len(key_of(end)))),
     ("a checkcode", lambda end: right_response(end, more=CHECKCODE)),
     ("a checkcode and a wrong AT_RES", lambda end: right_response(end, res=b"r" * 8, more=CHECKCODE)),
 ]
 
 
 def server_rows():
-    known, unknown, error = identity(IDENTITY), identity(b"somebody"), response(2)
+    known, unknown, error = permanent(), identity(b"somebody"), response(2)
     ends = ["repeat", "giveup", "repeat", "giveup"]
     yield from through("server, awaiting the identity", server, TO_SERVER, ends)
     yield from through("server, the subscriber isn't held", lambda: server(0, "none"), [("its identity", known)])
@@ -623,6 +705,16 @@ def server_rows():
     for name, seq in ("in range", 501), ("beyond", 500):
         yield from through("server, far ahead", lambda: server(far - 1, "held", known), [(f"an AUTS {name}", sync(seq))])
     yield from through("server, no number left after the AUTS", lambda: server(5, "held", known), [("", sync(MAX_SEQ))])
+    yield from through("server that bids", lambda: server(0, "held", known, options=BIDDING),
+                       [("the right answer", right_response)])
+    yield from through("server of EAP-AKA', awaiting the identity", lambda: server(options=PRIME), TO_SERVER, ends)
+    yield from through("server of EAP-AKA', awaiting the challenge", lambda: server(0, "held", known, options=PRIME),
+                       TO_SERVER, ends)
+    yield from through("server of EAP-AKA', challenged again", lambda: server(0, "held", known, sync(500), options=PRIME),
+                       TO_SERVER, ends)
+    yield from through("server of EAP-AKA', notifying", lambda: server(0, "held", unknown, options=PRIME), TO_SERVER, ends)
+    yield from through("server of EAP-AKA' with a long name", lambda: server(0, "held", known, options=LONG),
+                       [("the right answer", right_response)])
 
 
 # Messages for a peer. The challenge is that of number `n`, for the identity last sent.
@@ -631,17 +723,24 @@ def next_id(end):
     return ((end.identifier or 0) + 1) % 256
 
 
-def challenge(n=1, more=EMPTY_CHECKCODE, key=None, autn=None, identity=None):
+def network(kdf=KDF, name=NAME):
+    """AT_KDF_INPUT, if there is a name, and AT_KDF."""
+    return (b"" if name is None else text_attr(23, name)) + kdf
+
+
+def challenge(n=1, more=EMPTY_CHECKCODE, key=None, autn=None, identity=None, kdf=KDF, name=NAME):
+    """A challenge. One of EAP-AKA' also has the attributes of a network."""
     def make(end):
         rand = rand_of(n)
-        right = Keys(end.sent_identity if identity is None else identity, Functions(rand)).aut
-        attrs = sixteen(1, rand) + sixteen(2, autn_of(n, rand) if autn is None else autn) + more
-        return sealed(right if key is None else key, REQUEST, next_id(end), 1, attrs)
+        proof = autn_of(n, rand) if autn is None else autn
+        right = Keys(end.kind, name or b"", end.sent_identity if identity is None else identity, proof, Functions(rand)).aut
+        attrs = sixteen(1, rand) + sixteen(2, proof) + (network(kdf, name) if end.kind == 50 else b"") + more
+        return sealed(end.kind, right if key is None else key * len(right), REQUEST, next_id(end), 1, attrs)
     return make
 
 
-def request(subtype, attrs=b"", kind=23):
-    return lambda end: aka(REQUEST, next_id(end), subtype, attrs, kind)
+def request(subtype, attrs=b"", kind=lambda end: end.kind):
+    return lambda end: message(kind(end), REQUEST, next_id(end), subtype, attrs)
 
 
 def notification(code, more=b""):
@@ -667,7 +766,7 @@ TO_PEER = NO_PACKETS + [
     ("the last request again", again),
     ("the last request and a byte past Length", lambda end: again(end) + b"\0"),
     ("type 3", lambda end: packet(REQUEST, next_id(end), b"\x03\x17")),
-    ("type 50", request(1, RAND_AND_AUTN + MAC, 50)),
+    ("the other method's type", request(1, RAND_AND_AUTN + MAC, other_kind)),
     ("an Identity request", ASK),
     ("subtype 9", request(9)),
     ("an Authentication-Reject", request(2)),
@@ -692,7 +791,7 @@ TO_PEER = NO_PACKETS + [
     ("the right challenge, no checkcode, an unknown attribute, bytes past Length",
      lambda end: challenge(more=UNKNOWN)(end) + b"past"),
     ("a challenge under another identity", challenge(identity=b"0001010000000009")),
-    ("a wrong AT_MAC", challenge(key=b"k" * 16)),
+    ("a wrong AT_MAC", challenge(key=b"k")),
     ("a wrong MAC in AUTN", challenge(autn=autn_of(1, rand_of(1))[:-1] + b"\0")),
     ("AUTN of another number", challenge(autn=autn_of(2, rand_of(2)))),
     ("an SQN that is too far", challenge(REACH + 1)),
@@ -700,6 +799,31 @@ TO_PEER = NO_PACKETS + [
     ("a checkcode", challenge(more=CHECKCODE)),
     ("encrypted attributes without AT_IV", challenge(more=attr(130, b"\0\0" + bytes(16)))),
     ("encrypted attributes that are none", challenge(more=sixteen(129, bytes(16)) + attr(130, b"\0\0" + bytes(16)))),
+    ("AT_BIDDING with D clear", challenge(more=attr(136, b"\x7f\xff"))),
+    ("AT_BIDDING with D set", challenge(more=attr(136, b"\x80\0") + EMPTY_CHECKCODE)),
+]
+
+# Challenges of EAP-AKA' that differ in what is tested before the USIM is asked.
+NO_SEPARATION = autn_of(1, rand_of(1), b"\x7f\xff")
+TO_PRIME = [
+    ("AT_KDF and AT_KDF_INPUT in the message of EAP-AKA",
+     lambda end: message(23, REQUEST, next_id(end), 1, RAND_AND_AUTN + network() + MAC)),
+    ("no AT_KDF", challenge(kdf=b"")),
+    ("AT_KDF 2", challenge(kdf=attr(24, b"\0\2"))),
+    ("AT_KDF 257", challenge(kdf=attr(24, b"\1\1"))),
+    ("AT_KDF 1 and 2", challenge(kdf=KDF + attr(24, b"\0\2"))),
+    ("AT_KDF 2 and 1", challenge(kdf=attr(24, b"\0\2") + KDF)),
+    ("no AT_KDF_INPUT", challenge(name=None)),
+    ("an empty name", challenge(name=b"")),
+    ("another name", challenge(name=b"wlan")),
+    ("the first bytes of the name", challenge(name=NAME[:3])),
+    ("the name with a further byte", challenge(name=NAME + b"2")),
+    ("a name of 300 bytes", challenge(name=b"n" * 300)),
+    ("AT_KDF_INPUT twice", challenge(kdf=text_attr(23, NAME) + KDF)),
+    ("AMF without the separation bit", challenge(autn=NO_SEPARATION)),
+    ("neither AT_KDF nor AT_KDF_INPUT", challenge(kdf=b"", name=None)),
+    ("another name and no separation bit", challenge(name=b"wlan", autn=NO_SEPARATION)),
+    ("another name and no AT_MAC", request(1, RAND_AND_AUTN + network(name=b"wlan"))),
 ]
 
 
@@ -712,6 +836,20 @@ def peer_rows():
     yield from through("peer, answered", lambda: peer(0, ASK, challenge()), TO_PEER, ends)
     yield from through("peer, refusing", lambda: peer(0, ASK, request(9)), TO_PEER, ends)
     yield from through("peer, ended", lambda: peer(0, ASK, request(9), plain(4)), TO_PEER, ends)
+    yield from through("peer with EAP-AKA'", lambda: peer(0, ASK, options=HAS_PRIME), TO_PEER[-2:] + [
+        ("AT_BIDDING with D set, an SQN that is too far", challenge(REACH + 1, attr(136, b"\x80\0"))),
+        ("the right challenge", challenge())], ends)
+    yield from through("peer, attributes of EAP-AKA'", lambda: peer(0, ASK), [
+        ("AT_KDF", challenge(more=KDF)), ("AT_KDF_INPUT", challenge(more=text_attr(23, NAME)))])
+    yield from through("peer of EAP-AKA', waiting for its first request", lambda: peer(options=PRIME), TO_PEER, ends)
+    yield from through("peer of EAP-AKA', asked for its identity", lambda: peer(0, ASK, options=PRIME),
+                       TO_PEER + TO_PRIME, ends)
+    yield from through("peer of EAP-AKA' without a name", lambda: peer(0, ASK, options=ANY_NAME), TO_PRIME, ends)
+    yield from through("peer of EAP-AKA', after a synchronisation failure",
+                       lambda: peer(500, ASK, challenge(), options=PRIME),
+                       TO_PEER + [("the number after its greatest", challenge(501))], ends)
+    yield from through("peer of EAP-AKA', answered", lambda: peer(0, ASK, challenge(), options=PRIME), TO_PEER, ends)
+    yield from through("peer of EAP-AKA', refusing", lambda: peer(0, ASK, request(9), options=PRIME), TO_PEER, ends)
 
 
 def main():

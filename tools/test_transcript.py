@@ -135,6 +135,26 @@ class Charts(unittest.TestCase):
             self.assertEqual([it for it in labels if it not in shown], [], path.name)
 
 
+class Names(unittest.TestCase):
+    def test_message_has_the_name_of_its_method(self):
+        cases = [
+            ("0101000501", "Request/Identity"),
+            ("0102000c170500000a010000", "Request/AKA-Identity"),
+            ("0104000c320500000a010000", "Request/AKA'-Identity"),
+            ("0202000832020000", "Response/AKA'-Authentication-Reject"),
+            ("0202001c3204000004040102030405060708090a0b0c0d0e18010001", "Response/AKA'-Synchronization-Failure"),
+            ("0102000832030000", "Request/type 50"),
+            ("0102000503", "Request/type 3"),
+            ("03020004", "Success"),
+        ]
+        self.assertEqual([transcript.name_of(bytes.fromhex(data)) for data, _ in cases], [name for _, name in cases])
+
+    def test_each_end_of_a_refused_challenge_is_drawn(self):
+        session = next(it for it in transcript.sessions_in((EXAMPLES / "bidding-down.expected").read_text()) if it.number == 2)
+        words = [row.words for row in chart.ladder_of(session).rows if isinstance(row, chart.Arrow)]
+        self.assertEqual(words[-2:], ["ended failure rejected", "ended failure downgrade"])
+
+
 class Inputs(unittest.TestCase):
     def test_text_that_is_no_transcript_is_refused_with_its_reason(self):
         begun = "round 1\njob 1\nsession 1 open\n"

@@ -19,7 +19,9 @@ ENDS = ("server", "peer")
 CODES = {1: "Request", 2: "Response", 3: "Success", 4: "Failure"}
 SUBTYPES = {1: "Challenge", 2: "Authentication-Reject", 4: "Synchronization-Failure", 5: "Identity", 12: "Notification",
             13: "Reauthentication", 14: "Client-Error"}
-IDENTITY, AKA = 1, 23
+IDENTITY = 1
+# The methods by the types of their packets.
+METHODS = {23: "AKA", 50: "AKA'"}
 
 
 class Unreadable(Exception):
@@ -73,12 +75,12 @@ def other(end):
 
 
 def name_of(data):
-    """What a packet is called in RFC 3748 and RFC 4187; nothing if its bytes aren't known."""
+    """What a packet is called in RFC 3748, RFC 4187 and RFC 9048; nothing if its bytes aren't known."""
     code = CODES.get(data[0], "") if data else ""
     if data is None or len(data) < 5 or code not in ("Request", "Response"):
         return code
-    if data[4] == AKA and len(data) > 5 and data[5] in SUBTYPES:
-        return f"{code}/AKA-{SUBTYPES[data[5]]}"
+    if data[4] in METHODS and len(data) > 5 and data[5] in SUBTYPES:
+        return f"{code}/{METHODS[data[4]]}-{SUBTYPES[data[5]]}"
     return f"{code}/Identity" if data[4] == IDENTITY else f"{code}/type {data[4]}"
 
 

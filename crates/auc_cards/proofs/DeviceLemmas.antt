@@ -59,7 +59,7 @@ line_few : (count : ℕ) (l : Line) → IsKnownLine count l → IsFew count (hel
 line_few count (line.Draw sub n) known = tt
 line_few count (line.Sync sub seq bit n) known = tt
 line_few count (line.Give sub n) known = known.0
-line_few count (line.Session session sub) known = known
+line_few count (line.Session opening) known = known.0
 line_few count (line.Start session) known = tt
 line_few count (line.Deliver session at' packet) known = tt
 line_few count (line.Repeat session) known = tt

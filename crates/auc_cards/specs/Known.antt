@@ -1,17 +1,17 @@
 -- The lines of a job that may be served for so many subscribers.
-use Rattle.std.specs.Prelude.{ℕ, ◌≤◌, ◌<◌, List, All}
+use Rattle.std.specs.Prelude.{ℕ, ◌≤◌, ◌<◌, List, length, All}
 use Rattle.auc_lines.specs.declared.part.Line.{Line}
 use Rattle.auc_lines.specs.declared.part.Line.TheVariants as line
 use Rattle.auc_lines.specs.Part.{IsBit}
 use Rattle.auc_sqn.specs.Number.{max_seq}
 
--- the subscriber of a line is one of so many, and its numbers are within their ranges. An event of a session that isn't
--- open is refused when it is served
+-- the subscriber of a line is one of so many, its numbers are within their ranges, and a network's name isn't too long. An
+-- event of a session that isn't open is refused when it is served
 abbrev pub IsKnownLine : ℕ → Line → Type 0
 IsKnownLine subs (line.Draw sub count) = sub < subs
 IsKnownLine subs (line.Sync sub seq bit count) = (sub < subs) × (seq ≤ max_seq) × IsBit bit
 IsKnownLine subs (line.Give sub n) = (sub < subs) × (1 ≤ n) × (n ≤ max_seq)
-IsKnownLine subs (line.Session session sub) = sub < subs
+IsKnownLine subs (line.Session opening) = (opening.sub < subs) × (length opening.name ≤ 255)
 IsKnownLine subs (line.Start session) = Unit {0}
 IsKnownLine subs (line.Deliver session end packet) = Unit {0}
 IsKnownLine subs (line.Repeat session) = Unit {0}

@@ -1,10 +1,13 @@
-//! Reads what happens to an end of a session of EAP-AKA (RFC 4187), a line each, and prints what the end does.
+//! Reads what happens to an end of a session of EAP-AKA (RFC 4187) or EAP-AKA' (RFC 9048), a line each, and prints what the
+//! end does.
 //!
 //! | Line | What happens |
 //! |---|---|
 //! | `# TEXT` | nothing; the line is printed |
 //! | `server WORD held`, `server WORD none` | a server begins. The subscriber's last number is WORD, and it is held or not |
 //! | `peer WORD` | a peer begins, whose USIM counts the numbers up to WORD as accepted |
+//! | `server WORD held prime NAME`, `peer WORD prime NAME` | the same for EAP-AKA', with the network's name; `*` is none |
+//! | `server WORD held bidding`, `peer WORD hasprime` | the same for EAP-AKA: the server bids, the peer has EAP-AKA' |
 //! | `bytes HEX` | the end receives these bytes |
 //! | `repeat`, `giveup` | the server repeats its last request; the end gives up |
 //!

@@ -6,7 +6,7 @@ ghost use Rattle.auc_sqn.specs.Number.{max_seq};
 use crate::text::{peer_step, peer_turn};
 use auc_edge::{Imsi, Octets};
 use auc_milenage::Secret;
-use auc_peer::{Device, Peer};
+use auc_peer::{Device, Peer, PeerOptions};
 use auc_usim::Usim;
 use std::alloc::{AllocError, Global};
 
@@ -20,14 +20,14 @@ pub struct PeerEnd {
 
 impl PeerEnd {
     /// A peer whose USIM counts the numbers up to a word as accepted.
-    pub fn begin(alloc: Global, word: u64) -> Option<PeerEnd>
+    pub fn begin(alloc: Global, options: PeerOptions, word: u64) -> Option<PeerEnd>
         requires { word ≤ max_seq }
     {
         let imsi = Imsi::read(b"001010000000001")?;
         let usim = Usim::new(secret(), word);
         let realm = Octets::new(alloc);
         Some(PeerEnd {
-            peer: Peer::new(),
+            peer: Peer::new(options, alloc),
             device: Device { imsi, usim, realm },
         })
     }

@@ -1,12 +1,13 @@
 //! A server with what it is served with.
 
-ghost use Rattle.std.specs.Prelude.{◌≡◌, ◌<◌, ℕ};
+ghost use Rattle.std.specs.Prelude.{◌≡◌, ◌≤◌, ◌<◌, ℕ, length};
 ghost use Rattle.auc_sqn.specs.Number.{max_seq};
 
 use crate::text::{server_step, server_turn};
-use auc_server::{HomeRow, Server, Setting};
+use auc_random::Rands;
+use auc_server::{HomeRow, Server, ServerOptions, Setting};
 use auc_subs::Subscribers;
-use auc_vector::{Centre, Rands};
+use auc_vector::Centre;
 use std::alloc::{AllocError, Global};
 use std::marker::Model;
 use std::sync::Wait;
@@ -39,9 +40,11 @@ impl<C: Centre + Drop> ServerEnd<C> {
     /// A server of the subscriber, which is held or not, and what is printed of its first request.
     pub fn begin(
         alloc: Global,
+        options: ServerOptions,
         centre: C,
         is_held: bool,
     ) -> Result<(ServerEnd<C>, String), AllocError>
+        requires name { length options.name ≤ 255 }
         requires subs { 0 < C.subs centre }
         requires top { (sub : ℕ) → C.top centre sub ≡ max_seq }
     {
@@ -53,7 +56,7 @@ impl<C: Centre + Drop> ServerEnd<C> {
         if is_held && 0 < subs.len() {
             homes.push(HomeRow { sub: 0 })?;
         }
-        let Ok((server, first)) = Server::start(alloc) else {
+        let Ok((server, first)) = Server::start(options, alloc) else {
             return Err(AllocError);
         };
         let end = ServerEnd {

@@ -168,6 +168,10 @@ fn text_of_peer_why(alloc: Global, why: PeerWhy) -> Result<String, AllocError> {
     match why {
         PeerWhy::Malformed => String::from_str(alloc, "malformed"),
         PeerWhy::Missing => String::from_str(alloc, "missing"),
+        PeerWhy::BadKdf => String::from_str(alloc, "badkdf"),
+        PeerWhy::BadName => String::from_str(alloc, "badname"),
+        PeerWhy::NoSeparation => String::from_str(alloc, "noseparation"),
+        PeerWhy::Downgrade => String::from_str(alloc, "downgrade"),
         PeerWhy::WrongAutn => String::from_str(alloc, "wrongautn"),
         PeerWhy::WrongMac => String::from_str(alloc, "wrongmac"),
         PeerWhy::WrongCheckcode => String::from_str(alloc, "wrongcheckcode"),

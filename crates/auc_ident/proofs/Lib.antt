@@ -1,1 +1,2 @@
 mod IdentLemmas
+mod NameLemmas

@@ -1,1 +1,3 @@
 pub mod Permanent
+pub mod Names
+pub mod Ordinals

@@ -1,7 +1,9 @@
-//! A law of permanent identities that no single call shows.
+//! Laws of identities that no single call shows.
 
+ghost use Rattle.auc_ident.specs.Names.{EachNameIsResolved, EqualNamesAreOne};
 ghost use Rattle.auc_ident.specs.Permanent.{EachPermanentIsReadBack};
 
+use auc_aes::decryption_undoes_encryption;
 use auc_edge::{each_identity_is_read_back, each_text_is_written_back};
 
 /// A text is the permanent identity of an IMSI exactly if [`crate::permanent_in`] reads the IMSI from it. So different
@@ -11,4 +13,18 @@ pub fn permanent_identities_are_read_back()
 {
     each_identity_is_read_back();
     each_text_is_written_back();
+}
+
+/// A subscriber and an ordinal are found for a text exactly if it is their name, with or without a realm.
+pub fn exactly_the_names_are_resolved()
+    ensures { EachNameIsResolved }
+{
+    decryption_undoes_encryption();
+}
+
+/// Names that are equal are of one kind, method, subscriber and ordinal.
+pub fn each_name_is_given_once()
+    ensures { EqualNamesAreOne }
+{
+    decryption_undoes_encryption();
 }

@@ -1,16 +1,25 @@
 //! The identities of subscribers in EAP-AKA (RFC 4187 §4.1) and EAP-AKA' (RFC 9048).
 //!
 //! [`permanent`] gives the permanent identity of an IMSI, and [`permanent_in`] the IMSI of such an identity.
-//! [`username`] is an identity without its realm. Contracts see a [`Permanent`] as the list of its bytes. Nothing
-//! here takes memory, waits or fails.
+//! [`username`] is an identity without its realm. [`Names`] makes pseudonyms and re-authentication identities and finds
+//! the subscriber of each one; [`Ordinals`] counts those of a subscriber.
+//!
+//! Contracts see a [`Permanent`] as the list of its bytes, [`Names`] as a key of AES, and [`Ordinals`] as the last that was
+//! given. Nothing here takes memory or waits.
 #![tactic(auto)]
 
 mod identity;
 mod law;
+mod names;
 mod naming;
+mod ordinals;
 #[cfg(test)]
 mod tests;
 
 pub use identity::Permanent;
-pub use law::permanent_identities_are_read_back;
+pub use law::{
+    each_name_is_given_once, exactly_the_names_are_resolved, permanent_identities_are_read_back,
+};
+pub use names::{NameKind, Names};
 pub use naming::{permanent, permanent_in, username};
+pub use ordinals::{Ordinals, Spent};

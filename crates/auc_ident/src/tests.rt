@@ -42,3 +42,83 @@ fn identities_are_read_back_without_their_realm(rt: HostRuntime) {
         assert_eq!(rt; permanent_in(method, username(text)), imsi);
     }
 }
+
+/// The names under the key of the 32 bytes from 0 to 31.
+fn names() -> Names {
+    Names::new([
+        0, 1, 2, 3, 4, 5, 6, 7, 8, 9, 10, 11, 12, 13, 14, 15, 16, 17, 18, 19, 20, 21, 22, 23, 24,
+        25, 26, 27, 28, 29, 30, 31,
+    ])
+}
+
+// ChaCha20 and AES of Python's `cryptography` 48: kind, method, subscriber, ordinal, name.
+#[test]
+fn names_are_those_of_another_implementation(rt: HostRuntime) {
+    let cases: [(NameKind, Method, u32, u64, &[u8]); 4] = [
+        (
+            NameKind::Pseudonym,
+            Method::Aka,
+            0,
+            1,
+            b"243a167ce195115f3be9d951fd283f3bf",
+        ),
+        (
+            NameKind::Reauth,
+            Method::Aka,
+            0,
+            1,
+            b"4711f639335d967297fec05d263d0e71f",
+        ),
+        (
+            NameKind::Pseudonym,
+            Method::Prime,
+            65535,
+            2,
+            b"7c4b70bda66a6b4ed73910dbf8239932d",
+        ),
+        (
+            NameKind::Reauth,
+            Method::Prime,
+            4294967295,
+            281474976710655,
+            b"831daa313ea50fc852d5d71600a9cacf0",
+        ),
+    ];
+    let names = names();
+    for (kind, method, sub, ordinal, text) in cases {
+        assert_eq!(rt; names.text(kind, method, sub, ordinal).as_slice(), text);
+        assert_eq!(rt; names.resolve(kind, method, text), Some((sub, ordinal)));
+    }
+}
+
+// By hand: a name with a realm, and texts beside the first name of the table above.
+#[test]
+fn only_names_are_resolved(rt: HostRuntime) {
+    let cases: [(&[u8], Option<(u32, u64)>); 6] = [
+        (b"243a167ce195115f3be9d951fd283f3bf@wlan", Some((0, 1))),
+        (b"243A167ce195115f3be9d951fd283f3bf", None),
+        (b"443a167ce195115f3be9d951fd283f3bf", None),
+        (b"243a167ce195115f3be9d951fd283f3be", None),
+        (b"243a167ce195115f3be9d951fd283f3b", None),
+        (b"", None),
+    ];
+    let names = names();
+    for (text, found) in cases {
+        assert_eq!(rt;
+            names.resolve(NameKind::Pseudonym, Method::Aka, text),
+            found
+        );
+    }
+}
+
+// By hand: the first ordinal, the last, and none after it.
+#[test]
+fn each_ordinal_is_given_once(rt: HostRuntime) {
+    let mut ordinals = Ordinals::at(0);
+    assert_eq!(rt; ordinals.next(), Ok(1));
+    assert_eq!(rt; ordinals.next(), Ok(2));
+    let mut last = Ordinals::at(281474976710654);
+    assert_eq!(rt; last.next(), Ok(281474976710655));
+    assert_eq!(rt; last.next(), Err(Spent));
+    assert_eq!(rt; last.next(), Err(Spent));
+}

@@ -17,6 +17,7 @@ use Rattle.auc_peer.specs.Turn.{asked}
 use Rattle.auc_server.specs.Rows.{server_row, text_in}
 use Rattle.auc_server.specs.Server.{ServerEnd}
 use Rattle.auc_server.specs.Steps.{AsksAsNeeded, asking, challenges_again}
+use Rattle.auc_server.specs.declared.options.ServerOptions.{ServerOptions}
 use Rattle.auc_server.specs.declared.rows.Row.{Row}
 use Rattle.auc_server.specs.declared.rows.Row.TheVariants as row
 use Rattle.auc_sqn.specs.Number.{max_seq}
@@ -149,17 +150,17 @@ nowhere_agrees set w told end.Peer (Some sent) = quiet set w told _ _ refl refl 
 
 -- each event
 pub agrees : (set : Setting) (w : Net) (e : Event) (told : Told) → Agrees set w told (came set w e told) (asking_of set w e told) (presented_by w e told) (AsksWhatItNeeds set w e told)
-agrees set w (event.Open session sub) told = by (session_place w.sessions session) (device_place set.rows w.devices sub)
+agrees set w (event.Open line) told = by (session_place w.sessions line.session) (device_place set.rows w.devices line.sub)
   where
     by : (old place : Option ℕ) → Agrees set w told (came_opened old place) None None (Unit {0})
     by (Some first) place = quiet set w told (came_opened (Some first) place) (Unit {0}) refl refl refl
     by None None = quiet set w told (came_opened None None) (Unit {0}) refl refl refl
     by None (Some place) = quiet set w told (came_opened None (Some place)) (Unit {0}) refl refl refl
-agrees set w (event.Start session) told = quiet_in set w told (λ s. came_started w s.server) (session_of w session) (Unit {0}) (λ s. by s.server)
+agrees set w (event.Start session) told = quiet_in set w told (λ s. came_started w s.options s.server) (session_of w session) (Unit {0}) (λ s. by s.options s.server)
   where
-    by : (o : Option ServerEnd) → (asked_in (came_started w o) ≡ None) × (number_in (came_started w o) ≡ None) × (device_in (came_started w o) ≡ None)
-    by None = (refl, refl, refl)
-    by (Some s) = (refl, refl, refl)
+    by : (options : ServerOptions) (o : Option ServerEnd) → (asked_in (came_started w options o) ≡ None) × (number_in (came_started w options o) ≡ None) × (device_in (came_started w options o) ≡ None)
+    by options None = (refl, refl, refl)
+    by options (Some s) = (refl, refl, refl)
 agrees set w (event.Repeat session) told = quiet_in set w told (λ s. came_repeated w s.server) (session_of w session) (Unit {0}) (λ s. by s.server)
   where
     by : (o : Option ServerEnd) → (asked_in (came_repeated w o) ≡ None) × (number_in (came_repeated w o) ≡ None) × (device_in (came_repeated w o) ≡ None)

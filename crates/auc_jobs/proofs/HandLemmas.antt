@@ -4,14 +4,13 @@ use Rattle.std.proofs.Common.{◌≡◌, ◌≢◌, ℕ, ◌⊎◌, not, Bool, t
 use Rattle.std.specs.Prelude.{Option, Some, None, slice_get, if◌then◌else◌}
 use Rattle.std.proofs.lemmas.List.Sums.{fold_push}
 use Rattle.auc_hmac.specs.declared.keys.KeySet.{KeySet}
-use Rattle.auc_hmac.specs.declared.method.Method.TheVariants as method
 use Rattle.auc_lines.specs.Part.{is_that}
 use Rattle.auc_packet.specs.Received.{Seen, is_sealed}
 use Rattle.auc_peer.specs.Asking.{answer_noted, note_of}
 use Rattle.auc_peer.specs.Attributes.{checkcode, differs}
 use Rattle.auc_peer.specs.Rows.{peer_row}
 use Rattle.auc_peer.specs.Subscription.{Subscription}
-use Rattle.auc_peer.specs.Table.{accepted as accepted_turn, accepting, by_answer, client, genuine, keys_for, opened, peer_does, text_or_none}
+use Rattle.auc_peer.specs.Table.{accepted as accepted_turn, accepting, by_answer, client, genuine, keys_at, opened, peer_does}
 use Rattle.auc_peer.specs.Turn.{Asked as AsksDevice, asked}
 use Rattle.auc_peer.specs.declared.peer.Challenge.{Challenge}
 use Rattle.auc_peer.specs.declared.peer.Peer.{Peer}
@@ -55,7 +54,7 @@ if_note false x y n first second = second
 noted_is : (p : Peer) (seen : Seen) (c : Challenge) (a : Answer) (readable : Bool) → (by_answer p seen c a readable).1.notes.usim ≡ Some (note_of a)
 noted_is p seen c answer.WrongMac readable = refl
 noted_is p seen c (answer.SyncFailure auts sqn) readable = refl
-noted_is p seen c (answer.Accepted res ck ik ak amf sqn) readable = with_keys (keys_for (text_or_none p.identity) ik ck)
+noted_is p seen c (answer.Accepted res ck ik ak amf sqn) readable = with_keys (keys_at p seen c ik ck)
   where
     opened_note : (q : Peer) (keys : KeySet) (b : Bool) → (opened q seen res sqn keys b).1.notes.usim ≡ Some (note.Accepted sqn)
     opened_note q keys true = refl
@@ -63,10 +62,10 @@ noted_is p seen c (answer.Accepted res ck ik ak amf sqn) readable = with_keys (k
 
     with_keys : (keys : KeySet) → (accepted_turn p seen c res sqn keys readable).1.notes.usim ≡ Some (note.Accepted sqn)
     with_keys keys =
-        if_note (not (is_sealed method.Aka keys.k_aut [] seen)) (client p seen why.WrongMac (Some (note.Accepted sqn)) false) (genuine (accepting p c) seen res sqn keys readable)
+        if_note (not (is_sealed p.options.method keys.k_aut [] seen)) (client p seen why.WrongMac (Some (note.Accepted sqn)) false) (genuine (accepting p seen c) seen res sqn keys readable)
         (Some (note.Accepted sqn)) refl
-        (if_note (differs (checkcode seen)) (client (accepting p c) seen why.WrongCheckcode (Some (note.Accepted sqn)) true) (opened (accepting p c) seen res sqn keys readable)
-        (Some (note.Accepted sqn)) refl (opened_note (accepting p c) keys readable))
+        (if_note (differs (checkcode seen)) (client (accepting p seen c) seen why.WrongCheckcode (Some (note.Accepted sqn)) true) (opened (accepting p seen c) seen res sqn keys readable)
+        (Some (note.Accepted sqn)) refl (opened_note (accepting p seen c) keys readable))
 
 -- the row of a challenge that is handed to the USIM
 challenged_row : (r : PeerRow) (c : Challenge) → asked r ≡ Some c → r ≡ row.Challenged c
@@ -78,6 +77,7 @@ challenged_row (row.Ignore cause) c e = absurd (cc)
 challenged_row row.Again c e = absurd (cc)
 challenged_row row.First c e = absurd (cc)
 challenged_row (row.Client cause) c e = absurd (cc)
+challenged_row (row.Reject cause) c e = absurd (cc)
 challenged_row (row.Notified code) c e = absurd (cc)
 challenged_row row.Success c e = absurd (cc)
 challenged_row (row.Failure cause) c e = absurd (cc)

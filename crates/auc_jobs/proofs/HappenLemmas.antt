@@ -60,7 +60,7 @@ module _ {S : Type 0} (goes : S → ℕ → List Entry → List (ℕ × Stop) �
 
   -- the sessions are at their devices after it
   opens : (f : Event) → OpensAt Place set w.net f
-  opens (event.Open session sub) = λ place is. is
+  opens (event.Open line) = λ place is. is
   opens (event.Start session) = tt
   opens (event.Deliver session at' packet) = tt
   opens (event.Repeat session) = tt

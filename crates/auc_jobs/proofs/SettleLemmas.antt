@@ -147,7 +147,7 @@ event_releasable set e c own = by (asked_in c) (number_in c) own
     by (Some s) o own = of_number s o own.0 own.1
 
 line_releasable : (set : Setting) (before : Before) (net next : Net) (l : Line) (lines : List LineRecord) → LineGives set before net l lines next → All (IsReleasableLine set) lines
-line_releasable set before net next (line.Session session sub) lines gives = event_lines set (IsReleasableLine set) (event_releasable set) before net next (event.Open session sub) lines gives
+line_releasable set before net next (line.Session opened) lines gives = event_lines set (IsReleasableLine set) (event_releasable set) before net next (event.Open opened) lines gives
 line_releasable set before net next (line.Start session) lines gives = event_lines set (IsReleasableLine set) (event_releasable set) before net next (event.Start session) lines gives
 line_releasable set before net next (line.Deliver session at' packet) lines gives = event_lines set (IsReleasableLine set) (event_releasable set) before net next (event.Deliver session at' packet) lines gives
 line_releasable set before net next (line.Repeat session) lines gives = event_lines set (IsReleasableLine set) (event_releasable set) before net next (event.Repeat session) lines gives

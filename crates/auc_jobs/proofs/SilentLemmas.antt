@@ -2,12 +2,11 @@
 use Rattle.std.proofs.Common.{◌≡◌, not, Bool, true, false, List, [], ℕ, refl}
 use Rattle.std.specs.Prelude.{Option, Some, None, if◌then◌else◌}
 use Rattle.auc_hmac.specs.declared.keys.KeySet.{KeySet}
-use Rattle.auc_hmac.specs.declared.method.Method.TheVariants as method
 use Rattle.auc_packet.specs.Received.{Seen, is_sealed}
 use Rattle.auc_peer.specs.Asking.{answer_noted}
 use Rattle.auc_peer.specs.Attributes.{checkcode, differs}
 use Rattle.auc_peer.specs.Subscription.{Subscription}
-use Rattle.auc_peer.specs.Table.{accepted, accepting, again, by_answer, client, genuine, keys_for, opened, peer_does, succeeded as peer_succeeded, text_or_none}
+use Rattle.auc_peer.specs.Table.{accepted, accepting, again, by_answer, client, genuine, keys_at, opened, peer_does, succeeded as peer_succeeded}
 use Rattle.auc_peer.specs.declared.peer.Challenge.{Challenge}
 use Rattle.auc_peer.specs.declared.peer.Last.{Last}
 use Rattle.auc_peer.specs.declared.peer.Peer.{Peer}
@@ -63,7 +62,7 @@ if_silent false x y first second = second
 answer_silent : (p : Peer) (seen : Seen) (c : Challenge) (a : Answer) (readable : Bool) → (by_answer p seen c a readable).1.notes.number ≡ None
 answer_silent p seen c answer.WrongMac readable = refl
 answer_silent p seen c (answer.SyncFailure auts sqn) readable = refl
-answer_silent p seen c (answer.Accepted res ck ik ak amf sqn) readable = with_keys (keys_for (text_or_none p.identity) ik ck)
+answer_silent p seen c (answer.Accepted res ck ik ak amf sqn) readable = with_keys (keys_at p seen c ik ck)
   where
     opened_silent : (q : Peer) (keys : KeySet) (b : Bool) → (opened q seen res sqn keys b).1.notes.number ≡ None
     opened_silent q keys true = refl
@@ -71,9 +70,9 @@ answer_silent p seen c (answer.Accepted res ck ik ak amf sqn) readable = with_ke
 
     with_keys : (keys : KeySet) → (accepted p seen c res sqn keys readable).1.notes.number ≡ None
     with_keys keys =
-        if_silent (not (is_sealed method.Aka keys.k_aut [] seen)) (client p seen why.WrongMac (Some (note.Accepted sqn)) false) (genuine (accepting p c) seen res sqn keys readable) refl
-        (if_silent (differs (checkcode seen)) (client (accepting p c) seen why.WrongCheckcode (Some (note.Accepted sqn)) true) (opened (accepting p c) seen res sqn keys readable)
-        refl (opened_silent (accepting p c) keys readable))
+        if_silent (not (is_sealed p.options.method keys.k_aut [] seen)) (client p seen why.WrongMac (Some (note.Accepted sqn)) false) (genuine (accepting p seen c) seen res sqn keys readable) refl
+        (if_silent (differs (checkcode seen)) (client (accepting p seen c) seen why.WrongCheckcode (Some (note.Accepted sqn)) true) (opened (accepting p seen c) seen res sqn keys readable)
+        refl (opened_silent (accepting p seen c) keys readable))
 
 pub peer_silent : (s : Subscription) (p : Peer) (seen : Seen) (r : PeerRow) (n : Option UsimNote) (readable : Bool) → (peer_does s p seen r n readable).1.notes.number ≡ None
 peer_silent s p seen (peer_row.Ignore cause) n readable = refl
@@ -84,6 +83,7 @@ peer_silent s p seen peer_row.Again n readable = by p.last
     by (Some last) = refl
 peer_silent s p seen peer_row.First n readable = refl
 peer_silent s p seen (peer_row.Client cause) n readable = refl
+peer_silent s p seen (peer_row.Reject cause) n readable = refl
 peer_silent s p seen (peer_row.Notified code) n readable = refl
 peer_silent s p seen (peer_row.Challenged c) None readable = refl
 peer_silent s p seen (peer_row.Challenged c) (Some n) readable = answer_silent p seen c (answer_noted s.secret c n) readable

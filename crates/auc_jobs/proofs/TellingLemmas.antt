@@ -92,7 +92,7 @@ line_own set before net next (asked.Sync sub seq bit count) lines known (gives, 
     (All-cons (IsOwn (length set.rows)) (Sync sub gives.answer) gives.more tt (follow_own set sub count gives.answer gives.more known.0 gives.follows))
 line_own set before net next (asked.Give sub n) lines known (gives, is) =
     subst (All (IsOwn (length set.rows))) (sym gives.lines_are) (All-cons (IsOwn (length set.rows)) (Give sub n gives.answer) [] tt (All-nil (IsOwn (length set.rows))))
-line_own set before net next (asked.Session session sub) lines known gives = event_lines set (IsOwn (length set.rows)) (λ e c own. own) before net next (event.Open session sub) lines gives
+line_own set before net next (asked.Session opened) lines known gives = event_lines set (IsOwn (length set.rows)) (λ e c own. own) before net next (event.Open opened) lines gives
 line_own set before net next (asked.Start session) lines known gives = event_lines set (IsOwn (length set.rows)) (λ e c own. own) before net next (event.Start session) lines gives
 line_own set before net next (asked.Deliver session at' packet) lines known gives = event_lines set (IsOwn (length set.rows)) (λ e c own. own) before net next (event.Deliver session at' packet) lines gives
 line_own set before net next (asked.Repeat session) lines known gives = event_lines set (IsOwn (length set.rows)) (λ e c own. own) before net next (event.Repeat session) lines gives

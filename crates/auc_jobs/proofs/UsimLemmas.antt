@@ -4,6 +4,7 @@ use Rattle.std.specs.Prelude.{Option, Some, is_some, slice_get, if◌then◌else
 use Rattle.std.proofs.lemmas.Bool.Decides.{eqb_tells}
 use Rattle.std.proofs.lemmas.List.Sums.{fold_push}
 use Rattle.auc_aes.specs.Bytes.{IsBlock}
+use Rattle.auc_hmac.specs.declared.method.Method.TheVariants as method
 use Rattle.auc_milenage.specs.declared.secret.Secret.{Secret}
 use Rattle.auc_sqn.specs.Number.{seq_of, ind_of, sqn_bytes, max_seq}
 use Rattle.auc_sqn.specs.Past.{Past, Remembers, verdict_of, opening_past}
@@ -203,7 +204,7 @@ pub record Challenged (rows : List Row) (lines : List LineRecord) (old : ℕ →
 
 -- it stands so where the vector was made of the row
 pub challenged : (rows : List Row) (lines : List LineRecord) (old : ℕ → Option Memory) (sub n : ℕ) (rand : List ℕ) (made : Vector) (answer : Answer) (new : ℕ → Option Memory) (row : Row)
-    → slice_get rows sub ≡ Some row → IsRow row → made ≡ vector_of row.secret row.amf n rand → n ≤ max_seq
+    → slice_get rows sub ≡ Some row → IsRow row → made ≡ vector_of row.secret method.Aka row.amf [] n rand → n ≤ max_seq
     → Challenges old sub made.rand made.autn answer new → HaveSecrets rows old → AreBehind rows lines old
     → Challenged rows lines old sub n rand row.amf answer new row
 challenged rows lines old sub n rand made answer new row at is e last c secrets behind = record {
@@ -219,7 +220,7 @@ challenged rows lines old sub n rand made answer new row at is e last c secrets 
 
 -- and the answer isn't that the MAC is wrong
 pub never_wrong_of : (rows : List Row) (old : ℕ → Option Memory) (sub n : ℕ) (rand : List ℕ) (made : Vector) (answer : Answer) (new : ℕ → Option Memory) (row : Row)
-    → slice_get rows sub ≡ Some row → IsRow row → made ≡ vector_of row.secret row.amf n rand → n ≤ max_seq
+    → slice_get rows sub ≡ Some row → IsRow row → made ≡ vector_of row.secret method.Aka row.amf [] n rand → n ≤ max_seq
     → Challenges old sub made.rand made.autn answer new → HaveSecrets rows old → answer ≡ WrongMac → ⊥
 never_wrong_of rows old sub n rand made answer new row at is e last c secrets wrong =
     let d : Challenges old sub rand (autn_of row.secret.k row.secret.opc rand row.amf n) answer new =

@@ -1,7 +1,8 @@
 //! The events of a job's sessions.
 
-ghost use Rattle.std.specs.Prelude.{◌≡◌, ◌<◌, length, IfOk, IfSome, OnOk};
+ghost use Rattle.std.specs.Prelude.{◌≡◌, ◌≤◌, ◌<◌, length, IfOk, IfSome, OnOk};
 ghost use Rattle.auc_world.specs.Event.{asked_in};
+ghost use Rattle.auc_world.specs.declared.event.Event.TheVariants.{Open};
 ghost use Rattle.auc_world.specs.Given.{EventGives, PlainGives, packet_in};
 ghost use Rattle.auc_world.specs.Net.{other};
 ghost use Rattle.auc_world.specs.World.{Applies, IsKnownEvent};
@@ -10,7 +11,7 @@ ghost use Rattle.auc_jobs.specs.InnerWorker.{AreForRows, GoesOnWith, WorkerServe
 
 use crate::worker::Worker;
 use auc_edge::NoMemory;
-use auc_lines::End;
+use auc_lines::{End, SessionLine};
 use auc_vector::Centre;
 use auc_world::{BoxedEvent, Event, EventRecord, LineRecord, Note, WorldRefusal};
 use std::alloc::Global;
@@ -42,11 +43,11 @@ impl<C: Centre> Worker<'_, C> {
         &mut self,
         rt: &R,
         alloc: Global,
-        event: Event,
+        event: &Event,
     ) -> Result<Result<Note, WorldRefusal>, NoMemory>
-        requires known { IsKnownEvent (length self.old.set.rows) event }
+        requires known { IsKnownEvent (length self.old.set.rows) event.now }
 
-        ensures applied { IfOk result (λ came. Applies C.goes C.kept C.top self.old.set self.old.world event
+        ensures applied { IfOk result (λ came. Applies C.goes C.kept C.top self.old.set self.old.world event.now
             self.old.centre self.new.world came self.new.centre) }
         ensures asked { IfOk result (λ came. IfSome (asked_in came) (λ sub. sub < length self.old.set.rows)) }
         ensures rows { AreForRows self.old.set.rows (C.subs self.old.centre) (C.top self.old.centre) self.old.world }
@@ -69,7 +70,7 @@ impl<C: Centre> Worker<'_, C> {
             (λ before lines. Happens self.old.set before self.old.world.net event packet lines self.new.world.net)) }
         ensures same { GoesOnWith (C.name self.old.centre) (C.name self.new.centre) self.old self.new }
     {
-        let result = self.apply(rt, alloc, event)?;
+        let result = self.apply(rt, alloc, &event)?;
         let packet = packet_in(&result);
         let record = BoxedEvent::new(alloc, EventRecord { event, result })?;
         self.lines.push(LineRecord::Event(record))?;
@@ -91,6 +92,24 @@ impl<C: Centre> Worker<'_, C> {
     {
         self.happen(rt, alloc, event)?;
         Ok(())
+    }
+
+    /// Opens a session of a line's method.
+    pub(crate) fn open<R: Wait>(
+        &mut self,
+        rt: &R,
+        alloc: Global,
+        line: &SessionLine,
+    ) -> Result<(), NoMemory>
+        requires known { line.now.sub < length self.old.set.rows }
+        requires name { length line.now.name ≤ 255 }
+
+        ensures opened { OnOk result (WorkerServes C.kept C.goes self.old self.new
+            (λ before lines. EventGives self.old.set before self.old.world.net (Open line.now) lines self.new.world.net)) }
+        ensures same { GoesOnWith (C.name self.old.centre) (C.name self.new.centre) self.old self.new }
+    {
+        let event = Event::open(alloc, line)?;
+        self.happen_alone(rt, alloc, event)
     }
 
     /// Starts a session, and delivers each packet that follows once to the other end, until one makes none.

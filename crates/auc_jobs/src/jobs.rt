@@ -88,11 +88,7 @@ impl<C: Centre> Worker<'_, C> {
                 count,
             } => self.sync(rt, sub, seq, bit, count),
             Line::Give { sub, n } => self.give(sub, n),
-            Line::Session { session, sub } => self.happen_alone(
-                rt,
-                alloc,
-                Event::Open { session, sub },
-            ),
+            Line::Session(ref line) => self.open(rt, alloc, line),
             Line::Start(session) => self.happen_alone(rt, alloc, Event::Start(session)),
             Line::Deliver {
                 session,

@@ -11,7 +11,7 @@ abbrev pub asked_by : Line → ℕ
 asked_by (Draw sub count) = count
 asked_by (Sync sub seq bit count) = count
 asked_by (Give sub number) = 0
-asked_by (Session session sub) = 2
+asked_by (Session line) = 2
 asked_by (Start session) = 0
 asked_by (Deliver session end packet) = 0
 asked_by (Repeat session) = 0
@@ -32,7 +32,7 @@ abbrev pub held_by : Line → Option ℕ
 held_by (Draw sub count) = None
 held_by (Sync sub seq bit count) = None
 held_by (Give sub number) = Some sub
-held_by (Session session sub) = Some sub
+held_by (Session line) = Some line.sub
 held_by (Start session) = None
 held_by (Deliver session end packet) = None
 held_by (Repeat session) = None

@@ -1,6 +1,7 @@
 //! The parts of a scenario.
 
-use auc_edge::Items;
+use auc_edge::{Items, Octets};
+use auc_hmac::Method;
 
 /// An end of a session.
 #[derive(Clone, Copy, Debug, PartialEq, Eq)]
@@ -11,9 +12,28 @@ pub enum End {
     Peer,
 }
 
+/// How a session is opened, at the device of the subscriber at the place `sub`.
+#[derive(Drop)]
+pub struct SessionLine {
+    /// The session's number, 1 to 999999.
+    pub session: u32,
+    /// The subscriber.
+    pub sub: u32,
+    /// The method of its packets.
+    pub method: Method,
+    /// The server's name of the network (RFC 9048 §3.1), 1 to 255 bytes. It is empty for EAP-AKA.
+    pub name: Octets,
+    /// The name that the peer expects, if it compares names, 1 to 255 bytes. EAP-AKA has none.
+    pub peer_name: Option<Octets>,
+    /// Whether the server of EAP-AKA tells that it would rather have used EAP-AKA' (RFC 9048 §4).
+    pub bidding: bool,
+    /// Whether the device has EAP-AKA'.
+    pub has_prime: bool,
+}
+
 /// A line of a job, for the subscriber at the place `sub` or for the session of a number. A packet's number counts the
 /// packets of the job from 1.
-#[derive(Debug, Drop, PartialEq, Eq)]
+#[derive(Drop)]
 pub enum Line {
     /// Asks for `count` vectors, 1 to 1000.
     Draw {
@@ -35,11 +55,8 @@ pub enum Line {
         sub: u32,
         n: u64,
     },
-    /// Opens a session of EAP-AKA under this number, 1 to 999999, at the subscriber's device.
-    Session {
-        session: u32,
-        sub: u32,
-    },
+    /// Opens a session.
+    Session(SessionLine),
     /// The session's server starts, and sends its first request.
     Start(u32),
     /// A packet reaches an end of the session. It stays there to be delivered again.
@@ -70,7 +87,7 @@ impl Line {
     {
         match *self {
             Line::Draw { count, .. } | Line::Sync { count, .. } => count,
-            Line::Session { .. } => 2,
+            Line::Session(_) => 2,
             Line::Give { .. }
             | Line::Start(_)
             | Line::Deliver { .. }
@@ -85,7 +102,8 @@ impl Line {
         ensures { result ≡ held_by self.now }
     {
         match *self {
-            Line::Give { sub, .. } | Line::Session { sub, .. } => Some(sub),
+            Line::Give { sub, .. } => Some(sub),
+            Line::Session(ref line) => Some(line.sub),
             Line::Draw { .. }
             | Line::Sync { .. }
             | Line::Start(_)

@@ -9,6 +9,7 @@ use Rattle.std.proofs.lemmas.List.Elements.{All-nil, All-cons, All-append, All-s
 use Rattle.std.proofs.lemmas.List.FromFn.{get_or-map-range_with_len, length-map-range_with_len}
 use Rattle.std.proofs.lemmas.List.Sums.{count_by-le-length}
 use Rattle.std.proofs.lemmas.Option.{get_or_from_slice_get}
+use Rattle.auc_hmac.specs.declared.method.Method.TheVariants as method
 use Rattle.auc_sqn.specs.Number.{max_seq}
 use Rattle.auc_load.specs.Input.{load_key, load_rows, row_at}
 use Rattle.auc_load.specs.Summary.{all_bytes, closing_with, drawn_for, load_closings, subscriber_bytes, vector_bytes}
@@ -16,7 +17,7 @@ use Rattle.auc_load.specs.Words.{IsLoad}
 use Rattle.auc_load.specs.declared.words.LoadWords.{LoadWords}
 use Rattle.auc_load.proofs.InputLemmas.{range_more}
 use Rattle.auc_subs.specs.declared.row.Row.{Row}
-use Rattle.auc_vector.specs.Random.{Stream, rand_of}
+use Rattle.auc_random.specs.Random.{Stream, rand_of}
 use Rattle.auc_vector.specs.Vector.{Source, vector_of}
 use Rattle.auc_world.specs.declared.record.Closing.{Closing}
 
@@ -87,16 +88,16 @@ closings_named load is = all_named load.subscribers (drawn_for load) 0 load.subs
 -- what the vectors of a subscriber are made from
 pub vector_as : (vectors : Source) (row : Row) (key : List ℕ) (sub n : ℕ)
     → vectors ≡ record { secret = row.secret; amf = row.amf; rands = record { key = key; sub = sub } }
-    → vector_of vectors.secret vectors.amf n (rand_of vectors.rands.key vectors.rands.sub n) ≡ vector_of row.secret row.amf n (rand_of key sub n)
-vector_as vectors row key sub n e = ap (λ (v : Source). vector_of v.secret v.amf n (rand_of v.rands.key v.rands.sub n)) e
+    → vector_of vectors.secret method.Aka vectors.amf [] n (rand_of vectors.rands.key vectors.rands.sub n) ≡ vector_of row.secret method.Aka row.amf [] n (rand_of key sub n)
+vector_as vectors row key sub n e = ap (λ (v : Source). vector_of v.secret method.Aka v.amf [] n (rand_of v.rands.key v.rands.sub n)) e
 
 -- one vector more
 pub bytes_more : (key : List ℕ) (row : Row) (sub before : ℕ) (fed : List ℕ)
-    → (fed ++ subscriber_bytes key row sub before) ++ vector_bytes (vector_of row.secret row.amf (before + 1) (rand_of key sub (before + 1)))
+    → (fed ++ subscriber_bytes key row sub before) ++ vector_bytes (vector_of row.secret method.Aka row.amf [] (before + 1) (rand_of key sub (before + 1)))
     ≡ fed ++ subscriber_bytes key row sub (before + 1)
 bytes_more key row sub before fed =
-    flat_map_more (λ n. vector_bytes (vector_of row.secret row.amf n (rand_of key sub n))) fed (range_with_len 1 before) (before + 1)
-    ∙ ap (λ (ns : List ℕ). fed ++ flat_map (λ n. vector_bytes (vector_of row.secret row.amf n (rand_of key sub n))) ns)
+    flat_map_more (λ n. vector_bytes (vector_of row.secret method.Aka row.amf [] n (rand_of key sub n))) fed (range_with_len 1 before) (before + 1)
+    ∙ ap (λ (ns : List ℕ). fed ++ flat_map (λ n. vector_bytes (vector_of row.secret method.Aka row.amf [] n (rand_of key sub n))) ns)
     (sym (range_more 1 before (before + 1) (omega arith)))
 
 -- one closing more

@@ -6,7 +6,7 @@ use Rattle.auc_lines.specs.declared.part.Line.{Line}
 use Rattle.auc_lines.specs.declared.part.Line.TheVariants.{Draw}
 use Rattle.auc_load.specs.declared.words.LoadWords.{LoadWords}
 use Rattle.auc_subs.specs.declared.row.Row.{Row}
-use Rattle.auc_vector.specs.Random.{sixteen_at}
+use Rattle.auc_random.specs.Random.{sixteen_at}
 
 -- the key of the random bytes: 24 zero bytes, and KEY in 8 bytes with the most significant first
 abbrev pub load_key : ℕ → List ℕ

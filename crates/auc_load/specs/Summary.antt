@@ -3,10 +3,11 @@ use Rattle.std.specs.Prelude.{ℕ, ◌+◌, ◌*◌, ◌%◌, ◌==◌, List, []
 use Rattle.std.specs.List.{range_with_len}
 use Rattle.hex.specs.Hex.{encode_lower}
 use Rattle.sha2.specs.Sha256.{sha256}
+use Rattle.auc_hmac.specs.declared.method.Method.TheVariants as method
 use Rattle.auc_load.specs.Input.{load_key, row_at, vectors_of_a_job}
 use Rattle.auc_load.specs.declared.words.LoadWords.{LoadWords}
 use Rattle.auc_subs.specs.declared.row.Row.{Row}
-use Rattle.auc_vector.specs.Random.{rand_of}
+use Rattle.auc_random.specs.Random.{rand_of}
 use Rattle.auc_vector.specs.Vector.{vector_of}
 use Rattle.auc_vector.specs.declared.parts.Vector.{Vector}
 use Rattle.auc_world.specs.declared.record.Closing.{Closing}
@@ -30,10 +31,10 @@ load_closings load = flat_map (λ sub. closing_with sub (drawn_for load sub)) (r
 abbrev pub vector_bytes : Vector → List ℕ
 vector_bytes v = v.rand ++ v.autn ++ v.xres ++ v.ck ++ v.ik
 
--- the bytes of a subscriber's vectors, of the numbers from 1 to a count
+-- the bytes of a subscriber's vectors of EAP-AKA, of the numbers from 1 to a count
 abbrev pub subscriber_bytes : List ℕ → Row → ℕ → ℕ → List ℕ
 subscriber_bytes key row sub count =
-    flat_map (λ n. vector_bytes (vector_of row.secret row.amf n (rand_of key sub n))) (range_with_len 1 count)
+    flat_map (λ n. vector_bytes (vector_of row.secret method.Aka row.amf [] n (rand_of key sub n))) (range_with_len 1 count)
 
 -- the bytes of all vectors, by subscriber and number
 abbrev pub all_bytes : LoadWords → List ℕ

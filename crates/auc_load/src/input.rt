@@ -9,8 +9,8 @@ use crate::words::LoadWords;
 use auc_edge::{Imsi, Items, NoMemory};
 use auc_lines::{JobPart, Line};
 use auc_milenage::Secret;
+use auc_random::Rands;
 use auc_subs::{AddRefusal, Row, Subscribers};
-use auc_vector::Rands;
 use std::alloc::Global;
 
 /// The stream of the subscribers' K and OPc, 2^41.

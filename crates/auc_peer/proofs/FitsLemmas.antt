@@ -1,7 +1,6 @@
 -- No turn makes a peer's keys others than those of its inputs.
-use Rattle.std.proofs.Common.{◌≡◌, ℕ, Bool, true, false, cond, not, List, [], Option, Some, None, refl}
+use Rattle.std.proofs.Common.{◌≡◌, ℕ, Bool, true, false, not, List, [], Option, Some, None, refl}
 use Rattle.auc_hmac.specs.declared.keys.KeySet.{KeySet}
-use Rattle.auc_hmac.specs.declared.method.Method.TheVariants as method
 use Rattle.auc_packet.specs.Received.{Seen, is_sealed}
 use Rattle.auc_milenage.specs.Milenage.{f2}
 use Rattle.auc_usim.specs.Usim.{acceptance, sqn_in}
@@ -9,7 +8,7 @@ use Rattle.auc_peer.specs.Laws.{Fits, keys_of_inputs, EachTurnFits}
 use Rattle.auc_peer.specs.Attributes.{checkcode, differs}
 use Rattle.auc_peer.specs.Subscription.{Subscription}
 use Rattle.auc_peer.specs.Rows.{peer_row}
-use Rattle.auc_peer.specs.Table.{accepted, accepting, again, challenged, client, genuine, opened, peer_does, succeeded, text_or_none}
+use Rattle.auc_peer.specs.Table.{accepted, accepting, again, challenged, client, genuine, network_in, opened, peer_does, succeeded, text_or_none}
 use Rattle.auc_peer.specs.declared.peer.Challenge.{Challenge}
 use Rattle.auc_peer.specs.declared.peer.Last.{Last}
 use Rattle.auc_peer.specs.declared.peer.Peer.{Peer}
@@ -20,13 +19,9 @@ use Rattle.auc_peer.specs.declared.rows.Row.TheVariants as row
 use Rattle.auc_peer.specs.declared.why.PeerWhy.{PeerWhy}
 use Rattle.auc_peer.specs.declared.why.PeerWhy.TheVariants as why
 use Rattle.auc_vector.specs.declared.turn.Turn.{Turn}
+use Rattle.auc_peer.proofs.OptionLemmas.{on_cond}
 use Rattle.auc_vector.specs.declared.notes.UsimNote.{UsimNote}
 use Rattle.auc_vector.specs.declared.notes.UsimNote.TheVariants as note
-
--- what holds of two turns holds of the one of them that a test picks
-on_cond : (P : Peer × Turn PeerWhy → Type 0) (b : Bool) (x y : Peer × Turn PeerWhy) → P x → P y → P (cond b x y)
-on_cond P true x y f g = f
-on_cond P false x y f g = g
 
 abbrev Fit : Subscription → Peer × Turn PeerWhy → Type 0
 Fit s t = Fits s t.0
@@ -43,19 +38,19 @@ same_keys k keys e = cc
 
 -- a Challenge whose AT_MAC and AT_CHECKCODE were right
 opened_fits : (s : Subscription) (p : Peer) (seen : Seen) (c : Challenge) (res sqn : List ℕ) (readable : Bool)
-    → Fit s (opened (accepting p c) seen res sqn (keys_of_inputs s c (text_or_none p.identity)) readable)
-opened_fits s p seen c res sqn true = λ keys e. record { challenge = c; was_accepted = refl; same = same_keys (keys_of_inputs s c (text_or_none p.identity)) keys e }
-opened_fits s p seen c res sqn false = client_fits s (accepting p c) seen why.Undecryptable (Some (note.Accepted sqn)) true
+    → Fit s (opened (accepting p seen c) seen res sqn (keys_of_inputs s p.options.method (network_in p seen) c (text_or_none p.identity)) readable)
+opened_fits s p seen c res sqn true = λ keys e. record { challenge = c; was_accepted = refl; same = same_keys (keys_of_inputs s p.options.method (network_in p seen) c (text_or_none p.identity)) keys e }
+opened_fits s p seen c res sqn false = client_fits s (accepting p seen c) seen why.Undecryptable (Some (note.Accepted sqn)) true
 
 -- a Challenge that the USIM accepted
 accepted_fits : (s : Subscription) (p : Peer) (seen : Seen) (c : Challenge) (res sqn : List ℕ) (readable : Bool)
-    → Fit s (accepted p seen c res sqn (keys_of_inputs s c (text_or_none p.identity)) readable)
+    → Fit s (accepted p seen c res sqn (keys_of_inputs s p.options.method (network_in p seen) c (text_or_none p.identity)) readable)
 accepted_fits s p seen c res sqn readable =
-    let k = keys_of_inputs s c (text_or_none p.identity) in
-    on_cond (Fit s) (not (is_sealed method.Aka k.k_aut [] seen)) (client p seen why.WrongMac (Some (note.Accepted sqn)) false) (genuine (accepting p c) seen res sqn k readable)
+    let k = keys_of_inputs s p.options.method (network_in p seen) c (text_or_none p.identity) in
+    on_cond (Fit s) (not (is_sealed p.options.method k.k_aut [] seen)) (client p seen why.WrongMac (Some (note.Accepted sqn)) false) (genuine (accepting p seen c) seen res sqn k readable)
     (client_fits s p seen why.WrongMac (Some (note.Accepted sqn)) false)
-    (on_cond (Fit s) (differs (checkcode seen)) (client (accepting p c) seen why.WrongCheckcode (Some (note.Accepted sqn)) true) (opened (accepting p c) seen res sqn k readable)
-    (client_fits s (accepting p c) seen why.WrongCheckcode (Some (note.Accepted sqn)) true) (opened_fits s p seen c res sqn readable))
+    (on_cond (Fit s) (differs (checkcode seen)) (client (accepting p seen c) seen why.WrongCheckcode (Some (note.Accepted sqn)) true) (opened (accepting p seen c) seen res sqn k readable)
+    (client_fits s (accepting p seen c) seen why.WrongCheckcode (Some (note.Accepted sqn)) true) (opened_fits s p seen c res sqn readable))
 
 -- a Challenge
 challenged_fits : (s : Subscription) (p : Peer) (seen : Seen) (c : Challenge) (n : Option UsimNote) (readable : Bool) → Fits s p → Fit s (challenged s p seen c n readable)
@@ -84,6 +79,7 @@ row_fits s p seen (row.Ignore cause) n readable f = f
 row_fits s p seen row.Again n readable f = again_fits s p p.last f
 row_fits s p seen row.First n readable f = λ keys e. absurd cc
 row_fits s p seen (row.Client cause) n readable f = client_fits s p seen cause None false
+row_fits s p seen (row.Reject cause) n readable f = λ keys e. absurd (refused keys cause e)
 row_fits s p seen (row.Notified code) n readable f = λ keys e. absurd cc
 row_fits s p seen (row.Challenged c) n readable f = challenged_fits s p seen c n readable f
 row_fits s p seen row.Success n readable f = succeeded_fits s p p.state f

@@ -1,14 +1,14 @@
 -- Success comes only after a right AT_MAC.
-use Rattle.std.proofs.Common.{◌≡◌, ◌⊎◌, ℕ, Bool, true, false, cond, not, List, [], ◌∷◌, Option, Some, None, refl, subst, inl, inr}
+use Rattle.std.proofs.Common.{◌≡◌, ◌⊎◌, ℕ, Bool, true, false, cond, not, List, [], ◌∷◌, Option, Some, None, refl, subst, ◌∙◌, inl, inr}
 use Rattle.auc_hmac.specs.declared.keys.KeySet.{KeySet}
-use Rattle.auc_hmac.specs.declared.method.Method.TheVariants as method
 use Rattle.auc_packet.specs.Received.{Seen, is_sealed}
 use Rattle.auc_peer.specs.Asking.{answer_noted}
 use Rattle.auc_peer.specs.Attributes.{checkcode, differs}
 use Rattle.auc_peer.specs.Subscription.{Subscription}
 use Rattle.auc_peer.specs.Laws.{Input, Bytes, GiveUp, after, Came, SuccessNeedsARightMac}
 use Rattle.auc_peer.specs.Rows.{peer_row}
-use Rattle.auc_peer.specs.Table.{accepted, accepting, again, by_answer, challenged, client, gave_up, genuine, keys_for, opened, peer_does, succeeded, text_or_none}
+use Rattle.auc_peer.specs.Table.{accepted, accepting, again, by_answer, challenged, client, gave_up, genuine, keys_at, opened, peer_does, succeeded}
+use Rattle.auc_peer.specs.declared.options.PeerOptions.{PeerOptions}
 use Rattle.auc_peer.specs.declared.peer.Challenge.{Challenge}
 use Rattle.auc_peer.specs.declared.peer.Last.{Last}
 use Rattle.auc_peer.specs.declared.peer.Peer.{Peer}
@@ -26,6 +26,7 @@ use Rattle.auc_vector.specs.declared.notes.UsimNote.{UsimNote}
 use Rattle.auc_vector.specs.declared.notes.UsimNote.TheVariants as note
 use Rattle.auc_usim.specs.declared.answer.Answer.{Answer}
 use Rattle.auc_usim.specs.declared.answer.Answer.TheVariants as answer
+use Rattle.auc_peer.proofs.OptionLemmas.{gave_options, row_options}
 
 -- which of two turns it was
 pick : (P : Peer × Turn PeerWhy → Type 0) (b : Bool) (x y : Peer × Turn PeerWhy) → P (cond b x y) → ((b ≡ true) × P x) ⊎ ((b ≡ false) × P y)
@@ -57,22 +58,22 @@ genuine_keys p seen res sqn k keys readable e =
     ]
 
 -- a Challenge that was answered had a right AT_MAC
-accepted_right : (p : Peer) (seen : Seen) (c : Challenge) (res sqn : List ℕ) (k keys : KeySet) (readable : Bool) → IsAnswered keys (accepted p seen c res sqn k readable) → is_sealed method.Aka keys.k_aut [] seen ≡ true
+accepted_right : (p : Peer) (seen : Seen) (c : Challenge) (res sqn : List ℕ) (k keys : KeySet) (readable : Bool) → IsAnswered keys (accepted p seen c res sqn k readable) → is_sealed p.options.method keys.k_aut [] seen ≡ true
 accepted_right p seen c res sqn k keys readable e =
-    elim (pick (IsAnswered keys) (not (is_sealed method.Aka k.k_aut [] seen)) (client p seen why.WrongMac (Some (note.Accepted sqn)) false) (genuine (accepting p c) seen res sqn k readable) e) [
+    elim (pick (IsAnswered keys) (not (is_sealed p.options.method k.k_aut [] seen)) (client p seen why.WrongMac (Some (note.Accepted sqn)) false) (genuine (accepting p seen c) seen res sqn k readable) e) [
       | inl h ↦ absurd (refusing keys why.WrongMac h.1)
       | inr h ↦
-          subst (λ (x : KeySet). is_sealed method.Aka x.k_aut [] seen ≡ true) (genuine_keys (accepting p c) seen res sqn k keys readable h.1)
-          (true_if (is_sealed method.Aka k.k_aut [] seen) h.0)
+          subst (λ (x : KeySet). is_sealed p.options.method x.k_aut [] seen ≡ true) (genuine_keys (accepting p seen c) seen res sqn k keys readable h.1)
+          (true_if (is_sealed p.options.method k.k_aut [] seen) h.0)
     ]
 
-answer_right : (p : Peer) (seen : Seen) (c : Challenge) (a : Answer) (keys : KeySet) (readable : Bool) → IsAnswered keys (by_answer p seen c a readable) → is_sealed method.Aka keys.k_aut [] seen ≡ true
+answer_right : (p : Peer) (seen : Seen) (c : Challenge) (a : Answer) (keys : KeySet) (readable : Bool) → IsAnswered keys (by_answer p seen c a readable) → is_sealed p.options.method keys.k_aut [] seen ≡ true
 answer_right p seen c answer.WrongMac keys readable e = absurd cc
 answer_right p seen c (answer.SyncFailure auts sqn) keys readable e = absurd cc
-answer_right p seen c (answer.Accepted res ck ik ak amf sqn) keys readable e = accepted_right p seen c res sqn (keys_for (text_or_none p.identity) ik ck) keys readable e
+answer_right p seen c (answer.Accepted res ck ik ak amf sqn) keys readable e = accepted_right p seen c res sqn (keys_at p seen c ik ck) keys readable e
 
 abbrev Right : KeySet → Peer → Seen → Type 0
-Right keys p seen = (p.state ≡ state.Answered keys) ⊎ (is_sealed method.Aka keys.k_aut [] seen ≡ true)
+Right keys p seen = (p.state ≡ state.Answered keys) ⊎ (is_sealed p.options.method keys.k_aut [] seen ≡ true)
 
 challenged_right : (s : Subscription) (p : Peer) (seen : Seen) (c : Challenge) (n : Option UsimNote) (keys : KeySet) (readable : Bool) → IsAnswered keys (challenged s p seen c n readable) → Right keys p seen
 challenged_right s p seen c None keys readable e = inl e
@@ -94,6 +95,7 @@ row_right s p seen (row.Ignore cause) n readable keys e = inl e
 row_right s p seen row.Again n readable keys e = again_right p seen p.last keys e
 row_right s p seen row.First n readable keys e = absurd cc
 row_right s p seen (row.Client cause) n readable keys e = absurd cc
+row_right s p seen (row.Reject cause) n readable keys e = absurd cc
 row_right s p seen (row.Notified code) n readable keys e = absurd cc
 row_right s p seen (row.Challenged c) n readable keys e = challenged_right s p seen c n keys readable e
 row_right s p seen row.Success n readable keys e = succeeded_right p seen p.state keys e
@@ -120,11 +122,11 @@ answer_none : (p : Peer) (seen : Seen) (c : Challenge) (a : Answer) (keys : KeyS
 answer_none p seen c answer.WrongMac keys bytes readable e = cc
 answer_none p seen c (answer.SyncFailure auts sqn) keys bytes readable e = cc
 answer_none p seen c (answer.Accepted res ck ik ak amf sqn) keys bytes readable e =
-    let k = keys_for (text_or_none p.identity) ik ck in
-    picked_none keys bytes (not (is_sealed method.Aka k.k_aut [] seen)) (client p seen why.WrongMac (Some (note.Accepted sqn)) false) (genuine (accepting p c) seen res sqn k readable)
+    let k = keys_at p seen c ik ck in
+    picked_none keys bytes (not (is_sealed p.options.method k.k_aut [] seen)) (client p seen why.WrongMac (Some (note.Accepted sqn)) false) (genuine (accepting p seen c) seen res sqn k readable)
     (sent_none keys bytes _)
-    (picked_none keys bytes (differs (checkcode seen)) (client (accepting p c) seen why.WrongCheckcode (Some (note.Accepted sqn)) true) (opened (accepting p c) seen res sqn k readable)
-    (sent_none keys bytes _) (opened_none (accepting p c) seen res sqn bytes k keys readable)) e
+    (picked_none keys bytes (differs (checkcode seen)) (client (accepting p seen c) seen why.WrongCheckcode (Some (note.Accepted sqn)) true) (opened (accepting p seen c) seen res sqn k readable)
+    (sent_none keys bytes _) (opened_none (accepting p seen c) seen res sqn bytes k keys readable)) e
 
 success_in : (p : Peer) (s : PeerState) (keys : KeySet) (bytes : List ℕ) → IsSuccess keys bytes (succeeded p s) → s ≡ state.Answered keys
 success_in p (state.Answered k) keys bytes e = cc
@@ -146,6 +148,7 @@ row_success s p seen (row.Ignore cause) n readable keys bytes e = absurd cc
 row_success s p seen row.Again n readable keys bytes e = absurd (again_none p p.last keys bytes e)
 row_success s p seen row.First n readable keys bytes e = absurd cc
 row_success s p seen (row.Client cause) n readable keys bytes e = absurd cc
+row_success s p seen (row.Reject cause) n readable keys bytes e = absurd cc
 row_success s p seen (row.Notified code) n readable keys bytes e = absurd cc
 row_success s p seen (row.Challenged c) n readable keys bytes e = absurd (challenged_none s p seen c n keys bytes readable e)
 row_success s p seen row.Success n readable keys bytes e = success_in p p.state keys bytes e
@@ -159,16 +162,24 @@ gave_none p state.Waiting keys f e = cc
 gave_none p (state.Answered k) keys f e = cc
 gave_none p (state.Refusing cause) keys f e = cc
 
+-- a peer after some inputs has the options that it began with
+after_options : (o : PeerOptions) (before : List Input) → (after o before).options ≡ o
+after_options o [] = refl
+after_options o (Bytes s seen n readable ∷ before) =
+    row_options s (after o before) seen (peer_row (after o before) seen) n readable ∙ after_options o before
+after_options o (GiveUp ∷ before) = gave_options (after o before) (after o before).state ∙ after_options o before
+
 -- a peer in Answered has received a right AT_MAC
-came : (keys : KeySet) (before : List Input) → (after before).state ≡ state.Answered keys → Came keys before
-came keys [] e = absurd cc
-came keys (Bytes s seen n readable ∷ before) e =
-    elim (row_right s (after before) seen (peer_row (after before) seen) n readable keys e) [
-      | inl h ↦ inr (came keys before h)
-      | inr h ↦ inl h
+came : (o : PeerOptions) (keys : KeySet) (before : List Input) → (after o before).state ≡ state.Answered keys → Came o.method keys before
+came o keys [] e = absurd cc
+came o keys (Bytes s seen n readable ∷ before) e =
+    elim (row_right s (after o before) seen (peer_row (after o before) seen) n readable keys e) [
+      | inl h ↦ inr (came o keys before h)
+      | inr h ↦ inl (subst (λ (x : PeerOptions). is_sealed x.method keys.k_aut [] seen ≡ true) (after_options o before) h)
     ]
-came keys (GiveUp ∷ before) e = absurd (gave_none (after before) (after before).state keys refl e)
+came o keys (GiveUp ∷ before) e = absurd (gave_none (after o before) (after o before).state keys refl e)
 
 -- Success needs a right AT_MAC
 pub success_needs : SuccessNeedsARightMac
-success_needs before s seen n readable keys bytes e = came keys before (row_success s (after before) seen (peer_row (after before) seen) n readable keys bytes e)
+success_needs o before s seen n readable keys bytes e =
+    came o keys before (row_success s (after o before) seen (peer_row (after o before) seen) n readable keys bytes e)

@@ -7,11 +7,13 @@ use Rattle.auc_attr.specs.Spelling.{writable, spelling, item_text, shape_text, f
 use Rattle.auc_attr.specs.Table.{row_of}
 use Rattle.auc_edge.specs.Reserved.{Reserved, wrote}
 use Rattle.auc_hmac.specs.Mac.{no_mac}
+use Rattle.auc_hmac.specs.declared.method.Method.{Method}
+use Rattle.auc_hmac.specs.declared.method.Method.TheVariants as method
 use Rattle.auc_packet.specs.Spelling.{MayBeWritten, packet_text}
 use Rattle.auc_packet.specs.declared.subtype.Subtype.{Subtype}
 use Rattle.auc_packet.specs.declared.subtype.Subtype.TheVariants as subtype
 use Rattle.auc_peer.specs.InnerRooms.{IsShort, IsShortDraft}
-use Rattle.auc_peer.specs.Messages.{client_error, draft_of, identity_response, response, sync_failure}
+use Rattle.auc_peer.specs.Messages.{client_error, draft_of, identity_response, own_kdf, response, sync_failure}
 
 -- ---- the Identity response
 
@@ -31,32 +33,42 @@ client_size : length (spelling (attr.ClientErrorCode 0 ∷ [])) ≡ 4
 unfolding item_text row_of shape_text
 client_size = refl
 
-client_short : (id : ℕ) → IsShort (client_error id)
-client_short id = record { may = record { attrs = client_writable; size = omega (arith, client_size) }; size = omega (arith, client_size) }
+client_short : (m : Method) (id : ℕ) → IsShort (client_error m id)
+client_short m id = record { may = record { attrs = client_writable; size = omega (arith, client_size) }; size = omega (arith, client_size) }
 
-empty_short : (id : ℕ) (s : Subtype) → IsShort (response id s [])
-empty_short id s = record { may = record { attrs = refl; size = omega arith }; size = omega arith }
+empty_short : (m : Method) (id : ℕ) (s : Subtype) → IsShort (response m id s [])
+empty_short m id s = record { may = record { attrs = refl; size = omega arith }; size = omega arith }
 
-auts_writable : (auts : List ℕ) → length auts ≡ 14 → writable (attr.Auts auts ∷ []) ≡ true
+auts_writable : (m : Method) (auts : List ℕ) → length auts ≡ 14 → writable (attr.Auts auts ∷ own_kdf m) ≡ true
 unfolding fits_item fits row_of
-auts_writable auts e = rw e refl
+auts_writable method.Aka auts e = rw e refl
+auts_writable method.Prime auts e = rw e refl
 
-auts_size : (auts : List ℕ) → length auts ≡ 14 → length (spelling (attr.Auts auts ∷ [])) ≡ 16
+auts_length : (auts : List ℕ) → length auts ≡ 14 → length (item_text (item 4 auts)) ≡ 16
 unfolding item_text row_of shape_text
-auts_size auts e = omega (arith, length-append auts [], length-append (auts ++ []) [], e)
+auts_length auts e = omega (arith, length-append auts [], e)
 
-sync_short : (id : ℕ) (auts : List ℕ) → length auts ≡ 14 → IsShort (sync_failure id auts)
-sync_short id auts e = record { may = record { attrs = auts_writable auts e; size = omega (arith, auts_size auts e) }; size = omega (arith, auts_size auts e) }
+kdf_length : length (spelling (attr.Kdf 1 ∷ [])) ≡ 4
+unfolding item_text row_of shape_text
+kdf_length = refl
+
+-- AT_AUTS has 16 bytes, and AT_KDF 4
+auts_size : (m : Method) (auts : List ℕ) → length auts ≡ 14 → length (spelling (attr.Auts auts ∷ own_kdf m)) ≤ 20
+auts_size method.Aka auts e = omega (arith, length-append (item_text (item 4 auts)) [], auts_length auts e)
+auts_size method.Prime auts e = omega (arith, length-append (item_text (item 4 auts)) (spelling (attr.Kdf 1 ∷ [])), auts_length auts e, kdf_length)
+
+sync_short : (m : Method) (id : ℕ) (auts : List ℕ) → length auts ≡ 14 → IsShort (sync_failure m id auts)
+sync_short m id auts e = record { may = record { attrs = auts_writable m auts e; size = omega (arith, auts_size m auts e) }; size = omega (arith, auts_size m auts e) }
 
 -- the same of a list that is the message's
-pub client_short_of : (id : ℕ) (list : List Attr) → list ≡ attr.ClientErrorCode 0 ∷ [] → IsShort (response id subtype.ClientError list)
-client_short_of id list e = subst (λ (l : List Attr). IsShort (response id subtype.ClientError l)) (sym e) (client_short id)
+pub client_short_of : (m : Method) (id : ℕ) (list : List Attr) → list ≡ attr.ClientErrorCode 0 ∷ [] → IsShort (response m id subtype.ClientError list)
+client_short_of m id list e = subst (λ (l : List Attr). IsShort (response m id subtype.ClientError l)) (sym e) (client_short m id)
 
-pub empty_short_of : (id : ℕ) (s : Subtype) (list : List Attr) → list ≡ [] → IsShort (response id s list)
-empty_short_of id s list e = subst (λ (l : List Attr). IsShort (response id s l)) (sym e) (empty_short id s)
+pub empty_short_of : (m : Method) (id : ℕ) (s : Subtype) (list : List Attr) → list ≡ [] → IsShort (response m id s list)
+empty_short_of m id s list e = subst (λ (l : List Attr). IsShort (response m id s l)) (sym e) (empty_short m id s)
 
-pub sync_short_of : (id : ℕ) (auts : List ℕ) (list : List Attr) → length auts ≡ 14 → list ≡ attr.Auts auts ∷ [] → IsShort (response id subtype.SynchronizationFailure list)
-sync_short_of id auts list whole e = subst (λ (l : List Attr). IsShort (response id subtype.SynchronizationFailure l)) (sym e) (sync_short id auts whole)
+pub sync_short_of : (m : Method) (id : ℕ) (auts : List ℕ) (list : List Attr) → length auts ≡ 14 → list ≡ attr.Auts auts ∷ own_kdf m → IsShort (response m id subtype.SynchronizationFailure list)
+sync_short_of m id auts list whole e = subst (λ (l : List Attr). IsShort (response m id subtype.SynchronizationFailure l)) (sym e) (sync_short m id auts whole)
 
 -- ---- the Challenge response
 
@@ -91,14 +103,14 @@ without_size res mac e f =
     let last = item_text (item 11 mac) in
     omega (arith, length-append (item_text (item 3 res)) (last ++ []), length-append last [], res_size res e, mac_size mac f)
 
-with_short : (id : ℕ) (res : List ℕ) → length res ≡ 8 → IsShortDraft (draft_of id (attr.Res res ∷ attr.Checkcode [] ∷ []))
-with_short id res e = record {
+with_short : (m : Method) (id : ℕ) (res : List ℕ) → length res ≡ 8 → IsShortDraft (draft_of m id (attr.Res res ∷ attr.Checkcode [] ∷ []))
+with_short m id res e = record {
   zero = record { may = record { attrs = with_writable res e; size = omega (arith, with_size res no_mac e refl) }; size = omega (arith, with_size res no_mac e refl) };
   any = λ mac f. omega (arith, with_size res mac e f);
 }
 
-without_short : (id : ℕ) (res : List ℕ) → length res ≡ 8 → IsShortDraft (draft_of id (attr.Res res ∷ []))
-without_short id res e = record {
+without_short : (m : Method) (id : ℕ) (res : List ℕ) → length res ≡ 8 → IsShortDraft (draft_of m id (attr.Res res ∷ []))
+without_short m id res e = record {
   zero = record { may = record { attrs = without_writable res e; size = omega (arith, without_size res no_mac e refl) }; size = omega (arith, without_size res no_mac e refl) };
   any = λ mac f. omega (arith, without_size res mac e f);
 }
@@ -114,8 +126,8 @@ two_put p q r x y e f g = ap (λ (t : Reserved Attr). t.written) g ∙ ap (λ (l
 pub without_list : (p q : Reserved Attr) (list : List Attr) (res : List ℕ) → p.written ≡ [] → q ≡ wrote p (attr.Res res ∷ []) → list ≡ q.written → list ≡ attr.Res res ∷ []
 without_list p q list res e f l = l ∙ one_put p q (attr.Res res) e f
 
-pub without_short_of : (id : ℕ) (res : List ℕ) (list : List Attr) → length res ≡ 8 → list ≡ attr.Res res ∷ [] → IsShortDraft (draft_of id list)
-without_short_of id res list e is = subst (λ (l : List Attr). IsShortDraft (draft_of id l)) (sym is) (without_short id res e)
+pub without_short_of : (m : Method) (id : ℕ) (res : List ℕ) (list : List Attr) → length res ≡ 8 → list ≡ attr.Res res ∷ [] → IsShortDraft (draft_of m id list)
+without_short_of m id res list e is = subst (λ (l : List Attr). IsShortDraft (draft_of m id l)) (sym is) (without_short m id res e)
 
 -- AT_RES and AT_CHECKCODE
 pub with_list : (p q r : Reserved Attr) (list : List Attr) (res none : List ℕ) → p.written ≡ [] → q ≡ wrote p (attr.Res res ∷ []) → r ≡ wrote q (attr.Checkcode none ∷ []) → none ≡ [] → list ≡ r.written
@@ -123,8 +135,8 @@ pub with_list : (p q r : Reserved Attr) (list : List Attr) (res none : List ℕ)
 with_list p q r list res none e f g n l =
     l ∙ two_put p q r (attr.Res res) (attr.Checkcode none) e f g ∙ ap (λ (v : List ℕ). attr.Res res ∷ attr.Checkcode v ∷ []) n
 
-pub with_short_of : (id : ℕ) (res : List ℕ) (list : List Attr) → length res ≡ 8 → list ≡ attr.Res res ∷ attr.Checkcode [] ∷ [] → IsShortDraft (draft_of id list)
-with_short_of id res list e is = subst (λ (l : List Attr). IsShortDraft (draft_of id l)) (sym is) (with_short id res e)
+pub with_short_of : (m : Method) (id : ℕ) (res : List ℕ) (list : List Attr) → length res ≡ 8 → list ≡ attr.Res res ∷ attr.Checkcode [] ∷ [] → IsShortDraft (draft_of m id list)
+with_short_of m id res list e is = subst (λ (l : List Attr). IsShortDraft (draft_of m id l)) (sym is) (with_short m id res e)
 
 -- what was written into empty memory is as short as its text
 pub written_size : (room later : Reserved ℕ) (bytes text : List ℕ) → room.written ≡ [] → later ≡ wrote room text → bytes ≡ later.written → length text ≤ 44 → length bytes ≤ 44

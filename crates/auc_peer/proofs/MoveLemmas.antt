@@ -1,10 +1,10 @@
 -- What a turn does to the inputs of a peer's keys.
-use Rattle.std.proofs.Common.{◌≡◌, ◌⊎◌, ℕ, ◌==◌, ◌||◌, ◌&&◌, nat_le, nat_lt, Bool, true, false, cond, not, List, [], ◌∷◌, Option, Some, None, refl, ap, ◌∙◌, inl, inr}
-use Rattle.auc_attr.specs.declared.attr.Attr.{Attr}
+use Rattle.std.proofs.Common.{◌≡◌, ◌⊎◌, ℕ, ◌==◌, ◌||◌, ◌&&◌, nat_le, nat_lt, Bool, true, false, cond, not, List, [], Option, Some, None, refl, ap, ◌∙◌, inl, inr}
 use Rattle.auc_hmac.specs.declared.keys.KeySet.{KeySet}
-use Rattle.auc_hmac.specs.declared.method.Method.TheVariants as method
+use Rattle.auc_hmac.specs.declared.method.Method.{Method}
 use Rattle.auc_packet.specs.Head.{head_at}
 use Rattle.auc_packet.specs.Messages.{is_malformed}
+use Rattle.auc_packet.specs.Packet.{method_type}
 use Rattle.auc_packet.specs.Received.{Seen, is_sealed}
 use Rattle.auc_packet.specs.declared.packet.Head.{Head}
 use Rattle.auc_packet.specs.declared.packet.Packet.TheVariants as packet
@@ -14,9 +14,9 @@ use Rattle.auc_packet.specs.declared.subtype.Subtype.TheVariants as subtype
 use Rattle.auc_peer.specs.Asking.{answer_noted}
 use Rattle.auc_peer.specs.Attributes.{checkcode, differs, first_code}
 use Rattle.auc_peer.specs.Laws.{EachTurnMoves}
-use Rattle.auc_peer.specs.Rows.{ended_by, is_last, late, late_notification, notified_or, notified_row, of_kind, on_failure, on_success, peer_row, repeats, requested, row_headed, row_in}
+use Rattle.auc_peer.specs.Rows.{is_last, late, notified_or, of_kind, on_failure, on_success, peer_row, repeats, requested, row_headed, row_in}
 use Rattle.auc_peer.specs.Subscription.{Subscription}
-use Rattle.auc_peer.specs.Table.{accepted, accepting, again, by_answer, challenged, client, genuine, keys_for, opened, peer_does, peer_step, succeeded, text_or_none}
+use Rattle.auc_peer.specs.Table.{accepted, accepting, again, by_answer, challenged, client, genuine, keys_at, opened, peer_does, succeeded}
 use Rattle.auc_peer.specs.declared.peer.Challenge.{Challenge}
 use Rattle.auc_peer.specs.declared.peer.Last.{Last}
 use Rattle.auc_peer.specs.declared.peer.Peer.{Peer}
@@ -35,6 +35,7 @@ use Rattle.auc_vector.specs.declared.turn.Reason.TheVariants as reason
 use Rattle.auc_vector.specs.declared.turn.Step.TheVariants as step
 use Rattle.auc_vector.specs.declared.turn.Turn.{Turn}
 use Rattle.auc_peer.proofs.LawLemmas.{again_none, challenged_none, row_success}
+use Rattle.auc_peer.proofs.OptionLemmas.{on_cond, row_options}
 
 -- ---- which rows are a waiting peer's
 
@@ -54,31 +55,32 @@ any_waits p (row.Challenged c) e = e
 any_waits p (row.Ignore cause) e = tt
 any_waits p row.Again e = tt
 any_waits p (row.Client cause) e = tt
+any_waits p (row.Reject cause) e = tt
 any_waits p (row.Notified code) e = tt
 any_waits p row.Success e = tt
 any_waits p (row.Failure cause) e = tt
 
-late_waits : (p : Peer) (r : Reading) → Waits p (late r)
-late_waits p (reading.Read (packet.Aka request id m subtype.Notification list)) =
-    picked (Waits p) (is_malformed subtype.Notification true method.Aka list) (row.Ignore reason.Unexpected) (notified_or (row.Ignore reason.Unexpected) (first_code list)) tt (by (first_code list))
+late_waits : (p : Peer) (own : Method) (r : Reading) → Waits p (late own r)
+late_waits p own (reading.Read (packet.Aka request id m subtype.Notification list)) =
+    picked (Waits p) (is_malformed subtype.Notification true own list) (row.Ignore reason.Unexpected) (notified_or (row.Ignore reason.Unexpected) (first_code list)) tt (by (first_code list))
   where
     by : (code : Option ℕ) → Waits p (notified_or (row.Ignore reason.Unexpected) code)
     by None = tt
     by (Some code) = picked (Waits p) (nat_le 16384 code && nat_lt code 32768) (row.Notified code) (row.Ignore reason.Unexpected) tt tt
-late_waits p (reading.Read (packet.Aka request id m subtype.Challenge list)) = tt
-late_waits p (reading.Read (packet.Aka request id m subtype.AuthenticationReject list)) = tt
-late_waits p (reading.Read (packet.Aka request id m subtype.SynchronizationFailure list)) = tt
-late_waits p (reading.Read (packet.Aka request id m subtype.Identity list)) = tt
-late_waits p (reading.Read (packet.Aka request id m subtype.Reauthentication list)) = tt
-late_waits p (reading.Read (packet.Aka request id m subtype.ClientError list)) = tt
-late_waits p (reading.Read (packet.Identity request id text)) = tt
-late_waits p (reading.Read (packet.Success id)) = tt
-late_waits p (reading.Read (packet.Failure id)) = tt
-late_waits p (reading.Fault fault) = tt
+late_waits p own (reading.Read (packet.Aka request id m subtype.Challenge list)) = tt
+late_waits p own (reading.Read (packet.Aka request id m subtype.AuthenticationReject list)) = tt
+late_waits p own (reading.Read (packet.Aka request id m subtype.SynchronizationFailure list)) = tt
+late_waits p own (reading.Read (packet.Aka request id m subtype.Identity list)) = tt
+late_waits p own (reading.Read (packet.Aka request id m subtype.Reauthentication list)) = tt
+late_waits p own (reading.Read (packet.Aka request id m subtype.ClientError list)) = tt
+late_waits p own (reading.Read (packet.Identity request id text)) = tt
+late_waits p own (reading.Read (packet.Success id)) = tt
+late_waits p own (reading.Read (packet.Failure id)) = tt
+late_waits p own (reading.Fault fault) = tt
 
-requested_waits : (p : Peer) (s : PeerState) (r : Reading) → p.state ≡ s → Waits p (requested s r)
-requested_waits p state.Waiting r e = any_waits p (requested state.Waiting r) e
-requested_waits p (state.Answered keys) r e = late_waits p r
+requested_waits : (p : Peer) (s : PeerState) (r : Reading) → p.state ≡ s → Waits p (requested p.options s r)
+requested_waits p state.Waiting r e = any_waits p (requested p.options state.Waiting r) e
+requested_waits p (state.Answered keys) r e = late_waits p p.options.method r
 requested_waits p (state.Refusing cause) r e = tt
 requested_waits p state.Ended r e = tt
 
@@ -94,20 +96,20 @@ failure_waits p state.Waiting = tt
 failure_waits p (state.Refusing cause) = tt
 failure_waits p state.Ended = tt
 
-kind_waits : (p : Peer) (s : PeerState) (last : Option Last) (seen : Seen) (head : Head) (kind : Option ℕ) → p.state ≡ s → Waits p (of_kind s last seen head kind)
+kind_waits : (p : Peer) (s : PeerState) (last : Option Last) (seen : Seen) (head : Head) (kind : Option ℕ) → p.state ≡ s → Waits p (of_kind p.options s last seen head kind)
 kind_waits p s last seen head None e =
     picked (Waits p) (not (is_last last head.id)) (row.Ignore reason.Unexpected) (cond (head.code == 3) (on_success s) (on_failure s)) tt
     (picked (Waits p) (head.code == 3) (on_success s) (on_failure s) (success_waits p s) (failure_waits p s))
 kind_waits p s last seen head (Some kind) e =
-    picked (Waits p) (not (kind == 1 || kind == 23)) (row.Ignore reason.OtherType) (requested s seen.reading) tt (requested_waits p s seen.reading e)
+    picked (Waits p) (not (kind == 1 || kind == method_type p.options.method)) (row.Ignore reason.OtherType) (requested p.options s seen.reading) tt (requested_waits p s seen.reading e)
 
-headed_waits : (p : Peer) (s : PeerState) (last : Option Last) (seen : Seen) (head : Option Head) → p.state ≡ s → Waits p (row_headed s last seen head)
+headed_waits : (p : Peer) (s : PeerState) (last : Option Last) (seen : Seen) (head : Option Head) → p.state ≡ s → Waits p (row_headed p.options s last seen head)
 headed_waits p s last seen None e = tt
 headed_waits p s last seen (Some head) e =
-    picked (Waits p) (head.code == 2) (row.Ignore reason.NotForMe) (cond (repeats last seen.bytes) row.Again (of_kind s last seen head head.kind)) tt
-    (picked (Waits p) (repeats last seen.bytes) row.Again (of_kind s last seen head head.kind) tt (kind_waits p s last seen head head.kind e))
+    picked (Waits p) (head.code == 2) (row.Ignore reason.NotForMe) (cond (repeats last seen.bytes) row.Again (of_kind p.options s last seen head head.kind)) tt
+    (picked (Waits p) (repeats last seen.bytes) row.Again (of_kind p.options s last seen head head.kind) tt (kind_waits p s last seen head head.kind e))
 
-in_waits : (p : Peer) (s : PeerState) (last : Option Last) (seen : Seen) → p.state ≡ s → Waits p (row_in s last seen)
+in_waits : (p : Peer) (s : PeerState) (last : Option Last) (seen : Seen) → p.state ≡ s → Waits p (row_in p.options s last seen)
 in_waits p state.Ended last seen e = tt
 in_waits p state.Waiting last seen e = headed_waits p state.Waiting last seen (head_at seen.bytes) e
 in_waits p (state.Answered keys) last seen e = headed_waits p (state.Answered keys) last seen (head_at seen.bytes) e
@@ -133,19 +135,41 @@ row_keeps s p seen (row.Ignore cause) n readable w = inr (refl, refl)
 row_keeps s p seen row.Again n readable w = again_keeps p p.last
 row_keeps s p seen row.First n readable w = inl w
 row_keeps s p seen (row.Client cause) n readable w = inr (refl, refl)
+row_keeps s p seen (row.Reject cause) n readable w = inr (refl, refl)
 row_keeps s p seen (row.Notified code) n readable w = inr (refl, refl)
 row_keeps s p seen (row.Challenged c) n readable w = inl w
 row_keeps s p seen row.Success n readable w = succeeded_keeps p p.state
 row_keeps s p seen (row.Failure cause) n readable w = inr (refl, refl)
 
+-- the name of the network stays, unless a waiting peer takes a challenge
+abbrev KeepsNetwork : Peer → Peer × Turn PeerWhy → Type 0
+KeepsNetwork p t = (p.state ≡ state.Waiting) ⊎ (t.0.network ≡ p.network)
+
+again_network : (p : Peer) (last : Option Last) → KeepsNetwork p (again p last)
+again_network p None = inr refl
+again_network p (Some last) = inr refl
+
+succeeded_network : (p : Peer) (s : PeerState) → KeepsNetwork p (succeeded p s)
+succeeded_network p (state.Answered keys) = inr refl
+succeeded_network p state.Waiting = inr refl
+succeeded_network p (state.Refusing cause) = inr refl
+succeeded_network p state.Ended = inr refl
+
+row_network : (s : Subscription) (p : Peer) (seen : Seen) (r : Row) (n : Option UsimNote) (readable : Bool) → Waits p r → KeepsNetwork p (peer_does s p seen r n readable)
+row_network s p seen (row.Ignore cause) n readable w = inr refl
+row_network s p seen row.Again n readable w = again_network p p.last
+row_network s p seen row.First n readable w = inr refl
+row_network s p seen (row.Client cause) n readable w = inr refl
+row_network s p seen (row.Reject cause) n readable w = inr refl
+row_network s p seen (row.Notified code) n readable w = inr refl
+row_network s p seen (row.Challenged c) n readable w = inl w
+row_network s p seen row.Success n readable w = succeeded_network p p.state
+row_network s p seen (row.Failure cause) n readable w = inr refl
+
 -- ---- keys come with a right AT_MAC
 
 abbrev Checks : KeySet → Peer × Turn PeerWhy → Type 0
 Checks keys t = t.0.state ≡ state.Answered keys → t.1.checked ≡ true
-
-on_cond : (P : Peer × Turn PeerWhy → Type 0) (b : Bool) (x y : Peer × Turn PeerWhy) → P x → P y → P (cond b x y)
-on_cond P true x y f g = f
-on_cond P false x y f g = g
 
 refused : (keys : KeySet) (w : PeerWhy) → state.Refusing w ≡ state.Answered keys → ⊥
 refused keys w e = cc
@@ -159,15 +183,15 @@ opened_checks p seen res sqn k false keys = client_checks p seen why.Undecryptab
 
 accepted_checks : (p : Peer) (seen : Seen) (c : Challenge) (res sqn : List ℕ) (k : KeySet) (readable : Bool) (keys : KeySet) → Checks keys (accepted p seen c res sqn k readable)
 accepted_checks p seen c res sqn k readable keys =
-    on_cond (Checks keys) (not (is_sealed method.Aka k.k_aut [] seen)) (client p seen why.WrongMac (Some (note.Accepted sqn)) false) (genuine (accepting p c) seen res sqn k readable)
+    on_cond (Checks keys) (not (is_sealed p.options.method k.k_aut [] seen)) (client p seen why.WrongMac (Some (note.Accepted sqn)) false) (genuine (accepting p seen c) seen res sqn k readable)
     (client_checks p seen why.WrongMac (Some (note.Accepted sqn)) false keys)
-    (on_cond (Checks keys) (differs (checkcode seen)) (client (accepting p c) seen why.WrongCheckcode (Some (note.Accepted sqn)) true) (opened (accepting p c) seen res sqn k readable)
-    (client_checks (accepting p c) seen why.WrongCheckcode (Some (note.Accepted sqn)) true keys) (opened_checks (accepting p c) seen res sqn k readable keys))
+    (on_cond (Checks keys) (differs (checkcode seen)) (client (accepting p seen c) seen why.WrongCheckcode (Some (note.Accepted sqn)) true) (opened (accepting p seen c) seen res sqn k readable)
+    (client_checks (accepting p seen c) seen why.WrongCheckcode (Some (note.Accepted sqn)) true keys) (opened_checks (accepting p seen c) seen res sqn k readable keys))
 
 answer_checks : (p : Peer) (seen : Seen) (c : Challenge) (a : Answer) (readable : Bool) (keys : KeySet) → Checks keys (by_answer p seen c a readable)
 answer_checks p seen c answer.WrongMac readable keys = λ e. absurd cc
 answer_checks p seen c (answer.SyncFailure auts sqn) readable keys = λ e. absurd cc
-answer_checks p seen c (answer.Accepted res ck ik ak amf sqn) readable keys = accepted_checks p seen c res sqn (keys_for (text_or_none p.identity) ik ck) readable keys
+answer_checks p seen c (answer.Accepted res ck ik ak amf sqn) readable keys = accepted_checks p seen c res sqn (keys_at p seen c ik ck) readable keys
 
 abbrev Right : KeySet → Peer → Peer × Turn PeerWhy → Type 0
 Right keys p t = (p.state ≡ state.Answered keys) ⊎ (t.1.checked ≡ true)
@@ -193,6 +217,7 @@ row_checks s p seen (row.Ignore cause) n readable keys e = inl e
 row_checks s p seen row.Again n readable keys e = again_checks p p.last keys e
 row_checks s p seen row.First n readable keys e = absurd cc
 row_checks s p seen (row.Client cause) n readable keys e = absurd cc
+row_checks s p seen (row.Reject cause) n readable keys e = absurd (refused keys cause e)
 row_checks s p seen (row.Notified code) n readable keys e = absurd cc
 row_checks s p seen (row.Challenged c) n readable keys e = challenged_checks s p seen c n readable keys e
 row_checks s p seen row.Success n readable keys e = succeeded_checks p p.state keys e
@@ -215,6 +240,7 @@ row_ends s p seen (row.Ignore cause) n readable keys bytes e = absurd cc
 row_ends s p seen row.Again n readable keys bytes e = absurd (again_none p p.last keys bytes e)
 row_ends s p seen row.First n readable keys bytes e = absurd cc
 row_ends s p seen (row.Client cause) n readable keys bytes e = absurd cc
+row_ends s p seen (row.Reject cause) n readable keys bytes e = absurd cc
 row_ends s p seen (row.Notified code) n readable keys bytes e = absurd cc
 row_ends s p seen (row.Challenged c) n readable keys bytes e = absurd (challenged_none s p seen c n keys bytes readable e)
 row_ends s p seen row.Success n readable keys bytes e = succeeded_ends p p.state keys bytes e
@@ -223,11 +249,13 @@ row_ends s p seen (row.Failure cause) n readable keys bytes e = refl
 -- each turn
 pub each_turn_moves : EachTurnMoves
 each_turn_moves s p seen n readable = record {
+  options = row_options s p seen (peer_row p seen) n readable;
+  network = row_network s p seen (peer_row p seen) n readable (in_waits p p.state p.last seen refl);
   keeps = row_keeps s p seen (peer_row p seen) n readable (in_waits p p.state p.last seen refl);
   keys = λ keys e. row_checks s p seen (peer_row p seen) n readable keys e;
   success = λ keys bytes e. (
     row_success s p seen (peer_row p seen) n readable keys bytes e,
     row_ends s p seen (peer_row p seen) n readable keys bytes e,
   );
-  ended = λ e. ap (λ (st : PeerState). (peer_does s p seen (row_in st p.last seen) n readable).0.state) e ∙ e;
+  ended = λ e. ap (λ (st : PeerState). (peer_does s p seen (row_in p.options st p.last seen) n readable).0.state) e ∙ e;
 }

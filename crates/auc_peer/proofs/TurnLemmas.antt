@@ -1,14 +1,13 @@
 -- For turns: equal peers at equal bytes, whose USIM answered alike, take one turn.
 use Rattle.std.proofs.Common.{◌≡◌, ℕ, Bool, true, false, cond, not, List, [], Option, Some, None, Result, Ok, Err, refl, sym, ap, ◌∙◌, subst}
 use Rattle.auc_attr.specs.declared.attr.Attr.{Attr}
-use Rattle.auc_hmac.specs.declared.method.Method.TheVariants as method
 use Rattle.auc_packet.specs.Received.{Seen, OneReceived, is_sealed}
 use Rattle.auc_peer.specs.Asking.{answer_noted}
 use Rattle.auc_peer.specs.Attributes.{attrs_in, checkcode, differs}
 use Rattle.auc_peer.specs.Laws.{EqualTurnsAreOne}
 use Rattle.auc_peer.specs.Rows.{peer_row}
 use Rattle.auc_peer.specs.Subscription.{Subscription}
-use Rattle.auc_peer.specs.Table.{accepting, by_answer, client, keys_for, opened, peer_does, peer_step, text_or_none}
+use Rattle.auc_peer.specs.Table.{accepting, by_answer, client, keys_at, opened, peer_does, peer_step}
 use Rattle.auc_peer.specs.Turn.{IsReadable, Decryption, Decrypts, asked, decryption_by, decryption_noted, was_readable}
 use Rattle.auc_peer.specs.declared.peer.Challenge.{Challenge}
 use Rattle.auc_peer.specs.declared.peer.Peer.{Peer}
@@ -42,15 +41,15 @@ picked one true other made x y f b d p q = refl
 picked one false true made x y f b d p q = refl
 picked one false false made x y f b d p q = ap f (readable_once one made.k_encr made.list b d p q)
 
-answer_once : OneOpening → (p : Peer) (seen : Seen) (c : Challenge) (a : Answer) (b d : Bool) → Decrypts (decryption_by p seen a) b → Decrypts (decryption_by p seen a) d
+answer_once : OneOpening → (p : Peer) (seen : Seen) (c : Challenge) (a : Answer) (b d : Bool) → Decrypts (decryption_by p seen c a) b → Decrypts (decryption_by p seen c a) d
     → by_answer p seen c a b ≡ by_answer p seen c a d
 answer_once one p seen c answer.WrongMac b d x y = refl
 answer_once one p seen c (answer.SyncFailure auts sqn) b d x y = refl
 answer_once one p seen c (answer.Accepted res ck ik ak amf sqn) b d x y =
-    let keys = keys_for (text_or_none p.identity) ik ck in
-    picked {T = Peer × Turn PeerWhy} one (not (is_sealed method.Aka keys.k_aut [] seen)) (differs (checkcode seen)) (record { k_encr = keys.k_encr; list = attrs_in seen.reading })
-    (client p seen why.WrongMac (Some (note.Accepted sqn)) false) (client (accepting p c) seen why.WrongCheckcode (Some (note.Accepted sqn)) true)
-    (λ (readable : Bool). opened (accepting p c) seen res sqn keys readable) b d x y
+    let keys = keys_at p seen c ik ck in
+    picked {T = Peer × Turn PeerWhy} one (not (is_sealed p.options.method keys.k_aut [] seen)) (differs (checkcode seen)) (record { k_encr = keys.k_encr; list = attrs_in seen.reading })
+    (client p seen why.WrongMac (Some (note.Accepted sqn)) false) (client (accepting p seen c) seen why.WrongCheckcode (Some (note.Accepted sqn)) true)
+    (λ (readable : Bool). opened (accepting p seen c) seen res sqn keys readable) b d x y
 
 -- what a row does depends on what was decrypted alone, and not on a decryption that it doesn't make
 pub row_once : OneOpening → (s : Subscription) (p : Peer) (seen : Seen) (r : Row) (n : Option UsimNote) (b d : Bool) → Decrypts (decryption_noted s p seen (asked r) n) b → Decrypts (decryption_noted s p seen (asked r) n) d
@@ -59,6 +58,7 @@ row_once one s p seen (row.Ignore cause) n b d x y = refl
 row_once one s p seen row.Again n b d x y = refl
 row_once one s p seen row.First n b d x y = refl
 row_once one s p seen (row.Client cause) n b d x y = refl
+row_once one s p seen (row.Reject cause) n b d x y = refl
 row_once one s p seen (row.Notified code) n b d x y = refl
 row_once one s p seen (row.Challenged c) None b d x y = refl
 row_once one s p seen (row.Challenged c) (Some n) b d x y = answer_once one p seen c (answer_noted s.secret c n) b d x y

@@ -1,12 +1,14 @@
 -- What holds of every peer, over all that it receives.
 use Rattle.std.specs.Prelude.{◌≡◌, ◌⊎◌, ℕ, true, Bool, List, [], ◌∷◌, Option, Some}
 use Rattle.auc_hmac.specs.declared.keys.KeySet.{KeySet}
+use Rattle.auc_hmac.specs.declared.method.Method.{Method}
 use Rattle.auc_hmac.specs.declared.method.Method.TheVariants as method
 use Rattle.auc_milenage.specs.Milenage.{f3, f4}
 use Rattle.auc_packet.specs.Received.{Seen, is_sealed}
 use Rattle.auc_peer.specs.Subscription.{Subscription}
 use Rattle.auc_peer.specs.Table.{gave_up, keys_for, new_peer, peer_step, text_or_none}
 use Rattle.auc_peer.specs.Turn.{Steps}
+use Rattle.auc_peer.specs.declared.options.PeerOptions.{PeerOptions}
 use Rattle.auc_peer.specs.declared.peer.Challenge.{Challenge}
 use Rattle.auc_peer.specs.declared.peer.Peer.{Peer}
 use Rattle.auc_peer.specs.declared.peer.PeerState.TheVariants as state
@@ -29,39 +31,40 @@ abbrev pub happened : Peer → Input → Peer
 happened p (Bytes s seen n readable) = (peer_step s p seen n readable).0
 happened p GiveUp = (gave_up p p.state).0
 
--- the peer after some inputs, the last of which stands first
-abbrev pub after : List Input → Peer
-after [] = new_peer
-after (input ∷ before) = happened (after before) input
+-- a peer with some options after some inputs, the last of which stands first
+abbrev pub after : PeerOptions → List Input → Peer
+after o [] = new_peer o
+after o (input ∷ before) = happened (after o before) input
 
--- bytes with a right AT_MAC under some keys
-abbrev pub IsRightUnder : KeySet → Input → Type 0
-IsRightUnder keys (Bytes s seen n readable) = is_sealed method.Aka keys.k_aut [] seen ≡ true
-IsRightUnder keys GiveUp = ⊥
+-- bytes with a right AT_MAC of a method under some keys
+abbrev pub IsRightUnder : Method → KeySet → Input → Type 0
+IsRightUnder m keys (Bytes s seen n readable) = is_sealed m keys.k_aut [] seen ≡ true
+IsRightUnder m keys GiveUp = ⊥
 
--- among some inputs are bytes with a right AT_MAC under some keys
-abbrev pub Came : KeySet → List Input → Type 0
-Came keys [] = ⊥
-Came keys (input ∷ before) = IsRightUnder keys input ⊎ Came keys before
+-- among some inputs are bytes with a right AT_MAC of a method under some keys
+abbrev pub Came : Method → KeySet → List Input → Type 0
+Came m keys [] = ⊥
+Came m keys (input ∷ before) = IsRightUnder m keys input ⊎ Came m keys before
 
 -- a peer that ends in Success with some keys has received bytes with a right AT_MAC under them before
 abbrev pub SuccessNeedsARightMac : Type 0
 SuccessNeedsARightMac =
-    (before : List Input) (s : Subscription) (seen : Seen) (n : Option UsimNote) (readable : Bool) (keys : KeySet) (bytes : List ℕ)
-    → (peer_step s (after before) seen n readable).1.step ≡ step.Ended (outcome.Success keys) bytes
-    → Came keys before
+    (o : PeerOptions) (before : List Input) (s : Subscription) (seen : Seen) (n : Option UsimNote) (readable : Bool) (keys : KeySet) (bytes : List ℕ)
+    → (peer_step s (after o before) seen n readable).1.step ≡ step.Ended (outcome.Success keys) bytes
+    → Came o.method keys before
 
 -- ---- keys
 
--- the keys of a challenge under an identity
-abbrev pub keys_of_inputs : Subscription → Challenge → List ℕ → KeySet
-keys_of_inputs s c text = keys_for text (f4 s.secret.k s.secret.opc c.rand) (f3 s.secret.k s.secret.opc c.rand)
+-- the keys of a challenge of a network under an identity
+abbrev pub keys_of_inputs : Subscription → Method → List ℕ → Challenge → List ℕ → KeySet
+keys_of_inputs s m network c text =
+    keys_for m network c text (f4 s.secret.k s.secret.opc c.rand) (f3 s.secret.k s.secret.opc c.rand)
 
 -- keys of the challenge that was accepted last, under the identity that was sent last
 pub record AreOfInputs (s : Subscription) (p : Peer) (keys : KeySet) : Type 0 where
   pub challenge : Challenge
   pub was_accepted : p.accepted ≡ Some challenge
-  pub same : keys ≡ keys_of_inputs s challenge (text_or_none p.identity)
+  pub same : keys ≡ keys_of_inputs s p.options.method p.network challenge (text_or_none p.identity)
 
 abbrev pub Fits : Subscription → Peer → Type 0
 Fits s p = (keys : KeySet) → p.state ≡ state.Answered keys → AreOfInputs s p keys
@@ -74,9 +77,11 @@ EachTurnFits =
 
 -- ---- inputs of the keys
 
--- what a turn does to what keys are made from: only a waiting peer accepts a challenge, or sends another identity; keys
--- come with a right AT_MAC; Success comes under the keys of an answered Challenge; and a session that has ended stays so
+-- what a turn does to what keys are made from: options never change; only a waiting peer accepts a challenge, of
+-- whichever network, or sends another identity; keys come with a right AT_MAC; Success comes under the keys of an answered Challenge; and a session that has ended stays so
 pub record Moves (p new : Peer) (turn : Turn PeerWhy) : Type 0 where
+  pub options : new.options ≡ p.options
+  pub network : (p.state ≡ state.Waiting) ⊎ (new.network ≡ p.network)
   pub keeps : (p.state ≡ state.Waiting) ⊎ ((new.accepted ≡ p.accepted) × (new.identity ≡ p.identity))
   pub keys : (keys : KeySet) → new.state ≡ state.Answered keys → (p.state ≡ state.Answered keys) ⊎ (turn.checked ≡ true)
   pub success : (keys : KeySet) (bytes : List ℕ) → turn.step ≡ step.Ended (outcome.Success keys) bytes
@@ -86,6 +91,16 @@ pub record Moves (p new : Peer) (turn : Turn PeerWhy) : Type 0 where
 abbrev pub EachTurnMoves : Type 0
 EachTurnMoves = (s : Subscription) (p : Peer) (seen : Seen) (n : Option UsimNote) (readable : Bool)
     → Moves p (peer_step s p seen n readable).0 (peer_step s p seen n readable).1
+
+-- ---- the network
+
+-- the challenge that a peer of EAP-AKA' has accepted is of the network that it means, if it means one
+abbrev pub Named : Peer → Type 0
+Named p = (c : Challenge) (name : List ℕ) → p.options.method ≡ method.Prime → p.options.name ≡ Some name → p.accepted ≡ Some c → p.network ≡ name
+
+-- no turn accepts a challenge of another network
+abbrev pub EachTurnIsNamed : Type 0
+EachTurnIsNamed = (s : Subscription) (p : Peer) (seen : Seen) (n : Option UsimNote) (readable : Bool) → Named p → Named (peer_step s p seen n readable).0
 
 -- ---- turns
 

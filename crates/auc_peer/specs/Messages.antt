@@ -1,7 +1,8 @@
--- The messages that a peer sends (RFC 4187 §9).
+-- The messages that a peer sends, by its method (RFC 4187 §9, RFC 9048 §3).
 use Rattle.std.specs.Prelude.{ℕ, Bool, true, false, List, [], ◌∷◌}
 use Rattle.auc_attr.specs.declared.attr.Attr.{Attr}
 use Rattle.auc_attr.specs.declared.attr.Attr.TheVariants as attr
+use Rattle.auc_hmac.specs.declared.method.Method.{Method}
 use Rattle.auc_hmac.specs.declared.method.Method.TheVariants as method
 use Rattle.auc_packet.specs.Sealed.{sealed}
 use Rattle.auc_packet.specs.declared.packet.Packet.{Packet}
@@ -10,29 +11,34 @@ use Rattle.auc_packet.specs.declared.sealing.Draft.{Draft}
 use Rattle.auc_packet.specs.declared.subtype.Subtype.{Subtype}
 use Rattle.auc_packet.specs.declared.subtype.Subtype.TheVariants as subtype
 
--- a response of EAP-AKA
-abbrev pub response : ℕ → Subtype → List Attr → Packet
-response id s list = packet.Aka false id method.Aka s list
+-- a response of a method
+abbrev pub response : Method → ℕ → Subtype → List Attr → Packet
+response m id s list = packet.Aka false id m s list
 
 -- the Identity response (RFC 3748 §5.1)
 abbrev pub identity_response : ℕ → List ℕ → Packet
 identity_response id text = packet.Identity false id text
 
 -- Client-Error, with code 0 (§9.9 and §10.20)
-abbrev pub client_error : ℕ → Packet
-client_error id = response id subtype.ClientError (attr.ClientErrorCode 0 ∷ [])
+abbrev pub client_error : Method → ℕ → Packet
+client_error m id = response m id subtype.ClientError (attr.ClientErrorCode 0 ∷ [])
 
 -- Authentication-Reject (§9.5)
-abbrev pub reject : ℕ → Packet
-reject id = response id subtype.AuthenticationReject []
+abbrev pub reject : Method → ℕ → Packet
+reject m id = response m id subtype.AuthenticationReject []
 
 -- the Notification response (§9.11)
-abbrev pub notified : ℕ → Packet
-notified id = response id subtype.Notification []
+abbrev pub notified : Method → ℕ → Packet
+notified m id = response m id subtype.Notification []
 
--- Synchronization-Failure (§9.6)
-abbrev pub sync_failure : ℕ → List ℕ → Packet
-sync_failure id auts = response id subtype.SynchronizationFailure (attr.Auts auts ∷ [])
+-- the AT_KDF of a Synchronization-Failure: the key derivation function of the Challenge (RFC 9048 §3.2)
+abbrev pub own_kdf : Method → List Attr
+own_kdf method.Aka = []
+own_kdf method.Prime = attr.Kdf 1 ∷ []
+
+-- Synchronization-Failure (RFC 4187 §9.6)
+abbrev pub sync_failure : Method → ℕ → List ℕ → Packet
+sync_failure m id auts = response m id subtype.SynchronizationFailure (attr.Auts auts ∷ own_kdf m)
 
 -- AT_CHECKCODE of no AKA-Identity packet, if the request had AT_CHECKCODE (§10.13)
 abbrev pub own_checkcode : Bool → List Attr
@@ -40,9 +46,9 @@ own_checkcode true = attr.Checkcode [] ∷ []
 own_checkcode false = []
 
 -- a Challenge response, to which AT_MAC is added
-abbrev pub draft_of : ℕ → List Attr → Draft
-draft_of id list = record {
-  method = method.Aka;
+abbrev pub draft_of : Method → ℕ → List Attr → Draft
+draft_of m id list = record {
+  method = m;
   request = false;
   id = id;
   subtype = subtype.Challenge;
@@ -50,5 +56,5 @@ draft_of id list = record {
 }
 
 -- the bytes of the Challenge response (§9.4): AT_RES, AT_CHECKCODE and AT_MAC
-unfoldable pub response_bytes : ℕ → List ℕ → List ℕ → Bool → List ℕ
-response_bytes id k_aut res has = sealed k_aut [] (draft_of id (attr.Res res ∷ own_checkcode has))
+unfoldable pub response_bytes : Method → ℕ → List ℕ → List ℕ → Bool → List ℕ
+response_bytes m id k_aut res has = sealed k_aut [] (draft_of m id (attr.Res res ∷ own_checkcode has))

@@ -1,11 +1,13 @@
--- The peer's table: which row a packet falls into, in the order of the tests. Where RFC 4187 leaves the order open, it is
--- the project's.
-use Rattle.std.specs.Prelude.{ℕ, ◌==◌, ◌||◌, ◌&&◌, not, nat_le, nat_lt, Bool, true, false, List, Option, Some, None, if◌then◌else◌}
+-- The peer's table: which row a packet falls into, in the order of the tests. Where RFC 4187 and RFC 9048 leave the order
+-- open, it is the project's.
+use Rattle.std.specs.Prelude.{ℕ, ◌==◌, ◌||◌, ◌&&◌, not, nat_le, nat_lt, Bool, true, false, List, slice_index, Option, Some, None, if◌then◌else◌}
 use Rattle.std.specs.Str.{bytes_eq}
 use Rattle.auc_attr.specs.declared.attr.Attr.{Attr}
+use Rattle.auc_hmac.specs.declared.method.Method.{Method}
 use Rattle.auc_hmac.specs.declared.method.Method.TheVariants as method
 use Rattle.auc_packet.specs.Head.{head_at}
 use Rattle.auc_packet.specs.Messages.{is_malformed, is_missing}
+use Rattle.auc_packet.specs.Packet.{method_type}
 use Rattle.auc_packet.specs.Received.{Seen}
 use Rattle.auc_packet.specs.declared.packet.Head.{Head}
 use Rattle.auc_packet.specs.declared.packet.Packet.TheVariants as packet
@@ -13,7 +15,9 @@ use Rattle.auc_packet.specs.declared.received.Reading.{Reading}
 use Rattle.auc_packet.specs.declared.received.Reading.TheVariants as reading
 use Rattle.auc_packet.specs.declared.subtype.Subtype.{Subtype}
 use Rattle.auc_packet.specs.declared.subtype.Subtype.TheVariants as subtype
-use Rattle.auc_peer.specs.Attributes.{rand_of, autn_of, first_code}
+use Rattle.auc_peer.specs.Attributes.{rand_of, autn_of, bids, first_code, first_kdf, has_bytes, name_in}
+use Rattle.auc_peer.specs.declared.options.PeerOptions.{PeerOptions}
+use Rattle.auc_peer.specs.declared.peer.Challenge.{Challenge}
 use Rattle.auc_peer.specs.declared.peer.Last.{Last}
 use Rattle.auc_peer.specs.declared.peer.Peer.{Peer}
 use Rattle.auc_peer.specs.declared.peer.PeerState.{PeerState}
@@ -36,17 +40,53 @@ abbrev pub is_last : Option Last → ℕ → Bool
 is_last None id = false
 is_last (Some last) id = id == last.id
 
--- ---- messages in Waiting
+-- ---- a Challenge in Waiting: what is tested before the USIM is asked
 
-abbrev pub challenge_of : Option (List ℕ) → Option (List ℕ) → Row
-challenge_of (Some rand) (Some autn) = row.Challenged (record { rand = rand; autn = autn })
-challenge_of _ _ = row.Client why.Missing
+-- the first AT_KDF offers the one key derivation function that the peer has (RFC 9048 §3.2)
+abbrev pub is_known_kdf : Option ℕ → Bool
+is_known_kdf None = false
+is_known_kdf (Some n) = n == 1
+
+-- a network has a peer's own name for it; without an own name it may have any
+abbrev pub is_own : Option (List ℕ) → List ℕ → Bool
+is_own None name = true
+is_own (Some own) name = bytes_eq name own
+
+-- a name was received, and is that of the network that the peer means, if it means one (RFC 9048 §3.1)
+abbrev pub is_right_name : Option (List ℕ) → List ℕ → Bool
+is_right_name own name = has_bytes name && is_own own name
+
+-- the separation bit, the first bit of AMF, is set (TS 33.102 Annex H); AMF begins with the seventh byte of AUTN
+abbrev pub is_separated : List ℕ → Bool
+is_separated autn = nat_le 128 (slice_index autn 6)
+
+-- the tests of EAP-AKA' (RFC 9048 §3.1 and §3.2, TS 33.102 Annex H)
+abbrev pub prime_row : Option (List ℕ) → List Attr → Challenge → Row
+prime_row own list c =
+    if not (is_known_kdf (first_kdf list)) then row.Reject why.BadKdf
+    else if not (is_right_name own (name_in list)) then row.Reject why.BadName
+    else if not (is_separated c.autn) then row.Reject why.NoSeparation
+    else row.Challenged c
+
+-- the test of EAP-AKA: a device that has EAP-AKA' isn't bid down from it (RFC 9048 §4)
+abbrev pub aka_row : Bool → List Attr → Challenge → Row
+aka_row has_prime list c = if has_prime && bids list then row.Reject why.Downgrade else row.Challenged c
+
+abbrev pub method_row : Method → PeerOptions → List Attr → Challenge → Row
+method_row method.Aka o list c = aka_row o.has_prime list c
+method_row method.Prime o list c = prime_row o.name list c
+
+abbrev pub challenge_of : PeerOptions → List Attr → Option (List ℕ) → Option (List ℕ) → Row
+challenge_of o list (Some rand) (Some autn) = method_row o.method o list (record { rand = rand; autn = autn })
+challenge_of o list _ _ = row.Client why.Missing
 
 -- a Challenge has AT_RAND, AT_AUTN and AT_MAC (RFC 4187 §9.3)
-abbrev pub on_challenge : List Attr → Row
-on_challenge list =
+abbrev pub on_challenge : PeerOptions → List Attr → Row
+on_challenge o list =
     if is_missing subtype.Challenge true list then row.Client why.Missing
-    else challenge_of (first_value rand_of list) (first_value autn_of list)
+    else challenge_of o list (first_value rand_of list) (first_value autn_of list)
+
+-- ---- messages in Waiting
 
 -- the bit P, 0x4000, is set: the notification may come before a Challenge was answered; and the bit S, 0x8000, is clear:
 -- it is one of failure (RFC 4187 §10.19)
@@ -62,11 +102,11 @@ abbrev pub on_notification : List Attr → Row
 on_notification list = notified_or (row.Client why.Missing) (first_code list)
 
 -- the peer has no context of a fast re-authentication, and is asked for no identity within the method
-abbrev pub on_sound : Subtype → List Attr → Row
-on_sound subtype.Challenge list = on_challenge list
-on_sound subtype.Reauthentication list = row.Ignore reason.NoContext
-on_sound subtype.Notification list = on_notification list
-on_sound other list = row.Ignore reason.Unexpected
+abbrev pub on_sound : PeerOptions → Subtype → List Attr → Row
+on_sound o subtype.Challenge list = on_challenge o list
+on_sound o subtype.Reauthentication list = row.Ignore reason.NoContext
+on_sound o subtype.Notification list = on_notification list
+on_sound o other list = row.Ignore reason.Unexpected
 
 -- only responses have these Subtypes
 abbrev pub is_response : Subtype → Bool
@@ -75,27 +115,27 @@ is_response subtype.SynchronizationFailure = true
 is_response subtype.ClientError = true
 is_response other = false
 
-abbrev pub on_message : Subtype → List Attr → Row
-on_message s list =
-    if is_response s || is_malformed s true method.Aka list then row.Client why.Malformed else on_sound s list
+abbrev pub on_message : PeerOptions → Subtype → List Attr → Row
+on_message o s list =
+    if is_response s || is_malformed s true o.method list then row.Client why.Malformed else on_sound o s list
 
-abbrev pub waiting : Reading → Row
-waiting (reading.Fault fault) = row.Client why.Malformed
-waiting (reading.Read (packet.Identity request id text)) = row.First
-waiting (reading.Read (packet.Aka request id m s list)) = on_message s list
-waiting (reading.Read other) = row.Ignore reason.Unexpected
+abbrev pub waiting : PeerOptions → Reading → Row
+waiting o (reading.Fault fault) = row.Client why.Malformed
+waiting o (reading.Read (packet.Identity request id text)) = row.First
+waiting o (reading.Read (packet.Aka request id m s list)) = on_message o s list
+waiting o (reading.Read other) = row.Ignore reason.Unexpected
 
 -- ---- requests in Answered
 
-abbrev pub late_notification : List Attr → Row
-late_notification list =
-    if is_malformed subtype.Notification true method.Aka list then row.Ignore reason.Unexpected
+abbrev pub late_notification : Method → List Attr → Row
+late_notification m list =
+    if is_malformed subtype.Notification true m list then row.Ignore reason.Unexpected
     else notified_or (row.Ignore reason.Unexpected) (first_code list)
 
 -- only a Notification is taken
-abbrev pub late : Reading → Row
-late (reading.Read (packet.Aka request id m subtype.Notification list)) = late_notification list
-late other = row.Ignore reason.Unexpected
+abbrev pub late : Method → Reading → Row
+late own (reading.Read (packet.Aka request id m subtype.Notification list)) = late_notification own list
+late own other = row.Ignore reason.Unexpected
 
 -- ---- Success and Failure with the Identifier of the last request (RFC 3748 §4.2)
 
@@ -114,28 +154,28 @@ ended_by s last head =
 
 -- ---- the tests for every state
 
-abbrev pub requested : PeerState → Reading → Row
-requested state.Waiting r = waiting r
-requested (state.Answered keys) r = late r
-requested other r = row.Ignore reason.Unexpected
+abbrev pub requested : PeerOptions → PeerState → Reading → Row
+requested o state.Waiting r = waiting o r
+requested o (state.Answered keys) r = late o.method r
+requested o other r = row.Ignore reason.Unexpected
 
--- type 1 is Identity, and type 23 EAP-AKA
-abbrev pub of_kind : PeerState → Option Last → Seen → Head → Option ℕ → Row
-of_kind s last seen head None = ended_by s last head
-of_kind s last seen head (Some kind) =
-    if not (kind == 1 || kind == 23) then row.Ignore reason.OtherType else requested s seen.reading
+-- type 1 is Identity, and each method has a type of its own
+abbrev pub of_kind : PeerOptions → PeerState → Option Last → Seen → Head → Option ℕ → Row
+of_kind o s last seen head None = ended_by s last head
+of_kind o s last seen head (Some kind) =
+    if not (kind == 1 || kind == method_type o.method) then row.Ignore reason.OtherType else requested o s seen.reading
 
 -- code 2 is Response
-abbrev pub row_headed : PeerState → Option Last → Seen → Option Head → Row
-row_headed s last seen None = row.Ignore reason.NotForMe
-row_headed s last seen (Some head) =
+abbrev pub row_headed : PeerOptions → PeerState → Option Last → Seen → Option Head → Row
+row_headed o s last seen None = row.Ignore reason.NotForMe
+row_headed o s last seen (Some head) =
     if head.code == 2 then row.Ignore reason.NotForMe
     else if repeats last seen.bytes then row.Again
-    else of_kind s last seen head head.kind
+    else of_kind o s last seen head head.kind
 
-abbrev pub row_in : PeerState → Option Last → Seen → Row
-row_in state.Ended last seen = row.Ignore reason.Closed
-row_in s last seen = row_headed s last seen (head_at seen.bytes)
+abbrev pub row_in : PeerOptions → PeerState → Option Last → Seen → Row
+row_in o state.Ended last seen = row.Ignore reason.Closed
+row_in o s last seen = row_headed o s last seen (head_at seen.bytes)
 
 abbrev pub peer_row : Peer → Seen → Row
-peer_row peer seen = row_in peer.state peer.last seen
+peer_row peer seen = row_in peer.options peer.state peer.last seen

@@ -1,7 +1,7 @@
 -- What a peer takes from its device beside the USIM's index array. No turn changes it.
 use Rattle.std.specs.Prelude.{ℕ, List, [], ◌∷◌, ◌++◌}
 use Rattle.auc_edge.specs.Identity.{Identity}
-use Rattle.auc_hmac.specs.declared.method.Method.TheVariants as method
+use Rattle.auc_hmac.specs.declared.method.Method.{Method}
 use Rattle.auc_ident.specs.Permanent.{permanent_text}
 use Rattle.auc_milenage.specs.declared.secret.Secret.{Secret}
 use Rattle.auc_peer.specs.declared.device.Device.{Device}
@@ -20,6 +20,6 @@ abbrev pub with_realm : List ℕ → List ℕ → List ℕ
 with_realm text [] = text
 with_realm text (letter ∷ letters) = text ++ 64 ∷ letter ∷ letters
 
--- the permanent identity (RFC 4187 §4.1.1.6)
-abbrev pub identity_text : Subscription → List ℕ
-identity_text s = with_realm (permanent_text method.Aka s.imsi) s.realm
+-- the permanent identity of a method (RFC 4187 §4.1.1.6, RFC 9048 §5.1)
+abbrev pub identity_text : Method → Subscription → List ℕ
+identity_text m s = with_realm (permanent_text m s.imsi) s.realm

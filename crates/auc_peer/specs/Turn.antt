@@ -2,13 +2,13 @@
 use Rattle.std.specs.Prelude.{◌≡◌, ℕ, not, Bool, true, false, List, [], Option, Some, None, Ok, Err, if◌then◌else◌}
 use Rattle.auc_attr.specs.declared.attr.Attr.{Attr}
 use Rattle.auc_hmac.specs.declared.keys.KeySet.{KeySet}
-use Rattle.auc_hmac.specs.declared.method.Method.TheVariants as method
+use Rattle.auc_hmac.specs.declared.method.Method.{Method}
 use Rattle.auc_packet.specs.Received.{Seen, IsReceived, is_sealed}
 use Rattle.auc_peer.specs.Asking.{answer_noted}
 use Rattle.auc_peer.specs.Attributes.{attrs_in, checkcode, differs}
 use Rattle.auc_peer.specs.Rows.{peer_row}
 use Rattle.auc_peer.specs.Subscription.{Subscription}
-use Rattle.auc_peer.specs.Table.{keys_for, peer_step, text_or_none}
+use Rattle.auc_peer.specs.Table.{keys_at, peer_step}
 use Rattle.auc_peer.specs.declared.peer.Challenge.{Challenge}
 use Rattle.auc_peer.specs.declared.peer.Peer.{Peer}
 use Rattle.auc_peer.specs.declared.peer.PeerState.{PeerState}
@@ -55,18 +55,18 @@ pub record Decryption : Type 0 where
   pub list : List Attr
 
 -- the decryption that a row makes: of a Challenge that the USIM accepted, with a right AT_MAC and AT_CHECKCODE
-abbrev pub decryption_under : Seen → KeySet → Option Decryption
-decryption_under seen keys =
-    if not (is_sealed method.Aka keys.k_aut [] seen) then None
+abbrev pub decryption_under : Method → Seen → KeySet → Option Decryption
+decryption_under m seen keys =
+    if not (is_sealed m keys.k_aut [] seen) then None
     else if differs (checkcode seen) then None
     else Some (record { k_encr = keys.k_encr; list = attrs_in seen.reading })
 
-abbrev pub decryption_by : Peer → Seen → Answer → Option Decryption
-decryption_by p seen (answer.Accepted res ck ik ak amf sqn) = decryption_under seen (keys_for (text_or_none p.identity) ik ck)
-decryption_by p seen other = None
+abbrev pub decryption_by : Peer → Seen → Challenge → Answer → Option Decryption
+decryption_by p seen c (answer.Accepted res ck ik ak amf sqn) = decryption_under p.options.method seen (keys_at p seen c ik ck)
+decryption_by p seen c other = None
 
 abbrev pub decryption_noted : Subscription → Peer → Seen → Option Challenge → Option UsimNote → Option Decryption
-decryption_noted s p seen (Some c) (Some n) = decryption_by p seen (answer_noted s.secret c n)
+decryption_noted s p seen (Some c) (Some n) = decryption_by p seen c (answer_noted s.secret c n)
 decryption_noted s p seen c n = None
 
 -- whether a decryption gives attributes; without one nothing is said

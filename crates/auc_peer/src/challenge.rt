@@ -1,4 +1,4 @@
-//! A Challenge, as the USIM answers it (RFC 4187 §6.3.1 and §9.3).
+//! A Challenge, as the USIM answers it (RFC 4187 §6.3.1 and §9.3, RFC 9048 §3).
 
 ghost use Rattle.std.specs.Prelude.{◌≡◌, ◌≤◌, ℕ, [], length, Some};
 ghost use Rattle.auc_packet.specs.Received.{IsReceived, seen_of};
@@ -7,7 +7,7 @@ ghost use Rattle.auc_sqn.specs.Past.{Past, Remembers};
 ghost use Rattle.auc_peer.specs.Asking.{note_of as note_by};
 ghost use Rattle.auc_peer.specs.Attributes.{attrs_in};
 ghost use Rattle.auc_peer.specs.Subscription.{subscription_of};
-ghost use Rattle.auc_peer.specs.Table.{accepted, by_answer, challenged, keys_for, opened, text_or_none};
+ghost use Rattle.auc_peer.specs.Table.{accepted, by_answer, challenged, keys_for, network_in, opened, text_or_none};
 ghost use Rattle.auc_peer.specs.Turn.{Asked, Decrypts, IsReadable, decryption_by, decryption_noted, decryption_under, was_readable};
 
 use crate::asking::ask;
@@ -20,18 +20,8 @@ use crate::why::PeerWhy;
 use auc_edge::{Octets, Room};
 use auc_hmac::{KeySet, Method};
 use auc_packet::{Received, is_sealed};
-use auc_prf::aka_keys;
 use auc_usim::Answer;
-use auc_vector::{Turn, UsimNote};
-
-/// The keys of an authentication under an identity.
-#[tactic(auto, unfolding(crate::specs::Table::keys_for))]
-fn keys_for(identity: &[u8], ik: [u8; 16], ck: [u8; 16]) -> KeySet
-    ensures { result ≡ keys_for identity.now ik ck }
-{
-    let (keys, _) = aka_keys(identity, ik, ck);
-    keys
-}
+use auc_vector::{Turn, UsimNote, keys_by, keys_of};
 
 /// The identity that was sent last, or the empty text.
 fn text_of(identity: &Option<Octets>) -> &[u8]
@@ -44,18 +34,31 @@ fn text_of(identity: &Option<Octets>) -> &[u8]
 }
 
 impl Peer {
+    /// The keys of a received challenge, under the identity that was sent last or the empty text.
+    fn keys_at(&self, network: &[u8], challenge: Challenge, ik: [u8; 16], ck: [u8; 16]) -> KeySet
+        requires { length network.now ≤ 65535 }
+        ensures { result ≡ keys_for self.now.options.method network.now challenge (text_or_none self.now.identity) ik ck }
+    {
+        let method = self.options.method;
+        let (ck, ik) = keys_by(method, network, challenge.autn, ck, ik);
+        keys_of(method, text_of(&self.identity), ik, ck)
+    }
+
     /// Hands a Challenge to the USIM, and does what its answer says.
     pub(crate) fn on_challenge(
         &mut self,
         device: &mut Device,
         received: &Received,
         request: Octets,
+        network: Octets,
         inner: Room,
         challenge: Challenge,
         rooms: Rooms,
     ) -> Turn<PeerWhy>
         requires is { IsReceived (seen_of received.now) }
         requires request { request ≡ (seen_of received.now).bytes }
+        requires network { network ≡ network_in self.old (seen_of received.now) }
+        requires name { length network ≤ 65535 }
         requires rooms { 44 ≤ rooms }
         requires empty { inner.written ≡ [] }
         requires room { length (ciphertext_of (attrs_in received.now.reading)) ≤ inner.left }
@@ -71,7 +74,7 @@ impl Peer {
         ensures subscription { subscription_of device.new ≡ subscription_of device.old }
     {
         let answer = ask(&mut device.usim, challenge);
-        self.on_answer(received, request, inner, challenge, answer, rooms)
+        self.on_answer(received, request, network, inner, challenge, answer, rooms)
     }
 
     /// Does what the USIM's answer to a Challenge says.
@@ -79,6 +82,7 @@ impl Peer {
         &mut self,
         received: &Received,
         request: Octets,
+        network: Octets,
         inner: Room,
         challenge: Challenge,
         answer: Answer,
@@ -86,6 +90,8 @@ impl Peer {
     ) -> Turn<PeerWhy>
         requires is { IsReceived (seen_of received.now) }
         requires request { request ≡ (seen_of received.now).bytes }
+        requires network { network ≡ network_in self.old (seen_of received.now) }
+        requires name { length network ≤ 65535 }
         requires rooms { 44 ≤ rooms }
         requires empty { inner.written ≡ [] }
         requires room { length (ciphertext_of (attrs_in received.now.reading)) ≤ inner.left }
@@ -93,7 +99,7 @@ impl Peer {
         ensures step { (self.new, result) ≡ by_answer self.old (seen_of received.now) challenge answer
             (was_readable self.new.state) }
         ensures note { result.notes.usim ≡ Some (note_by answer) }
-        ensures decrypts { Decrypts (decryption_by self.old (seen_of received.now) answer) (was_readable self.new.state) }
+        ensures decrypts { Decrypts (decryption_by self.old (seen_of received.now) challenge answer) (was_readable self.new.state) }
     {
         match answer {
             Answer::WrongMac => self.reject(
@@ -110,7 +116,7 @@ impl Peer {
                     kept,
                     ..
                 } = rooms;
-                let bytes = sync_failure(id_of(received), auts, places, bytes);
+                let bytes = sync_failure(self.options.method, id_of(received), auts, places, bytes);
                 let note = Some(UsimNote::Sync(sqn));
                 self.answer(
                     received,
@@ -129,8 +135,10 @@ impl Peer {
                 sqn,
                 ..
             } => {
-                let keys = keys_for(text_of(&self.identity), ik, ck);
-                self.on_accepted(received, request, inner, challenge, res, sqn, keys, rooms)
+                let keys = self.keys_at(network.as_slice(), challenge, ik, ck);
+                self.on_accepted(
+                    received, request, network, inner, challenge, res, sqn, keys, rooms,
+                )
             }
         }
     }
@@ -140,6 +148,7 @@ impl Peer {
         &mut self,
         received: &Received,
         request: Octets,
+        network: Octets,
         inner: Room,
         challenge: Challenge,
         res: [u8; 8],
@@ -149,6 +158,7 @@ impl Peer {
     ) -> Turn<PeerWhy>
         requires is { IsReceived (seen_of received.now) }
         requires request { request ≡ (seen_of received.now).bytes }
+        requires network { network ≡ network_in self.old (seen_of received.now) }
         requires rooms { 44 ≤ rooms }
         requires empty { inner.written ≡ [] }
         requires room { length (ciphertext_of (attrs_in received.now.reading)) ≤ inner.left }
@@ -156,13 +166,14 @@ impl Peer {
         ensures step { (self.new, result) ≡ accepted self.old (seen_of received.now) challenge res sqn keys
             (was_readable self.new.state) }
         ensures note { result.notes.usim ≡ Some (UsimNote.Accepted sqn) }
-        ensures decrypts { Decrypts (decryption_under (seen_of received.now) keys) (was_readable self.new.state) }
+        ensures decrypts { Decrypts (decryption_under self.old.options.method (seen_of received.now) keys) (was_readable self.new.state) }
     {
         let note = Some(UsimNote::Accepted(sqn));
-        if !is_sealed(received, Method::Aka, &keys.k_aut, &[]) {
+        if !is_sealed(received, self.options.method, &keys.k_aut, &[]) {
             return self.client(received, request, PeerWhy::WrongMac, note, false, rooms);
         }
         self.accepted = Some(challenge);
+        self.network = network;
         if differs(&received.reading) {
             return self.client(
                 received,
@@ -211,7 +222,17 @@ impl Peer {
         } = rooms;
         let has = has_checkcode(&received.reading);
         let res = res_in(res, own);
-        let bytes = challenge_response(id_of(received), &keys.k_aut, res, has, none, places, bytes);
+        let method = self.options.method;
+        let bytes = challenge_response(
+            method,
+            id_of(received),
+            &keys.k_aut,
+            res,
+            has,
+            none,
+            places,
+            bytes,
+        );
         let state = PeerState::Answered(keys);
         self.answer(received, request, state, bytes, kept, note, true)
     }

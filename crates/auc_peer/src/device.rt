@@ -34,14 +34,15 @@ impl Device {
         })
     }
 
-    /// The permanent identity (RFC 4187 §4.1.1.6), followed by `@` and the realm if there is one.
-    pub(crate) fn identity(&self, alloc: Global) -> Result<Octets, NoMemory>
+    /// The permanent identity of a method (RFC 4187 §4.1.1.6, RFC 9048 §5.1), followed by `@` and the realm if there is
+    /// one.
+    pub(crate) fn identity(&self, alloc: Global, method: Method) -> Result<Octets, NoMemory>
         requires { length self.now.realm ≤ 255 }
-        ensures text { IfOk result (λ text. text ≡ identity_text (subscription_of self.now)) }
+        ensures text { IfOk result (λ text. text ≡ identity_text method (subscription_of self.now)) }
         ensures size { IfOk result (λ text. length text ≤ 272) }
     {
         let mut text = Octets::new(alloc);
-        text.append(permanent(Method::Aka, self.imsi).as_slice())?;
+        text.append(permanent(method, self.imsi).as_slice())?;
         if !self.realm.is_empty() {
             text.append(b"@")?;
             text.append(self.realm.as_slice())?;

@@ -4,7 +4,7 @@ ghost use Rattle.std.specs.Prelude.{◌≡◌, ◌≤◌, ◌+◌, [], ◌∷◌
 ghost use Rattle.auc_packet.specs.Sealed.{sealed};
 ghost use Rattle.auc_packet.specs.Spelling.{packet_text, MayBeWritten};
 ghost use Rattle.auc_peer.specs.InnerRooms.{HasPlaces, HasRoom, IsShort, IsShortDraft};
-ghost use Rattle.auc_peer.specs.Messages.{client_error, draft_of, identity_response, notified, reject, response, response_bytes, sync_failure};
+ghost use Rattle.auc_peer.specs.Messages.{client_error, draft_of, identity_response, notified, own_kdf, reject, response, response_bytes, sync_failure};
 
 use auc_attr::{Attr, AttrList};
 use auc_edge::{Octets, Places, Room};
@@ -24,17 +24,17 @@ fn put(packet: &Packet, room: Room) -> Octets
 }
 
 /// A response with these attributes.
-fn response(id: u8, subtype: Subtype, attrs: AttrList, room: Room) -> Octets
-    requires short { IsShort (response id subtype attrs) }
+fn response(method: Method, id: u8, subtype: Subtype, attrs: AttrList, room: Room) -> Octets
+    requires short { IsShort (response method id subtype attrs) }
     requires empty { room.written ≡ [] }
     requires left { 44 ≤ room.left }
-    ensures bytes { result ≡ packet_text (response id subtype attrs) }
+    ensures bytes { result ≡ packet_text (response method id subtype attrs) }
     ensures size { length result ≤ 44 }
 {
     let packet = Packet::Aka {
         request: false,
         id,
-        method: Method::Aka,
+        method,
         subtype,
         attrs,
     };
@@ -77,57 +77,77 @@ pub(crate) fn identity_response(id: u8, text: Octets, room: Room) -> Octets
 }
 
 /// Client-Error with code 0, "unable to process packet" (RFC 4187 §9.9 and §10.20).
-pub(crate) fn client_error(id: u8, places: Places<Attr>, room: Room) -> Octets
+pub(crate) fn client_error(method: Method, id: u8, places: Places<Attr>, room: Room) -> Octets
     requires places { HasPlaces places }
     requires empty { room.written ≡ [] }
     requires left { 44 ≤ room.left }
-    ensures bytes { result ≡ packet_text (client_error id) }
+    ensures bytes { result ≡ packet_text (client_error method id) }
     ensures size { length result ≤ 44 }
 {
     let attrs = one(Attr::ClientErrorCode(0), places);
-    response(id, Subtype::ClientError, attrs, room)
+    response(method, id, Subtype::ClientError, attrs, room)
 }
 
 /// Authentication-Reject (RFC 4187 §9.5).
-pub(crate) fn reject(id: u8, places: Places<Attr>, room: Room) -> Octets
+pub(crate) fn reject(method: Method, id: u8, places: Places<Attr>, room: Room) -> Octets
     requires places { HasPlaces places }
     requires empty { room.written ≡ [] }
     requires left { 44 ≤ room.left }
-    ensures bytes { result ≡ packet_text (reject id) }
+    ensures bytes { result ≡ packet_text (reject method id) }
     ensures size { length result ≤ 44 }
 {
     let attrs = none(places);
-    response(id, Subtype::AuthenticationReject, attrs, room)
+    response(method, id, Subtype::AuthenticationReject, attrs, room)
 }
 
 /// The Notification response (RFC 4187 §9.11).
-pub(crate) fn notified(id: u8, places: Places<Attr>, room: Room) -> Octets
+pub(crate) fn notified(method: Method, id: u8, places: Places<Attr>, room: Room) -> Octets
     requires places { HasPlaces places }
     requires empty { room.written ≡ [] }
     requires left { 44 ≤ room.left }
-    ensures bytes { result ≡ packet_text (notified id) }
+    ensures bytes { result ≡ packet_text (notified method id) }
     ensures size { length result ≤ 44 }
 {
     let attrs = none(places);
-    response(id, Subtype::Notification, attrs, room)
+    response(method, id, Subtype::Notification, attrs, room)
+}
+
+/// AT_AUTS, and of EAP-AKA' the key derivation function of the Challenge (RFC 9048 §3.2).
+fn sync_attrs(method: Method, auts: [u8; 14], places: Places<Attr>) -> AttrList
+    requires { HasPlaces places }
+    ensures { result ≡ Attr.Auts auts ∷ own_kdf method }
+{
+    let mut places = places;
+    places.put(Attr::Auts(auts));
+    if let Method::Prime = method {
+        places.put(Attr::Kdf(1));
+    }
+    AttrList::from_places(places)
 }
 
 /// Synchronization-Failure (RFC 4187 §9.6).
-pub(crate) fn sync_failure(id: u8, auts: [u8; 14], places: Places<Attr>, room: Room) -> Octets
+pub(crate) fn sync_failure(
+    method: Method,
+    id: u8,
+    auts: [u8; 14],
+    places: Places<Attr>,
+    room: Room,
+) -> Octets
     requires places { HasPlaces places }
     requires empty { room.written ≡ [] }
     requires left { 44 ≤ room.left }
-    ensures bytes { result ≡ packet_text (sync_failure id auts) }
+    ensures bytes { result ≡ packet_text (sync_failure method id auts) }
     ensures size { length result ≤ 44 }
 {
-    let attrs = one(Attr::Auts(auts), places);
-    response(id, Subtype::SynchronizationFailure, attrs, room)
+    let attrs = sync_attrs(method, auts, places);
+    response(method, id, Subtype::SynchronizationFailure, attrs, room)
 }
 
 /// The Challenge response (RFC 4187 §9.4): AT_RES, AT_CHECKCODE of no packet if the request had AT_CHECKCODE, and
 /// AT_MAC.
 #[tactic(auto, unfolding(crate::specs::Messages::response_bytes))]
 pub(crate) fn challenge_response(
+    method: Method,
     id: u8,
     k_aut: &[u8; 32],
     res: Octets,
@@ -141,28 +161,28 @@ pub(crate) fn challenge_response(
     requires places { HasPlaces places }
     requires empty { room.written ≡ [] }
     requires left { 44 ≤ room.left }
-    ensures bytes { result ≡ response_bytes id k_aut.now res has }
+    ensures bytes { result ≡ response_bytes method id k_aut.now res has }
     ensures size { length result ≤ 44 }
 {
     let mut places = places;
     places.put(Attr::Res(res));
     if has {
         places.put(Attr::Checkcode(none));
-        return sealed_response(id, k_aut, AttrList::from_places(places), room);
+        return sealed_response(method, id, k_aut, AttrList::from_places(places), room);
     }
-    sealed_response(id, k_aut, AttrList::from_places(places), room)
+    sealed_response(method, id, k_aut, AttrList::from_places(places), room)
 }
 
 /// A Challenge response with these attributes and AT_MAC.
-fn sealed_response(id: u8, k_aut: &[u8; 32], attrs: AttrList, room: Room) -> Octets
-    requires short { IsShortDraft (draft_of id attrs) }
+fn sealed_response(method: Method, id: u8, k_aut: &[u8; 32], attrs: AttrList, room: Room) -> Octets
+    requires short { IsShortDraft (draft_of method id attrs) }
     requires empty { room.written ≡ [] }
     requires left { 44 ≤ room.left }
-    ensures bytes { result ≡ sealed k_aut.now [] (draft_of id attrs) }
+    ensures bytes { result ≡ sealed k_aut.now [] (draft_of method id attrs) }
     ensures size { length result ≤ 44 }
 {
     let draft = Draft {
-        method: Method::Aka,
+        method,
         request: false,
         id,
         subtype: Subtype::Challenge,

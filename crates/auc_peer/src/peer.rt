@@ -6,6 +6,7 @@ ghost use Rattle.auc_peer.specs.Table.{gave_up, new_peer};
 ghost use Rattle.auc_peer.specs.Turn.{Steps};
 
 use crate::device::Device;
+use crate::options::PeerOptions;
 use crate::reading::ciphertext_in;
 use crate::rooms::{Copies, Rooms, room_for};
 use crate::why::PeerWhy;
@@ -51,6 +52,8 @@ pub struct Last {
 /// The peer of a session.
 #[derive(Drop)]
 pub struct Peer {
+    /// What it was told before its session.
+    pub options: PeerOptions,
     /// Where it stands.
     pub state: PeerState,
     /// The request that it answered last, or `None` if it has answered none.
@@ -59,18 +62,22 @@ pub struct Peer {
     pub identity: Option<Octets>,
     /// The last challenge that the USIM accepted and whose AT_MAC was right.
     pub accepted: Option<Challenge>,
+    /// The network's name in that challenge (RFC 9048 §3.1); empty for EAP-AKA, and if there is no such challenge.
+    pub network: Octets,
 }
 
 impl Peer {
     /// A peer that has received nothing.
-    pub fn new() -> Peer
-        ensures { result ≡ new_peer }
+    pub fn new(options: PeerOptions, alloc: Global) -> Peer
+        ensures { result ≡ new_peer options }
     {
         Peer {
+            options,
             state: PeerState::Waiting,
             last: None,
             identity: None,
             accepted: None,
+            network: Octets::new(alloc),
         }
     }
 
@@ -93,12 +100,13 @@ impl Peer {
     {
         let received = receive(alloc, bytes)?;
         let row = self.row(&received);
-        let identity = device.identity(alloc)?;
+        let identity = device.identity(alloc, self.options.method)?;
         let rooms = Rooms::new(alloc, room_for(row, identity.len()))?;
         let copies = Copies {
             request: Octets::copied_from(alloc, bytes)?,
             identity,
             again: self.last_answer(alloc)?,
+            network: self.network_copy(alloc, &received)?,
             inner: Room::new(alloc, ciphertext_in(&received.reading))?,
         };
         Ok(self.on_row(row, device, &received, copies, rooms))

@@ -2,14 +2,17 @@
 
 ghost use Rattle.std.specs.Prelude.{◌≡◌, ◌≤◌, [], length, Some};
 ghost use Rattle.std.specs.Option.{option_copied};
-ghost use Rattle.auc_packet.specs.Received.{seen_of};
+ghost use Rattle.auc_attr.specs.Laws.{AreBytes};
+ghost use Rattle.auc_packet.specs.Received.{IsReceived, seen_of};
 ghost use Rattle.auc_seal.specs.Encrypted.{ciphertext_of, first_value};
-ghost use Rattle.auc_peer.specs.Attributes.{attrs_in, autn_of, checkcode_of, code_of, differs, first_code, id_of, is_there, rand_of};
+ghost use Rattle.auc_peer.specs.Attributes.{attrs_in, autn_of, bids, checkcode_of, code_of, differs, first_code, first_kdf, has_bytes, id_of, is_bid, is_there, kdf_of, name_in, name_of, rand_of};
+ghost use Rattle.auc_peer.specs.Table.{network_of};
 ghost use Rattle.auc_peer.specs.Turn.{IsReadable};
 
 use auc_attr::{Attr, AttrList};
 use auc_edge::{Octets, Room};
-use auc_packet::{Packet, Reading, Received, head};
+use auc_hmac::Method;
+use auc_packet::{Packet, Reading, Received, head, read_packets_may_be_written};
 use auc_seal::{ciphertext_size, open_attrs};
 
 /// The value of the first AT_RAND.
@@ -75,6 +78,103 @@ fn code_of(attr: &Attr) -> Option<u16>
     }
 }
 
+/// The number of the first AT_KDF.
+pub(crate) fn kdf_in(list: &AttrList) -> Option<u16>
+    ensures { result ≡ first_kdf list.now }
+{
+    for attr in list.as_slice() {
+        if let Some(kdf) = kdf_of(attr) {
+            return Some(kdf);
+        }
+    }
+    None
+}
+
+fn kdf_of(attr: &Attr) -> Option<u16>
+    ensures { result ≡ kdf_of attr.now }
+{
+    match attr {
+        Attr::Kdf(kdf) => Some(*kdf),
+        _ => None,
+    }
+}
+
+/// The name in the first AT_KDF_INPUT, empty if there is none.
+pub(crate) fn name_in(list: &AttrList) -> &[u8]
+    ensures { result.now ≡ name_in list.now }
+{
+    for attr in list.as_slice() {
+        if let Some(name) = name_of(attr) {
+            return name.as_slice();
+        }
+    }
+    &[]
+}
+
+fn name_of(attr: &Attr) -> Option<&Octets>
+    ensures { option_copied result ≡ name_of attr.now }
+{
+    match attr {
+        Attr::KdfInput(name) => Some(name),
+        _ => None,
+    }
+}
+
+/// Whether there is an AT_BIDDING with D set.
+pub(crate) fn bids(list: &AttrList) -> bool
+    ensures { result ≡ bids list.now }
+{
+    list.as_slice().iter().any(|attr| is_bid(attr))
+}
+
+fn is_bid(attr: &Attr) -> bool
+    ensures { result ≡ is_bid attr.now }
+{
+    match attr {
+        Attr::Bidding(d) => *d,
+        _ => false,
+    }
+}
+
+/// The network's name in a received Challenge, empty for EAP-AKA.
+pub(crate) fn network_in<'a>(method: Method, received: &'a Received) -> &'a [u8]
+    requires { IsReceived (seen_of received.now) }
+    ensures name { result.now ≡ network_of method (attrs_in received.now.reading) }
+    ensures size { length result.now ≤ 1016 }
+{
+    match method {
+        Method::Aka => &[],
+        Method::Prime => received_name(received),
+    }
+}
+
+/// The network's name in a received message, empty if there is none.
+fn received_name<'a>(received: &'a Received) -> &'a [u8]
+    requires { IsReceived (seen_of received.now) }
+    ensures name { result.now ≡ name_in (attrs_in received.now.reading) }
+    ensures size { length result.now ≤ 1016 }
+{
+    read_packets_may_be_written();
+    are_bytes(received.bytes);
+    read_name(&received.reading)
+}
+
+/// Reads bytes for the clause alone: the law on what was read requires it.
+fn are_bytes(bytes: &[u8])
+    ensures { AreBytes bytes.now }
+{
+    let _head = head(bytes);
+}
+
+fn read_name(reading: &Reading) -> &[u8]
+    ensures { result.now ≡ name_in (attrs_in reading.now) }
+{
+    match reading {
+        Reading::Read(Packet::Aka { attrs, .. }) => name_in(attrs),
+        _ => &[],
+    }
+}
+
 /// The value of the first AT_CHECKCODE.
 fn first_checkcode(list: &AttrList) -> Option<&Octets>
     ensures { option_copied result ≡ first_value checkcode_of list.now }
@@ -131,14 +231,15 @@ pub(crate) fn differs(reading: &Reading) -> bool
 {
     match checkcode(reading) {
         None => false,
-        Some(code) => has_bytes(code),
+        Some(code) => has_bytes(code.as_slice()),
     }
 }
 
-fn has_bytes(code: &Octets) -> bool
-    ensures { result ≡ differs (Some code.now) }
+/// Whether a text isn't empty.
+pub(crate) fn has_bytes(text: &[u8]) -> bool
+    ensures { result ≡ has_bytes text.now }
 {
-    !code.is_empty()
+    !text.is_empty()
 }
 
 /// How many bytes a message has encrypted.

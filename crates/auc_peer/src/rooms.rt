@@ -1,13 +1,16 @@
 //! Memory for a turn, which is taken before the USIM is asked.
 
-ghost use Rattle.std.specs.Prelude.{◌≡◌, ◌≤◌, IfOk};
-ghost use Rattle.auc_peer.specs.Table.{answer_or_none};
+ghost use Rattle.std.specs.Prelude.{◌≡◌, ◌≤◌, length, IfOk};
+ghost use Rattle.auc_packet.specs.Received.{IsReceived, seen_of};
+ghost use Rattle.auc_peer.specs.Table.{answer_or_none, network_in};
 ghost use Rattle.auc_peer.specs.InnerRooms.{room_for};
 
 use crate::peer::{Last, Peer};
+use crate::reading::network_in;
 use crate::rows::Row;
 use auc_attr::{Attr, AttrList};
 use auc_edge::{NoMemory, Octets, Places, Room};
+use auc_packet::Received;
 use std::alloc::Global;
 use std::marker::Model;
 
@@ -67,6 +70,8 @@ pub(crate) struct Copies {
     pub(crate) identity: Octets,
     /// The last answer, empty if there is none.
     pub(crate) again: Octets,
+    /// The network's name in a Challenge.
+    pub(crate) network: Octets,
     /// Memory for what is decrypted.
     pub(crate) inner: Room,
 }
@@ -91,6 +96,19 @@ impl Peer {
             None => Ok(Octets::new(alloc)),
             Some(last) => answer_of(alloc, last),
         }
+    }
+
+    /// A copy of the network's name in a received Challenge.
+    pub(crate) fn network_copy(
+        &self,
+        alloc: Global,
+        received: &Received,
+    ) -> Result<Octets, NoMemory>
+        requires { IsReceived (seen_of received.now) }
+        ensures name { IfOk result (λ copy. copy ≡ network_in self.now (seen_of received.now)) }
+        ensures size { IfOk result (λ copy. length copy ≤ 1016) }
+    {
+        Octets::copied_from(alloc, network_in(self.options.method, received))
     }
 }
 

@@ -1,13 +1,16 @@
 //! The rows of the table: which one a packet falls into.
 
 ghost use Rattle.std.specs.Prelude.{◌≡◌};
+ghost use Rattle.auc_packet.specs.Packet.{method_type};
 ghost use Rattle.auc_packet.specs.Received.{seen_of};
-ghost use Rattle.auc_peer.specs.Rows.{peer_row, of_kind, ended_by, on_success, on_failure, waiting, late, on_message, on_sound, on_notification, late_notification, notified_row, on_challenge, repeats, is_last, is_response};
+ghost use Rattle.auc_peer.specs.Rows.{peer_row, of_kind, ended_by, on_success, on_failure, waiting, late, on_message, on_sound, on_notification, late_notification, notified_row, on_challenge, repeats, is_last, is_response, method_row, aka_row, prime_row, is_known_kdf, is_own, is_right_name, is_separated};
 
+use crate::options::PeerOptions;
 use crate::peer::{Challenge, Last, Peer, PeerState};
-use crate::reading::{autn_in, code_in, rand_in};
+use crate::reading::{autn_in, bids, code_in, has_bytes, kdf_in, name_in, rand_in};
 use crate::why::PeerWhy;
 use auc_attr::AttrList;
+use auc_edge::Octets;
 use auc_hmac::Method;
 use auc_packet::{Head, Packet, Reading, Received, Subtype, head, is_malformed, is_missing};
 use auc_vector::Reason;
@@ -23,6 +26,8 @@ pub enum Row {
     First,
     /// Client-Error is sent, for this cause.
     Client(PeerWhy),
+    /// Authentication-Reject is sent without asking the USIM, for this cause.
+    Reject(PeerWhy),
     /// A notification of failure with this code is answered.
     Notified(u16),
     /// The USIM is asked.
@@ -55,17 +60,17 @@ impl Peer {
 
     /// A packet that no earlier test has caught: a request by its type, or Success or Failure.
     fn of_kind(&self, received: &Received, head: Head) -> Row
-        ensures { result ≡ of_kind self.now.state self.now.last (seen_of received.now) head head.kind }
+        ensures { result ≡ of_kind self.now.options self.now.state self.now.last (seen_of received.now) head head.kind }
     {
         let Some(kind) = head.kind else {
             return self.ended_by(head);
         };
-        if !(kind == 1 || kind == 23) {
+        if !(kind == 1 || kind == type_of(self.options.method)) {
             return Row::Ignore(Reason::OtherType);
         }
         match self.state {
-            PeerState::Waiting => waiting(&received.reading),
-            PeerState::Answered(_) => late(&received.reading),
+            PeerState::Waiting => waiting(&self.options, &received.reading),
+            PeerState::Answered(_) => late(self.options.method, &received.reading),
             _ => Row::Ignore(Reason::Unexpected),
         }
     }
@@ -82,6 +87,16 @@ impl Peer {
         } else {
             on_failure(self.state)
         }
+    }
+}
+
+/// The EAP type of a method.
+fn type_of(method: Method) -> u8
+    ensures { result ≡ method_type method }
+{
+    match method {
+        Method::Aka => 23,
+        Method::Prime => 50,
     }
 }
 
@@ -126,25 +141,25 @@ fn on_failure(state: PeerState) -> Row
 }
 
 /// A request in Waiting.
-fn waiting(reading: &Reading) -> Row
-    ensures { result ≡ waiting reading.now }
+fn waiting(options: &PeerOptions, reading: &Reading) -> Row
+    ensures { result ≡ waiting options.now reading.now }
 {
     match reading {
         Reading::Fault(_) => Row::Client(PeerWhy::Malformed),
         Reading::Read(Packet::Identity { .. }) => Row::First,
-        Reading::Read(Packet::Aka { subtype, attrs, .. }) => on_message(*subtype, attrs),
+        Reading::Read(Packet::Aka { subtype, attrs, .. }) => on_message(options, *subtype, attrs),
         Reading::Read(_) => Row::Ignore(Reason::Unexpected),
     }
 }
 
 /// A message in Waiting.
-fn on_message(subtype: Subtype, list: &AttrList) -> Row
-    ensures { result ≡ on_message subtype list.now }
+fn on_message(options: &PeerOptions, subtype: Subtype, list: &AttrList) -> Row
+    ensures { result ≡ on_message options.now subtype list.now }
 {
-    if is_response(subtype) || is_malformed(subtype, true, Method::Aka, list) {
+    if is_response(subtype) || is_malformed(subtype, true, options.method, list) {
         Row::Client(PeerWhy::Malformed)
     } else {
-        on_sound(subtype, list)
+        on_sound(options, subtype, list)
     }
 }
 
@@ -161,11 +176,11 @@ fn is_response(subtype: Subtype) -> bool
 }
 
 /// A message that isn't malformed, in Waiting.
-fn on_sound(subtype: Subtype, list: &AttrList) -> Row
-    ensures { result ≡ on_sound subtype list.now }
+fn on_sound(options: &PeerOptions, subtype: Subtype, list: &AttrList) -> Row
+    ensures { result ≡ on_sound options.now subtype list.now }
 {
     match subtype {
-        Subtype::Challenge => on_challenge(list),
+        Subtype::Challenge => on_challenge(options, list),
         Subtype::Reauthentication => Row::Ignore(Reason::NoContext),
         Subtype::Notification => on_notification(list),
         _ => Row::Ignore(Reason::Unexpected),
@@ -173,8 +188,8 @@ fn on_sound(subtype: Subtype, list: &AttrList) -> Row
 }
 
 /// A Challenge in Waiting.
-fn on_challenge(list: &AttrList) -> Row
-    ensures { result ≡ on_challenge list.now }
+fn on_challenge(options: &PeerOptions, list: &AttrList) -> Row
+    ensures { result ≡ on_challenge options.now list.now }
 {
     if is_missing(Subtype::Challenge, true, list) {
         return Row::Client(PeerWhy::Missing);
@@ -185,7 +200,76 @@ fn on_challenge(list: &AttrList) -> Row
     let Some(autn) = autn_in(list) else {
         return Row::Client(PeerWhy::Missing);
     };
-    Row::Challenged(Challenge { rand, autn })
+    method_row(options, list, Challenge { rand, autn })
+}
+
+/// What a method tests of a Challenge before the USIM is asked.
+fn method_row(options: &PeerOptions, list: &AttrList, challenge: Challenge) -> Row
+    ensures { result ≡ method_row options.now.method options.now list.now challenge }
+{
+    match options.method {
+        Method::Aka => aka_row(options.has_prime, list, challenge),
+        Method::Prime => prime_row(&options.name, list, challenge),
+    }
+}
+
+/// EAP-AKA: a device that has EAP-AKA' isn't bid down from it (RFC 9048 §4).
+fn aka_row(has_prime: bool, list: &AttrList, challenge: Challenge) -> Row
+    ensures { result ≡ aka_row has_prime list.now challenge }
+{
+    if has_prime && bids(list) {
+        return Row::Reject(PeerWhy::Downgrade);
+    }
+    Row::Challenged(challenge)
+}
+
+/// EAP-AKA': the key derivation function, the network's name and the separation bit.
+fn prime_row(own: &Option<Octets>, list: &AttrList, challenge: Challenge) -> Row
+    ensures { result ≡ prime_row own.now list.now challenge }
+{
+    if !is_known_kdf(kdf_in(list)) {
+        return Row::Reject(PeerWhy::BadKdf);
+    }
+    if !is_right_name(own, name_in(list)) {
+        return Row::Reject(PeerWhy::BadName);
+    }
+    if !is_separated(challenge.autn) {
+        return Row::Reject(PeerWhy::NoSeparation);
+    }
+    Row::Challenged(challenge)
+}
+
+/// Whether the key derivation function that is offered first is the one that the peer has (RFC 9048 §3.2).
+fn is_known_kdf(first: Option<u16>) -> bool
+    ensures { result ≡ is_known_kdf first }
+{
+    match first {
+        None => false,
+        Some(kdf) => kdf == 1,
+    }
+}
+
+/// Whether a name was received, and is that of the network that the peer means, if it means one (RFC 9048 §3.1).
+fn is_right_name(own: &Option<Octets>, name: &[u8]) -> bool
+    ensures { result ≡ is_right_name own.now name.now }
+{
+    has_bytes(name) && is_own(own, name)
+}
+
+fn is_own(own: &Option<Octets>, name: &[u8]) -> bool
+    ensures { result ≡ is_own own.now name.now }
+{
+    match own {
+        None => true,
+        Some(own) => name == own.as_slice(),
+    }
+}
+
+/// Whether the separation bit, the first bit of AMF, is set in AUTN (TS 33.102 Annex H).
+fn is_separated(autn: [u8; 16]) -> bool
+    ensures { result ≡ is_separated autn }
+{
+    128 <= autn[6]
 }
 
 /// A Notification in Waiting.
@@ -199,8 +283,8 @@ fn on_notification(list: &AttrList) -> Row
 }
 
 /// A request in Answered.
-fn late(reading: &Reading) -> Row
-    ensures { result ≡ late reading.now }
+fn late(method: Method, reading: &Reading) -> Row
+    ensures { result ≡ late method reading.now }
 {
     match reading {
         Reading::Read(
@@ -209,16 +293,16 @@ fn late(reading: &Reading) -> Row
                 attrs,
                 ..
             },
-        ) => late_notification(attrs),
+        ) => late_notification(method, attrs),
         _ => Row::Ignore(Reason::Unexpected),
     }
 }
 
 /// A Notification in Answered.
-fn late_notification(list: &AttrList) -> Row
-    ensures { result ≡ late_notification list.now }
+fn late_notification(method: Method, list: &AttrList) -> Row
+    ensures { result ≡ late_notification method list.now }
 {
-    if is_malformed(Subtype::Notification, true, Method::Aka, list) {
+    if is_malformed(Subtype::Notification, true, method, list) {
         return Row::Ignore(Reason::Unexpected);
     }
     match code_in(list) {

@@ -8,7 +8,7 @@ ghost use Rattle.auc_peer.specs.Attributes.{attrs_in};
 ghost use Rattle.auc_peer.specs.InnerRooms.{room_for};
 ghost use Rattle.auc_peer.specs.Rows.{peer_row};
 ghost use Rattle.auc_peer.specs.Subscription.{identity_text, subscription_of};
-ghost use Rattle.auc_peer.specs.Table.{again, answer_or_none, answered, client, ended, first, ignored, noted, notify, peer_step, rejected, succeeded};
+ghost use Rattle.auc_peer.specs.Table.{again, answer_or_none, answered, client, ended, first, ignored, network_in, noted, notify, peer_step, rejected, succeeded};
 ghost use Rattle.auc_peer.specs.Turn.{Asked, Decrypts, asked, decryption_noted, was_readable};
 
 use crate::device::Device;
@@ -50,8 +50,10 @@ impl Peer {
         requires size { length copies.identity ≤ 272 }
         requires rooms { room_for row (length copies.identity) ≤ rooms }
         requires request { copies.request ≡ (seen_of received.now).bytes }
-        requires identity { copies.identity ≡ identity_text (subscription_of device.old) }
+        requires identity { copies.identity ≡ identity_text self.old.options.method (subscription_of device.old) }
         requires again { copies.again ≡ answer_or_none self.old.last }
+        requires network { copies.network ≡ network_in self.old (seen_of received.now) }
+        requires name { length copies.network ≤ 65535 }
         requires empty { copies.inner.written ≡ [] }
         requires room { length (ciphertext_of (attrs_in received.now.reading)) ≤ copies.inner.left }
 
@@ -69,6 +71,7 @@ impl Peer {
             request,
             identity,
             again,
+            network,
             inner,
         } = copies;
         match row {
@@ -76,9 +79,10 @@ impl Peer {
             Row::Again => self.again(again),
             Row::First => self.first(received, request, identity, rooms),
             Row::Client(why) => self.client(received, request, why, None, false, rooms),
+            Row::Reject(why) => self.reject(received, request, why, None, rooms),
             Row::Notified(code) => self.notify(received, request, code, rooms),
             Row::Challenged(challenge) => {
-                self.on_challenge(device, received, request, inner, challenge, rooms)
+                self.on_challenge(device, received, request, network, inner, challenge, rooms)
             }
             Row::Success => self.succeed(rooms.none),
             Row::Failure(why) => self.end(Outcome::Failure(why), rooms.none),
@@ -171,7 +175,7 @@ impl Peer {
             kept,
             ..
         } = rooms;
-        let bytes = client_error(id_of(received), places, bytes);
+        let bytes = client_error(self.options.method, id_of(received), places, bytes);
         let state = PeerState::Refusing(why);
         self.answer(received, request, state, bytes, kept, usim, checked)
     }
@@ -195,7 +199,7 @@ impl Peer {
             kept,
             ..
         } = rooms;
-        let bytes = reject(id_of(received), places, bytes);
+        let bytes = reject(self.options.method, id_of(received), places, bytes);
         let state = PeerState::Refusing(why);
         self.answer(received, request, state, bytes, kept, usim, false)
     }
@@ -218,7 +222,7 @@ impl Peer {
             kept,
             ..
         } = rooms;
-        let bytes = notified(id_of(received), places, bytes);
+        let bytes = notified(self.options.method, id_of(received), places, bytes);
         let state = PeerState::Refusing(PeerWhy::Notified(code));
         self.answer(received, request, state, bytes, kept, None, false)
     }

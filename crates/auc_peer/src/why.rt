@@ -7,6 +7,14 @@ pub enum PeerWhy {
     Malformed,
     /// The request had no AT_RAND, AT_AUTN, AT_MAC or AT_NOTIFICATION where it must have one (RFC 4187 §6.3.1).
     Missing,
+    /// A Challenge of EAP-AKA' offered no key derivation function that the peer has first (RFC 9048 §3.2).
+    BadKdf,
+    /// A Challenge of EAP-AKA' had no network name, or another than the peer's (RFC 9048 §3.1).
+    BadName,
+    /// The separation bit of AMF was clear in a Challenge of EAP-AKA' (TS 33.102 Annex H).
+    NoSeparation,
+    /// The server of EAP-AKA would rather use EAP-AKA', and the device has it (RFC 9048 §4).
+    Downgrade,
     /// The USIM found the MAC of AUTN wrong (RFC 4187 §6.3.1 and §9.5).
     WrongAutn,
     /// The value of AT_MAC was wrong (RFC 4187 §6.3.1).

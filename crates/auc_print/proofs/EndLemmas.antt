@@ -10,6 +10,7 @@ use Rattle.auc_lines.specs.declared.part.Part.{Part}
 use Rattle.auc_lines.specs.declared.part.Part.TheVariants as part
 use Rattle.auc_peer.specs.Subscription.{Subscription}
 use Rattle.auc_server.specs.Server.{ServerEnd}
+use Rattle.auc_server.specs.declared.options.ServerOptions.{ServerOptions}
 use Rattle.auc_world.specs.Came.{Came, came, came_at_peer, came_at_server, came_delivered, came_given_up, came_in, came_opened, came_repeated, came_started, server_came_to_give_up, session_of}
 use Rattle.auc_world.specs.Given.{Before, DrawGives, EventGives, JobGives, JobsGive, LineGives, PlainGives, RelayGives, VectorsFollow, behind, packet_of}
 use Rattle.auc_world.specs.Happened.{Delivery, Told, delivery_in}
@@ -36,9 +37,9 @@ opened_at (Some first) place = tt
 opened_at None None = tt
 opened_at None (Some place) = tt
 
-started_at : (w : Net) (s : Option ServerEnd) → CameAt (Some end.Server) (came_started w s)
-started_at w None = tt
-started_at w (Some s) = tt
+started_at : (w : Net) (options : ServerOptions) (s : Option ServerEnd) → CameAt (Some end.Server) (came_started w options s)
+started_at w options None = tt
+started_at w options (Some s) = tt
 
 repeated_at : (w : Net) (s : Option ServerEnd) → CameAt (Some end.Server) (came_repeated w s)
 repeated_at w None = tt
@@ -73,9 +74,9 @@ in_session at' does each (Some s) = each s
 
 -- what comes of an event is a step of its end
 pub came_at_end : (set : Setting) (w : Net) (e : Event) (told : Told) → CameAt (end_of e) (came set w e told)
-came_at_end set w (event.Open session sub) told = opened_at (session_place w.sessions session) (device_place set.rows w.devices sub)
+came_at_end set w (event.Open opening) told = opened_at (session_place w.sessions opening.session) (device_place set.rows w.devices opening.sub)
 came_at_end set w (event.Start session) told =
-    in_session (Some end.Server) (λ s. came_started w s.server) (λ s. started_at w s.server) (session_of w session)
+    in_session (Some end.Server) (λ s. came_started w s.options s.server) (λ s. started_at w s.options s.server) (session_of w session)
 came_at_end set w (event.Deliver session at' packet) told = delivered_at set w at' told (packet_at w.packets packet) (delivery_in w session packet)
 came_at_end set w (event.Repeat session) told =
     in_session (Some end.Server) (λ s. came_repeated w s.server) (λ s. repeated_at w s.server) (session_of w session)
@@ -139,7 +140,7 @@ line_at set before net (line.Sync sub seq bit count) lines next gives =
 line_at set before net (line.Give sub n) lines next gives =
     let did = gives.0 in
     subst AreAt (sym did.lines_are) (All-cons IsAtItsEnd (record_of.Give sub n did.answer) [] tt (All-nil IsAtItsEnd))
-line_at set before net (line.Session session sub) lines next gives = event_at set before net (event.Open session sub) lines next gives
+line_at set before net (line.Session opening) lines next gives = event_at set before net (event.Open opening) lines next gives
 line_at set before net (line.Start session) lines next gives = event_at set before net (event.Start session) lines next gives
 line_at set before net (line.Deliver session at' packet) lines next gives = event_at set before net (event.Deliver session at' packet) lines next gives
 line_at set before net (line.Repeat session) lines next gives = event_at set before net (event.Repeat session) lines next gives

@@ -23,7 +23,7 @@ use Rattle.auc_vector.specs.declared.turn.Reason.{Reason}
 use Rattle.auc_vector.specs.declared.turn.Reason.TheVariants as reason
 use Rattle.auc_vector.specs.declared.turn.Step.{Step}
 use Rattle.auc_vector.specs.declared.turn.Step.TheVariants as step
-use Rattle.auc_world.specs.Told.{told_came, told_event, told_outcome, told_record, told_step, told_what}
+use Rattle.auc_world.specs.Told.{told_came, told_event, told_opening, told_outcome, told_record, told_step, told_what}
 use Rattle.auc_world.specs.declared.event.Event.{Event}
 use Rattle.auc_world.specs.declared.event.Event.TheVariants as event
 use Rattle.auc_world.specs.declared.event.EventRecord.{EventRecord}
@@ -471,27 +471,39 @@ abbrev peer_of_word : List ℕ → ℕ
 peer_of_word word =
     if bytes_eq word (codes "malformed") then 0
     else if bytes_eq word (codes "missing") then 1
-    else if bytes_eq word (codes "wrongautn") then 2
-    else if bytes_eq word (codes "wrongmac") then 3
-    else if bytes_eq word (codes "wrongcheckcode") then 4
-    else if bytes_eq word (codes "undecryptable") then 5
-    else if bytes_eq word (codes "notified") then 6
-    else if bytes_eq word (codes "failurereceived") then 7 else 8
+    else if bytes_eq word (codes "badkdf") then 2
+    else if bytes_eq word (codes "badname") then 3
+    else if bytes_eq word (codes "noseparation") then 4
+    else if bytes_eq word (codes "downgrade") then 5
+    else if bytes_eq word (codes "wrongautn") then 6
+    else if bytes_eq word (codes "wrongmac") then 7
+    else if bytes_eq word (codes "wrongcheckcode") then 8
+    else if bytes_eq word (codes "undecryptable") then 9
+    else if bytes_eq word (codes "notified") then 10
+    else if bytes_eq word (codes "failurereceived") then 11 else 12
 
 abbrev peer_number : PeerWhy → ℕ
 peer_number peer_why.Malformed = 0
 peer_number peer_why.Missing = 1
-peer_number peer_why.WrongAutn = 2
-peer_number peer_why.WrongMac = 3
-peer_number peer_why.WrongCheckcode = 4
-peer_number peer_why.Undecryptable = 5
-peer_number (peer_why.Notified a0) = 6
-peer_number peer_why.FailureReceived = 7
-peer_number peer_why.GivenUp = 8
+peer_number peer_why.BadKdf = 2
+peer_number peer_why.BadName = 3
+peer_number peer_why.NoSeparation = 4
+peer_number peer_why.Downgrade = 5
+peer_number peer_why.WrongAutn = 6
+peer_number peer_why.WrongMac = 7
+peer_number peer_why.WrongCheckcode = 8
+peer_number peer_why.Undecryptable = 9
+peer_number (peer_why.Notified a0) = 10
+peer_number peer_why.FailureReceived = 11
+peer_number peer_why.GivenUp = 12
 
 peer_is : (a : PeerWhy) → peer_number a ≡ peer_of_word (word_at (peer_words a) 0)
 peer_is peer_why.Malformed = refl
 peer_is peer_why.Missing = refl
+peer_is peer_why.BadKdf = refl
+peer_is peer_why.BadName = refl
+peer_is peer_why.NoSeparation = refl
+peer_is peer_why.Downgrade = refl
 peer_is peer_why.WrongAutn = refl
 peer_is peer_why.WrongMac = refl
 peer_is peer_why.WrongCheckcode = refl
@@ -503,6 +515,10 @@ peer_is peer_why.GivenUp = refl
 peer_injective : (a b : PeerWhy) → peer_words a ≡ peer_words b → a ≡ b
 peer_injective peer_why.Malformed peer_why.Malformed e = refl
 peer_injective peer_why.Missing peer_why.Missing e = refl
+peer_injective peer_why.BadKdf peer_why.BadKdf e = refl
+peer_injective peer_why.BadName peer_why.BadName e = refl
+peer_injective peer_why.NoSeparation peer_why.NoSeparation e = refl
+peer_injective peer_why.Downgrade peer_why.Downgrade e = refl
 peer_injective peer_why.WrongAutn peer_why.WrongAutn e = refl
 peer_injective peer_why.WrongMac peer_why.WrongMac e = refl
 peer_injective peer_why.WrongCheckcode peer_why.WrongCheckcode e = refl
@@ -644,7 +660,7 @@ came_cut m n packet other r s fits p q e =
 
 note_is : (a b : Note) → a.notes ≡ b.notes → a.packet ≡ b.packet → told_step a.step ≡ told_step b.step → told_came (Ok a) ≡ told_came (Ok b)
 note_is a b notes packet did_so =
-    let make : Notes → Option ℕ → NoteStep → Result Note WorldRefusal = λ n p s. Ok (record { notes = n; step = s; packet = p; asked = None; device = None }) in
+    let make : Notes → Option ℕ → NoteStep → Result Note WorldRefusal = λ n p s. Ok (record { notes = n; step = s; packet = p; asked = None; device = None; vector = None }) in
     ap (λ n. make n a.packet (told_step a.step)) notes ∙ ap (λ p. make b.notes p (told_step a.step)) packet ∙ ap (λ s. make b.notes b.packet s) did_so
 
 -- what is told of what came of an event is determined by its words
@@ -672,23 +688,23 @@ event_of_word word =
     else if bytes_eq word (codes "repeat") then 3 else 4
 
 abbrev event_number : Event → ℕ
-event_number (event.Open session sub) = 0
+event_number (event.Open opening) = 0
 event_number (event.Start session) = 1
 event_number (event.Deliver session at' packet) = 2
 event_number (event.Repeat session) = 3
 event_number (event.GiveUp session at') = 4
 
 event_is : (a : Event) (r : List (List ℕ)) → event_number a ≡ event_of_word (word_at (event_words a ++ r) 0)
-event_is (event.Open session sub) r = refl
+event_is (event.Open opening) r = refl
 event_is (event.Start session) r = refl
 event_is (event.Deliver session at' packet) r = refl
 event_is (event.Repeat session) r = refl
 event_is (event.GiveUp session at') r = refl
 
 event_cut : (a b : Event) (r s : List (List ℕ)) → event_words a ++ r ≡ event_words b ++ s → (told_event a ≡ told_event b) × (r ≡ s)
-event_cut (event.Open a sub) (event.Open b other) r s e =
-    let session : a ≡ b = numeral_injective a b (ap (λ ws. word_at ws 1) e) in
-    (ap (λ (t : ℕ). event.Open t 0) session, ap (λ ws. drop 2 ws) e)
+event_cut (event.Open a) (event.Open b) r s e =
+    let session : a.session ≡ b.session = numeral_injective a.session b.session (ap (λ ws. word_at ws 1) e) in
+    (ap (λ (t : ℕ). event.Open (told_opening t)) session, ap (λ ws. drop 2 ws) e)
 event_cut (event.Start a) (event.Start b) r s e =
     let session : a ≡ b = numeral_injective a b (ap (λ ws. word_at ws 1) e) in (ap event.Start session, ap (λ ws. drop 2 ws) e)
 event_cut (event.Deliver a at' packet) (event.Deliver b other another) r s e =
@@ -707,7 +723,7 @@ event_cut a b r s e =
 
 -- the end that an event concerns is told
 end_told : (e : Event) → end_of (told_event e) ≡ end_of e
-end_told (event.Open session sub) = refl
+end_told (event.Open opening) = refl
 end_told (event.Start session) = refl
 end_told (event.Deliver session at' packet) = refl
 end_told (event.Repeat session) = refl

@@ -251,6 +251,10 @@ server_words_are server_why.GivenUp = no_more (codes "givenup") refl
 peer_words_are : (a : PeerWhy) → AllWords (peer_words a)
 peer_words_are peer_why.Malformed = no_more (codes "malformed") refl
 peer_words_are peer_why.Missing = no_more (codes "missing") refl
+peer_words_are peer_why.BadKdf = no_more (codes "badkdf") refl
+peer_words_are peer_why.BadName = no_more (codes "badname") refl
+peer_words_are peer_why.NoSeparation = no_more (codes "noseparation") refl
+peer_words_are peer_why.Downgrade = no_more (codes "downgrade") refl
 peer_words_are peer_why.WrongAutn = no_more (codes "wrongautn") refl
 peer_words_are peer_why.WrongMac = no_more (codes "wrongmac") refl
 peer_words_are peer_why.WrongCheckcode = no_more (codes "wrongcheckcode") refl
@@ -280,7 +284,7 @@ came_words_are (Err refused.Started) = no_more (codes "started") refl
 
 -- the words of an event's line are words
 event_words_are : (e : SessionEvent) (words : List (List ℕ)) → AllWords words → AreWords (event_words e ++ words)
-event_words_are (event.Open session sub) words are = (word_from_test (codes "session") refl, (numeral_word session, are))
+event_words_are (event.Open opening) words are = (word_from_test (codes "session") refl, (numeral_word opening.session, are))
 event_words_are (event.Start session) words are = (word_from_test (codes "start") refl, (numeral_word session, are))
 event_words_are (event.Deliver session at' packet) words are =
     (word_from_test (codes "deliver") refl, (numeral_word session, (end_word_is at', (numeral_word packet, are))))
@@ -461,7 +465,7 @@ own_of_added (words ∷ lines) rest a =
 
 -- the words of a line, which isn't added, are left
 own_of_event : (e : SessionEvent) (words : List (List ℕ)) (rest : List (List (List ℕ))) → own ((event_words e ++ words) ∷ rest) ≡ (event_words e ++ words) ∷ own rest
-own_of_event (event.Open session sub) words rest = refl
+own_of_event (event.Open opening) words rest = refl
 own_of_event (event.Start session) words rest = refl
 own_of_event (event.Deliver session at' packet) words rest = refl
 own_of_event (event.Repeat session) words rest = refl
@@ -572,7 +576,7 @@ kind_of (BrokenLine job breach) = 6
 kind_of (SessionLine verdict) = 7
 
 kind_of_event : (e : SessionEvent) (words : List (List ℕ)) → is_verdict (word_at words 0) ≡ false → 4 ≡ kind_of_words (event_words e ++ words)
-kind_of_event (event.Open session sub) words none = ap (λ (b : Bool). if b then 7 else 4) {x = false} {y = is_verdict (word_at words 0)} (sym none)
+kind_of_event (event.Open opening) words none = ap (λ (b : Bool). if b then 7 else 4) {x = false} {y = is_verdict (word_at words 0)} (sym none)
 kind_of_event (event.Start session) words none = refl
 kind_of_event (event.Deliver session at' packet) words none = refl
 kind_of_event (event.Repeat session) words none = refl
@@ -618,7 +622,7 @@ record_number (Give sub n verdict) = 4
 record_number (Event r) = 5
 
 record_of_event : (e : SessionEvent) (words : List (List ℕ)) → 5 ≡ record_of_word (word_at (event_words e ++ words) 0)
-record_of_event (event.Open session sub) words = refl
+record_of_event (event.Open opening) words = refl
 record_of_event (event.Start session) words = refl
 record_of_event (event.Deliver session at' packet) words = refl
 record_of_event (event.Repeat session) words = refl

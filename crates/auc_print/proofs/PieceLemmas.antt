@@ -42,7 +42,7 @@ joined_more word ws vs =
     ∙ ap (λ t. t ++ codes "\n") (sym (append_assoc word (after_spaces ws) (after_spaces vs)))
 
 event_line : (e : Event) (words : List (List ℕ)) → spaced (event_words e ++ words) ≡ (joined (event_words e) ++ after_spaces words) ++ codes "\n"
-event_line (event.Open session sub) words = joined_more (codes "session") (numeral session ∷ []) words
+event_line (event.Open opening) words = joined_more (codes "session") (numeral opening.session ∷ []) words
 event_line (event.Start session) words = joined_more (codes "start") (numeral session ∷ []) words
 event_line (event.Deliver session at' packet) words = joined_more (codes "deliver") (numeral session ∷ end_word at' ∷ numeral packet ∷ []) words
 event_line (event.Repeat session) words = joined_more (codes "repeat") (numeral session ∷ []) words

@@ -1,18 +1,16 @@
 -- The text of a round in pieces, for the functions that print it.
 use Rattle.std.proofs.Common.{ℕ, zero, suc, ◌+◌, ◌<◌, Bool, true, false, List, [], ◌∷◌, ◌++◌, length, map, take, drop, flat_map, codes, ◌≡◌, refl, ap, sym, subst, ◌∙◌, append_assoc, All, if◌then◌else◌, slice_get, slice_index_or, get_or, Option, Some, None, arith}
+use Rattle.std.specs.Option.{option_to_list}
 use Rattle.std.proofs.lemmas.List.{append-nil, drop_more, get_or-map, take_more}
 use Rattle.std.proofs.lemmas.List.Concat.{flat_map-append}
 use Rattle.std.proofs.lemmas.List.Elements.{All-append, All-cons, All-head, All-nil, All-tail}
-use Rattle.auc_released.specs.declared.numbers.Number.{Number}
 use Rattle.auc_subs.specs.declared.row.Row.{Row}
-use Rattle.auc_vector.specs.Random.{rand_of}
+use Rattle.auc_random.specs.Random.{rand_of}
 use Rattle.auc_vector.specs.declared.parts.Vector.{Vector as AuthVector}
-use Rattle.auc_vector.specs.declared.notes.NumberNote.{NumberNote}
-use Rattle.auc_vector.specs.declared.notes.NumberNote.TheVariants as drawn
-use Rattle.auc_world.specs.Event.{asked_in, event_number, number_in, number_with}
+use Rattle.auc_world.specs.Event.{event_vector}
 use Rattle.auc_world.specs.Record.{IsBelow, subscriber_of}
 use Rattle.auc_world.specs.Setting.{Setting}
-use Rattle.auc_world.specs.Vectors.{vector_with, vector_at, vector_in, vector_of_number, vectors_in}
+use Rattle.auc_world.specs.Vectors.{vector_with, vector_at, vector_in, vectors_in}
 use Rattle.auc_world.specs.declared.record.LineRecord.{LineRecord}
 use Rattle.auc_world.specs.declared.record.LineRecord.TheVariants.{Vector, Withheld, Exhausted, Sync, Give, Event}
 use Rattle.auc_world.specs.declared.record.Closing.{Closing}
@@ -37,26 +35,14 @@ one_vector set sub n known = let found = item_at set.rows sub known in (_, ap (�
 
 -- ---- the vectors that are shown
 
--- a number that was released, if one was, is that of a subscriber with a row
-abbrev IsKnown : Setting → Option Number → Type 0
-IsKnown set None = Unit {0}
-IsKnown set (Some number) = number.sub < length set.rows
-
-number_known : (set : Setting) (asked : Option ℕ) (told : Option NumberNote) → IsBelow (length set.rows) asked → IsKnown set (number_with asked told)
-number_known set None told named = tt
-number_known set (Some sub) None named = tt
-number_known set (Some sub) (Some (drawn.Drew n)) named = named
-number_known set (Some sub) (Some (drawn.Exhausted word)) named = tt
-number_known set (Some sub) (Some (drawn.Withheld n stop)) named = tt
-
 -- no vector is shown of none
-none_shown : (number : Option Number) → shown_for number [] ≡ []
+none_shown : (vector : Option AuthVector) → shown_for vector [] ≡ []
 none_shown None = refl
-none_shown (Some number) = refl
+none_shown (Some vector) = refl
 
-none_left : (number : Option Number) → left_for number [] ≡ []
+none_left : (vector : Option AuthVector) → left_for vector [] ≡ []
 none_left None = refl
-none_left (Some number) = refl
+none_left (Some vector) = refl
 
 brief_shown : (answer : LineRecord) → shown_after answer [] ≡ []
 brief_shown (Vector sub n) = refl
@@ -64,7 +50,7 @@ brief_shown (Withheld sub n stop) = refl
 brief_shown (Exhausted sub word) = refl
 brief_shown (Sync sub verdict) = refl
 brief_shown (Give sub n verdict) = refl
-brief_shown (Event r) = none_shown (event_number r.result)
+brief_shown (Event r) = none_shown (event_vector r.result)
 
 brief_left : (answer : LineRecord) → left_after answer [] ≡ []
 brief_left (Vector sub n) = refl
@@ -72,40 +58,40 @@ brief_left (Withheld sub n stop) = refl
 brief_left (Exhausted sub word) = refl
 brief_left (Sync sub verdict) = refl
 brief_left (Give sub n verdict) = refl
-brief_left (Event r) = none_left (event_number r.result)
+brief_left (Event r) = none_left (event_vector r.result)
 
--- of the vectors of some lines, a line that releases a number shows its own, and leaves those of the lines after it
-number_shown : (set : Setting) (number : Option Number) (more : List AuthVector) → IsKnown set number
-    → shown_for number (vector_of_number set number ++ more) ≡ vector_of_number set number
-number_shown set None more known = refl
-number_shown set (Some number) more known =
-    let one = one_vector set number.sub number.n known in ap (λ vectors. take 1 (vectors ++ more)) one.1 ∙ sym one.1
+-- of the vectors of some lines, a line that releases a vector shows its own, and leaves those of the lines after it
+number_shown : (set : Setting) (sub n : ℕ) (more : List AuthVector) → sub < length set.rows → take 1 (vector_at set sub n ++ more) ≡ vector_at set sub n
+number_shown set sub n more known = let one = one_vector set sub n known in ap (λ vectors. take 1 (vectors ++ more)) one.1 ∙ sym one.1
 
-number_left : (set : Setting) (number : Option Number) (more : List AuthVector) → IsKnown set number
-    → left_for number (vector_of_number set number ++ more) ≡ more
-number_left set None more known = refl
-number_left set (Some number) more known =
-    let one = one_vector set number.sub number.n known in ap (λ vectors. drop 1 (vectors ++ more)) one.1
+number_left : (set : Setting) (sub n : ℕ) (more : List AuthVector) → sub < length set.rows → drop 1 (vector_at set sub n ++ more) ≡ more
+number_left set sub n more known = let one = one_vector set sub n known in ap (λ vectors. drop 1 (vectors ++ more)) one.1
+
+vector_shown : (vector : Option AuthVector) (more : List AuthVector) → shown_for vector (option_to_list vector ++ more) ≡ option_to_list vector
+vector_shown None more = refl
+vector_shown (Some vector) more = refl
+
+vector_left : (vector : Option AuthVector) (more : List AuthVector) → left_for vector (option_to_list vector ++ more) ≡ more
+vector_left None more = refl
+vector_left (Some vector) more = refl
 
 full_shown : (set : Setting) (answer : LineRecord) (more : List AuthVector) → IsBelow (length set.rows) (subscriber_of answer)
     → shown_after answer (vector_in set answer ++ more) ≡ vector_in set answer
-full_shown set (Vector sub n) more named = number_shown set (Some (record { sub = sub; n = n })) more named
+full_shown set (Vector sub n) more named = number_shown set sub n more named
 full_shown set (Withheld sub n stop) more named = refl
 full_shown set (Exhausted sub word) more named = refl
 full_shown set (Sync sub verdict) more named = refl
 full_shown set (Give sub n verdict) more named = refl
-full_shown set (Event r) more named =
-    number_shown set (event_number r.result) more (number_known set (asked_in r.result) (number_in r.result) named)
+full_shown set (Event r) more named = vector_shown (event_vector r.result) more
 
 full_left : (set : Setting) (answer : LineRecord) (more : List AuthVector) → IsBelow (length set.rows) (subscriber_of answer)
     → left_after answer (vector_in set answer ++ more) ≡ more
-full_left set (Vector sub n) more named = number_left set (Some (record { sub = sub; n = n })) more named
+full_left set (Vector sub n) more named = number_left set sub n more named
 full_left set (Withheld sub n stop) more named = refl
 full_left set (Exhausted sub word) more named = refl
 full_left set (Sync sub verdict) more named = refl
 full_left set (Give sub n verdict) more named = refl
-full_left set (Event r) more named =
-    number_left set (event_number r.result) more (number_known set (asked_in r.result) (number_in r.result) named)
+full_left set (Event r) more named = vector_left (event_vector r.result) more
 
 -- ---- a job
 

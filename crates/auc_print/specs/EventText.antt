@@ -46,7 +46,7 @@ end_word end.Server = codes "server"
 end_word end.Peer = codes "peer"
 
 abbrev pub event_words : Event → List (List ℕ)
-event_words (event.Open session sub) = codes "session" ∷ numeral session ∷ []
+event_words (event.Open opening) = codes "session" ∷ numeral opening.session ∷ []
 event_words (event.Start session) = codes "start" ∷ numeral session ∷ []
 event_words (event.Deliver session at' packet) = codes "deliver" ∷ numeral session ∷ end_word at' ∷ numeral packet ∷ []
 event_words (event.Repeat session) = codes "repeat" ∷ numeral session ∷ []
@@ -122,6 +122,10 @@ server_words server_why.GivenUp = codes "givenup" ∷ []
 abbrev pub peer_words : PeerWhy → List (List ℕ)
 peer_words peer_why.Malformed = codes "malformed" ∷ []
 peer_words peer_why.Missing = codes "missing" ∷ []
+peer_words peer_why.BadKdf = codes "badkdf" ∷ []
+peer_words peer_why.BadName = codes "badname" ∷ []
+peer_words peer_why.NoSeparation = codes "noseparation" ∷ []
+peer_words peer_why.Downgrade = codes "downgrade" ∷ []
 peer_words peer_why.WrongAutn = codes "wrongautn" ∷ []
 peer_words peer_why.WrongMac = codes "wrongmac" ∷ []
 peer_words peer_why.WrongCheckcode = codes "wrongcheckcode" ∷ []

@@ -1,9 +1,8 @@
 -- Inner facts: what only private contracts of this crate cite.
 use Rattle.std.specs.Prelude.{ℕ, ◌≡◌, Bool, List, [], ◌∷◌, ◌++◌, map, take, drop, flat_map, if◌then◌else◌, Option, Some, None, codes}
 use Rattle.auc_edge.specs.Identity.{Identity}
-use Rattle.auc_released.specs.declared.numbers.Number.{Number}
 use Rattle.auc_vector.specs.declared.parts.Vector.{Vector as AuthVector}
-use Rattle.auc_world.specs.Event.{event_number}
+use Rattle.auc_world.specs.Event.{event_vector}
 use Rattle.auc_world.specs.declared.record.LineRecord.{LineRecord}
 use Rattle.auc_world.specs.declared.record.LineRecord.TheVariants.{Vector, Withheld, Exhausted, Sync, Give, Event}
 use Rattle.auc_world.specs.declared.record.Premise.{Premise}
@@ -33,15 +32,15 @@ lines_text lines = flat_map spaced lines
 abbrev pub bytes_text : List AuthVector → List ℕ
 bytes_text vectors = lines_text (map bytes_words vectors)
 
--- of the vectors that are left, the one whose bytes follow a line that releases a number, if it does: the first; and the
+-- of the vectors that are left, the one whose bytes follow a line that releases a vector, if it does: the first; and the
 -- vectors that are left for the lines after it
-abbrev pub shown_for : Option Number → List AuthVector → List AuthVector
+abbrev pub shown_for : Option AuthVector → List AuthVector → List AuthVector
 shown_for None vectors = []
-shown_for (Some number) vectors = take 1 vectors
+shown_for (Some vector) vectors = take 1 vectors
 
-abbrev pub left_for : Option Number → List AuthVector → List AuthVector
+abbrev pub left_for : Option AuthVector → List AuthVector → List AuthVector
 left_for None vectors = vectors
-left_for (Some number) vectors = drop 1 vectors
+left_for (Some vector) vectors = drop 1 vectors
 
 -- the same for a record's line
 abbrev pub shown_after : LineRecord → List AuthVector → List AuthVector
@@ -50,7 +49,7 @@ shown_after (Withheld sub n stop) vectors = []
 shown_after (Exhausted sub word) vectors = []
 shown_after (Sync sub verdict) vectors = []
 shown_after (Give sub n verdict) vectors = []
-shown_after (Event r) vectors = shown_for (event_number r.result) vectors
+shown_after (Event r) vectors = shown_for (event_vector r.result) vectors
 
 abbrev pub left_after : LineRecord → List AuthVector → List AuthVector
 left_after (Vector sub n) vectors = drop 1 vectors
@@ -58,7 +57,7 @@ left_after (Withheld sub n stop) vectors = vectors
 left_after (Exhausted sub word) vectors = vectors
 left_after (Sync sub verdict) vectors = vectors
 left_after (Give sub n verdict) vectors = vectors
-left_after (Event r) vectors = left_for (event_number r.result) vectors
+left_after (Event r) vectors = left_for (event_vector r.result) vectors
 
 -- the text of a record, with some vectors left to be shown
 abbrev pub answer_text : List Identity → Bool → LineRecord → List AuthVector → List ℕ

@@ -72,7 +72,7 @@ pub record IsPrintable (count : ℕ) (records : List PartRecord) : Type 0 where
 
 -- the end that an event concerns; a session is opened at no end
 abbrev pub end_of : Event → Option End
-end_of (event.Open session sub) = None
+end_of (event.Open opening) = None
 end_of (event.Start session) = Some end.Server
 end_of (event.Deliver session at' packet) = Some at'
 end_of (event.Repeat session) = Some end.Server

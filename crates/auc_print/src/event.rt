@@ -1,7 +1,7 @@
 //! The line of an event.
 
 ghost use Rattle.std.specs.Prelude.{◌≡◌, ◌++◌, ◌∷◌, [], Ok, OnOk, codes, if◌then◌else◌};
-ghost use Rattle.auc_world.specs.Event.{event_number};
+ghost use Rattle.auc_world.specs.Event.{event_vector};
 ghost use Rattle.auc_print.specs.EventText.{came_lines, came_words, end_word, event_words, peer_words, reason_word, refusal_words, server_words, step_words, what_words};
 ghost use Rattle.auc_print.specs.Inner.{IsFrontOf, after_spaces, bytes_text, joined, lines_text, shown_for};
 ghost use Rattle.auc_print.specs.Numeral.{numeral};
@@ -18,7 +18,7 @@ use auc_server::ServerWhy;
 use auc_vector::{Outcome, Reason, Step, Vector};
 use auc_world::{End, Event, EventRecord, Note, NoteStep, WorldRefusal};
 
-/// Appends the line of an event, and in a full print the packet and the keys. If the event releases a number and vectors
+/// Appends the line of an event, and in a full print the packet and the keys. If the event releases a vector and vectors
 /// are left, the line of the first one's bytes follows its own.
 pub fn print_event(
     event: &EventRecord,
@@ -28,7 +28,7 @@ pub fn print_event(
 ) -> Result<(), NoMemory>
     ensures printed { OnOk result (out.new ≡ out.old
         ++ (spaced (event_words event.now.event ++ came_words event.now.result)
-        ++ (bytes_text (shown_for (event_number event.now.result) vectors.now)
+        ++ (bytes_text (shown_for (event_vector event.now.result) vectors.now)
         ++ lines_text (if full then came_lines event.now.result else [])))) }
     ensures grows { IsFrontOf out.old out.new }
     ensures fits { OnOk result (CameFits event.now.result) }
@@ -38,17 +38,17 @@ pub fn print_event(
     print_full(event, full, out)
 }
 
-/// Appends the line of the first vector's bytes, if the event releases a number and there is a vector.
+/// Appends the line of the first vector's bytes, if the event releases a vector and there is one.
 fn print_vector_shown(
     event: &EventRecord,
     vectors: &[Vector],
     out: &mut Octets,
 ) -> Result<(), NoMemory>
     ensures printed { OnOk result (out.new ≡ out.old
-        ++ bytes_text (shown_for (event_number event.now.result) vectors.now)) }
+        ++ bytes_text (shown_for (event_vector event.now.result) vectors.now)) }
     ensures grows { IsFrontOf out.old out.new }
 {
-    match event.number() {
+    match event.vector() {
         Some(_) => print_shown(vectors, out),
         None => Ok(()),
     }
@@ -74,18 +74,18 @@ fn print_words(event: &EventRecord, out: &mut Octets) -> Result<(), NoMemory>
     ensures grows { IsFrontOf out.old out.new }
     ensures fits { OnOk result (CameFits event.now.result) }
 {
-    print_event_words(event.event, out)?;
+    print_event_words(&event.event, out)?;
     print_came(&event.result, out)?;
     out.append(b"\n")
 }
 
 /// Appends the words of the event itself.
-fn print_event_words(event: Event, out: &mut Octets) -> Result<(), NoMemory>
-    ensures printed { OnOk result (out.new ≡ out.old ++ joined (event_words event)) }
+fn print_event_words(event: &Event, out: &mut Octets) -> Result<(), NoMemory>
+    ensures printed { OnOk result (out.new ≡ out.old ++ joined (event_words event.now)) }
     ensures grows { IsFrontOf out.old out.new }
 {
-    match event {
-        Event::Open { session, .. } => print_session(b"session", session, out),
+    match *event {
+        Event::Open(ref opening) => print_session(b"session", opening.session, out),
         Event::Start(session) => print_session(b"start", session, out),
         Event::Deliver {
             session,
@@ -262,6 +262,10 @@ fn print_peer_why(why: PeerWhy, out: &mut Octets) -> Result<(), NoMemory>
     match why {
         PeerWhy::Malformed => print_word(b"malformed", out),
         PeerWhy::Missing => print_word(b"missing", out),
+        PeerWhy::BadKdf => print_word(b"badkdf", out),
+        PeerWhy::BadName => print_word(b"badname", out),
+        PeerWhy::NoSeparation => print_word(b"noseparation", out),
+        PeerWhy::Downgrade => print_word(b"downgrade", out),
         PeerWhy::WrongAutn => print_word(b"wrongautn", out),
         PeerWhy::WrongMac => print_word(b"wrongmac", out),
         PeerWhy::WrongCheckcode => print_word(b"wrongcheckcode", out),

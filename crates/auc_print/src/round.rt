@@ -199,7 +199,7 @@ fn after<'a>(answer: &LineRecord, vectors: &'a [Vector]) -> &'a [Vector]
 {
     match answer {
         LineRecord::Vector { .. } => behind_first(vectors),
-        LineRecord::Event(event) if event.record().number().is_some() => behind_first(vectors),
+        LineRecord::Event(event) if event.record().vector().is_some() => behind_first(vectors),
         _ => vectors,
     }
 }

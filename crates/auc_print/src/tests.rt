@@ -7,10 +7,9 @@ use crate::line::print_answer;
 use crate::{print_restart, print_round};
 use auc_edge::{Items, NoMemory, Octets, Stop};
 use auc_hmac::KeySet;
+use auc_random::Rands;
 use auc_subs::Subscribers;
-use auc_vector::{
-    CounterNote, Notes, NumberNote, Outcome, Rands, ResyncNote, Step, UsimNote, Vector,
-};
+use auc_vector::{CounterNote, Notes, NumberNote, Outcome, ResyncNote, Step, UsimNote, Vector};
 use auc_world::{
     BoxedEvent, Closing, End, Event, EventRecord, JobRecord, LineRecord, Note, NoteStep, Premise,
     RoundRecord, SessionVerdict, Setting, SyncVerdict,
@@ -180,6 +179,7 @@ fn notes_packet_and_keys_are_printed_in_their_order(rt: HostRuntime) -> Result<(
         packet: Some(5),
         asked: None,
         device: None,
+        vector: Some(vector()),
     };
     let event = Event::Deliver {
         session: 1,

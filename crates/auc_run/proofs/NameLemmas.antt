@@ -8,6 +8,7 @@ use Rattle.auc_lines.specs.declared.part.End.TheVariants as end
 use Rattle.auc_lines.specs.declared.part.Line.{Line}
 use Rattle.auc_lines.specs.declared.part.Line.TheVariants as line
 use Rattle.auc_server.specs.Server.{ServerEnd}
+use Rattle.auc_server.specs.declared.options.ServerOptions.{ServerOptions}
 use Rattle.auc_vector.specs.Notes.{Asking}
 use Rattle.auc_vector.specs.declared.notes.Notes.{Notes}
 use Rattle.auc_world.specs.Came.{asked_sub, asking_at, asking_in, asking_of, came, came_at_peer, came_at_server, came_delivered, came_given_up, came_in, came_opened, came_repeated, came_started, server_came_to_give_up, session_of}
@@ -96,13 +97,13 @@ opened_below count (Some first) place = tt
 opened_below count None None = tt
 opened_below count None (Some place) = tt
 
-started_below : (count : ℕ) (w : Net) (server : Option ServerEnd) → IsBelow count (asked_in (came_started w server))
-started_below count w None = tt
-started_below count w (Some s) = tt
+started_below : (count : ℕ) (w : Net) (options : ServerOptions) (server : Option ServerEnd) → IsBelow count (asked_in (came_started w options server))
+started_below count w options None = tt
+started_below count w options (Some s) = tt
 
-start_below : (count : ℕ) (w : Net) (session : Option Session) → IsBelow count (asked_in (came_in (λ s. came_started w s.server) session))
+start_below : (count : ℕ) (w : Net) (session : Option Session) → IsBelow count (asked_in (came_in (λ s. came_started w s.options s.server) session))
 start_below count w None = tt
-start_below count w (Some s) = started_below count w s.server
+start_below count w (Some s) = started_below count w s.options s.server
 
 repeated_below : (count : ℕ) (w : Net) (server : Option ServerEnd) → IsBelow count (asked_in (came_repeated w server))
 repeated_below count w None = tt
@@ -123,7 +124,7 @@ give_up_below count w end.Peer (Some s) = tt
 
 came_below : (set : Setting) (w : Net) (e : Event) (told : Told) → IsCentreAsked set (asking_of set w e told) told.notes
     → IsBelow (length set.rows) (asked_in (came set w e told))
-came_below set w (event.Open session sub) told asks = opened_below (length set.rows) (session_place w.sessions session) (device_place set.rows w.devices sub)
+came_below set w (event.Open line) told asks = opened_below (length set.rows) (session_place w.sessions line.session) (device_place set.rows w.devices line.sub)
 came_below set w (event.Start session) told asks = start_below (length set.rows) w (session_of w session)
 came_below set w (event.Deliver session at' packet) told asks = delivered_below set w at' told (packet_at w.packets packet) (delivery_in w session packet) asks
 came_below set w (event.Repeat session) told asks = repeat_below (length set.rows) w (session_of w session)
@@ -170,7 +171,7 @@ line_named set before net (line.Sync sub seq bit count) lines next known (gives,
 line_named set before net (line.Give sub n) lines next known (gives, same) =
     All-same (IsNamed (length set.rows)) lines (record_of.Give sub n gives.answer ∷ []) gives.lines_are
     (All-cons (IsNamed (length set.rows)) (record_of.Give sub n gives.answer) [] known.0 (All-nil (IsNamed (length set.rows))))
-line_named set before net (line.Session session sub) lines next known gives = event_named set before net (event.Open session sub) lines next gives
+line_named set before net (line.Session opened) lines next known gives = event_named set before net (event.Open opened) lines next gives
 line_named set before net (line.Start session) lines next known gives = event_named set before net (event.Start session) lines next gives
 line_named set before net (line.Deliver session at' packet) lines next known gives = event_named set before net (event.Deliver session at' packet) lines next gives
 line_named set before net (line.Repeat session) lines next known gives = event_named set before net (event.Repeat session) lines next gives

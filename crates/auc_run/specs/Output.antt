@@ -30,10 +30,11 @@ text_of rows script records = transcript_text (setting_of rows script) script.fu
 -- a text is that of exactly one lawful transcript of some parts of a script, in which no two vectors of a subscriber carry
 -- the same SQN, no USIM accepts an SQN twice, and between resynchronisations and restarts a released vector gets a
 -- synchronisation failure exactly if it, or one drawn a positive multiple of 32 places later, was accepted before, whether a
--- `give` line or a session presents it; a USIM to which a session presents it finds its MAC right. A server and a peer that
--- ended in Success over one challenge have equal keys, if no delivery broke the premise in their jobs, and each round tells
--- of a breach exactly if one did. A session that has its plain line and no other event line ends in Success at both ends, and
--- its round says that they agree, unless a record of it tells why not
+-- `give` line or a session presents it; a USIM to which a session presents it finds its MAC right. A server and a peer of one
+-- method that ended in Success over one challenge, of EAP-AKA' with one name of the network, have equal keys, if no delivery
+-- broke the premise in their jobs, and each round tells of a breach exactly if one did. A session that has its plain line and
+-- no other event line ends in Success at both ends, and its round says that they agree, unless a record of it tells why not,
+-- or its options keep the peer from accepting a challenge
 pub record IsOutput (rows : List Row) (script : Script) (reserved : List ℕ) (stop : Option Stop) (parts : List Part) (end : Course) (text : List ℕ) : Type 0 where
   pub transcript : List PartRecord
   -- it is lawful, and this is where it ends

@@ -4,12 +4,15 @@
 //!
 //! If the status is [`Status::Done`], the bytes written are the text of exactly one lawful transcript of the
 //! scenario. Within this run no two vectors of a subscriber have the same SQN, no USIM accepts an SQN twice, and
-//! a vector gets a synchronisation failure exactly if its place says so. With every status a crash leaves a journal
-//! that reserves each number that was written as released, so the next run draws none of them (`specs/Crash`). Each
-//! other status except want of memory has its cause, and each cause its status; the subscribers are judged before the scenario is. All of this holds
-//! for every number of workers that serve a round, and however their steps interleave. No clause says in which
-//! order the jobs of a round are served, or that a worker gets on; tests of the crate `auc_runs` show that two
-//! jobs are served at the same time.
+//! a vector gets a synchronisation failure exactly if its place says so, whether a `give` line or a session presents it. A
+//! server and a peer that succeed over one challenge have equal keys if no delivery of their jobs broke the premise, and a
+//! session that has its `plain` line alone succeeds at both ends unless a line tells why not.
+//!
+//! With every status a crash leaves a journal that reserves each number that was written as released, so the next run draws
+//! none of them (`specs/Crash`). Each other status except want of memory has its cause, and each cause its status; the
+//! subscribers are judged before the scenario is. All of this holds for every number of workers that serve a round, and
+//! however their steps interleave. No clause says in which order the jobs of a round are served, or that a worker gets on;
+//! tests of the crate `auc_runs` show that two jobs are served at the same time.
 //!
 //! `specs/Outcome` says how a run ends, `specs/Refusal` which status and line a refusal has, `specs/Output` what
 //! a run writes; `auc_transcript` says which transcripts are lawful. Memory is taken, the workers' threads are

@@ -1,4 +1,5 @@
 mod LawLemmas
+mod NameLemmas
 mod ReadingLemmas
 mod SessionLemmas
 mod SoFarLemmas

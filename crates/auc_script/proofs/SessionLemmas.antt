@@ -67,7 +67,7 @@ IsFresh all (Some session) = is_among session all ≡ false
 
 -- a line that is in order opens a new session, and is of one that its job opened
 pub fresh : (all here begun : List ℕ) (line : Line) → in_order all here begun line ≡ Ok tt → IsFresh all (opened_by line)
-fresh all here begun (Session session sub) order = holds_not (is_among session all) why.Twice order
+fresh all here begun (Session line) order = holds_not (is_among line.session all) why.Twice order
 fresh all here begun (Draw sub count) order = tt
 fresh all here begun (Sync sub seq bit count) order = tt
 fresh all here begun (Give sub number) order = tt
@@ -78,7 +78,7 @@ fresh all here begun (GiveUp session end) order = tt
 fresh all here begun (Plain session) order = tt
 
 pub known : (all here begun : List ℕ) (line : Line) → in_order all here begun line ≡ Ok tt → IsOpened here (named_by line)
-known all here begun (Session session sub) order = tt
+known all here begun (Session line) order = tt
 known all here begun (Draw sub count) order = tt
 known all here begun (Sync sub seq bit count) order = tt
 known all here begun (Give sub number) order = tt

@@ -12,6 +12,12 @@ abbrev pub refusal_at : ℕ → LineRefusal → ScriptRefusal
 refusal_at number (line.Why why) = refusal.Line number why
 refusal_at number line.NoMemory = refusal.NoMemory
 
+-- how a part of a line was read: what it should say, and what was read
+abbrev pub Says : {A : Type 0} → Result A ScriptWhy → Result A LineRefusal → Type 0
+Says expected (Ok part) = expected ≡ Ok part
+Says expected (Err (line.Why why)) = expected ≡ Err why
+Says expected (Err line.NoMemory) = Unit {0}
+
 -- how a line was taken: what should be after it, the answer, and what is after it
 abbrev pub Becomes : {A : Type 0} → Result A ScriptWhy → Result (Unit {0}) LineRefusal → A → Type 0
 Becomes expected (Ok done) new = expected ≡ Ok new

@@ -1,7 +1,9 @@
 -- What holds of every scenario that is read: its limits, that its lines speak of subscribers that there
 -- are and of sessions that their jobs opened, that no two sessions have one number, and that no two jobs of a round hold
 -- one USIM.
-use Rattle.std.specs.Prelude.{◌≡◌, ◌≢◌, ℕ, ◌*◌, ◌<◌, ◌≤◌, true, List, length, take, slice_get, Option, Some, None, All, AllPairs}
+use Rattle.std.specs.Prelude.{◌≡◌, ◌≢◌, ℕ, ◌*◌, ◌<◌, ◌≤◌, true, List, [], length, take, slice_get, Option, Some, None, IfSome, All, AllPairs}
+use Rattle.auc_hmac.specs.declared.method.Method.{Method}
+use Rattle.auc_hmac.specs.declared.method.Method.TheVariants.{Aka, Prime}
 use Rattle.auc_sqn.specs.Number.{max_seq}
 use Rattle.auc_subs.specs.declared.row.Row.{Row}
 use Rattle.auc_subs.specs.Subscriber.{AreSubscribers}
@@ -13,18 +15,24 @@ use Rattle.auc_lines.specs.Part.{AreApart, IsBit, asked, jobs_of}
 use Rattle.auc_script.specs.declared.script.Script.{Script}
 use Rattle.auc_script.specs.Scenario.{rounds_of}
 use Rattle.auc_script.specs.Session.{is_among, named_by, opened, packets, sessions_of}
-use Rattle.auc_script.specs.Numbers.{last_session, longest_realm, most_count, most_jobs, most_packets, most_rounds, most_sessions, most_vectors, most_workers}
+use Rattle.auc_script.specs.Numbers.{last_session, longest_name, longest_realm, most_count, most_jobs, most_packets, most_rounds, most_sessions, most_vectors, most_workers}
 
 -- a number that a session may have
 abbrev pub IsSession : ℕ → Type 0
 IsSession session = (1 ≤ session) × (session ≤ last_session)
+
+-- the names of a session's server and peer: EAP-AKA has none, and those of EAP-AKA' aren't empty
+abbrev pub AreNames : Method → List ℕ → Option (List ℕ) → Type 0
+AreNames Aka name peer_name = (name ≡ []) × (peer_name ≡ None)
+AreNames Prime name peer_name = (1 ≤ length name) × IfSome peer_name (λ other. (1 ≤ length other) × (length other ≤ longest_name))
 
 -- a line whose subscriber there is, and whose numbers are within their ranges
 abbrev pub IsLine : List Row → Line → Type 0
 IsLine rows (Draw sub count) = (sub < length rows) × (1 ≤ count) × (count ≤ most_count)
 IsLine rows (Sync sub seq bit count) = (sub < length rows) × (seq ≤ max_seq) × IsBit bit × (count ≤ most_count)
 IsLine rows (Give sub number) = (sub < length rows) × (1 ≤ number) × (number ≤ max_seq)
-IsLine rows (Session session sub) = (sub < length rows) × (1 ≤ session) × (session ≤ last_session)
+IsLine rows (Session line) =
+    (line.sub < length rows) × (length line.name ≤ longest_name) × IsSession line.session × AreNames line.method line.name line.peer_name
 IsLine rows (Start session) = IsSession session
 IsLine rows (Deliver session end packet) = IsSession session
 IsLine rows (Repeat session) = IsSession session

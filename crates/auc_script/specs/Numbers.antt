@@ -36,6 +36,9 @@ most_packets = 1000000
 abbrev pub most_workers : ℕ
 most_workers = 64
 
--- how many bytes a realm may have
+-- how many bytes a realm may have, and a name of a network
 abbrev pub longest_realm : ℕ
 longest_realm = 255
+
+abbrev pub longest_name : ℕ
+longest_name = 255

@@ -1,14 +1,14 @@
 -- The sessions of a scenario's lines: which line opens one, starts it, or is otherwise of it, and how many packets the
 -- lines of a job count for.
-use Rattle.std.specs.Prelude.{ℕ, nat_eq, Bool, List, sum_by, Option, Some, None}
+use Rattle.std.specs.Prelude.{ℕ, ◌&&◌, nat_eq, nat_le, Bool, true, List, length, sum_by, Option, Some, None}
 use Rattle.std.specs.List.{filter_map, flat_map, list_any}
 use Rattle.auc_lines.specs.declared.part.Line.{Line}
 use Rattle.auc_lines.specs.declared.part.Line.TheVariants.{Draw, Give, Sync, Session, Start, Deliver, Repeat, GiveUp, Plain}
-use Rattle.auc_script.specs.Numbers.{packets_of_plain}
+use Rattle.auc_script.specs.Numbers.{longest_name, packets_of_plain}
 
 -- the number of the session that a line opens, and of the one that it starts as a `start` line
 abbrev pub opened_by : Line → Option ℕ
-opened_by (Session session sub) = Some session
+opened_by (Session line) = Some line.session
 opened_by other = None
 
 abbrev pub started_by : Line → Option ℕ
@@ -38,6 +38,15 @@ sessions_of jobs = flat_map opened jobs
 -- a number is among others
 abbrev pub is_among : ℕ → List ℕ → Bool
 is_among number others = list_any (nat_eq number) others
+
+-- a name, if there is one, is within its limit; the names of the session that a line opens are
+abbrev pub is_short : Option (List ℕ) → Bool
+is_short None = true
+is_short (Some name) = nat_le (length name) longest_name
+
+abbrev pub has_short_names : Line → Bool
+has_short_names (Session line) = nat_le (length line.name) longest_name && is_short line.peer_name
+has_short_names other = true
 
 -- how many packets a line counts for, and all lines of a job
 abbrev pub packets_by : Line → ℕ

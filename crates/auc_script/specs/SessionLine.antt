@@ -1,6 +1,9 @@
--- The fields of a `session` line, and which of their values are served.
-use Rattle.std.specs.Prelude.{ℕ, ◌==◌, ◌&&◌, ◌||◌, nat_le, not, Bool, true, false, List, [], ◌∷◌, length, codes, Result, Ok, Err, slice_index_or}
+-- The fields of a `session` line, what they say, and which of their values are served.
+use Rattle.std.specs.Prelude.{ℕ, ◌==◌, ◌&&◌, ◌||◌, nat_le, not, Bool, true, false, List, [], ◌∷◌, length, codes, Option, Some, None, Result, Ok, Err, if◌then◌else◌, slice_index_or}
 use Rattle.std.specs.List.{list_any}
+use Rattle.auc_hmac.specs.declared.method.Method.{Method}
+use Rattle.auc_hmac.specs.declared.method.Method.TheVariants as methods
+use Rattle.auc_lines.specs.declared.part.SessionLine.{SessionLine}
 use Rattle.auc_text.specs.Text.{is_text}
 use Rattle.auc_script.specs.declared.refusal.ScriptWhy.{ScriptWhy}
 use Rattle.auc_script.specs.declared.refusal.ScriptWhy.TheVariants as why
@@ -19,11 +22,26 @@ abbrev pub seven_fields : List (List ℕ) → Result SessionFields ScriptWhy
 seven_fields (a ∷ b ∷ c ∷ d ∷ e ∷ f ∷ g ∷ []) = Ok (record { session = a; imsi = b; method = c; sname = d; pname = e; options = f; identity = g })
 seven_fields other = Err why.Fields
 
--- EAP-AKA without names and options, for the identity that the device holds or the permanent one
-abbrev pub are_served : List ℕ → List ℕ → List ℕ → List ℕ → List ℕ → Bool
-are_served method sname pname options identity =
-    is_text method (codes "aka") && is_text sname (codes "-") && is_text pname (codes "-") && is_text options (codes "-")
-    && (is_text identity (codes "held") || is_text identity (codes "permanent"))
+-- a method
+abbrev pub method_in : List ℕ → Option Method
+method_in text =
+    if is_text text (codes "aka") then Some methods.Aka
+    else if is_text text (codes "prime") then Some methods.Prime
+    else None
+
+-- the names of a method: EAP-AKA has none, which - says, and EAP-AKA' any two
+abbrev pub are_names : Method → List ℕ → List ℕ → Bool
+are_names methods.Aka sname pname = is_text sname (codes "-") && is_text pname (codes "-")
+are_names methods.Prime sname pname = true
+
+-- the server's name, and the peer's: with * alone it compares none
+abbrev pub name_in : Method → List ℕ → List ℕ
+name_in methods.Aka sname = []
+name_in methods.Prime sname = sname
+
+abbrev pub peer_name_in : Method → List ℕ → Option (List ℕ)
+peer_name_in methods.Aka pname = None
+peer_name_in methods.Prime pname = if is_text pname (codes "*") then None else Some pname
 
 -- a byte is among others
 abbrev pub is_one_of : List ℕ → ℕ → Bool
@@ -34,14 +52,38 @@ abbrev pub are_letters : List ℕ → Bool
 are_letters [] = true
 are_letters (letter ∷ more) = is_one_of (codes "prbad") letter && not (is_one_of more letter) && are_letters more
 
+abbrev pub has_letters : List ℕ → Bool
+has_letters text = nat_le 1 (length text) && nat_le (length text) 5 && are_letters text
+
+-- letters, or - for none
 abbrev pub are_options : List ℕ → Bool
-are_options text = nat_le 1 (length text) && nat_le (length text) 5 && are_letters text
+are_options text = is_text text (codes "-") || has_letters text
+
+-- options, and the identity that the device holds or the permanent one
+abbrev pub are_served : List ℕ → List ℕ → Bool
+are_served options identity = are_options options && (is_text identity (codes "held") || is_text identity (codes "permanent"))
+
+-- the session of a number and of a subscriber's place, by a method and the fields; its letters are b (98) and d (100)
+abbrev pub session_line : ℕ → ℕ → Method → SessionFields → SessionLine
+session_line session sub method f = record {
+  session = session;
+  sub = sub;
+  method = method;
+  name = name_in method f.sname;
+  peer_name = peer_name_in method f.pname;
+  bidding = is_one_of f.options 98;
+  has_prime = is_one_of f.options 100;
+}
+
+-- letters with one that isn't served so far: p (112), r (114) or a (97)
+abbrev pub has_later_letter : List ℕ → Bool
+has_later_letter options = has_letters options && (is_one_of options 112 || is_one_of options 114 || is_one_of options 97)
 
 -- the identity is the text behind = (61)
 abbrev pub has_text : List ℕ → Bool
 has_text identity = slice_index_or identity 0 0 == 61
 
--- a value that isn't served so far: EAP-AKA', options, or an identity's text
+-- a value that isn't served so far: an option, or an identity's text
 abbrev pub has_later : Result SessionFields ScriptWhy → Bool
-has_later (Ok f) = is_text f.method (codes "prime") || are_options f.options || has_text f.identity
+has_later (Ok f) = has_later_letter f.options || has_text f.identity
 has_later (Err why) = false

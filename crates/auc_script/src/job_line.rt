@@ -1,34 +1,44 @@
 //! The lines of a job.
 
-ghost use Rattle.std.specs.Prelude.{◌≡◌, IfOk};
+ghost use Rattle.std.specs.Prelude.{◌≡◌, ◌<◌, true, length, IfOk, IfSome};
+ghost use Rattle.auc_lines.specs.Part.{held_by};
 ghost use Rattle.auc_text.specs.Text.{words_of};
+ghost use Rattle.auc_script.specs.InnerRefusal.{Says};
 ghost use Rattle.auc_script.specs.Limits.{IsLine};
 ghost use Rattle.auc_script.specs.Scenario.{draw_of, give_of, line_of, sync_of};
+ghost use Rattle.auc_script.specs.Session.{has_short_names};
 
 use crate::field::{four_fields, read_bit, read_number, two_fields};
 use crate::limits::MAX_COUNT;
-use crate::refusal::ScriptWhy;
+use crate::refusal::{LineRefusal, ScriptWhy};
 use crate::session_line::{read_deliver, read_give_up, read_one_number, read_session};
 use crate::word::JobWord;
 use auc_edge::Imsi;
 use auc_lines::Line;
 use auc_sqn::MAX_SEQ;
 use auc_subs::Subscribers;
+use std::alloc::Global;
 
 /// What the fields of a word say.
-pub fn read_line(subs: &Subscribers, word: JobWord, fields: &[u8]) -> Result<Line, ScriptWhy>
-    ensures value { result ≡ line_of subs.now word (words_of fields.now) }
-    ensures line { IfOk result (IsLine subs.now) }
+pub fn read_line(
+    alloc: Global,
+    subs: &Subscribers,
+    word: JobWord,
+    fields: &[u8],
+) -> Result<Line, LineRefusal>
+    ensures value { Says (line_of subs.now word (words_of fields.now)) result }
+    ensures known { IfOk result (λ line. IfSome (held_by line) (λ sub. sub < length subs.now)) }
+    ensures line { IfOk result (λ line. has_short_names line ≡ true → IsLine subs.now line) }
 {
     match word {
-        JobWord::Draw => read_draw(subs, fields),
-        JobWord::Sync => read_sync(subs, fields),
-        JobWord::Give => read_give(subs, fields),
-        JobWord::Session => read_session(subs, fields),
+        JobWord::Draw => Ok(read_draw(subs, fields)?),
+        JobWord::Sync => Ok(read_sync(subs, fields)?),
+        JobWord::Give => Ok(read_give(subs, fields)?),
+        JobWord::Session => read_session(alloc, subs, fields),
         JobWord::Start => Ok(Line::Start(read_one_number(fields)?)),
-        JobWord::Deliver => read_deliver(fields),
+        JobWord::Deliver => Ok(read_deliver(fields)?),
         JobWord::Repeat => Ok(Line::Repeat(read_one_number(fields)?)),
-        JobWord::GiveUp => read_give_up(fields),
+        JobWord::GiveUp => Ok(read_give_up(fields)?),
         JobWord::Plain => Ok(Line::Plain(read_one_number(fields)?)),
     }
 }

@@ -22,3 +22,5 @@ pub const MAX_PACKETS: u32 = 1000000;
 pub const MAX_WORKERS: u64 = 64;
 /// How many bytes a realm may have.
 pub const MAX_REALM: usize = 255;
+/// How many bytes a name of a network may have.
+pub const MAX_NAME: usize = 255;

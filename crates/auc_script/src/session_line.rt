@@ -1,32 +1,50 @@
 //! The lines of sessions.
 
-ghost use Rattle.std.specs.Prelude.{◌≡◌, ◌≤◌, List, Ok, Err, length, IfOk, MatchResult};
+ghost use Rattle.std.specs.Prelude.{◌≡◌, ◌<◌, ◌≤◌, true, List, Ok, Err, length, IfOk, IfSome, MatchResult};
+ghost use Rattle.auc_lines.specs.Part.{held_by};
 ghost use Rattle.auc_subs.specs.declared.row.Row.{Row};
 ghost use Rattle.auc_text.specs.Text.{words_of};
+ghost use Rattle.auc_script.specs.InnerRefusal.{Says};
 ghost use Rattle.auc_script.specs.Limits.{IsLine, IsSession};
 ghost use Rattle.auc_script.specs.Numbers.{last_session};
-ghost use Rattle.auc_script.specs.SessionLine.{are_letters, are_served, has_later, seven_fields};
+ghost use Rattle.auc_script.specs.SessionLine.{are_letters, are_names, are_served, has_later, has_later_letter, has_letters, method_in, name_in, peer_name_in, seven_fields};
 ghost use Rattle.auc_script.specs.Field.{number_between};
 ghost use Rattle.auc_script.specs.Scenario.{deliver_of, give_up_of, number_of_session, session_of};
+ghost use Rattle.auc_script.specs.Session.{has_short_names, is_short};
 
 use crate::field::{first_field, one_field, read_end, read_number, three_fields, two_fields};
-use crate::limits::{LAST_PACKET, LAST_SESSION};
-use crate::refusal::{ScriptWhy, require};
-use auc_edge::Imsi;
-use auc_lines::Line;
+use crate::limits::{LAST_PACKET, LAST_SESSION, MAX_NAME};
+use crate::refusal::{LineRefusal, ScriptWhy, require};
+use auc_edge::{Imsi, NoMemory, Octets};
+use auc_hmac::Method;
+use auc_lines::{Line, SessionLine};
 use auc_subs::Subscribers;
 use auc_text::next_word;
+use std::alloc::Global;
 
 /// Whether the fields of a session's line are seven and have a value that isn't served so far.
 pub fn has_later(fields: &[u8]) -> bool
     ensures { result ≡ has_later (seven_fields (words_of fields.now)) }
 {
-    let Ok((_, _, method, _, _, options, identity)) = seven_fields(fields) else {
+    let Ok((_, _, _, _, _, options, identity)) = seven_fields(fields) else {
         return false;
     };
-    method == b"prime".as_slice()
-        || (!options.is_empty() && options.len() <= 5 && are_letters(options))
-        || (!identity.is_empty() && identity[0] == b'=')
+    has_later_letter(options) || (!identity.is_empty() && identity[0] == b'=')
+}
+
+/// Whether options are letters with one that isn't served so far.
+fn has_later_letter(options: &[u8]) -> bool
+    ensures { result ≡ has_later_letter options.now }
+{
+    has_letters(options)
+        && (options.contains(&b'p') || options.contains(&b'r') || options.contains(&b'a'))
+}
+
+/// Whether options are letters, each once.
+fn has_letters(options: &[u8]) -> bool
+    ensures { result ≡ has_letters options.now }
+{
+    !options.is_empty() && options.len() <= 5 && are_letters(options)
 }
 
 /// Whether each byte is the letter of an option, and comes once.
@@ -71,31 +89,100 @@ pub fn seven_fields(
     }
 }
 
-/// What the fields `T IMSI METHOD SNAME PNAME OPTIONS IDENTITY` say.
-pub fn read_session(subs: &Subscribers, fields: &[u8]) -> Result<Line, ScriptWhy>
-    ensures value { result ≡ session_of subs.now (words_of fields.now) }
-    ensures line { IfOk result (IsLine subs.now) }
+/// What the fields `T IMSI METHOD SNAME PNAME OPTIONS IDENTITY` say, with names of any length.
+pub fn read_session(alloc: Global, subs: &Subscribers, fields: &[u8]) -> Result<Line, LineRefusal>
+    ensures value { Says (session_of subs.now (words_of fields.now)) result }
+    ensures known { IfOk result (λ line. IfSome (held_by line) (λ sub. sub < length subs.now)) }
+    ensures line { IfOk result (λ line. has_short_names line ≡ true → IsLine subs.now line) }
 {
     let (session, imsi, method, sname, pname, options, identity) = seven_fields(fields)?;
     let session = read_session_number(session)?;
     let imsi = Imsi::read(imsi).ok_or(ScriptWhy::Fields)?;
-    require(
-        are_served(method, sname, pname, options, identity),
-        ScriptWhy::Fields,
-    )?;
+    let method = read_method(method).ok_or(ScriptWhy::Fields)?;
+    require(are_names(method, sname, pname), ScriptWhy::Fields)?;
+    require(are_served(options, identity), ScriptWhy::Fields)?;
     let sub = subs.find(imsi).ok_or(ScriptWhy::UnknownSubscriber)?;
-    Ok(Line::Session { session, sub })
+    Ok(Line::Session(SessionLine {
+        session,
+        sub,
+        method,
+        name: read_name(alloc, method, sname)?,
+        peer_name: read_peer_name(alloc, method, pname)?,
+        bidding: options.contains(&b'b'),
+        has_prime: options.contains(&b'd'),
+    }))
 }
 
-/// Whether the values of the last five fields are served.
-fn are_served(method: &[u8], sname: &[u8], pname: &[u8], options: &[u8], identity: &[u8]) -> bool
-    ensures { result ≡ are_served method.now sname.now pname.now options.now identity.now }
+/// The method that a field is.
+fn read_method(text: &[u8]) -> Option<Method>
+    ensures { result ≡ method_in text.now }
 {
-    method == b"aka".as_slice()
-        && sname == b"-".as_slice()
-        && pname == b"-".as_slice()
-        && options == b"-".as_slice()
+    if text == b"aka".as_slice() {
+        return Some(Method::Aka);
+    }
+    if text == b"prime".as_slice() {
+        return Some(Method::Prime);
+    }
+    None
+}
+
+/// Whether two fields are the names of a session of a method.
+fn are_names(method: Method, sname: &[u8], pname: &[u8]) -> bool
+    ensures { result ≡ are_names method sname.now pname.now }
+{
+    match method {
+        Method::Aka => sname == b"-".as_slice() && pname == b"-".as_slice(),
+        Method::Prime => true,
+    }
+}
+
+/// Whether the values of the last two fields are served.
+fn are_served(options: &[u8], identity: &[u8]) -> bool
+    ensures { result ≡ are_served options.now identity.now }
+{
+    (options == b"-".as_slice() || has_letters(options))
         && (identity == b"held".as_slice() || identity == b"permanent".as_slice())
+}
+
+/// The server's name of the network.
+fn read_name(alloc: Global, method: Method, sname: &[u8]) -> Result<Octets, NoMemory>
+    ensures { IfOk result (λ name. name ≡ name_in method sname.now) }
+{
+    match method {
+        Method::Aka => Ok(Octets::new(alloc)),
+        Method::Prime => Octets::copied_from(alloc, sname),
+    }
+}
+
+/// The name of the network that the peer expects, if it compares names.
+fn read_peer_name(alloc: Global, method: Method, pname: &[u8]) -> Result<Option<Octets>, NoMemory>
+    ensures { IfOk result (λ name. name ≡ peer_name_in method pname.now) }
+{
+    match method {
+        Method::Aka => Ok(None),
+        Method::Prime if pname == b"*".as_slice() => Ok(None),
+        Method::Prime => Ok(Some(Octets::copied_from(alloc, pname)?)),
+    }
+}
+
+/// Whether the names of the session that a line opens are within their limit.
+pub fn has_short_names(line: &Line) -> bool
+    ensures { result ≡ has_short_names line.now }
+{
+    match line {
+        Line::Session(line) => line.name.len() <= MAX_NAME && is_short(&line.peer_name),
+        _ => true,
+    }
+}
+
+/// Whether a name, if there is one, is within its limit.
+fn is_short(name: &Option<Octets>) -> bool
+    ensures { result ≡ is_short name.now }
+{
+    match name {
+        None => true,
+        Some(name) => name.len() <= MAX_NAME,
+    }
 }
 
 /// What the fields `T END P` say.

@@ -56,7 +56,7 @@ impl Sessions {
     {
         match *line {
             Line::Draw { .. } | Line::Sync { .. } | Line::Give { .. } => Ok(()),
-            Line::Session { session, .. } => require(!self.all.has(session), ScriptWhy::Twice),
+            Line::Session(ref line) => require(!self.all.has(line.session), ScriptWhy::Twice),
             Line::Start(session) => {
                 require(self.opened.has(session), ScriptWhy::UnknownSession)?;
                 require(!self.started.has(session), ScriptWhy::Twice)
@@ -79,7 +79,7 @@ impl Sessions {
     {
         let packets = self.packets + packets_by(line);
         match *line {
-            Line::Session { .. } => self.all.len() < MAX_SESSIONS && packets <= MAX_PACKETS,
+            Line::Session(_) => self.all.len() < MAX_SESSIONS && packets <= MAX_PACKETS,
             _ => packets <= MAX_PACKETS,
         }
     }
@@ -93,9 +93,9 @@ impl Sessions {
     {
         self.packets += packets_by(line);
         match *line {
-            Line::Session { session, .. } => {
-                self.all.add(session)?;
-                self.opened.add(session)
+            Line::Session(ref line) => {
+                self.all.add(line.session)?;
+                self.opened.add(line.session)
             }
             Line::Start(session) => self.started.add(session),
             _ => Ok(()),

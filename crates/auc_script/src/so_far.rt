@@ -19,6 +19,7 @@ use crate::limits::{MAX_JOBS, MAX_ROUNDS, MAX_VECTORS};
 use crate::refusal::{LineRefusal, ScriptWhy};
 use crate::round_so_far::RoundSoFar;
 use crate::script::Script;
+use crate::session_line::has_short_names;
 use crate::sessions::Sessions;
 use crate::word::{HeaderWord, JobWord, Word, is_comment, is_later, read_word};
 use auc_edge::{Items, NoMemory, Octets};
@@ -123,7 +124,7 @@ impl SoFar {
             Word::Round => self.put_round(alloc, subs, fields),
             Word::Job => self.put_job(alloc, fields),
             Word::Restart => self.put_restart(alloc, subs, fields),
-            Word::OfJob(which) => self.put_line(subs, which, fields),
+            Word::OfJob(which) => self.put_line(alloc, subs, which, fields),
         }
     }
 
@@ -240,6 +241,7 @@ impl SoFar {
     /// Takes the fields of a job's line.
     fn put_line(
         &mut self,
+        alloc: Global,
         subs: &Subscribers,
         word: JobWord,
         fields: &[u8],
@@ -255,13 +257,13 @@ impl SoFar {
         let Some(_) = &round.job else {
             return Err(LineRefusal::Why(ScriptWhy::OutOfOrder));
         };
-        let line = read_line(subs, word, fields)?;
+        let line = read_line(alloc, subs, word, fields)?;
         self.sessions.order(&line)?;
         if self.holders.is_busy(round, &line) {
             return Err(LineRefusal::Why(ScriptWhy::UsimBusy));
         }
         let asked = self.asked + line.count();
-        if asked > MAX_VECTORS || !self.sessions.has_room(&line) {
+        if asked > MAX_VECTORS || !self.sessions.has_room(&line) || !has_short_names(&line) {
             return Err(LineRefusal::Why(ScriptWhy::Limit));
         }
         self.holders.note(round, &line);

@@ -1,2 +1,4 @@
 -- What other crates may cite of the proofs here; every other module is private.
+pub use Rattle.auc_server.proofs.MessageLemmas.{challenge_may}
+pub use Rattle.auc_server.proofs.OptionsLemmas.{gave_up_options, turn_options}
 pub use Rattle.auc_server.proofs.TurnLemmas.{IsReported, asked_is, identity_fits, sub_asked}

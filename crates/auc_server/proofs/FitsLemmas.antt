@@ -3,6 +3,7 @@ use Rattle.std.proofs.Common.{◌≡◌, ℕ, Bool, true, false, List, Option, S
 use Rattle.auc_packet.specs.Received.{Seen}
 use Rattle.auc_packet.specs.Spelling.{packet_text}
 use Rattle.auc_packet.specs.declared.packet.Packet.TheVariants as packet
+use Rattle.auc_vector.specs.Keys.{keys_of}
 use Rattle.auc_vector.specs.declared.notes.Notes.{Notes}
 use Rattle.auc_vector.specs.declared.notes.NumberNote.{NumberNote}
 use Rattle.auc_vector.specs.declared.notes.NumberNote.TheVariants as number
@@ -13,7 +14,6 @@ use Rattle.auc_vector.specs.declared.turn.Outcome.{Outcome}
 use Rattle.auc_vector.specs.declared.turn.Outcome.TheVariants as outcome
 use Rattle.auc_hmac.specs.declared.keys.KeySet.{KeySet}
 use Rattle.auc_server.specs.Laws.{Fits, Has}
-use Rattle.auc_server.specs.Messages.{keys_of}
 use Rattle.auc_server.specs.Rows.{server_row, subscriber_in, text_in}
 use Rattle.auc_server.specs.Server.{ServerEnd}
 use Rattle.auc_server.specs.Setting.{Setting}
@@ -68,7 +68,7 @@ ended_fits : (s : ServerEnd) (result : Outcome ServerWhy) (bytes : List ℕ) (ch
     → Fits s → Fits (ended s result bytes checked).0
 ended_fits s result bytes checked has f = record { first = λ e. absurd (no_ended result e); keys = f.keys; success = λ keys e. has keys (same_result result (outcome.Success keys) e) }
 
-keys_are : (s : ServerEnd) (sub : ℕ) (v : Vector) (sent : Challenged) → sent ≡ challenge_of s sub v → sent.keys ≡ keys_of s.identity sent.vector
+keys_are : (s : ServerEnd) (sub : ℕ) (v : Vector) (sent : Challenged) → sent ≡ challenge_of s sub v → sent.keys ≡ keys_of s.options.method s.identity sent.vector.ik sent.vector.ck
 keys_are s sub v sent e = rw e refl
 
 sent_fits : (s : ServerEnd) (sub : ℕ) (v : Option Vector) (notes : Notes) → Fits s → Fits (challenged_with s sub v notes).0
@@ -81,7 +81,7 @@ sent_fits s sub (Some v) notes f = record {
 
 challenged_fits : (set : Setting) (s : ServerEnd) (sub : ℕ) (resynced : Option ResyncNote) (drawn : Option NumberNote) → Fits s → Fits (challenged set s sub resynced drawn).0
 challenged_fits set s sub resynced None f = f
-challenged_fits set s sub resynced (Some (number.Drew n)) f = sent_fits s sub (vector_at set sub n) (noted resynced (Some (number.Drew n))) f
+challenged_fits set s sub resynced (Some (number.Drew n)) f = sent_fits s sub (vector_at set s.options sub n) (noted resynced (Some (number.Drew n))) f
 challenged_fits set s sub resynced (Some (number.Exhausted w)) f = notified_fits s (why.Exhausted w) (noted resynced (Some (number.Exhausted w))) false f
 challenged_fits set s sub resynced (Some (number.Withheld n stop)) f = notified_fits s (why.Stopped n stop) (noted resynced (Some (number.Withheld n stop))) false f
 
@@ -120,4 +120,4 @@ does_fits found set s seen text (row.ClientError code) notes says f = failed_fit
 does_fits found set s seen text (row.Notified cause) notes says f = failed_fits s cause f
 
 pub each_turn_fits : (set : Setting) (homes : List HomeRow) (s : ServerEnd) (seen : Seen) (notes : Notes) → Fits s → Fits (server_step set homes s seen notes).0
-each_turn_fits set homes s seen notes f = does_fits (subscriber_in set homes (text_in seen.reading)) set s seen (text_in seen.reading) (server_row set homes s seen) notes (says_row set homes s seen) f
+each_turn_fits set homes s seen notes f = does_fits (subscriber_in s.options.method set homes (text_in seen.reading)) set s seen (text_in seen.reading) (server_row set homes s seen) notes (says_row set homes s seen) f

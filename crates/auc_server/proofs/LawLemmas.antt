@@ -2,7 +2,6 @@
 use Rattle.std.proofs.Common.{◌≡◌, ℕ, ◌==◌, ◌||◌, Bool, true, false, cond, not, List, [], Option, Some, None, slice_get, refl, sym, ap, ◌∙◌}
 use Rattle.auc_attr.specs.declared.attr.Attr.{Attr}
 use Rattle.auc_hmac.specs.declared.keys.KeySet.{KeySet}
-use Rattle.auc_hmac.specs.declared.method.Method.TheVariants as method
 use Rattle.auc_packet.specs.Head.{head_at}
 use Rattle.auc_packet.specs.Messages.{is_malformed, is_missing}
 use Rattle.auc_packet.specs.Received.{Seen, is_sealed}
@@ -47,7 +46,7 @@ use Rattle.auc_server.specs.declared.why.ServerWhy.{ServerWhy}
 pub record IsRight (s : ServerEnd) (seen : Seen) : Type 0 where
   pub sent : Challenged
   pub last : s.challenged ≡ Some sent
-  pub right : is_sealed method.Aka sent.keys.k_aut [] seen ≡ true
+  pub right : is_sealed s.options.method sent.keys.k_aut [] seen ≡ true
 
 -- the subscriber of the last challenge
 abbrev pub IsLast : ServerEnd → ℕ → Type 0
@@ -70,9 +69,9 @@ is_true : (b : Bool) → not b ≡ false → b ≡ true
 is_true true e = refl
 is_true false e = absurd cc
 
-says_response : (found : Option ℕ) (s : ServerEnd) (sent : Challenged) (seen : Seen) (list : List Attr) → s.challenged ≡ Some sent → Says found s seen (on_response sent seen list)
+says_response : (found : Option ℕ) (s : ServerEnd) (sent : Challenged) (seen : Seen) (list : List Attr) → s.challenged ≡ Some sent → Says found s seen (on_response s.options.method sent seen list)
 says_response found s sent seen list f =
-    let sealed = is_sealed method.Aka sent.keys.k_aut [] seen in
+    let sealed = is_sealed s.options.method sent.keys.k_aut [] seen in
     let expected = is_expected sent.vector.xres (first_of res_of list) in
     let other = differs (first_of checkcode_of list) in
     let last = cond other row.WrongCheckcode row.Success in
@@ -141,7 +140,7 @@ says_message found set s (state.Ended result) seen kind list = tt
 
 says_method : (found : Option ℕ) (set : Setting) (s : ServerEnd) (now : ServerState) (seen : Seen) (r : Reading) → Says found s seen (on_method set s now seen r)
 says_method found set s now seen (reading.Read (packet.Aka request id m kind list)) =
-    on_cond (Says found s seen) (is_malformed kind false method.Aka list) (row.Ignore reason.Malformed) (on_message set s now seen kind list) tt
+    on_cond (Says found s seen) (is_malformed kind false s.options.method list) (row.Ignore reason.Malformed) (on_message set s now seen kind list) tt
     (λ sound. says_message found set s now seen kind list)
 says_method found set s now seen (reading.Read (packet.Identity request id text)) = tt
 says_method found set s now seen (reading.Read (packet.Success id)) = tt
@@ -152,30 +151,30 @@ says_subscriber : (found : Option ℕ) (s : ServerEnd) (seen : Seen) (r : Option
 says_subscriber found s seen None e f = e
 says_subscriber found s seen (Some sub) e f = (e, f)
 
-says_reading : (found : Option ℕ) (set : Setting) (homes : List HomeRow) (s : ServerEnd) (now : ServerState) (seen : Seen) (r : Reading) → s.state ≡ now → found ≡ subscriber_in set homes (text_in r)
+says_reading : (found : Option ℕ) (set : Setting) (homes : List HomeRow) (s : ServerEnd) (now : ServerState) (seen : Seen) (r : Reading) → s.state ≡ now → found ≡ subscriber_in s.options.method set homes (text_in r)
     → Says found s seen (on_reading set homes s now seen r)
-says_reading found set homes s state.AwaitIdentity seen r e f = says_subscriber found s seen (subscriber_in set homes (text_in r)) e f
+says_reading found set homes s state.AwaitIdentity seen r e f = says_subscriber found s seen (subscriber_in s.options.method set homes (text_in r)) e f
 says_reading found set homes s state.AwaitChallenge seen r e f = says_method found set s state.AwaitChallenge seen r
 says_reading found set homes s (state.Notifying why) seen r e f = says_method found set s (state.Notifying why) seen r
 says_reading found set homes s (state.Ended result) seen r e f = says_method found set s (state.Ended result) seen r
 
-says_head : (found : Option ℕ) (set : Setting) (homes : List HomeRow) (s : ServerEnd) (seen : Seen) (head : Option Head) → found ≡ subscriber_in set homes (text_in seen.reading) → Says found s seen (on_head set homes s seen head)
+says_head : (found : Option ℕ) (set : Setting) (homes : List HomeRow) (s : ServerEnd) (seen : Seen) (head : Option Head) → found ≡ subscriber_in s.options.method set homes (text_in seen.reading) → Says found s seen (on_head set homes s seen head)
 says_head found set homes s seen None f = tt
 says_head found set homes s seen (Some head) f =
     let inner = on_reading set homes s s.state seen seen.reading in
-    let typed = not (is_type (type_awaited s.state) head.kind) in
+    let typed = not (is_type (type_awaited s.options.method s.state) head.kind) in
     on_cond (Says found s seen) (not (head.code == 2) || not (head.id == s.id)) (row.Ignore reason.NotForMe) (cond typed (row.Ignore reason.OtherType) inner) tt (λ mine.
     on_cond (Says found s seen) typed (row.Ignore reason.OtherType) inner tt (λ same. says_reading found set homes s s.state seen seen.reading refl f))
 
-says_state : (found : Option ℕ) (set : Setting) (homes : List HomeRow) (s : ServerEnd) (seen : Seen) (now : ServerState) → found ≡ subscriber_in set homes (text_in seen.reading) → Says found s seen (in_state set homes s seen now)
+says_state : (found : Option ℕ) (set : Setting) (homes : List HomeRow) (s : ServerEnd) (seen : Seen) (now : ServerState) → found ≡ subscriber_in s.options.method set homes (text_in seen.reading) → Says found s seen (in_state set homes s seen now)
 says_state found set homes s seen (state.Ended result) f = tt
 says_state found set homes s seen state.AwaitIdentity f = says_head found set homes s seen (head_at seen.bytes) f
 says_state found set homes s seen state.AwaitChallenge f = says_head found set homes s seen (head_at seen.bytes) f
 says_state found set homes s seen (state.Notifying why) f = says_head found set homes s seen (head_at seen.bytes) f
 
 -- each row says this
-pub says_row : (set : Setting) (homes : List HomeRow) (s : ServerEnd) (seen : Seen) → Says (subscriber_in set homes (text_in seen.reading)) s seen (server_row set homes s seen)
-says_row set homes s seen = says_state (subscriber_in set homes (text_in seen.reading)) set homes s seen s.state refl
+pub says_row : (set : Setting) (homes : List HomeRow) (s : ServerEnd) (seen : Seen) → Says (subscriber_in s.options.method set homes (text_in seen.reading)) s seen (server_row set homes s seen)
+says_row set homes s seen = says_state (subscriber_in s.options.method set homes (text_in seen.reading)) set homes s seen s.state refl
 
 -- ---- only that row ends in Success
 
@@ -189,7 +188,7 @@ no_drawn s sub (Some v) notes keys bytes e = cc
 no_challenged : (set : Setting) (s : ServerEnd) (sub : ℕ) (resynced : Option ResyncNote) (drawn : Option NumberNote) (keys : KeySet) (bytes : List ℕ)
     → EndsIn keys bytes (challenged set s sub resynced drawn) → ⊥
 no_challenged set s sub resynced None keys bytes e = cc
-no_challenged set s sub resynced (Some (number.Drew n)) keys bytes e = no_drawn s sub (vector_at set sub n) (noted resynced (Some (number.Drew n))) keys bytes e
+no_challenged set s sub resynced (Some (number.Drew n)) keys bytes e = no_drawn s sub (vector_at set s.options sub n) (noted resynced (Some (number.Drew n))) keys bytes e
 no_challenged set s sub resynced (Some (number.Exhausted w)) keys bytes e = cc
 no_challenged set s sub resynced (Some (number.Withheld n stop)) keys bytes e = cc
 
@@ -221,7 +220,7 @@ proved_by s seen (Some sent) keys bytes f right e =
         sent = sent;
         last = f;
         keys_are = are;
-        right = ap (λ (k : KeySet). is_sealed method.Aka k.k_aut [] seen) are ∙ ap (λ (c : Challenged). is_sealed method.Aka c.keys.k_aut [] seen) (sym same) ∙ right.right;
+        right = ap (λ (k : KeySet). is_sealed s.options.method k.k_aut [] seen) are ∙ ap (λ (c : Challenged). is_sealed s.options.method c.keys.k_aut [] seen) (sym same) ∙ right.right;
       },
       refl,
     )
@@ -246,4 +245,4 @@ pub success_is_proved : (set : Setting) (homes : List HomeRow) (s : ServerEnd) (
     → (server_step set homes s seen notes).1.step ≡ step.Ended (outcome.Success keys) bytes
     → AreProved s seen keys × ((server_step set homes s seen notes).1.checked ≡ true)
 success_is_proved set homes s seen notes keys bytes e =
-    proved_does (subscriber_in set homes (text_in seen.reading)) set s seen (text_in seen.reading) (server_row set homes s seen) notes keys bytes (says_row set homes s seen) e
+    proved_does (subscriber_in s.options.method set homes (text_in seen.reading)) set s seen (text_in seen.reading) (server_row set homes s seen) notes keys bytes (says_row set homes s seen) e

@@ -5,4 +5,5 @@ mod HomeLemmas
 mod LawLemmas
 mod MessageLemmas
 mod MoveLemmas
+mod OptionsLemmas
 mod TurnLemmas

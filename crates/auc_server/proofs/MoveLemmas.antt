@@ -34,7 +34,7 @@ alike s = record { challenge = refl; identity = λ sent e. refl }
 identified_keeps : (s : ServerEnd) (text : List ℕ) → s.state ≡ state.AwaitIdentity → Fits s → KeepsChallenge s (identified s text)
 identified_keeps s text e f = record { challenge = refl; identity = λ sent g. absurd (no_sent s.challenged sent (f.first e) g) }
 
-sent_moves : (set : Setting) (old s : ServerEnd) (asked : Asking) (resynced : Option ResyncNote) (n : ℕ) (v : Option Vector) → vector_at set asked.sub n ≡ v
+sent_moves : (set : Setting) (old s : ServerEnd) (asked : Asking) (resynced : Option ResyncNote) (n : ℕ) (v : Option Vector) → vector_at set s.options asked.sub n ≡ v
     → KeepsChallenge old s → Moves set (Some asked) old (challenged_with s asked.sub v (noted resynced (Some (number.Drew n))))
 sent_moves set old s asked resynced n None e k = inl k
 sent_moves set old s asked resynced n (Some v) e k = inr (record {
@@ -52,7 +52,7 @@ sent_moves set old s asked resynced n (Some v) e k = inr (record {
 challenged_moves : (set : Setting) (old s : ServerEnd) (asked : Asking) (resynced : Option ResyncNote) (drawn : Option NumberNote) → KeepsChallenge old s
     → Moves set (Some asked) old (challenged set s asked.sub resynced drawn)
 challenged_moves set old s asked resynced None k = inl k
-challenged_moves set old s asked resynced (Some (number.Drew n)) k = sent_moves set old s asked resynced n (vector_at set asked.sub n) refl k
+challenged_moves set old s asked resynced (Some (number.Drew n)) k = sent_moves set old s asked resynced n (vector_at set s.options asked.sub n) refl k
 challenged_moves set old s asked resynced (Some (number.Exhausted w)) k = inl (record { challenge = k.challenge; identity = k.identity })
 challenged_moves set old s asked resynced (Some (number.Withheld n stop)) k = inl (record { challenge = k.challenge; identity = k.identity })
 
@@ -92,4 +92,4 @@ does_moves found set s seen text (row.Notified cause) notes says f = inl (record
 
 -- each turn
 pub each_turn_moves : EachTurnKeepsOrChallenges
-each_turn_moves set homes s seen notes f = does_moves (subscriber_in set homes (text_in seen.reading)) set s seen (text_in seen.reading) (server_row set homes s seen) notes (says_row set homes s seen) f
+each_turn_moves set homes s seen notes f = does_moves (subscriber_in s.options.method set homes (text_in seen.reading)) set s seen (text_in seen.reading) (server_row set homes s seen) notes (says_row set homes s seen) f

@@ -35,7 +35,7 @@ with_keeps s sub (Some v) notes = refl
 
 challenged_keeps : (set : Setting) (s : ServerEnd) (sub : ℕ) (resynced : Option ResyncNote) (drawn : Option NumberNote) → (challenged set s sub resynced drawn).0.identity ≡ s.identity
 challenged_keeps set s sub resynced None = refl
-challenged_keeps set s sub resynced (Some (number.Drew n)) = with_keeps s sub (vector_at set sub n) (noted resynced (Some (number.Drew n)))
+challenged_keeps set s sub resynced (Some (number.Drew n)) = with_keeps s sub (vector_at set s.options sub n) (noted resynced (Some (number.Drew n)))
 challenged_keeps set s sub resynced (Some (number.Exhausted w)) = refl
 challenged_keeps set s sub resynced (Some (number.Withheld n stop)) = refl
 
@@ -84,15 +84,15 @@ AsksFor set homes sub t = asked_after set homes t.0 t.1.notes.resync t.1.notes.n
 
 -- an identity by which a subscriber is found
 with_asks : (set : Setting) (homes : List HomeRow) (s : ServerEnd) (sub : ℕ) (v : Option Vector) (drawn : NumberNote)
-    → subscriber_in set homes s.identity ≡ Some sub → (challenged_with s sub v (noted None (Some drawn))).1.notes.number ≡ Some drawn
+    → subscriber_in s.options.method set homes s.identity ≡ Some sub → (challenged_with s sub v (noted None (Some drawn))).1.notes.number ≡ Some drawn
     → AsksFor set homes (Some sub) (challenged_with s sub v (noted None (Some drawn)))
 with_asks set homes s sub None drawn found there = absurd cc
 with_asks set homes s sub (Some v) drawn found there = found
 
-first_asks : (set : Setting) (homes : List HomeRow) (s : ServerEnd) (sub : ℕ) (drawn : Option NumberNote) → subscriber_in set homes s.identity ≡ Some sub
+first_asks : (set : Setting) (homes : List HomeRow) (s : ServerEnd) (sub : ℕ) (drawn : Option NumberNote) → subscriber_in s.options.method set homes s.identity ≡ Some sub
     → is_some drawn ≡ true → (challenged set s sub None drawn).1.notes.number ≡ drawn → AsksFor set homes (Some sub) (challenged set s sub None drawn)
 first_asks set homes s sub None found there told = absurd cc
-first_asks set homes s sub (Some (number.Drew n)) found there told = with_asks set homes s sub (vector_at set sub n) (number.Drew n) found told
+first_asks set homes s sub (Some (number.Drew n)) found there told = with_asks set homes s sub (vector_at set s.options sub n) (number.Drew n) found told
 first_asks set homes s sub (Some (number.Exhausted w)) found there told = found
 first_asks set homes s sub (Some (number.Withheld n stop)) found there told = found
 
@@ -111,7 +111,7 @@ again_asks : (set : Setting) (homes : List HomeRow) (s : ServerEnd) (sub : ℕ) 
     → ((t : ServerEnd) (d : Option NumberNote) → asked_after set homes t (Some r) d ≡ sub_of t.challenged)
     → is_some drawn ≡ true → (challenged set s sub (Some r) drawn).1.notes.number ≡ drawn → AsksFor set homes (Some sub) (challenged set s sub (Some r) drawn)
 again_asks set homes s sub r None last asks there told = absurd cc
-again_asks set homes s sub r (Some (number.Drew n)) last asks there told = again_with set homes s sub r (vector_at set sub n) (number.Drew n) asks told
+again_asks set homes s sub r (Some (number.Drew n)) last asks there told = again_with set homes s sub r (vector_at set s.options sub n) (number.Drew n) asks told
 again_asks set homes s sub r (Some (number.Exhausted w)) last asks there told = asks s (Some (number.Exhausted w)) ∙ last
 again_asks set homes s sub r (Some (number.Withheld n stop)) last asks there told = asks s (Some (number.Withheld n stop)) ∙ last
 
@@ -135,7 +135,7 @@ abbrev pub IsReported : Option Asking → Notes → Type 0
 IsReported None notes = Unit {0}
 IsReported (Some request) notes = (kept : Option ℕ) × AnswersReport kept request.reported notes.resync
 
-does_asks : (set : Setting) (homes : List HomeRow) (s : ServerEnd) (seen : Seen) (text : List ℕ) (r : Row) (notes : Notes) → Says (subscriber_in set homes text) s seen r
+does_asks : (set : Setting) (homes : List HomeRow) (s : ServerEnd) (seen : Seen) (text : List ℕ) (r : Row) (notes : Notes) → Says (subscriber_in s.options.method set homes text) s seen r
     → AsksAsNeeded r notes → IsReported (asking r) notes → (server_does set s text r notes).1.notes ≡ notes
     → AsksFor set homes (sub_asked (asking r)) (server_does set s text r notes)
 does_asks set homes s seen text (row.Ignore cause) notes says need report told = refl

@@ -18,7 +18,7 @@ sub_of (Some sent) = Some sent.sub
 -- challenged
 abbrev pub asked_after : Setting → List HomeRow → ServerEnd → Option ResyncNote → Option NumberNote → Option ℕ
 asked_after set homes s None None = None
-asked_after set homes s None (Some drawn) = subscriber_in set homes s.identity
+asked_after set homes s None (Some drawn) = subscriber_in s.options.method set homes s.identity
 asked_after set homes s (Some resync.BadAuts) drawn = None
 asked_after set homes s (Some (resync.Moved seen seq)) drawn = sub_of s.challenged
 asked_after set homes s (Some (resync.InRange seen seq)) drawn = sub_of s.challenged

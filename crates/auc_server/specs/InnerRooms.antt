@@ -6,9 +6,9 @@ use Rattle.auc_edge.specs.Reserved.{Reserved}
 -- for the greatest request, the Challenge
 pub record IsFresh (room : Reserved ℕ) : Type 0 where
   pub empty : room.written ≡ []
-  pub size : room.left ≡ 72
+  pub size : room.left ≡ 336
 
 -- for the attributes of the Challenge
 pub record HasPlaces (places : Reserved Attr) : Type 0 where
   pub empty : places.written ≡ []
-  pub size : places.left ≡ 3
+  pub size : places.left ≡ 5

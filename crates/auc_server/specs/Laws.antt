@@ -1,8 +1,8 @@
 -- What holds of every turn of a server.
 use Rattle.std.specs.Prelude.{◌≡◌, ◌⊎◌, ℕ, true, List, [], Option, Some, None}
 use Rattle.auc_hmac.specs.declared.keys.KeySet.{KeySet}
-use Rattle.auc_hmac.specs.declared.method.Method.TheVariants as method
 use Rattle.auc_packet.specs.Received.{Seen, is_sealed}
+use Rattle.auc_vector.specs.Keys.{keys_of}
 use Rattle.auc_vector.specs.Notes.{Asking}
 use Rattle.auc_vector.specs.declared.notes.Notes.{Notes}
 use Rattle.auc_vector.specs.declared.notes.NumberNote.TheVariants as number
@@ -10,12 +10,11 @@ use Rattle.auc_vector.specs.declared.parts.Vector.{Vector}
 use Rattle.auc_vector.specs.declared.turn.Outcome.TheVariants as outcome
 use Rattle.auc_vector.specs.declared.turn.Step.TheVariants as step
 use Rattle.auc_vector.specs.declared.turn.Turn.{Turn}
-use Rattle.auc_server.specs.Messages.{keys_of}
 use Rattle.auc_server.specs.Rows.{server_row}
 use Rattle.auc_server.specs.Server.{ServerEnd}
 use Rattle.auc_server.specs.Setting.{Setting}
 use Rattle.auc_server.specs.Steps.{asking}
-use Rattle.auc_server.specs.Table.{challenge_of, server_step, vector_at}
+use Rattle.auc_server.specs.Table.{challenge_of, gave_up, server_step, vector_at}
 use Rattle.auc_server.specs.declared.server.Challenged.{Challenged}
 use Rattle.auc_server.specs.declared.server.ServerState.TheVariants as state
 use Rattle.auc_server.specs.declared.setting.HomeRow.{HomeRow}
@@ -26,7 +25,7 @@ pub record AreProved (s : ServerEnd) (seen : Seen) (keys : KeySet) : Type 0 wher
   pub sent : Challenged
   pub last : s.challenged ≡ Some sent
   pub keys_are : keys ≡ sent.keys
-  pub right : is_sealed method.Aka keys.k_aut [] seen ≡ true
+  pub right : is_sealed s.options.method keys.k_aut [] seen ≡ true
 
 -- Success comes only in a turn whose bytes have a right AT_MAC under the session's keys, and the turn says so
 abbrev pub SuccessNeedsARightMac : Type 0
@@ -42,7 +41,7 @@ Has challenged keys = (sent : Challenged) × (challenged ≡ Some sent) × (keys
 -- while the identity is awaited; the keys of Success are those of the last challenge
 pub record Fits (s : ServerEnd) : Type 0 where
   pub first : s.state ≡ state.AwaitIdentity → s.challenged ≡ None
-  pub keys : (sent : Challenged) → s.challenged ≡ Some sent → sent.keys ≡ keys_of s.identity sent.vector
+  pub keys : (sent : Challenged) → s.challenged ≡ Some sent → sent.keys ≡ keys_of s.options.method s.identity sent.vector.ik sent.vector.ck
   pub success : (keys : KeySet) → s.state ≡ state.Ended (outcome.Success keys) → Has s.challenged keys
 
 -- no turn makes the keys others than those of their inputs
@@ -63,7 +62,7 @@ pub record SendsChallenge (set : Setting) (asked : Option Asking) (new : ServerE
   pub n : ℕ
   pub drawn : turn.notes.number ≡ Some (number.Drew n)
   pub vector : Vector
-  pub of_number : vector_at set request.sub n ≡ Some vector
+  pub of_number : vector_at set new.options request.sub n ≡ Some vector
   pub challenge : new.challenged ≡ Some (challenge_of new request.sub vector)
   pub sent : turn.step ≡ step.Sent new.last
 
@@ -72,3 +71,10 @@ abbrev pub EachTurnKeepsOrChallenges : Type 0
 EachTurnKeepsOrChallenges = (set : Setting) (homes : List HomeRow) (s : ServerEnd) (seen : Seen) (notes : Notes) → Fits s
     → KeepsChallenge s (server_step set homes s seen notes).0
     ⊎ SendsChallenge set (asking (server_row set homes s seen)) (server_step set homes s seen notes).0 (server_step set homes s seen notes).1
+
+-- ---- the options
+
+-- they stay in every turn, and if the server gives up; sending the last request again changes nothing
+pub record OptionsStay : Type 0 where
+  pub turn : (set : Setting) (homes : List HomeRow) (s : ServerEnd) (seen : Seen) (notes : Notes) → (server_step set homes s seen notes).0.options ≡ s.options
+  pub given_up : (s : ServerEnd) → (gave_up s s.state).0.options ≡ s.options

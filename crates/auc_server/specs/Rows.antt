@@ -1,14 +1,15 @@
--- The table of a server of EAP-AKA: which row received bytes fall into, in the order of the tests (RFC 4187 §3, §6 and
+-- The table of a server of EAP-AKA or EAP-AKA': which row received bytes fall into, in the order of the tests (RFC 4187 §3, §6 and
 -- §9).
 use Rattle.std.specs.Prelude.{ℕ, ◌==◌, ◌||◌, not, Bool, true, false, List, [], ◌∷◌, Option, Some, None, slice_get, if◌then◌else◌}
 use Rattle.std.specs.List.{list_any}
 use Rattle.std.specs.Str.{bytes_eq}
 use Rattle.auc_attr.specs.declared.attr.Attr.{Attr}
 use Rattle.auc_edge.specs.Identity.{Identity}
-use Rattle.auc_hmac.specs.declared.method.Method.TheVariants as method
+use Rattle.auc_hmac.specs.declared.method.Method.{Method}
 use Rattle.auc_ident.specs.Permanent.{permanent_in, username}
 use Rattle.auc_packet.specs.Head.{head_at}
 use Rattle.auc_packet.specs.Messages.{is_malformed, is_missing}
+use Rattle.auc_packet.specs.Packet.{method_type}
 use Rattle.auc_packet.specs.Received.{Seen, is_sealed}
 use Rattle.auc_packet.specs.declared.packet.Head.{Head}
 use Rattle.auc_packet.specs.declared.packet.Packet.TheVariants as packet
@@ -48,9 +49,9 @@ abbrev pub held_place : List rows.Row → List HomeRow → Option Identity → O
 held_place all homes None = None
 held_place all homes (Some imsi) = if_held homes (place_of all imsi)
 
--- the held subscriber whose permanent identity a text begins with, up to its realm
-abbrev pub subscriber_in : Setting → List HomeRow → List ℕ → Option ℕ
-subscriber_in set homes text = held_place set.rows homes (permanent_in method.Aka (username text))
+-- the held subscriber whose permanent identity of a method a text begins with, up to its realm
+abbrev pub subscriber_in : Method → Setting → List HomeRow → List ℕ → Option ℕ
+subscriber_in by set homes text = held_place set.rows homes (permanent_in by (username text))
 
 abbrev pub on_subscriber : Option ℕ → Row
 on_subscriber None = row.UnknownIdentity
@@ -75,10 +76,10 @@ differs (Some []) = false
 differs (Some (byte ∷ bytes)) = true
 
 -- AT_MAC is tested before RES, and RES before AT_CHECKCODE
-abbrev pub on_response : Challenged → Seen → List Attr → Row
-on_response sent seen list =
+abbrev pub on_response : Method → Challenged → Seen → List Attr → Row
+on_response by sent seen list =
     if is_missing subtype.Challenge false list then row.Ignore reason.Missing
-    else if not (is_sealed method.Aka sent.keys.k_aut [] seen) then row.WrongMac
+    else if not (is_sealed by sent.keys.k_aut [] seen) then row.WrongMac
     else if not (is_expected sent.vector.xres (first_of res_of list)) then row.WrongRes
     else if differs (first_of checkcode_of list) then row.WrongCheckcode
     else row.Success
@@ -117,7 +118,7 @@ on_client_error list = if is_missing subtype.ClientError false list then row.Ign
 -- ---- a message that isn't malformed
 
 abbrev pub on_challenged : Setting → ServerEnd → Challenged → Seen → Subtype → List Attr → Row
-on_challenged set s sent seen subtype.Challenge list = on_response sent seen list
+on_challenged set s sent seen subtype.Challenge list = on_response s.options.method sent seen list
 on_challenged set s sent seen subtype.SynchronizationFailure list = on_sync_failure set s.synced sent list
 on_challenged set s sent seen subtype.AuthenticationReject list = row.Rejected
 on_challenged set s sent seen subtype.ClientError list = on_client_error list
@@ -135,21 +136,21 @@ on_message set s other seen kind list = row.Ignore reason.Unexpected
 
 -- ---- the tests for every state
 
--- a response of EAP-AKA
+-- a response of the method
 abbrev pub on_method : Setting → ServerEnd → ServerState → Seen → Reading → Row
 on_method set s now seen (reading.Read (packet.Aka request id m kind list)) =
-    if is_malformed kind false method.Aka list then row.Ignore reason.Malformed else on_message set s now seen kind list
+    if is_malformed kind false s.options.method list then row.Ignore reason.Malformed else on_message set s now seen kind list
 on_method set s now seen other = row.Ignore reason.Malformed
 
 -- a response of the type that the state expects
 abbrev pub on_reading : Setting → List HomeRow → ServerEnd → ServerState → Seen → Reading → Row
-on_reading set homes s state.AwaitIdentity seen r = on_subscriber (subscriber_in set homes (text_in r))
+on_reading set homes s state.AwaitIdentity seen r = on_subscriber (subscriber_in s.options.method set homes (text_in r))
 on_reading set homes s other seen r = on_method set s other seen r
 
--- the type that the state expects: Identity first, and EAP-AKA then
-abbrev pub type_awaited : ServerState → ℕ
-type_awaited state.AwaitIdentity = 1
-type_awaited other = 23
+-- the type that the state expects: Identity first, and that of the method then
+abbrev pub type_awaited : Method → ServerState → ℕ
+type_awaited by state.AwaitIdentity = 1
+type_awaited by other = method_type by
 
 abbrev pub is_type : ℕ → Option ℕ → Bool
 is_type wanted None = false
@@ -159,7 +160,7 @@ abbrev pub on_head : Setting → List HomeRow → ServerEnd → Seen → Option 
 on_head set homes s seen None = row.Ignore reason.NotForMe
 on_head set homes s seen (Some head) =
     if not (head.code == 2) || not (head.id == s.id) then row.Ignore reason.NotForMe
-    else if not (is_type (type_awaited s.state) head.kind) then row.Ignore reason.OtherType
+    else if not (is_type (type_awaited s.options.method s.state) head.kind) then row.Ignore reason.OtherType
     else on_reading set homes s s.state seen seen.reading
 
 abbrev pub in_state : Setting → List HomeRow → ServerEnd → Seen → ServerState → Row

@@ -2,11 +2,14 @@
 use Rattle.std.specs.Prelude.{ℕ, Bool, false, List, [], Option, None}
 use Rattle.auc_packet.specs.Spelling.{packet_text}
 use Rattle.auc_server.specs.Messages.{identity_request}
+use Rattle.auc_server.specs.declared.options.ServerOptions.{ServerOptions}
 use Rattle.auc_server.specs.declared.server.Challenged.{Challenged}
 use Rattle.auc_server.specs.declared.server.ServerState.{ServerState}
 use Rattle.auc_server.specs.declared.server.ServerState.TheVariants as state
 
 pub record ServerEnd : Type 0 where
+  -- method, network name and bidding of its session
+  pub options : ServerOptions
   -- what it waits for
   pub state : ServerState
   -- the Identifier of its last request
@@ -21,8 +24,9 @@ pub record ServerEnd : Type 0 where
   pub synced : Bool
 
 -- after its first request, which asks for an identity under the Identifier 1
-abbrev pub started : ServerEnd
-started = record {
+abbrev pub started : ServerOptions → ServerEnd
+started options = record {
+  options = options;
   state = state.AwaitIdentity;
   id = 1;
   last = packet_text (identity_request 1);

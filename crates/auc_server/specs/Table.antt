@@ -1,10 +1,11 @@
--- The table of a server of EAP-AKA: what each row does (RFC 4187 §3 and §6).
+-- The table of a server of EAP-AKA or EAP-AKA': what each row does (RFC 4187 §3 and §6).
 use Rattle.std.specs.Prelude.{ℕ, ◌+◌, ◌%◌, Bool, true, false, List, [], Option, Some, None, slice_get}
 use Rattle.auc_packet.specs.Spelling.{packet_text}
 use Rattle.auc_packet.specs.Received.{Seen}
 use Rattle.auc_packet.specs.declared.packet.Packet.TheVariants as packet
 use Rattle.auc_subs.specs.declared.row.Row as rows
-use Rattle.auc_vector.specs.Random.{rand_of}
+use Rattle.auc_vector.specs.Keys.{keys_of}
+use Rattle.auc_random.specs.Random.{rand_of}
 use Rattle.auc_vector.specs.Vector.{vector_of}
 use Rattle.auc_vector.specs.declared.notes.Notes.{Notes}
 use Rattle.auc_vector.specs.declared.notes.NumberNote.{NumberNote}
@@ -19,10 +20,11 @@ use Rattle.auc_vector.specs.declared.turn.Reason.TheVariants as reason
 use Rattle.auc_vector.specs.declared.turn.Step.{Step}
 use Rattle.auc_vector.specs.declared.turn.Step.TheVariants as step
 use Rattle.auc_vector.specs.declared.turn.Turn.{Turn}
-use Rattle.auc_server.specs.Messages.{keys_of, challenge_bytes, notification}
+use Rattle.auc_server.specs.Messages.{challenge_bytes, notification}
 use Rattle.auc_server.specs.Rows.{server_row, text_in}
 use Rattle.auc_server.specs.Server.{ServerEnd}
 use Rattle.auc_server.specs.Setting.{Setting}
+use Rattle.auc_server.specs.declared.options.ServerOptions.{ServerOptions}
 use Rattle.auc_server.specs.declared.rows.Row.{Row}
 use Rattle.auc_server.specs.declared.rows.Row.TheVariants as row
 use Rattle.auc_server.specs.declared.server.Challenged.{Challenged}
@@ -59,7 +61,7 @@ requested s next bytes notes checked = (
 
 -- Notification of a failure, whose cause is kept until the peer has answered (RFC 4187 §6.3)
 abbrev pub notified : ServerEnd → ServerWhy → Notes → Bool → ServerEnd × Turn ServerWhy
-notified s cause notes checked = requested s (state.Notifying cause) (packet_text (notification (next_id s.id))) notes checked
+notified s cause notes checked = requested s (state.Notifying cause) (packet_text (notification s.options.method (next_id s.id))) notes checked
 
 -- the session ends, with the packet that is sent
 abbrev pub ended : ServerEnd → Outcome ServerWhy → List ℕ → Bool → ServerEnd × Turn ServerWhy
@@ -74,21 +76,21 @@ failed s cause = ended s (outcome.Failure cause) (packet_text (packet.Failure s.
 
 -- ---- a challenge
 
--- the vector of a subscriber's number; each subscriber has a row
-abbrev pub vector_of_row : Setting → ℕ → ℕ → Option rows.Row → Option Vector
-vector_of_row set sub n None = None
-vector_of_row set sub n (Some home) = Some (vector_of home.secret home.amf n (rand_of set.key sub n))
+-- the vector of a subscriber's number, by a session's method and network name; each subscriber has a row
+abbrev pub vector_of_row : Setting → ServerOptions → ℕ → ℕ → Option rows.Row → Option Vector
+vector_of_row set options sub n None = None
+vector_of_row set options sub n (Some home) = Some (vector_of home.secret options.method home.amf options.name n (rand_of set.key sub n))
 
-abbrev pub vector_at : Setting → ℕ → ℕ → Option Vector
-vector_at set sub n = vector_of_row set sub n (slice_get set.rows sub)
+abbrev pub vector_at : Setting → ServerOptions → ℕ → ℕ → Option Vector
+vector_at set options sub n = vector_of_row set options sub n (slice_get set.rows sub)
 
 -- the challenge of a vector, under the keys that the identity that was received last gives
 abbrev pub challenge_of : ServerEnd → ℕ → Vector → Challenged
-challenge_of s sub v = record { sub = sub; vector = v; keys = keys_of s.identity v }
+challenge_of s sub v = record { sub = sub; vector = v; keys = keys_of s.options.method s.identity v.ik v.ck }
 
 abbrev pub sent_with : ServerEnd → Challenged → Notes → ServerEnd × Turn ServerWhy
 sent_with s sent notes =
-    requested (record s { challenged = Some sent }) state.AwaitChallenge (challenge_bytes (next_id s.id) sent.vector sent.keys) notes false
+    requested (record s { challenged = Some sent }) state.AwaitChallenge (challenge_bytes s.options (next_id s.id) sent.vector sent.keys) notes false
 
 abbrev pub challenged_with : ServerEnd → ℕ → Option Vector → Notes → ServerEnd × Turn ServerWhy
 challenged_with s sub None notes = ignored s reason.Unexpected
@@ -97,7 +99,7 @@ challenged_with s sub (Some v) notes = sent_with s (challenge_of s sub v) notes
 -- a subscriber is challenged, if the centre gives a number
 abbrev pub challenged : Setting → ServerEnd → ℕ → Option ResyncNote → Option NumberNote → ServerEnd × Turn ServerWhy
 challenged set s sub resynced None = ignored s reason.Unexpected
-challenged set s sub resynced (Some (number.Drew n)) = challenged_with s sub (vector_at set sub n) (noted resynced (Some (number.Drew n)))
+challenged set s sub resynced (Some (number.Drew n)) = challenged_with s sub (vector_at set s.options sub n) (noted resynced (Some (number.Drew n)))
 challenged set s sub resynced (Some (number.Exhausted w)) = notified s (why.Exhausted w) (noted resynced (Some (number.Exhausted w))) false
 challenged set s sub resynced (Some (number.Withheld n stop)) = notified s (why.Stopped n stop) (noted resynced (Some (number.Withheld n stop))) false
 

@@ -9,41 +9,64 @@ ghost use Rattle.auc_server.specs.Steps.{IsHeld, IsHome, bytes_of, challenges_ag
 ghost use Rattle.auc_server.specs.declared.setting.HomeRow.{HomeRow};
 ghost use Rattle.auc_server.specs.Table.{challenged, first_challenge, resynchronised, sent_with, vector_at};
 
-use crate::messages::{challenge, keys_of};
+use crate::messages::challenge;
+use crate::options::ServerOptions;
 use crate::rooms::Rooms;
 use crate::server::{Challenged, Server, ServerState};
 use crate::setting::Setting;
 use crate::turns::noted;
 use crate::why::ServerWhy;
 use auc_edge::Octets;
-use auc_vector::{Centre, Notes, NumberNote, ResyncNote, Turn, Vector, ask, report, vector};
+use auc_vector::{
+    Centre, Notes, NumberNote, ResyncNote, Turn, Vector, ask, keys_of, report, vector,
+};
 use std::sync::Wait;
 
-/// The vector of a subscriber's number.
-fn vector_at(set: &Setting, sub: u32, n: u64) -> Vector
+/// The vector of a subscriber's number, by a session's method and network name.
+fn vector_at(set: &Setting, options: &ServerOptions, sub: u32, n: u64) -> Vector
+    requires short { length options.now.name ≤ 255 }
     requires listed { sub < length set.now.rows }
     requires first { 1 ≤ n }
     requires last { n ≤ max_seq }
-    ensures { Some result ≡ vector_at set.now sub n }
+    ensures { Some result ≡ vector_at set.now options.now sub n }
 {
     let home = set.subs.row(sub);
-    vector(&home.secret, home.amf, n, set.rands.rand_of(sub, n))
+    let rand = set.rands.rand_of(sub, n);
+    vector(
+        &home.secret,
+        options.method,
+        home.amf,
+        options.name.as_slice(),
+        n,
+        rand,
+    )
 }
 
 impl Server {
     /// Sends a Challenge (RFC 4187 §9.3).
     fn send_challenge(&mut self, sent: Challenged, notes: Notes, rooms: Rooms) -> Turn<ServerWhy>
+        requires { rooms ≡ self.old.options.name }
         ensures step { (self.new, result) ≡ sent_with self.old sent notes }
-        ensures small { length (bytes_of result.step) ≤ 72 }
+        ensures small { length (bytes_of result.step) ≤ 336 }
     {
         let Rooms {
             message,
             kept,
             attrs,
+            name,
             checkcode,
         } = rooms;
         let id = self.id.wrapping_add(1);
-        let bytes = challenge(id, &sent.vector, &sent.keys, checkcode, attrs, message);
+        let bytes = challenge(
+            &self.options,
+            id,
+            &sent.vector,
+            &sent.keys,
+            name,
+            checkcode,
+            attrs,
+            message,
+        );
         self.challenged = Some(sent);
         self.request(ServerState::AwaitChallenge, bytes, notes, false, kept)
     }
@@ -58,10 +81,11 @@ impl Server {
         resynced: Option<ResyncNote>,
         rooms: Rooms,
     ) -> Turn<ServerWhy>
-        requires { IsHome set.now.rows (C.subs centre.old) (C.top centre.old) sub }
+        requires home { IsHome set.now.rows (C.subs centre.old) (C.top centre.old) sub }
+        requires named { rooms ≡ self.old.options.name }
 
         ensures step { (self.new, result) ≡ challenged set.now self.old sub resynced result.notes.number }
-        ensures small { length (bytes_of result.step) ≤ 72 }
+        ensures small { length (bytes_of result.step) ≤ 336 }
         ensures resync { result.notes.resync ≡ resynced }
         ensures drawn { is_some result.notes.number ≡ true }
 
@@ -83,8 +107,9 @@ impl Server {
     {
         match ask(rt, centre, sub) {
             NumberNote::Drew(n) => {
-                let vector = vector_at(set, sub, n);
-                let keys = keys_of(self.identity.as_slice(), &vector);
+                let vector = vector_at(set, &self.options, sub, n);
+                let method = self.options.method;
+                let keys = keys_of(method, self.identity.as_slice(), vector.ik, vector.ck);
                 let notes = noted(resynced, Some(NumberNote::Drew(n)));
                 self.send_challenge(Challenged { sub, vector, keys }, notes, rooms)
             }
@@ -111,10 +136,11 @@ impl Server {
         text: Octets,
         rooms: Rooms,
     ) -> Turn<ServerWhy>
-        requires { IsHome set.now.rows (C.subs centre.old) (C.top centre.old) sub }
+        requires home { IsHome set.now.rows (C.subs centre.old) (C.top centre.old) sub }
+        requires named { rooms ≡ self.old.options.name }
 
         ensures step { (self.new, result) ≡ first_challenge set.now self.old text sub result.notes.number }
-        ensures small { length (bytes_of result.step) ≤ 72 }
+        ensures small { length (bytes_of result.step) ≤ 336 }
         ensures asked { AskedOf C.goes C.kept C.top (record { sub = sub; reported = None }) result.notes centre.old centre.new }
         ensures drawn { is_some result.notes.number ≡ true }
 
@@ -143,9 +169,10 @@ impl Server {
     ) -> Turn<ServerWhy>
         requires home { IsHome set.now.rows (C.subs centre.old) (C.top centre.old) sub }
         requires number { seq ≤ max_seq }
+        requires named { rooms ≡ self.old.options.name }
 
         ensures step { (self.new, result) ≡ resynchronised set.now self.old sub result.notes.resync result.notes.number }
-        ensures small { length (bytes_of result.step) ≤ 72 }
+        ensures small { length (bytes_of result.step) ≤ 336 }
         ensures asked { AskedOf C.goes C.kept C.top (record { sub = sub; reported = Some seq }) result.notes centre.old centre.new }
         ensures drawn { is_some result.notes.number ≡ challenges_again result.notes.resync }
 

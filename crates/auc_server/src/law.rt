@@ -1,6 +1,6 @@
 //! What holds of every turn of a server.
 
-ghost use Rattle.auc_server.specs.Laws.{EachTurnFits, EachTurnKeepsOrChallenges, SuccessNeedsARightMac};
+ghost use Rattle.auc_server.specs.Laws.{EachTurnFits, EachTurnKeepsOrChallenges, OptionsStay, SuccessNeedsARightMac};
 
 /// A session ends in Success only in a turn in which a response with a right AT_MAC came, under the keys of the last
 /// challenge (RFC 4187 §6.3.4 and §10.15); an EAP-Success that somebody else sent changes nothing.
@@ -18,4 +18,9 @@ pub fn each_turn_keeps_the_keys_of_its_inputs()
 /// that turn for the subscriber that it was asked for.
 pub fn each_turn_keeps_the_challenge_or_sends_one()
     ensures { EachTurnKeepsOrChallenges }
+{}
+
+/// The options of a server stay what they were when it started, in every turn and if it gives up.
+pub fn no_turn_changes_the_options()
+    ensures { OptionsStay }
 {}

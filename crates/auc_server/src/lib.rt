@@ -1,9 +1,9 @@
-//! The server of a session of EAP-AKA (RFC 4187), for permanent identities.
+//! The server of a session of EAP-AKA (RFC 4187) or EAP-AKA' (RFC 9048), for permanent identities.
 //!
-//! [`Server::start`] gives the first request, and [`Server::on_bytes`] takes what was received: it falls into one [`Row`]
-//! of the table, which tells what is sent, what the [`Centre`](auc_vector::Centre) is asked for and how the session ends.
-//! [`Server::repeat`] sends the last request again, and [`Server::give_up`] ends the session. docs/sessions.md draws the
-//! table and names the clause of each row.
+//! [`Server::start`] takes the method and the network name and gives the first request, and [`Server::on_bytes`] takes
+//! what was received: it falls into one [`Row`] of the table, which tells what is sent, what the
+//! [`Centre`](auc_vector::Centre) is asked for and how the session ends. [`Server::repeat`] sends the last request again,
+//! and [`Server::give_up`] ends the session. docs/sessions.md draws the table and names the clause of each row.
 //!
 //! Contracts see a [`Server`] as its `ServerEnd` (`specs/Server`) and a [`Setting`] as key, rows and realm
 //! (`specs/Setting`). `specs/Rows` says which row bytes fall into, `specs/Table` what each row does. A turn takes its
@@ -15,6 +15,7 @@ mod attributes;
 mod challenge;
 mod law;
 mod messages;
+mod options;
 mod receiving;
 mod rooms;
 mod rows;
@@ -25,8 +26,9 @@ mod why;
 
 pub use law::{
     each_turn_keeps_the_challenge_or_sends_one, each_turn_keeps_the_keys_of_its_inputs,
-    success_needs_a_right_mac,
+    no_turn_changes_the_options, success_needs_a_right_mac,
 };
+pub use options::ServerOptions;
 pub use rows::Row;
 pub use server::{Challenged, Server, ServerState};
 pub use setting::{HomeRow, Setting};

@@ -22,8 +22,8 @@ use std::alloc::Global;
 use std::sync::Wait;
 
 impl Server {
-    /// Takes received bytes, as the table has it (RFC 4187 §3, §6 and §9). If memory runs out, the server and the centre
-    /// stay as they were. No message has more than 72 bytes.
+    /// Takes received bytes, as the table has it (RFC 4187 §3, §6 and §9, RFC 9048 §3). If memory runs out, the server and the centre
+    /// stay as they were. No message has more than 336 bytes.
     pub fn on_bytes<C: Centre, R: Wait>(
         &mut self,
         rt: &R,
@@ -36,7 +36,7 @@ impl Server {
         requires { IsServed set.now.rows (C.subs centre.old) (C.top centre.old) homes.old self.old }
 
         ensures step { IfOk result (λ turn. Steps C.goes C.kept C.top set.now homes.old self.old bytes.now centre.old self.new turn centre.new) }
-        ensures small { IfOk result (λ turn. length (bytes_of turn.step) ≤ 72) }
+        ensures small { IfOk result (λ turn. length (bytes_of turn.step) ≤ 336) }
         ensures served { IsServed set.now.rows (C.subs centre.new) (C.top centre.new) homes.new self.new }
         ensures homes { homes.new ≡ homes.old }
         ensures subs { C.subs centre.new ≡ C.subs centre.old }
@@ -46,7 +46,7 @@ impl Server {
         ensures server { OnErr result (self.new ≡ self.old) }
         ensures centre { OnErr result (centre.new ≡ centre.old) }
     {
-        let rooms = Rooms::new(alloc)?;
+        let rooms = Rooms::new(alloc, self.options.name.as_slice())?;
         let received = receive(alloc, bytes)?;
         let text = Octets::copied_from(alloc, text_in(&received.reading))?;
         Ok(self.on_received(rt, set, homes, centre, &received, text, rooms))
@@ -66,9 +66,10 @@ impl Server {
         requires received { IsReceived (seen_of received.now) }
         requires text { text ≡ text_in received.now.reading }
         requires served { IsServed set.now.rows (C.subs centre.old) (C.top centre.old) homes.now self.old }
+        requires named { rooms ≡ self.old.options.name }
 
         ensures step { (self.new, result) ≡ server_step set.now homes.now self.old (seen_of received.now) result.notes }
-        ensures small { length (bytes_of result.step) ≤ 72 }
+        ensures small { length (bytes_of result.step) ≤ 336 }
         ensures asked { Asked C.goes C.kept C.top (asking (server_row set.now homes.now self.old (seen_of received.now))) result.notes centre.old centre.new }
         ensures drawn { AsksAsNeeded (server_row set.now homes.now self.old (seen_of received.now)) result.notes }
         ensures served { IsServed set.now.rows (C.subs centre.new) (C.top centre.new) homes.now self.new }
@@ -93,9 +94,10 @@ impl Server {
     ) -> Turn<ServerWhy>
         requires held { IsHeldRow homes.now row }
         requires served { IsServed set.now.rows (C.subs centre.old) (C.top centre.old) homes.now self.old }
+        requires named { rooms ≡ self.old.options.name }
 
         ensures step { (self.new, result) ≡ server_does set.now self.old text row result.notes }
-        ensures small { length (bytes_of result.step) ≤ 72 }
+        ensures small { length (bytes_of result.step) ≤ 336 }
         ensures asked { Asked C.goes C.kept C.top (asking row) result.notes centre.old centre.new }
         ensures drawn { AsksAsNeeded row result.notes }
         ensures served { IsServed set.now.rows (C.subs centre.new) (C.top centre.new) homes.now self.new }

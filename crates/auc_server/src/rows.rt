@@ -2,6 +2,7 @@
 
 ghost use Rattle.std.specs.Prelude.{◌≡◌, ◌<◌, ℕ, length, true, Some, IfSome};
 ghost use Rattle.std.specs.Option.{option_copied};
+ghost use Rattle.auc_packet.specs.Packet.{method_type};
 ghost use Rattle.auc_packet.specs.Received.{IsReceived, seen_of};
 ghost use Rattle.auc_server.specs.Asked.{asked_after};
 ghost use Rattle.auc_server.specs.Attributes.{res_of, checkcode_of, first_of};
@@ -61,12 +62,12 @@ fn is_held(homes: &[HomeRow], sub: u32) -> bool
     homes.iter().any(|home| home.sub == sub)
 }
 
-/// The held subscriber whose permanent identity a text begins with (RFC 4187 §4.1.1.6).
-fn subscriber_in(set: &Setting, homes: &[HomeRow], text: &[u8]) -> Option<u32>
-    ensures value { result ≡ subscriber_in set.now homes.now text.now }
+/// The held subscriber whose permanent identity of a method a text begins with (RFC 4187 §4.1.1.6, RFC 9048 §3).
+fn subscriber_in(method: Method, set: &Setting, homes: &[HomeRow], text: &[u8]) -> Option<u32>
+    ensures value { result ≡ subscriber_in method set.now homes.now text.now }
     ensures held { IfSome result (λ sub. is_held homes.now sub ≡ true) }
 {
-    let imsi = permanent_in(Method::Aka, username(text))?;
+    let imsi = permanent_in(method, username(text))?;
     let sub = set.subs.find(imsi)?;
     if is_held(homes, sub) { Some(sub) } else { None }
 }
@@ -78,7 +79,9 @@ impl Server {
     {
         match (notes.resync, notes.number) {
             (None, None) | (Some(ResyncNote::BadAuts), _) => None,
-            (None, Some(_)) => subscriber_in(set, homes, self.identity.as_slice()),
+            (None, Some(_)) => {
+                subscriber_in(self.options.method, set, homes, self.identity.as_slice())
+            }
             (Some(_), _) => Some(self.challenged?.sub),
         }
     }
@@ -121,15 +124,15 @@ fn is_some_byte(value: &Octets) -> bool
 }
 
 /// A Challenge response.
-fn on_response(sent: &Challenged, received: &Received, attrs: &AttrList) -> Row
+fn on_response(method: Method, sent: &Challenged, received: &Received, attrs: &AttrList) -> Row
     requires { IsReceived (seen_of received.now) }
-    ensures row { result ≡ on_response sent.now (seen_of received.now) attrs.now }
+    ensures row { result ≡ on_response method sent.now (seen_of received.now) attrs.now }
     ensures own { IsOwnRow sent.now.sub result }
 {
     if is_missing(Subtype::Challenge, false, attrs) {
         return Row::Ignore(Reason::Missing);
     }
-    if !is_sealed(received, Method::Aka, &sent.keys.k_aut, &[]) {
+    if !is_sealed(received, method, &sent.keys.k_aut, &[]) {
         return Row::WrongMac;
     }
     if !is_expected(&sent.vector.xres, res_in(attrs)) {
@@ -187,12 +190,21 @@ fn on_client_error(attrs: &AttrList) -> Row
 }
 
 /// The type that a state expects.
-fn type_awaited(state: &ServerState) -> u8
-    ensures { result ≡ type_awaited state.now }
+fn type_awaited(method: Method, state: &ServerState) -> u8
+    ensures { result ≡ type_awaited method state.now }
 {
     match state {
         ServerState::AwaitIdentity => 1,
-        _ => 23,
+        _ => method_type(method),
+    }
+}
+
+fn method_type(method: Method) -> u8
+    ensures { result ≡ method_type method }
+{
+    match method {
+        Method::Aka => 23,
+        Method::Prime => 50,
     }
 }
 
@@ -221,7 +233,7 @@ impl Server {
         ensures own { IsOwnRow sent.now.sub result }
     {
         match subtype {
-            Subtype::Challenge => on_response(sent, received, attrs),
+            Subtype::Challenge => on_response(self.options.method, sent, received, attrs),
             Subtype::SynchronizationFailure => on_sync_failure(set, self.synced, sent, attrs),
             Subtype::AuthenticationReject => Row::Rejected,
             Subtype::ClientError => on_client_error(attrs),
@@ -255,7 +267,7 @@ impl Server {
         }
     }
 
-    /// A response of EAP-AKA.
+    /// A response of the method.
     fn on_method(&self, set: &Setting, received: &Received) -> Row
         requires received { IsReceived (seen_of received.now) }
         requires listed { IfSome self.now.challenged (λ sent. sent.sub < length set.now.rows) }
@@ -265,7 +277,7 @@ impl Server {
         let Reading::Read(Packet::Aka { subtype, attrs, .. }) = &received.reading else {
             return Row::Ignore(Reason::Malformed);
         };
-        if is_malformed(*subtype, false, Method::Aka, attrs) {
+        if is_malformed(*subtype, false, self.options.method, attrs) {
             return Row::Ignore(Reason::Malformed);
         }
         self.on_message(set, received, *subtype, attrs)
@@ -280,7 +292,12 @@ impl Server {
         ensures held { IsHeldRow homes.now result }
     {
         if let ServerState::AwaitIdentity = self.state {
-            return match subscriber_in(set, homes, text_in(&received.reading)) {
+            return match subscriber_in(
+                self.options.method,
+                set,
+                homes,
+                text_in(&received.reading),
+            ) {
                 None => Row::UnknownIdentity,
                 Some(sub) => Row::Challenge(sub),
             };
@@ -305,7 +322,7 @@ impl Server {
         if head.code != 2 || head.id != self.id {
             return Row::Ignore(Reason::NotForMe);
         }
-        if !is_type(type_awaited(&self.state), head.kind) {
+        if !is_type(type_awaited(self.options.method, &self.state), head.kind) {
             return Row::Ignore(Reason::OtherType);
         }
         self.on_reading(set, homes, received)

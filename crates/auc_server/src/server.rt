@@ -1,5 +1,6 @@
 //! The server of a session.
 
+use crate::options::ServerOptions;
 use crate::why::ServerWhy;
 use auc_edge::Octets;
 use auc_hmac::KeySet;
@@ -13,7 +14,7 @@ pub struct Challenged {
     pub sub: u32,
     /// The vector.
     pub vector: Vector,
-    /// The keys that it gives (RFC 4187 §7).
+    /// The keys that it gives (RFC 4187 §7, RFC 9048 §3.3).
     pub keys: KeySet,
 }
 
@@ -30,9 +31,11 @@ pub enum ServerState {
     Ended(Outcome<ServerWhy>),
 }
 
-/// The server of a session of EAP-AKA. Contracts see its `ServerEnd`.
+/// The server of a session of EAP-AKA or EAP-AKA'. Contracts see its `ServerEnd`.
 #[derive(Drop)]
 pub struct Server {
+    /// Method, network name and bidding of the session.
+    pub(crate) options: ServerOptions,
     pub(crate) state: ServerState,
     /// The Identifier of the last request.
     pub(crate) id: u8,
@@ -47,9 +50,12 @@ pub struct Server {
 }
 
 impl Model for Server {
+    ghost use Rattle.std.specs.Prelude.{◌≤◌, length};
     ghost use Rattle.auc_server.specs.Server.{ServerEnd};
 
     ghost Value = { ServerEnd };
 
-    ghost view = { λ s. record { state = s.state; id = s.id; last = s.last; identity = s.identity; challenged = s.challenged; synced = s.synced } };
+    ghost view = { λ s. record { options = s.options; state = s.state; id = s.id; last = s.last; identity = s.identity; challenged = s.challenged; synced = s.synced } };
+
+    ghost invariant = { λ s. length s.options.name ≤ 255 };
 }

@@ -2,8 +2,8 @@
 
 ghost use Rattle.std.specs.Prelude.{◌≡◌};
 
+use auc_random::Rands;
 use auc_subs::Subscribers;
-use auc_vector::Rands;
 use std::marker::Model;
 
 /// What all sessions of a home network share. Contracts see the key of the random bytes, the subscribers' rows and the

@@ -8,6 +8,7 @@ ghost use Rattle.auc_server.specs.Steps.{bytes_of};
 ghost use Rattle.auc_server.specs.Table.{ended, failed, gave_up, ignored, noted, notified, repeated, requested, silent, succeeded, unknown};
 
 use crate::messages::{message, notification};
+use crate::options::ServerOptions;
 use crate::rooms::Rooms;
 use crate::server::{Challenged, Server, ServerState};
 use crate::why::ServerWhy;
@@ -40,7 +41,7 @@ impl Server {
     /// Ignores what was received.
     pub(crate) fn ignore(&self, why: Reason) -> Turn<ServerWhy>
         ensures step { (self.now, result) ≡ ignored self.now why }
-        ensures small { length (bytes_of result.step) ≤ 72 }
+        ensures small { length (bytes_of result.step) ≤ 336 }
     {
         Turn {
             notes: silent(),
@@ -58,10 +59,10 @@ impl Server {
         checked: bool,
         kept: Room,
     ) -> Turn<ServerWhy>
-        requires small { length bytes ≤ 72 }
+        requires small { length bytes ≤ 336 }
         requires fresh { IsFresh kept }
         ensures step { (self.new, result) ≡ requested self.old state bytes notes checked }
-        ensures small { length (bytes_of result.step) ≤ 72 }
+        ensures small { length (bytes_of result.step) ≤ 336 }
     {
         let mut kept = kept;
         kept.put(bytes.as_slice());
@@ -84,7 +85,7 @@ impl Server {
         rooms: Rooms,
     ) -> Turn<ServerWhy>
         ensures step { (self.new, result) ≡ notified self.old why notes checked }
-        ensures small { length (bytes_of result.step) ≤ 72 }
+        ensures small { length (bytes_of result.step) ≤ 336 }
     {
         let Rooms {
             message,
@@ -92,15 +93,15 @@ impl Server {
             attrs,
             ..
         } = rooms;
-        let bytes = notification(self.id.wrapping_add(1), attrs, message);
+        let bytes = notification(self.options.method, self.id.wrapping_add(1), attrs, message);
         self.request(ServerState::Notifying(why), bytes, notes, checked, kept)
     }
 
     /// Ends the session.
     fn end(&mut self, outcome: Outcome<ServerWhy>, bytes: Octets, checked: bool) -> Turn<ServerWhy>
-        requires { length bytes ≤ 72 }
+        requires { length bytes ≤ 336 }
         ensures step { (self.new, result) ≡ ended self.old outcome bytes checked }
-        ensures small { length (bytes_of result.step) ≤ 72 }
+        ensures small { length (bytes_of result.step) ≤ 336 }
     {
         self.state = ServerState::Ended(outcome);
         Turn {
@@ -113,7 +114,7 @@ impl Server {
     /// Ends the session with EAP-Failure (RFC 3748 §4.2).
     pub(crate) fn fail(&mut self, why: ServerWhy, rooms: Rooms) -> Turn<ServerWhy>
         ensures step { (self.new, result) ≡ failed self.old why }
-        ensures small { length (bytes_of result.step) ≤ 72 }
+        ensures small { length (bytes_of result.step) ≤ 336 }
     {
         let bytes = message(&Packet::Failure(self.id), rooms.message);
         self.end(Outcome::Failure(why), bytes, false)
@@ -122,7 +123,7 @@ impl Server {
     /// Ends the session with EAP-Success (RFC 3748 §4.2).
     pub(crate) fn succeed(&mut self, rooms: Rooms) -> Turn<ServerWhy>
         ensures step { (self.new, result) ≡ succeeded self.old self.old.challenged }
-        ensures small { length (bytes_of result.step) ≤ 72 }
+        ensures small { length (bytes_of result.step) ≤ 336 }
     {
         match self.challenged {
             None => self.ignore(Reason::Unexpected),
@@ -136,7 +137,7 @@ impl Server {
     /// Notifies the peer that its identity is unknown.
     pub(crate) fn refuse_identity(&mut self, text: Octets, rooms: Rooms) -> Turn<ServerWhy>
         ensures step { (self.new, result) ≡ unknown self.old text }
-        ensures small { length (bytes_of result.step) ≤ 72 }
+        ensures small { length (bytes_of result.step) ≤ 336 }
     {
         self.identity = text;
         self.notify(ServerWhy::UnknownIdentity, silent(), false, rooms)
@@ -145,11 +146,12 @@ impl Server {
 
 impl Server {
     /// A server, and its first request, which asks for an identity (RFC 3748 §5.1).
-    pub fn start(alloc: Global) -> Result<(Server, Octets), NoMemory>
-        ensures server { IfOk result (λ started_with. started_with.0 ≡ started) }
-        ensures sent { IfOk result (λ started_with. started_with.1 ≡ started.last) }
+    pub fn start(options: ServerOptions, alloc: Global) -> Result<(Server, Octets), NoMemory>
+        requires { length options.name ≤ 255 }
+        ensures server { IfOk result (λ started_with. started_with.0 ≡ started options) }
+        ensures sent { IfOk result (λ started_with. started_with.1 ≡ (started options).last) }
     {
-        let rooms = Rooms::new(alloc)?;
+        let rooms = Rooms::new(alloc, &[])?;
         let packet = Packet::Identity {
             request: true,
             id: 1,
@@ -158,6 +160,7 @@ impl Server {
         let bytes = message(&packet, rooms.message);
         let last = Octets::copied_from(alloc, bytes.as_slice())?;
         let server = Server {
+            options,
             state: ServerState::AwaitIdentity,
             id: 1,
             last,
@@ -191,6 +194,14 @@ impl Server {
         Step::Ended(outcome, Octets::new(alloc))
     }
 
+    /// Method, network name and bidding of the session.
+    pub fn options(&self) -> &ServerOptions
+        ensures value { result.now ≡ self.now.options }
+        ensures short { length result.now.name ≤ 255 }
+    {
+        &self.options
+    }
+
     /// What the server waits for, or how the session has ended.
     pub fn state(&self) -> ServerState
         ensures { result ≡ self.now.state }
@@ -198,7 +209,7 @@ impl Server {
         self.state
     }
 
-    /// The identity that was received last, from which keys are derived (RFC 4187 §7); empty before the first.
+    /// The identity that was received last, from which keys are derived (RFC 4187 §7, RFC 9048 §3.3); empty before the first.
     pub fn identity(&self) -> &[u8]
         ensures { result.now ≡ self.now.identity }
     {

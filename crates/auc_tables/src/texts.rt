@@ -1,7 +1,7 @@
 //! How scenarios and subscribers are read.
 
 use auc_edge::Items;
-use auc_lines::JobPart;
+use auc_lines::{JobPart, Line, SessionLine};
 use auc_script::{Part, Script, ScriptRefusal};
 use auc_subs::{AddRefusal, SubsRefusal, Subscribers};
 use std::alloc::{AllocError, Global};
@@ -61,11 +61,57 @@ fn push_jobs(alloc: Global, text: &mut String, jobs: &Items<JobPart>) -> Result<
 fn push_lines(alloc: Global, text: &mut String, job: &JobPart) -> Result<(), AllocError> {
     if job.len() <= 9 {
         for line in job.as_slice() {
-            let line = format!(in alloc; " {line:?}")?;
-            text.push_str(line.as_str())?;
+            text.push_str(" ")?;
+            text.push_str(text_of_line(alloc, line)?.as_str())?;
         }
     }
     Ok(())
+}
+
+fn text_of_line(alloc: Global, line: &Line) -> Result<String, AllocError> {
+    match line {
+        Line::Draw { sub, count } => format!(in alloc; "Draw {{ sub: {sub}, count: {count} }}"),
+        Line::Sync {
+            sub,
+            seq,
+            bit,
+            count,
+        } => format!(in alloc; "Sync {{ sub: {sub}, seq: {seq}, bit: {bit:?}, count: {count} }}"),
+        Line::Give { sub, n } => format!(in alloc; "Give {{ sub: {sub}, n: {n} }}"),
+        Line::Session(line) => text_of_session(alloc, line),
+        Line::Start(session) => format!(in alloc; "Start({session})"),
+        Line::Deliver {
+            session,
+            end,
+            packet,
+        } => format!(in alloc; "Deliver {{ session: {session}, end: {end:?}, packet: {packet} }}"),
+        Line::Repeat(session) => format!(in alloc; "Repeat({session})"),
+        Line::GiveUp { session, end } => {
+            format!(in alloc; "GiveUp {{ session: {session}, end: {end:?} }}")
+        }
+        Line::Plain(session) => format!(in alloc; "Plain({session})"),
+    }
+}
+
+/// A session with its names as hexadecimal digits.
+fn text_of_session(alloc: Global, line: &SessionLine) -> Result<String, AllocError> {
+    let SessionLine {
+        session,
+        sub,
+        method,
+        name,
+        peer_name,
+        bidding,
+        has_prime,
+    } = line;
+    let name = hex::encode(alloc, name.as_slice())?;
+    let peer_name = match peer_name {
+        Some(name) => Some(hex::encode(alloc, name.as_slice())?),
+        None => None,
+    };
+    format!(in alloc;
+        "Session {{ session: {session}, sub: {sub}, method: {method:?}, name: {name}, peer_name: {peer_name:?}, bidding: {bidding}, has_prime: {has_prime} }}"
+    )
 }
 
 /// How many subscribers a file has, or the record of its refusal and the cause.

@@ -7,7 +7,6 @@ use Rattle.std.proofs.lemmas.Slice.Eq.{bytes_eq-Decides}
 use Rattle.auc_history.specs.Resynchronise.{Resynchronisation, resynchronise_of}
 use Rattle.auc_history.specs.Resynchronise as found
 use Rattle.auc_hmac.specs.declared.keys.KeySet.{KeySet}
-use Rattle.auc_hmac.specs.declared.method.Method.TheVariants as method
 use Rattle.auc_lines.specs.Part.{is_that}
 use Rattle.auc_lines.specs.declared.part.End.{End}
 use Rattle.auc_lines.specs.declared.part.End.TheVariants as end
@@ -25,6 +24,7 @@ use Rattle.auc_peer.specs.declared.rows.Row.TheVariants as row
 use Rattle.auc_peer.specs.declared.why.PeerWhy.{PeerWhy}
 use Rattle.auc_peer.specs.declared.why.PeerWhy.TheVariants as why
 use Rattle.auc_server.specs.Server.{ServerEnd}
+use Rattle.auc_server.specs.declared.options.ServerOptions.{ServerOptions}
 use Rattle.auc_sqn.specs.Number.{ind_of, max_seq, seq_of}
 use Rattle.auc_sqn.specs.Past.{Past, verdict_of}
 use Rattle.auc_sqn.specs.declared.verdict.Verdict.{Verdict}
@@ -160,10 +160,10 @@ opened_note p seen res sqn keys false = refl
 accepted_note : (p : Peer) (seen : Seen) (c : Challenge) (res sqn : List ℕ) (keys : KeySet) (readable : Bool)
     → (peer_accepts p seen c res sqn keys readable).1.notes.usim ≡ Some (usim.Accepted sqn)
 accepted_note p seen c res sqn keys readable =
-    picked_note (not (is_sealed method.Aka keys.k_aut [] seen)) (client p seen why.WrongMac (Some (usim.Accepted sqn)) false) (genuine (accepting p c) seen res sqn keys readable)
+    picked_note (not (is_sealed p.options.method keys.k_aut [] seen)) (client p seen why.WrongMac (Some (usim.Accepted sqn)) false) (genuine (accepting p seen c) seen res sqn keys readable)
     (Some (usim.Accepted sqn)) refl
-    (picked_note (differs (checkcode seen)) (client (accepting p c) seen why.WrongCheckcode (Some (usim.Accepted sqn)) true) (opened (accepting p c) seen res sqn keys readable)
-    (Some (usim.Accepted sqn)) refl (opened_note (accepting p c) seen res sqn keys readable))
+    (picked_note (differs (checkcode seen)) (client (accepting p seen c) seen why.WrongCheckcode (Some (usim.Accepted sqn)) true) (opened (accepting p seen c) seen res sqn keys readable)
+    (Some (usim.Accepted sqn)) refl (opened_note (accepting p seen c) seen res sqn keys readable))
 
 challenged_note : (s : Subscription) (p : Peer) (seen : Seen) (c : Challenge) (m : List ℕ) (readable : Bool)
     → (peer_does s p seen (row.Challenged c) (Some (usim.Accepted m)) readable).1.notes.usim ≡ Some (usim.Accepted (sqn_in s.secret c.rand c.autn))
@@ -190,6 +190,7 @@ turn_fresh s p seen (row.Ignore cause) past n readable sqn is same accepts = abs
 turn_fresh s p seen row.Again past n readable sqn is same accepts = absurd (no_asking n _ sqn is same accepts)
 turn_fresh s p seen row.First past n readable sqn is same accepts = absurd (no_asking n _ sqn is same accepts)
 turn_fresh s p seen (row.Client cause) past n readable sqn is same accepts = absurd (no_asking n _ sqn is same accepts)
+turn_fresh s p seen (row.Reject cause) past n readable sqn is same accepts = absurd (no_asking n _ sqn is same accepts)
 turn_fresh s p seen (row.Notified code) past n readable sqn is same accepts = absurd (no_asking n _ sqn is same accepts)
 turn_fresh s p seen (row.Challenged c) past None readable sqn is same accepts = absurd is
 turn_fresh s p seen (row.Challenged c) past (Some (usim.Accepted m)) readable sqn is same accepts =
@@ -243,9 +244,9 @@ opened_served set before (Some first) place = silent_served set before (came_ope
 opened_served set before None None = silent_served set before (came_opened None None) refl refl
 opened_served set before None (Some place) = silent_served set before (came_opened None (Some place)) refl refl
 
-started_served : (set : Setting) (before : List LineRecord) (w : Net) (o : Option ServerEnd) → IsEventServed set before (came_started w o)
-started_served set before w None = silent_served set before (came_started w None) refl refl
-started_served set before w (Some s) = silent_served set before (came_started w (Some s)) refl refl
+started_served : (set : Setting) (before : List LineRecord) (w : Net) (options : ServerOptions) (o : Option ServerEnd) → IsEventServed set before (came_started w options o)
+started_served set before w options None = silent_served set before (came_started w options None) refl refl
+started_served set before w options (Some s) = silent_served set before (came_started w options (Some s)) refl refl
 
 repeated_served : (set : Setting) (before : List LineRecord) (w : Net) (o : Option ServerEnd) → IsEventServed set before (came_repeated w o)
 repeated_served set before w None = silent_served set before (came_repeated w None) refl refl
@@ -262,10 +263,10 @@ given_up_served set before w end.Peer s = silent_served set before (came_given_u
 -- what an event of a job comes to
 pub event_served : (set : Setting) (place : Before) (w : Net) (e : Event) (told : Told) → TellsNotes told (came set w e told) → IsCentreAsked set (asking_of set w e told) told.notes
     → IsUsimAsked set place (presented_by w e told) told → IsEventServed set (all_before place) (came set w e told)
-event_served set place w (event.Open session sub) told tells centre is =
-    opened_served set (all_before place) (session_place w.sessions session) (device_place set.rows w.devices sub)
+event_served set place w (event.Open opening) told tells centre is =
+    opened_served set (all_before place) (session_place w.sessions opening.session) (device_place set.rows w.devices opening.sub)
 event_served set place w (event.Start session) told tells centre is =
-    in_served set (all_before place) (λ s. came_started w s.server) (session_of w session) (λ s. started_served set (all_before place) w s.server)
+    in_served set (all_before place) (λ s. came_started w s.options s.server) (session_of w session) (λ s. started_served set (all_before place) w s.options s.server)
 event_served set place w (event.Deliver session at' packet) told tells centre is =
     delivered_served set place w at' told (packet_at w.packets packet) (delivery_in w session packet) tells centre is
 event_served set place w (event.Repeat session) told tells centre is =

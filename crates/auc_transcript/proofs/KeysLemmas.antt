@@ -11,7 +11,7 @@ use Rattle.auc_lines.specs.declared.part.Part.TheVariants as part
 use Rattle.auc_released.specs.declared.numbers.Number.{Number}
 use Rattle.auc_sqn.specs.Number.{max_seq}
 use Rattle.auc_subs.specs.Subscriber.{AreSubscribers}
-use Rattle.auc_world.proofs.Facts.{AsksWhatItNeeds as IsDrawn, IsKnown, IsOfJob, Laws, agreed, counted_once, job_runs, number_counts, of_sub, one_challenge_is_of_one_number, peer_success_is_drawn, server_success_is_drawn}
+use Rattle.auc_world.proofs.Facts.{IsDrawn, IsKnown, IsOfJob, Laws, agreed, counted_once, job_runs, number_counts, of_sub, one_challenge_is_of_one_number, peer_success_is_drawn, server_success_is_drawn}
 use Rattle.auc_world.specs.Agreement.{AreOfOneChallenge, AreReleasedOnce}
 use Rattle.auc_world.specs.Given.{JobsGive}
 use Rattle.auc_world.specs.Lines.{all_lines, numbers_of, released_by}

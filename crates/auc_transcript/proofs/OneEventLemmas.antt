@@ -156,7 +156,7 @@ pub record ComeToOne (set : Setting) (w : Net) (e : Event) (a b : Told) : Type 0
 
 pub event_one : Laws → (set : Setting) (before also_before : Before) (w : Net) (e : Event) (a b : Told) → IsTold set before w e a → IsTold set also_before w e b
     → told_came (came set w e a) ≡ told_came (came set w e b) → ComeToOne set w e a b
-event_one laws set before also_before w (event.Open session sub) a b is was same = record { same = refl; leads = refl }
+event_one laws set before also_before w (event.Open opening) a b is was same = record { same = refl; leads = refl }
 event_one laws set before also_before w (event.Start session) a b is was same = record { same = refl; leads = refl }
 event_one laws set before also_before w (event.Deliver session at' packet) a b is was same =
     let one = delivered_one laws set before also_before w at' packet (session_place w.sessions session) a b

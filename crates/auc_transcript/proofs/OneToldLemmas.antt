@@ -210,8 +210,8 @@ line_one laws set before also_before net next also_next (line.Give sub n) xs ys 
       nets_are = is ∙ sym was;
       rests_are = tails (Give sub n a) (Give sub n b) (told_job rest) (told_job others) cut;
     }
-line_one laws set before also_before net next also_next (line.Session session sub) xs ys rest others gives gave same =
-    event_lines_one laws set before also_before net next also_next (event.Open session sub) xs ys rest others gives gave same
+line_one laws set before also_before net next also_next (line.Session opening) xs ys rest others gives gave same =
+    event_lines_one laws set before also_before net next also_next (event.Open opening) xs ys rest others gives gave same
 line_one laws set before also_before net next also_next (line.Start session) xs ys rest others gives gave same =
     event_lines_one laws set before also_before net next also_next (event.Start session) xs ys rest others gives gave same
 line_one laws set before also_before net next also_next (line.Deliver session at' packet) xs ys rest others gives gave same =

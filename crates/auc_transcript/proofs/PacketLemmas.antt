@@ -5,6 +5,7 @@ use Rattle.std.specs.Prelude.{slice_get}
 use Rattle.std.proofs.lemmas.List.{map-append}
 use Rattle.auc_lines.specs.declared.part.End.{End}
 use Rattle.auc_lines.specs.declared.part.End.TheVariants as end
+use Rattle.auc_lines.specs.declared.part.SessionLine.{SessionLine}
 use Rattle.auc_peer.specs.Subscription.{Subscription}
 use Rattle.auc_peer.specs.Table.{gave_up as peer_gave_up}
 use Rattle.auc_server.specs.Server.{ServerEnd, started}
@@ -75,15 +76,15 @@ delivered_posts set w at' told packet (Some place) = delivery_posts set w at' to
 
 -- ---- the other events
 
-opened_posts : (w : Net) (session sub : ℕ) (first place : Option ℕ) → Posts w (came_opened first place) (opened w session sub first place)
-opened_posts w session sub (Some first) place = still w (came_opened (Some first) place) refl
-opened_posts w session sub None None = still w (came_opened None None) refl
-opened_posts w session sub None (Some place) = record { packets = sym (append-nil (bytes_of w.packets)); devices = refl }
+opened_posts : (w : Net) (opening : SessionLine) (first place : Option ℕ) → Posts w (came_opened first place) (opened w opening first place)
+opened_posts w opening (Some first) place = still w (came_opened (Some first) place) refl
+opened_posts w opening None None = still w (came_opened None None) refl
+opened_posts w opening None (Some place) = record { packets = sym (append-nil (bytes_of w.packets)); devices = refl }
 
-started_posts : (w : Net) (place : ℕ) (session : Session) (o : Option ServerEnd) → Posts w (came_started w o) (start w place session o)
+started_posts : (w : Net) (place : ℕ) (session : Session) (o : Option ServerEnd) → Posts w (came_started w session.options o) (start w place session o)
 started_posts w place session None =
-    record { packets = bytes_posted w.packets end.Server (inputs_of_server started) (sent_by {W = ServerWhy} (step.Sent started.last)); devices = refl }
-started_posts w place session (Some s) = still w (came_started w (Some s)) refl
+    record { packets = bytes_posted w.packets end.Server (inputs_of_server (started session.options)) (sent_by {W = ServerWhy} (step.Sent (started session.options).last)); devices = refl }
+started_posts w place session (Some s) = still w (came_started w session.options (Some s)) refl
 
 repeated_posts : (w : Net) (place : ℕ) (session : Session) (o : Option ServerEnd) → Posts w (came_repeated w o) (repeat w place session o)
 repeated_posts w place session None = still w (came_repeated w None) refl
@@ -116,10 +117,10 @@ at_posts w does comes (Some place) each = in_posts w does comes place (slice_get
 
 -- what an event sends
 pub event_posts : (set : Setting) (w : Net) (e : Event) (told : Told) → Posts w (came set w e told) (happened set w e told)
-event_posts set w (event.Open session sub) told =
-    let is = opened_posts w session sub (session_place w.sessions session) (device_place set.rows w.devices sub) in record { packets = is.packets; devices = is.devices }
+event_posts set w (event.Open opening) told =
+    let is = opened_posts w opening (session_place w.sessions opening.session) (device_place set.rows w.devices opening.sub) in record { packets = is.packets; devices = is.devices }
 event_posts set w (event.Start session) told =
-    let is = at_posts w (λ place s. start w place s s.server) (λ s. came_started w s.server) (session_place w.sessions session) (λ place s. started_posts w place s s.server) in
+    let is = at_posts w (λ place s. start w place s s.server) (λ s. came_started w s.options s.server) (session_place w.sessions session) (λ place s. started_posts w place s s.server) in
     record { packets = is.packets; devices = is.devices }
 event_posts set w (event.Deliver session at' packet) told =
     let is = delivered_posts set w at' told packet (session_place w.sessions session) in record { packets = is.packets; devices = is.devices }

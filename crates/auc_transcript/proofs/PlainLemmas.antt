@@ -1,9 +1,9 @@
 -- The law of plain sessions: one that its records give no cause to fail succeeds in its job, and its round says that the ends agree.
-use Rattle.std.proofs.Common.{◌≡◌, ◌≢◌, ◌⊎◌, ℕ, ◌<◌, ◌+◌, ◌≤◌, true, false, List, [], ◌∷◌, ◌++◌, length, flat_map, map, All, Contains, Option, Some, None, slice_get, zero, suc, refl, sym, ap, ◌∙◌, subst, arith, inl, inr, append_assoc, length-append}
+use Rattle.std.proofs.Common.{◌≡◌, ◌≢◌, ◌⊎◌, ℕ, ◌+◌, ◌≤◌, true, false, List, [], ◌∷◌, ◌++◌, length, flat_map, map, All, Contains, Option, Some, None, slice_get, zero, suc, refl, sym, ap, ◌∙◌, subst, arith, inl, inr, append_assoc, length-append}
 use Rattle.std.proofs.lemmas.Bool.{cond-true, eq-eqb}
 use Rattle.std.proofs.lemmas.List.{get_or-append-add, get_or_append_left}
 use Rattle.std.proofs.lemmas.List.Concat.{flat_map-append}
-use Rattle.std.proofs.lemmas.List.Elements.{All-head, All-nil, All-tail, Contains-append_left, Contains-append_right, filter-append}
+use Rattle.std.proofs.lemmas.List.Elements.{All-head, All-contains, All-nil, All-tail, Contains-append_left, Contains-append_right, filter-append}
 use Rattle.std.proofs.lemmas.List.Sorted.{Contains-permutation}
 use Rattle.auc_edge.specs.declared.stop.Stop.{Stop}
 use Rattle.auc_lines.specs.Part.{held_subs}
@@ -13,6 +13,7 @@ use Rattle.auc_lines.specs.declared.part.Line.{Line}
 use Rattle.auc_lines.specs.declared.part.Line.TheVariants as line
 use Rattle.auc_lines.specs.declared.part.Part.{Part}
 use Rattle.auc_lines.specs.declared.part.Part.TheVariants as part
+use Rattle.auc_lines.specs.declared.part.SessionLine.{SessionLine}
 use Rattle.auc_peer.specs.Subscription.{Subscription}
 use Rattle.auc_server.specs.Setting.{Setting}
 use Rattle.auc_subs.specs.Subscriber.{AreSubscribers}
@@ -34,7 +35,7 @@ use Rattle.auc_world.specs.declared.record.LineRecord.{LineRecord}
 use Rattle.auc_world.specs.declared.record.PartRecord.{PartRecord}
 use Rattle.auc_world.specs.declared.record.PartRecord.TheVariants as record_of
 use Rattle.auc_world.specs.declared.record.SessionVerdict.{SessionVerdict}
-use Rattle.auc_transcript.specs.Completeness.{EachJobSucceeds, EachPlainSessionAgrees, IsOnlyEvent, PlainSessionsAgree, is_of_session, records_of, session_in, session_named}
+use Rattle.auc_transcript.specs.Completeness.{EachJobSucceeds, EachPlainSessionAgrees, IsOnlyEvent, IsSuited, PlainSessionsAgree, SuitsIfOpened, is_of_session, records_of, session_in, session_named}
 use Rattle.auc_transcript.specs.Keys.{AreNets}
 use Rattle.auc_transcript.proofs.OneEventLemmas.{Laws as TellingLaws}
 use Rattle.auc_transcript.proofs.OneToldLemmas.{jobs_one}
@@ -165,23 +166,27 @@ record IsFresh (set : Setting) (subs : List ℕ) (session : ℕ) (net : Net) : T
   pub homes : net.homes ≡ map home_of subs
   pub new : AreNew set.rows net.devices session net.sessions
 
-fresh_on : (set : Setting) (subs : List ℕ) (session : ℕ) (net next : Net) → IsFresh set subs session net → Keeps set.rows net next session → IsFresh set subs session next
-fresh_on set subs session net next fresh keeps = record { devices = keeps.devices ∙ fresh.devices; homes = keeps.homes ∙ fresh.homes; new = keeps.new fresh.new }
+fresh_on : (set : Setting) (subs : List ℕ) (session : ℕ) (net next : Net) (Suits : Type 0) → Suits → IsFresh set subs session net → Keeps set.rows net next session Suits
+    → IsFresh set subs session next
+fresh_on set subs session net next Suits suits fresh keeps =
+    record { devices = keeps.devices ∙ fresh.devices; homes = keeps.homes ∙ fresh.homes; new = keeps.new suits fresh.new }
 
 -- the session is open after a line that opens it
-opened_on : (set : Setting) (before : Before) (net next : Net) (session sub place : ℕ) (l : Line) (front : List Line) (lines : List LineRecord)
-    → device_place set.rows net.devices sub ≡ Some place → Keeps set.rows net next session → LineGives set before net l lines next
-    → IsOpen net session ⊎ Contains (l ∷ front) (line.Session session sub) → IsOpen next session ⊎ Contains front (line.Session session sub)
-opened_on set before net next session sub place l front lines placed keeps gives (inl (s, is)) = inl (s, keeps.stays s is)
-opened_on set before net next session sub place l front lines placed keeps gives (inr (zero, inside, at')) =
-    inl (opens set before net next session sub place lines placed (subst (λ (x : Line). LineGives set before net x lines next) at' gives))
-opened_on set before net next session sub place l front lines placed keeps gives (inr (suc k, inside, at')) = inr (k, omega arith, at')
+opened_on : (set : Setting) (before : Before) (net next : Net) (opening : SessionLine) (place : ℕ) (l : Line) (front : List Line) (lines : List LineRecord)
+    → device_place set.rows net.devices opening.sub ≡ Some place → Keeps set.rows net next opening.session (SuitsIfOpened set.rows opening.session l) → LineGives set before net l lines next
+    → IsOpen net opening.session ⊎ Contains (l ∷ front) (line.Session opening) → IsOpen next opening.session ⊎ Contains front (line.Session opening)
+opened_on set before net next opening place l front lines placed keeps gives (inl (s, is)) = inl (s, keeps.stays s is)
+opened_on set before net next opening place l front lines placed keeps gives (inr (zero, inside, at')) =
+    inl (opens set before net next opening place lines placed (subst (λ (x : Line). LineGives set before net x lines next) at' gives))
+opened_on set before net next opening place l front lines placed keeps gives (inr (suc k, inside, at')) = inr (k, omega arith, at')
 
--- the lines before the plain line open the session, and no event of it is among them
-reaches : (set : Setting) (subs : List ℕ) (before : Before) (net last : Net) (session sub place : ℕ) (front back : List Line) (records : List LineRecord) → AreSubscribers set.rows
-    → device_place set.rows (flat_map (subscription_at set) subs) sub ≡ Some place → IsFresh set subs session net → IsOpen net session ⊎ Contains front (line.Session session sub)
-    → All (λ l. session_named l ≢ Some session) front → JobGives set before net (front ++ line.Plain session ∷ back) records last → IsPlainLine set session back records last
-reaches set subs before net last session sub place [] back records are placed fresh (inl (s, found)) apart (own, rest, next, cut, gives, more) = record {
+-- the lines before the plain line open the session, suited, and no event of it is among them
+reaches : (set : Setting) (subs : List ℕ) (before : Before) (net last : Net) (opening : SessionLine) (place : ℕ) (front back : List Line) (records : List LineRecord) → AreSubscribers set.rows
+    → device_place set.rows (flat_map (subscription_at set) subs) opening.sub ≡ Some place → IsFresh set subs opening.session net
+    → IsOpen net opening.session ⊎ Contains front (line.Session opening) → All (SuitsIfOpened set.rows opening.session) front
+    → All (λ l. session_named l ≢ Some opening.session) front → JobGives set before net (front ++ line.Plain opening.session ∷ back) records last
+    → IsPlainLine set opening.session back records last
+reaches set subs before net last opening place [] back records are placed fresh (inl (s, found)) suited apart (own, rest, next, cut, gives, more) = record {
   before = before;
   after = behind before own;
   front = [];
@@ -190,49 +195,60 @@ reaches set subs before net last session sub place [] back records are placed fr
   cut = cut;
   net = net;
   next = next;
-  ready = open_is_ready set net subs session s are fresh.devices fresh.homes found fresh.new;
+  ready = open_is_ready set net subs opening.session s are fresh.devices fresh.homes found fresh.new;
   gives = gives;
   more = more;
 }
-reaches set subs before net last session sub place [] back records are placed fresh (inr (k, inside, at')) apart gives = absurd (omega arith)
-reaches set subs before net last session sub place (l ∷ front) back records are placed fresh begun apart (lines, rest, next, cut, gives, more) =
-    let P : Line → Type 0 = λ (x : Line). session_named x ≢ Some session in
-    let keeps = line_keeps set before net next l lines session (All-head P l front apart) gives in
-    let here = ap (λ (ds : List Subscription). device_place set.rows ds sub) fresh.devices ∙ placed in
-    further set session back records lines rest last cut
-    (reaches set subs (behind before lines) next last session sub place front back rest are placed (fresh_on set subs session net next fresh keeps)
-    (opened_on set before net next session sub place l front lines here keeps gives begun) (All-tail P l front apart) more)
+reaches set subs before net last opening place [] back records are placed fresh (inr (k, inside, at')) suited apart gives = absurd (omega arith)
+reaches set subs before net last opening place (l ∷ front) back records are placed fresh begun suited apart (lines, rest, next, cut, gives, more) =
+    let P : Line → Type 0 = λ (x : Line). session_named x ≢ Some opening.session in
+    let Q : Line → Type 0 = λ (x : Line). SuitsIfOpened set.rows opening.session x in
+    let keeps = line_keeps set before net next l lines opening.session (All-head P l front apart) gives in
+    let here = ap (λ (ds : List Subscription). device_place set.rows ds opening.sub) fresh.devices ∙ placed in
+    further set opening.session back records lines rest last cut
+    (reaches set subs (behind before lines) next last opening place front back rest are placed
+    (fresh_on set subs opening.session net next (SuitsIfOpened set.rows opening.session l) (All-head Q l front suited) fresh keeps)
+    (opened_on set before net next opening place l front lines here keeps gives begun) (All-tail Q l front suited) (All-tail P l front apart) more)
 
 -- the lines after it leave the session as it is
 job_keeps : (set : Setting) (before : Before) (net last : Net) (session : ℕ) (job : List Line) (records : List LineRecord) → All (λ l. session_named l ≢ Some session) job
-    → JobGives set before net job records last → Keeps set.rows net last session
-job_keeps set before net last session [] records apart (none, same) = keeps_itself set.rows net last session same
+    → JobGives set before net job records last → Keeps set.rows net last session (All (SuitsIfOpened set.rows session) job)
+job_keeps set before net last session [] records apart (none, same) = keeps_itself set.rows net last session (All (SuitsIfOpened set.rows session) []) same
 job_keeps set before net last session (l ∷ job) records apart (lines, rest, next, cut, gives, more) =
     let P : Line → Type 0 = λ (x : Line). session_named x ≢ Some session in
-    keeps_on set.rows net next last session (line_keeps set before net next l lines session (All-head P l job apart) gives)
+    let Q : Line → Type 0 = λ (x : Line). SuitsIfOpened set.rows session x in
+    keeps_on set.rows net next last session (SuitsIfOpened set.rows session l) (All Q job) (All Q (l ∷ job)) (All-head Q l job) (All-tail Q l job)
+    (line_keeps set before net next l lines session (All-head P l job apart) gives)
     (job_keeps set (behind before lines) next last session job rest (All-tail P l job apart) more)
+
+-- the plain line of a session that a line opens
+opened_line : (set : Setting) (before : Before) (front back : List Line) (opening : SessionLine) (records : List LineRecord) (last : Net) → AreSubscribers set.rows
+    → Contains front (line.Session opening) → All (SuitsIfOpened set.rows opening.session) front → All (λ l. session_named l ≢ Some opening.session) front
+    → JobGives set before (start_of set (front ++ line.Plain opening.session ∷ back)) (front ++ line.Plain opening.session ∷ back) records last
+    → IsPlainLine set opening.session back records last
+opened_line set before front back opening records last are there suited apart gives =
+    let job = front ++ line.Plain opening.session ∷ back in
+    let subs = held_subs job in
+    let opened : Contains job (line.Session opening) = Contains-append_left front (line.Plain opening.session ∷ back) (line.Session opening) there in
+    let own : IsSuited set.rows opening = All-contains (SuitsIfOpened set.rows opening.session) front (line.Session opening) suited there refl in
+    let (place, placed) = device_is_there set subs opening.sub own.row own.known (session_is_held opening job opened) in
+    reaches set subs before (start_of set job) last opening place front back records are placed
+    (record { devices = refl; homes = refl; new = All-nil (λ s. has_number opening.session s ≡ true → IsNew set.rows (start_of set job).devices s) }) (inr there) suited apart gives
 
 -- the plain line of a job
 plain_line : (set : Setting) (before : Before) (front back : List Line) (session : ℕ) (records : List LineRecord) (last : Net) → AreSubscribers set.rows
     → IsOnlyEvent set.rows front session back → JobGives set before (start_of set (front ++ line.Plain session ∷ back)) (front ++ line.Plain session ∷ back) records last
     → IsPlainLine set session back records last
 plain_line set before front back session records last are only gives =
-    let job = front ++ line.Plain session ∷ back in
-    let subs = held_subs job in
-    let opened : Contains job (line.Session session only.sub) = Contains-append_left front (line.Plain session ∷ back) (line.Session session only.sub) only.opened in
-    let there = row_there set.rows only.sub only.known in
-    let (place, placed) = device_is_there set subs only.sub there.0 there.1 (session_is_held session only.sub job opened) in
-    reaches set subs before (start_of set job) last session only.sub place front back records are placed
-    (record { devices = refl; homes = refl; new = All-nil (λ s. has_number session s ≡ true → IsNew set.rows (start_of set job).devices s) }) (inr only.opened) only.first gives
-  where
-    row_there : (rows : List Row) (sub : ℕ) → sub < length rows → (row : Row) × (slice_get rows sub ≡ Some row)
-    row_there [] sub inside = absurd (omega arith)
-    row_there (row ∷ rows) zero inside = (row, refl)
-    row_there (row ∷ rows) (suc sub) inside = row_there rows sub (omega arith)
+    let back_to = sym only.named in
+    subst (λ (n : ℕ). IsPlainLine set n back records last) only.named
+    (opened_line set before front back only.opening records last are only.opened
+    (subst (λ (n : ℕ). All (SuitsIfOpened set.rows n) front) back_to only.suited) (subst (λ (n : ℕ). All (λ l. session_named l ≢ Some n) front) back_to only.first)
+    (subst (λ (n : ℕ). JobGives set before (start_of set (front ++ line.Plain n ∷ back)) (front ++ line.Plain n ∷ back) records last) back_to gives))
 
 -- Success stays
-success_stays : (rows : List Row) (net last : Net) (session : ℕ) → Keeps rows net last session → Succeeds net session → Succeeds last session
-success_stays rows net last session keeps s = record {
+success_stays : (rows : List Row) (net last : Net) (session : ℕ) (Suits : Type 0) → Keeps rows net last session Suits → Succeeds net session → Succeeds last session
+success_stays rows net last session Suits keeps s = record {
   own = s.own;
   is = keeps.stays s.own s.is;
   keys = s.keys;
@@ -246,7 +262,7 @@ job_succeeds : Laws → (set : Setting) (before : Before) (job : List Line) (rec
     → TellNoCause 1 (records_of session records) → Succeeds last session
 job_succeeds laws set before job records last front back session are short gives cut only tell =
     let p = plain_line set before front back session records last are only (subst (λ (j : List Line). JobGives set before (start_of set j) j records last) cut gives) in
-    success_stays set.rows p.next last session (job_keeps set p.after p.next last session back p.rest only.last p.more)
+    success_stays set.rows p.next last session (All (SuitsIfOpened set.rows session) back) (job_keeps set p.after p.next last session back p.rest only.last p.more)
     (laws.plain set p.before p.net p.next session p.own are short p.ready p.gives
     (own_tell session records p.front p.own p.rest p.cut (plain_of set p.before p.net p.next session p.own p.gives) tell))
 

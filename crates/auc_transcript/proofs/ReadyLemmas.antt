@@ -12,6 +12,7 @@ use Rattle.auc_edge.specs.Identity.{Identity}
 use Rattle.auc_lines.specs.Part.{held_by, held_subs, with_held}
 use Rattle.auc_lines.specs.declared.part.Line.{Line}
 use Rattle.auc_lines.specs.declared.part.Line.TheVariants as line
+use Rattle.auc_lines.specs.declared.part.SessionLine.{SessionLine}
 use Rattle.auc_peer.specs.Subscription.{Subscription}
 use Rattle.auc_server.specs.Rows.{is_held}
 use Rattle.auc_server.specs.Setting.{Setting}
@@ -61,18 +62,18 @@ held_after : (sub : ℕ) (subs : List ℕ) (job : List Line) → is_among sub su
 held_after sub subs [] among = among
 held_after sub subs (l ∷ job) among = held_after sub (with_held subs (held_by l)) job (held_stays sub subs (held_by l) among)
 
-held_from : (session sub : ℕ) (subs : List ℕ) (job : List Line) (k : ℕ) → slice_get job k ≡ Some (line.Session session sub)
-    → is_among sub (fold (λ all l. with_held all (held_by l)) subs job) ≡ true
-held_from session sub subs [] k there = absurd cc
-held_from session sub subs (l ∷ job) zero there =
-    let is : l ≡ line.Session session sub = cc in
-    held_after sub (with_held subs (held_by l)) job (ap (λ (x : Line). is_among sub (with_held subs (held_by x))) is ∙ held_here sub subs)
-held_from session sub subs (l ∷ job) (suc k) there = held_from session sub (with_held subs (held_by l)) job k there
+held_from : (opening : SessionLine) (subs : List ℕ) (job : List Line) (k : ℕ) → slice_get job k ≡ Some (line.Session opening)
+    → is_among opening.sub (fold (λ all l. with_held all (held_by l)) subs job) ≡ true
+held_from opening subs [] k there = absurd cc
+held_from opening subs (l ∷ job) zero there =
+    let is : l ≡ line.Session opening = cc in
+    held_after opening.sub (with_held subs (held_by l)) job (ap (λ (x : Line). is_among opening.sub (with_held subs (held_by x))) is ∙ held_here opening.sub subs)
+held_from opening subs (l ∷ job) (suc k) there = held_from opening (with_held subs (held_by l)) job k there
 
 -- a job holds the USIM of a subscriber for which it opens a session
-pub session_is_held : (session sub : ℕ) (job : List Line) → Contains job (line.Session session sub) → is_among sub (held_subs job) ≡ true
-session_is_held session sub job (k, inside, at') =
-    held_from session sub [] job k (slice_get-get_or job k (line.Session session sub) inside ∙ ap Some at')
+pub session_is_held : (opening : SessionLine) (job : List Line) → Contains job (line.Session opening) → is_among opening.sub (held_subs job) ≡ true
+session_is_held opening job (k, inside, at') =
+    held_from opening [] job k (slice_get-get_or job k (line.Session opening) inside ∙ ap Some at')
 
 -- its network has a home of each
 home_is_held : (sub : ℕ) (subs : List ℕ) → is_held (map home_of subs) sub ≡ is_among sub subs
@@ -189,8 +190,13 @@ new_is_ready set net subs number s are devices homes found new = by (slice_get s
         record {
           own = s;
           is = found;
-          server = new.server;
-          peer = new.peer;
+          opening = new.opening;
+          row = new.suited.row;
+          listed = ap (λ (x : Session). slice_get set.rows x.sub) new.is ∙ new.suited.known;
+          suits = new.suited.suits;
+          options = ap (λ (x : Session). x.options) new.is;
+          server = ap (λ (x : Session). x.server) new.is;
+          peer = ap (λ (x : Session). x.peer) new.is;
           device = d;
           there = at';
           subscribed = ap (subscription_at set) (sym one) ∙ card.is;

@@ -152,7 +152,7 @@ line_served set place net next (line.Sync sub seq bit count) lines (gives, is) =
 line_served set place net next (line.Give sub n) lines (gives, is) =
     subst (λ (ls : List LineRecord). AreServed set (all_before place) ls) (sym gives.lines_are)
     (given_answered set place sub n gives.row gives.answer (is_released place sub n) refl gives.there gives.given, tt)
-line_served set place net next (line.Session session sub) lines gives = event_line_served set place net next (event.Open session sub) lines gives
+line_served set place net next (line.Session opening) lines gives = event_line_served set place net next (event.Open opening) lines gives
 line_served set place net next (line.Start session) lines gives = event_line_served set place net next (event.Start session) lines gives
 line_served set place net next (line.Deliver session at' packet) lines gives = event_line_served set place net next (event.Deliver session at' packet) lines gives
 line_served set place net next (line.Repeat session) lines gives = event_line_served set place net next (event.Repeat session) lines gives

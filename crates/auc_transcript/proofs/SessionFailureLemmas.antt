@@ -20,7 +20,7 @@ use Rattle.auc_sqn.specs.declared.verdict.Verdict.TheVariants.{Fresh, Old, Far}
 use Rattle.auc_subs.specs.Subscriber.{AreSubscribers, IsRow}
 use Rattle.auc_subs.specs.declared.row.Row.{Row}
 use Rattle.auc_usim.specs.Usim.{IsAnswer}
-use Rattle.auc_vector.specs.Random.{rand_of}
+use Rattle.auc_random.specs.Random.{rand_of}
 use Rattle.auc_vector.specs.Vector.{autn_of}
 use Rattle.auc_vector.specs.declared.notes.UsimNote.{UsimNote}
 use Rattle.auc_vector.specs.declared.notes.UsimNote.TheVariants as usim

@@ -12,8 +12,9 @@ use Rattle.auc_lines.specs.declared.part.End.{End}
 use Rattle.auc_lines.specs.declared.part.End.TheVariants as end
 use Rattle.auc_lines.specs.declared.part.Line.{Line}
 use Rattle.auc_lines.specs.declared.part.Line.TheVariants as line
+use Rattle.auc_lines.specs.declared.part.SessionLine.{SessionLine}
 use Rattle.auc_peer.specs.Subscription.{Subscription}
-use Rattle.auc_peer.specs.Table.{gave_up as peer_gave_up, new_peer}
+use Rattle.auc_peer.specs.Table.{gave_up as peer_gave_up}
 use Rattle.auc_peer.specs.declared.peer.Peer.{Peer}
 use Rattle.auc_peer.specs.declared.why.PeerWhy.{PeerWhy}
 use Rattle.auc_released.specs.declared.numbers.Number.{Number}
@@ -28,14 +29,14 @@ use Rattle.auc_vector.specs.declared.turn.Step.{Step}
 use Rattle.auc_vector.specs.declared.turn.Step.TheVariants as step
 use Rattle.auc_world.specs.Came.{session_at, session_of}
 use Rattle.auc_world.specs.Given.{Before, EventGives, LineGives, PlainGives, RelayGives, behind, packet_of}
-use Rattle.auc_world.specs.Happened.{Delivery, Told, at_place, delivered, delivery_at, delivery_of, give_up, happened, in_session, keys_won, moved, opened, peer_turn, released_by, repeat, server_gives_up, server_turn, start, to_peer, to_server, with_peer, with_server}
+use Rattle.auc_world.specs.Happened.{Delivery, Told, at_place, delivered, delivery_at, delivery_of, give_up, happened, in_session, keys_won, moved, new_session, opened, peer_turn, released_by, repeat, server_gives_up, server_turn, start, to_peer, to_server, with_peer, with_server}
 use Rattle.auc_world.specs.Net.{Net, device_place, other, packet_at, session_place}
 use Rattle.auc_world.specs.declared.event.Event.{Event}
 use Rattle.auc_world.specs.declared.event.Event.TheVariants as event
 use Rattle.auc_world.specs.declared.net.SentPacket.{SentPacket}
 use Rattle.auc_world.specs.declared.net.Session.{Session}
 use Rattle.auc_world.specs.declared.record.LineRecord.{LineRecord}
-use Rattle.auc_transcript.specs.Completeness.{session_in, session_named}
+use Rattle.auc_transcript.specs.Completeness.{IsSuited, SuitsIfOpened, session_in, session_named}
 
 -- ---- lists
 
@@ -181,7 +182,7 @@ peer_moves w number place s p did st = record {
 }
 
 start_moves : (w : Net) (number place : ℕ) (s : Session) (o : Option ServerEnd) → Stands w number place s → IsMove w (start w place s o) number
-start_moves w number place s None st = server_moves w number place s [] started (step.Sent started.last) st
+start_moves w number place s None st = server_moves w number place s [] (started s.options) (step.Sent (started s.options).last) st
 start_moves w number place s (Some q) st = nothing_moves w number
 
 repeat_moves : (w : Net) (number place : ℕ) (s : Session) (o : Option ServerEnd) → Stands w number place s → IsMove w (repeat w place s o) number
@@ -243,44 +244,46 @@ delivery_moves set w number at' told packet = by (session_place w.sessions numbe
 
 -- ---- sessions that stay
 
--- a session that was opened at its subscriber's device, and in which nothing has happened
+-- a session that a line opened at its subscriber's device, whose ends suit each other, and in which nothing has happened
 pub record IsNew (rows : List Row) (devices : List Subscription) (s : Session) : Type 0 where
-  pub server : s.server ≡ None
-  pub peer : s.peer ≡ new_peer
+  pub opening : SessionLine
+  pub is : s ≡ new_session opening s.device
   pub placed : device_place rows devices s.sub ≡ Some s.device
+  pub suited : IsSuited rows opening
 
 -- each session of a number is new
 abbrev pub AreNew : List Row → List Subscription → ℕ → List Session → Type 0
 AreNew rows devices number sessions = All (λ s. has_number number s ≡ true → IsNew rows devices s) sessions
 
--- a session of a number stays as it is, and sessions of the number stay new
-pub record Keeps (rows : List Row) (w next : Net) (number : ℕ) : Type 0 where
+-- a session of a number stays as it is; and sessions of the number stay new, if those that are opened suit
+pub record Keeps (rows : List Row) (w next : Net) (number : ℕ) (Suits : Type 0) : Type 0 where
   pub stays : (s : Session) → session_of w number ≡ Some s → session_of next number ≡ Some s
-  pub new : AreNew rows w.devices number w.sessions → AreNew rows next.devices number next.sessions
+  pub new : Suits → AreNew rows w.devices number w.sessions → AreNew rows next.devices number next.sessions
   pub devices : next.devices ≡ w.devices
   pub homes : next.homes ≡ w.homes
 
-pub keeps_itself : (rows : List Row) (w next : Net) (number : ℕ) → next ≡ w → Keeps rows w next number
-keeps_itself rows w next number same = record {
+pub keeps_itself : (rows : List Row) (w next : Net) (number : ℕ) (Suits : Type 0) → next ≡ w → Keeps rows w next number Suits
+keeps_itself rows w next number Suits same = record {
   stays = λ s found. ap (λ (n : Net). session_of n number) same ∙ found;
-  new = λ all. subst (λ (n : Net). AreNew rows n.devices number n.sessions) (sym same) all;
+  new = λ suits all. subst (λ (n : Net). AreNew rows n.devices number n.sessions) (sym same) all;
   devices = ap (λ (n : Net). n.devices) same;
   homes = ap (λ (n : Net). n.homes) same;
 }
 
-pub keeps_on : (rows : List Row) (w mid next : Net) (number : ℕ) → Keeps rows w mid number → Keeps rows mid next number → Keeps rows w next number
-keeps_on rows w mid next number first second = record {
+pub keeps_on : (rows : List Row) (w mid next : Net) (number : ℕ) (First Second Suits : Type 0) → (Suits → First) → (Suits → Second) → Keeps rows w mid number First
+    → Keeps rows mid next number Second → Keeps rows w next number Suits
+keeps_on rows w mid next number First Second Suits here there first second = record {
   stays = λ s found. second.stays s (first.stays s found);
-  new = λ all. second.new (first.new all);
+  new = λ suits all. second.new (there suits) (first.new (here suits) all);
   devices = second.devices ∙ first.devices;
   homes = second.homes ∙ first.homes;
 }
 
 -- an event of another session
-another_keeps : (rows : List Row) (w next : Net) (number another : ℕ) → another ≢ number → IsMove w next another → Keeps rows w next number
+another_keeps : (rows : List Row) (w next : Net) (number another : ℕ) → another ≢ number → IsMove w next another → Keeps rows w next number (Unit {0})
 another_keeps rows w next number another apart m = record {
   stays = λ s found. ⊎_elim (same_stays s found) (turn_stays s found) m.sessions;
-  new = λ all. ⊎_elim (same_new all) (turn_new all) m.sessions;
+  new = λ suits all. ⊎_elim (same_new all) (turn_new all) m.sessions;
   devices = m.devices;
   homes = m.homes;
 }
@@ -310,21 +313,19 @@ another_keeps rows w next number another apart m = record {
         let own : P t.new = λ has. let fail = fails t in let no : ⊥ = cc in absurd no in
         subst (All P) (sym t.is) (All-set P w.sessions t.place t.new own before)
 
--- the session that is opened at a place
-abbrev session_at_place : ℕ → ℕ → ℕ → Session
-session_at_place session sub place = record { number = session; sub = sub; device = place; server = None; peer = new_peer; peer_keys = None }
-
 -- a session that is opened: one of its number stays the first, and if there was none it is new
-opening_keeps : (rows : List Row) (w : Net) (session sub number : ℕ) (first place : Option ℕ) → session_place w.sessions session ≡ first → device_place rows w.devices sub ≡ place
-    → Keeps rows w (opened w session sub first place) number
-opening_keeps rows w session sub number (Some one) place found placed = keeps_itself rows w w number refl
-opening_keeps rows w session sub number None None found placed = keeps_itself rows w w number refl
-opening_keeps rows w session sub number None (Some place) found placed =
-    let own : Session = session_at_place session sub place in
-    let next : Net = opened w session sub None (Some place) in
+opening_keeps : (rows : List Row) (w : Net) (opening : SessionLine) (number : ℕ) (first place : Option ℕ) → session_place w.sessions opening.session ≡ first
+    → device_place rows w.devices opening.sub ≡ place → Keeps rows w (opened w opening first place) number (opening.session ≡ number → IsSuited rows opening)
+opening_keeps rows w opening number (Some one) place found placed = keeps_itself rows w w number (opening.session ≡ number → IsSuited rows opening) refl
+opening_keeps rows w opening number None None found placed = keeps_itself rows w w number (opening.session ≡ number → IsSuited rows opening) refl
+opening_keeps rows w opening number None (Some place) found placed =
+    let own : Session = new_session opening place in
+    let next : Net = opened w opening None (Some place) in
     record {
       stays = λ s is. let (i, first) = found_first w number s is in first_found next number i s (first_after_push (has_number number) w.sessions i s own first);
-      new = λ all. All-push (λ (s : Session). has_number number s ≡ true → IsNew rows w.devices s) w.sessions own all (λ has. record { server = refl; peer = refl; placed = placed });
+      new = λ suits all.
+          All-push (λ (s : Session). has_number number s ≡ true → IsNew rows w.devices s) w.sessions own all
+          (λ has. record { opening = opening; is = refl; placed = placed; suited = suits (eqb-true opening.session number has) });
       devices = refl;
       homes = refl;
     }
@@ -333,47 +334,57 @@ opening_keeps rows w session sub number None (Some place) found placed =
 
 -- an event that opens a session, or is of another one
 abbrev IsBeside : ℕ → Event → Type 0
-IsBeside number (event.Open session sub) = Unit {0}
+IsBeside number (event.Open opening) = Unit {0}
 IsBeside number e = session_in e ≢ number
 
--- what changes sessions, devices and homes alike
-rebroken : (rows : List Row) (set : Setting) (w : Net) (e : Event) (told : Told) (number : ℕ) → Keeps rows w (moved set w e told) number → Keeps rows w (happened set w e told) number
-rebroken rows set w e told number k = record { stays = k.stays; new = k.new; devices = k.devices; homes = k.homes }
+-- the ends of a session suit each other, if an event opens it under a number
+abbrev SuitsIn : List Row → ℕ → Event → Type 0
+SuitsIn rows number (event.Open opening) = opening.session ≡ number → IsSuited rows opening
+SuitsIn rows number (event.Start session) = Unit {0}
+SuitsIn rows number (event.Deliver session at' packet) = Unit {0}
+SuitsIn rows number (event.Repeat session) = Unit {0}
+SuitsIn rows number (event.GiveUp session at') = Unit {0}
 
-pub event_keeps : (set : Setting) (w : Net) (e : Event) (told : Told) (number : ℕ) → IsBeside number e → Keeps set.rows w (happened set w e told) number
-event_keeps set w (event.Open session sub) told number beside =
-    rebroken set.rows set w (event.Open session sub) told number (opening_keeps set.rows w session sub number (session_place w.sessions session) (device_place set.rows w.devices sub) refl refl)
+-- what changes sessions, devices and homes alike
+rebroken : (rows : List Row) (set : Setting) (w : Net) (e : Event) (told : Told) (number : ℕ) (Suits : Type 0) → Keeps rows w (moved set w e told) number Suits
+    → Keeps rows w (happened set w e told) number Suits
+rebroken rows set w e told number Suits k = record { stays = k.stays; new = k.new; devices = k.devices; homes = k.homes }
+
+pub event_keeps : (set : Setting) (w : Net) (e : Event) (told : Told) (number : ℕ) → IsBeside number e → Keeps set.rows w (happened set w e told) number (SuitsIn set.rows number e)
+event_keeps set w (event.Open opening) told number beside =
+    rebroken set.rows set w (event.Open opening) told number (SuitsIn set.rows number (event.Open opening))
+    (opening_keeps set.rows w opening number (session_place w.sessions opening.session) (device_place set.rows w.devices opening.sub) refl refl)
 event_keeps set w (event.Start session) told number beside =
-    rebroken set.rows set w (event.Start session) told number
+    rebroken set.rows set w (event.Start session) told number (Unit {0})
     (another_keeps set.rows w _ number session beside (at_moves w session (λ place s. start w place s s.server) (λ place s st. start_moves w session place s s.server st)))
 event_keeps set w (event.Deliver session at' packet) told number beside =
-    rebroken set.rows set w (event.Deliver session at' packet) told number (another_keeps set.rows w _ number session beside (delivery_moves set w session at' told packet))
+    rebroken set.rows set w (event.Deliver session at' packet) told number (Unit {0}) (another_keeps set.rows w _ number session beside (delivery_moves set w session at' told packet))
 event_keeps set w (event.Repeat session) told number beside =
-    rebroken set.rows set w (event.Repeat session) told number
+    rebroken set.rows set w (event.Repeat session) told number (Unit {0})
     (another_keeps set.rows w _ number session beside (at_moves w session (λ place s. repeat w place s s.server) (λ place s st. repeat_moves w session place s s.server st)))
 event_keeps set w (event.GiveUp session at') told number beside =
-    rebroken set.rows set w (event.GiveUp session at') told number
+    rebroken set.rows set w (event.GiveUp session at') told number (Unit {0})
     (another_keeps set.rows w _ number session beside (at_moves w session (give_up w at') (λ place s st. over_moves w session at' place s st)))
 
 gives_keeps : (set : Setting) (before : Before) (w next : Net) (e : Event) (lines : List LineRecord) (number : ℕ) → IsBeside number e → EventGives set before w e lines next
-    → Keeps set.rows w next number
+    → Keeps set.rows w next number (SuitsIn set.rows number e)
 gives_keeps set before w next e lines number beside gives =
-    subst (λ (n : Net). Keeps set.rows w n number) (sym gives.leads) (event_keeps set w e gives.told number beside)
+    subst (λ (n : Net). Keeps set.rows w n number (SuitsIn set.rows number e)) (sym gives.leads) (event_keeps set w e gives.told number beside)
 
 relay_keeps : (set : Setting) (before : Before) (w next : Net) (session number : ℕ) (at' : End) (o : Option ℕ) (lines : List LineRecord) → session ≢ number
-    → RelayGives set before w session at' o lines next → Keeps set.rows w next number
-relay_keeps set before w next session number at' None [] apart gives = keeps_itself set.rows w next number gives
+    → RelayGives set before w session at' o lines next → Keeps set.rows w next number (Unit {0})
+relay_keeps set before w next session number at' None [] apart gives = keeps_itself set.rows w next number (Unit {0}) gives
 relay_keeps set before w next session number at' None (l ∷ lines) apart gives = absurd gives
 relay_keeps set before w next session number at' (Some packet) [] apart gives = absurd gives
 relay_keeps set before w next session number at' (Some packet) (l ∷ lines) apart (mid, first, more) =
-    keeps_on set.rows w mid next number (gives_keeps set before w mid (event.Deliver session at' packet) (l ∷ []) number apart first)
+    keeps_on set.rows w mid next number (Unit {0}) (Unit {0}) (Unit {0}) (λ s. s) (λ s. s) (gives_keeps set before w mid (event.Deliver session at' packet) (l ∷ []) number apart first)
     (relay_keeps set (behind before (l ∷ [])) mid next session number (other at') (packet_of l) lines apart more)
 
 plain_keeps : (set : Setting) (before : Before) (w next : Net) (session number : ℕ) (lines : List LineRecord) → session ≢ number → PlainGives set before w session lines next
-    → Keeps set.rows w next number
+    → Keeps set.rows w next number (Unit {0})
 plain_keeps set before w next session number [] apart gives = absurd gives
 plain_keeps set before w next session number (l ∷ lines) apart (mid, first, more) =
-    keeps_on set.rows w mid next number (gives_keeps set before w mid (event.Start session) (l ∷ []) number apart first)
+    keeps_on set.rows w mid next number (Unit {0}) (Unit {0}) (Unit {0}) (λ s. s) (λ s. s) (gives_keeps set before w mid (event.Start session) (l ∷ []) number apart first)
     (relay_keeps set (behind before (l ∷ [])) mid next session number end.Peer (packet_of l) lines apart more)
 
 named_apart : (session number : ℕ) → ◌≢◌ {A = Option ℕ} (Some session) (Some number) → session ≢ number
@@ -381,11 +392,11 @@ named_apart session number apart same = apart (ap Some same)
 
 -- a line that is of no event in the session
 pub line_keeps : (set : Setting) (before : Before) (w next : Net) (l : Line) (lines : List LineRecord) (number : ℕ) → session_named l ≢ Some number → LineGives set before w l lines next
-    → Keeps set.rows w next number
-line_keeps set before w next (line.Draw sub count) lines number apart (gives, same) = keeps_itself set.rows w next number same
-line_keeps set before w next (line.Sync sub seq bit count) lines number apart (gives, same) = keeps_itself set.rows w next number same
-line_keeps set before w next (line.Give sub n) lines number apart (gives, same) = keeps_itself set.rows w next number same
-line_keeps set before w next (line.Session session sub) lines number apart gives = gives_keeps set before w next (event.Open session sub) lines number tt gives
+    → Keeps set.rows w next number (SuitsIfOpened set.rows number l)
+line_keeps set before w next (line.Draw sub count) lines number apart (gives, same) = keeps_itself set.rows w next number (Unit {0}) same
+line_keeps set before w next (line.Sync sub seq bit count) lines number apart (gives, same) = keeps_itself set.rows w next number (Unit {0}) same
+line_keeps set before w next (line.Give sub n) lines number apart (gives, same) = keeps_itself set.rows w next number (Unit {0}) same
+line_keeps set before w next (line.Session opening) lines number apart gives = gives_keeps set before w next (event.Open opening) lines number tt gives
 line_keeps set before w next (line.Start session) lines number apart gives = gives_keeps set before w next (event.Start session) lines number (named_apart session number apart) gives
 line_keeps set before w next (line.Deliver session at' packet) lines number apart gives =
     gives_keeps set before w next (event.Deliver session at' packet) lines number (named_apart session number apart) gives
@@ -394,30 +405,31 @@ line_keeps set before w next (line.GiveUp session at') lines number apart gives 
     gives_keeps set before w next (event.GiveUp session at') lines number (named_apart session number apart) gives
 line_keeps set before w next (line.Plain session) lines number apart gives = plain_keeps set before w next session number lines (named_apart session number apart) gives
 
--- a line that opens the session, for a subscriber whose device there is
-pub opens : (set : Setting) (before : Before) (w next : Net) (session sub place : ℕ) (lines : List LineRecord) → device_place set.rows w.devices sub ≡ Some place
-    → LineGives set before w (line.Session session sub) lines next → (s : Session) × (session_of next session ≡ Some s)
-opens set before w next session sub place lines placed gives = by (session_place w.sessions session) refl
+-- a line that opens a session, for a subscriber whose device there is
+pub opens : (set : Setting) (before : Before) (w next : Net) (opening : SessionLine) (place : ℕ) (lines : List LineRecord) → device_place set.rows w.devices opening.sub ≡ Some place
+    → LineGives set before w (line.Session opening) lines next → (s : Session) × (session_of next opening.session ≡ Some s)
+opens set before w next opening place lines placed gives = by (session_place w.sessions opening.session) refl
   where
-    leads : (first : Option ℕ) → session_place w.sessions session ≡ first → (s : Session) → session_of (opened w session sub first (Some place)) session ≡ Some s → session_of next session ≡ Some s
+    leads : (first : Option ℕ) → session_place w.sessions opening.session ≡ first → (s : Session) → session_of (opened w opening first (Some place)) opening.session ≡ Some s
+        → session_of next opening.session ≡ Some s
     leads first is s found =
-        ap (λ (n : Net). session_of n session) gives.leads
-        ∙ ap (λ (o : Option ℕ). session_of (opened w session sub (session_place w.sessions session) o) session) placed
-        ∙ ap (λ (o : Option ℕ). session_of (opened w session sub o (Some place)) session) is ∙ found
+        ap (λ (n : Net). session_of n opening.session) gives.leads
+        ∙ ap (λ (o : Option ℕ). session_of (opened w opening (session_place w.sessions opening.session) o) opening.session) placed
+        ∙ ap (λ (o : Option ℕ). session_of (opened w opening o (Some place)) opening.session) is ∙ found
 
-    already : (i : ℕ) → session_place w.sessions session ≡ Some i → (o : Option Session) → slice_get w.sessions i ≡ o → (s : Session) × (session_of next session ≡ Some s)
+    already : (i : ℕ) → session_place w.sessions opening.session ≡ Some i → (o : Option Session) → slice_get w.sessions i ≡ o → (s : Session) × (session_of next opening.session ≡ Some s)
     already i is None there =
-        let own : Session = session_at_place session sub place in
-        let some = slice_get-get_or w.sessions i own (position-Some (has_number session) w.sessions i own is).0 in
+        let own : Session = new_session opening place in
+        let some = slice_get-get_or w.sessions i own (position-Some (has_number opening.session) w.sessions i own is).0 in
         let no : ⊥ = cc in
         absurd no
     already i is (Some s) there = (s, leads (Some i) is s (ap (session_at w) is ∙ there))
 
-    by : (first : Option ℕ) → session_place w.sessions session ≡ first → (s : Session) × (session_of next session ≡ Some s)
+    by : (first : Option ℕ) → session_place w.sessions opening.session ≡ first → (s : Session) × (session_of next opening.session ≡ Some s)
     by None is =
-        let own : Session = session_at_place session sub place in (
+        let own : Session = new_session opening place in (
           own,
-          leads None is own (first_found (opened w session sub None (Some place)) session (length w.sessions) own
-              (pushed_is_first (has_number session) w.sessions own is (eq-eqb session session refl))),
+          leads None is own (first_found (opened w opening None (Some place)) opening.session (length w.sessions) own
+              (pushed_is_first (has_number opening.session) w.sessions own is (eq-eqb opening.session opening.session refl))),
         )
     by (Some i) is = already i is (slice_get w.sessions i) refl

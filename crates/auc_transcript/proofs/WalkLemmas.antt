@@ -118,7 +118,7 @@ begins set job are = record { packets = refl; secrets = job_has_secrets set job 
 
 -- a session is opened at a device with its subscriber's secret
 opens_at : (set : Setting) (w : Net) (e : Happens) → HaveSecrets set w.devices → OpensAt (HasSecret set w.devices) set w e
-opens_at set w (event.Open session sub) secrets = λ place is device row there known. secrets sub place device row is there known
+opens_at set w (event.Open opening) secrets = λ place is device row there known. secrets opening.sub place device row is there known
 opens_at set w (event.Start session) secrets = tt
 opens_at set w (event.Deliver session at' packet) secrets = tt
 opens_at set w (event.Repeat session) secrets = tt
@@ -283,7 +283,7 @@ line_walks set place w next (line.Sync sub seq bit count) lines (gives, is) stan
 line_walks set place w next (line.Give sub n) lines (gives, is) stands =
     quiet_walks set place w next lines
     (subst (All IsOutsideSessions) (sym gives.lines_are) (All-cons IsOutsideSessions (Give sub n gives.answer) [] tt (All-nil IsOutsideSessions))) is stands
-line_walks set place w next (line.Session session sub) lines gives stands = event_walks set place w next (event.Open session sub) lines gives stands
+line_walks set place w next (line.Session opening) lines gives stands = event_walks set place w next (event.Open opening) lines gives stands
 line_walks set place w next (line.Start session) lines gives stands = event_walks set place w next (event.Start session) lines gives stands
 line_walks set place w next (line.Deliver session at' packet) lines gives stands = event_walks set place w next (event.Deliver session at' packet) lines gives stands
 line_walks set place w next (line.Repeat session) lines gives stands = event_walks set place w next (event.Repeat session) lines gives stands

@@ -1,15 +1,16 @@
 -- Completeness of plain sessions in whole transcripts: a session that has its `plain` line and no other event line ends in
--- Success at both ends under the same keys, unless a record of it tells why not (RFC 4187 §3).
-use Rattle.std.specs.Prelude.{◌≡◌, ◌≢◌, ℕ, ◌<◌, ◌≤◌, ◌==◌, Bool, true, false, List, [], ◌∷◌, ◌++◌, length, filter, All, Contains, Option, Some, None}
+-- Success at both ends under the same keys, unless a record of it tells why not (RFC 4187 §3, RFC 9048 §3).
+use Rattle.std.specs.Prelude.{◌≡◌, ◌≢◌, ℕ, ◌≤◌, ◌==◌, Bool, true, false, List, [], ◌∷◌, ◌++◌, length, filter, All, Contains, Option, Some, None, slice_get}
 use Rattle.auc_edge.specs.declared.stop.Stop.{Stop}
 use Rattle.auc_lines.specs.declared.part.Line.{Line}
 use Rattle.auc_lines.specs.declared.part.Line.TheVariants as line
 use Rattle.auc_lines.specs.declared.part.Part.{Part}
 use Rattle.auc_lines.specs.declared.part.Part.TheVariants.{Round, Restart}
+use Rattle.auc_lines.specs.declared.part.SessionLine.{SessionLine}
 use Rattle.auc_subs.specs.Subscriber.{AreSubscribers}
 use Rattle.auc_subs.specs.declared.row.Row.{Row}
 use Rattle.auc_world.specs.Net.{Net}
-use Rattle.auc_world.specs.Plain.{Succeeds, TellNoCause}
+use Rattle.auc_world.specs.Plain.{EndsSuit, Succeeds, TellNoCause}
 use Rattle.auc_world.specs.Setting.{Setting}
 use Rattle.auc_world.specs.Transcript.{IsLawful}
 use Rattle.auc_world.specs.declared.event.Event.{Event as Happens}
@@ -28,19 +29,38 @@ abbrev pub session_named : Line → Option ℕ
 session_named (line.Draw sub count) = None
 session_named (line.Sync sub seq bit count) = None
 session_named (line.Give sub n) = None
-session_named (line.Session session sub) = None
+session_named (line.Session opening) = None
 session_named (line.Start session) = Some session
 session_named (line.Deliver session end packet) = Some session
 session_named (line.Repeat session) = Some session
 session_named (line.GiveUp session end) = Some session
 session_named (line.Plain session) = Some session
 
--- a plain line between some lines of its job is its session's only event line: a line before it opens the session for a
--- subscriber that there is, and no other event line is of the session
+-- a line opens a session for a subscriber that there is, and with ends that may succeed
+pub record IsSuited (rows : List Row) (opening : SessionLine) : Type 0 where
+  pub row : Row
+  pub known : slice_get rows opening.sub ≡ Some row
+  pub suits : EndsSuit row opening
+
+-- a line does so if it opens a session under this number
+abbrev pub SuitsIfOpened : List Row → ℕ → Line → Type 0
+SuitsIfOpened rows session (line.Draw sub count) = Unit {0}
+SuitsIfOpened rows session (line.Sync sub seq bit count) = Unit {0}
+SuitsIfOpened rows session (line.Give sub n) = Unit {0}
+SuitsIfOpened rows session (line.Session opening) = opening.session ≡ session → IsSuited rows opening
+SuitsIfOpened rows session (line.Start started) = Unit {0}
+SuitsIfOpened rows session (line.Deliver delivered end packet) = Unit {0}
+SuitsIfOpened rows session (line.Repeat repeated) = Unit {0}
+SuitsIfOpened rows session (line.GiveUp ended end) = Unit {0}
+SuitsIfOpened rows session (line.Plain plain) = Unit {0}
+
+-- a plain line between some lines of its job is its session's only event line: a line before it opens the session, each that
+-- does so suits, and no other event line is of the session
 pub record IsOnlyEvent (rows : List Row) (front : List Line) (session : ℕ) (back : List Line) : Type 0 where
-  pub sub : ℕ
-  pub opened : Contains front (line.Session session sub)
-  pub known : sub < length rows
+  pub opening : SessionLine
+  pub opened : Contains front (line.Session opening)
+  pub named : opening.session ≡ session
+  pub suited : All (SuitsIfOpened rows session) front
   pub first : All (λ l. session_named l ≢ Some session) front
   pub last : All (λ l. session_named l ≢ Some session) back
 
@@ -48,7 +68,7 @@ pub record IsOnlyEvent (rows : List Row) (front : List Line) (session : ℕ) (ba
 
 -- the session in which an event happens
 abbrev pub session_in : Happens → ℕ
-session_in (event.Open session sub) = session
+session_in (event.Open opening) = opening.session
 session_in (event.Start session) = session
 session_in (event.Deliver session end packet) = session
 session_in (event.Repeat session) = session

@@ -9,7 +9,7 @@ use Rattle.auc_peer.specs.Attributes.{attrs_in, autn_of as autn_value, rand_of a
 use Rattle.auc_seal.specs.Encrypted.{first_value}
 use Rattle.auc_subs.specs.Subscriber.{AreSubscribers}
 use Rattle.auc_subs.specs.declared.row.Row.{Row}
-use Rattle.auc_vector.specs.Random.{rand_of}
+use Rattle.auc_random.specs.Random.{rand_of}
 use Rattle.auc_vector.specs.Vector.{autn_of}
 use Rattle.auc_vector.specs.declared.notes.UsimNote.{UsimNote}
 use Rattle.auc_vector.specs.declared.notes.UsimNote.TheVariants as usim

@@ -77,8 +77,8 @@ pub fn place_is_a_position()
     ensures { EachPlaceIsAPosition }
 {}
 
-/// Two lawful transcripts of the same parts of which the same is told are one: what isn't told, the bytes, the
-/// keys and the subscribers of events, follows from the parts and from what is told.
+/// Two lawful transcripts of the same parts of which the same is told are one: what isn't told, the bytes, vectors and
+/// keys, the subscribers of events and the options of sessions, follows from the parts and from what is told.
 pub fn each_told_transcript_is_one()
     ensures { EachToldTranscriptIsOne }
 {
@@ -86,8 +86,8 @@ pub fn each_told_transcript_is_one()
     opening_has_one_answer();
 }
 
-/// A server and a peer that ended in Success over one challenge have equal keys, in whichever jobs and rounds
-/// they are, if no delivery broke the premise in the jobs of both.
+/// A server and a peer that ended in Success over one challenge have equal keys, by whichever method and in whichever
+/// jobs and rounds they are, if no delivery broke the premise in the jobs of both.
 pub fn each_authentication_agrees()
     ensures { EachAuthenticationAgrees }
 {
@@ -108,9 +108,11 @@ pub fn each_breach_is_told()
     opening_has_one_answer();
 }
 
-/// A session that has its `plain` line and no other event line ends in Success at both ends under the same keys, and its
-/// round says that they agree, unless a record of the session tells why not: the centre gave no number, or the USIM
-/// reported a SEQ that is too far above, or two synchronisation failures.
+/// A session whose ends suit each other, and that has its `plain` line and no other event line, ends in Success at both ends
+/// under the same keys, and its round says that they agree, unless a record of the session tells why not: the centre gave no
+/// number, or its number was too far above the SEQ that the USIM reported, or the USIM reported two synchronisation failures.
+/// The ends of EAP-AKA' suit each other if the subscriber's separation bit is set, the network has a name and the peer
+/// expects no other one; those of EAP-AKA unless the server bids for EAP-AKA' and the device has it (RFC 9048 §3.1 and §4).
 pub fn each_plain_session_agrees()
     ensures { EachPlainSessionAgrees }
 {

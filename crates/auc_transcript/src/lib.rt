@@ -13,10 +13,11 @@
 //! one that a restart may follow every lawful transcript.
 //!
 //! Sessions add four. The third law holds of vectors that they present, too (`specs/Presented`). What is told
-//! of a lawful transcript determines it, with the bytes and keys that aren't told (`specs/OneTold`). The two
+//! of a lawful transcript determines it, with the bytes, vectors and keys that aren't told (`specs/OneTold`). The two
 //! ends of an authentication have equal keys, in whichever jobs and rounds they are, if no delivery broke the
-//! premise in these jobs; and a round tells of a breach exactly if one did (`specs/Keys`). A session whose only
-//! event line is `plain` ends in Success at both ends, unless a record of it tells why not (`specs/Completeness`).
+//! premise in these jobs; and a round tells of a breach exactly if one did (`specs/Keys`). A session whose ends suit
+//! each other and whose only event line is `plain` ends in Success at both ends, unless a record of it tells why not
+//! (`specs/Completeness`). All of them hold of EAP-AKA and of EAP-AKA'.
 #![tactic(auto)]
 
 mod law;

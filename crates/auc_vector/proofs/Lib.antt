@@ -2,4 +2,3 @@ pub mod Facts
 mod AutnLemmas
 mod AutsLemmas
 mod CoreCentreLemmas
-mod RandomLemmas

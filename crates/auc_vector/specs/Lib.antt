@@ -1,6 +1,6 @@
 pub mod Auts
 pub mod Centre
-pub mod Random
+pub mod Keys
 pub mod Stretch
 pub mod Vector
 pub mod Notes

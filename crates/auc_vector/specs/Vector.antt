@@ -1,26 +1,29 @@
 -- The authentication vector of a number (TS 33.102 §6.3.2), and the SQN that its AUTN carries.
 use Rattle.std.specs.Prelude.{◌≡◌, ℕ, ◌≤◌, List, ◌++◌, length, take, drop}
 use Rattle.auc_aes.specs.Bytes.{xor, IsBlock}
+use Rattle.auc_hmac.specs.declared.method.Method.{Method}
 use Rattle.auc_milenage.specs.Milenage.{f1, f2, f3, f4, f5}
 use Rattle.auc_milenage.specs.declared.secret.Secret.{Secret}
 use Rattle.auc_sqn.specs.Number.{sqn_bytes, max_seq}
 use Rattle.auc_vector.specs.declared.parts.Vector.{Vector}
-use Rattle.auc_vector.specs.Random.{Stream}
+use Rattle.auc_random.specs.Random.{Stream}
+use Rattle.auc_vector.specs.Keys.{ck_by, ik_by}
 
 -- AUTN: SQN masked by AK, AMF, and the MAC f1
 unfoldable pub autn_of : List ℕ → List ℕ → List ℕ → List ℕ → ℕ → List ℕ
 autn_of k opc rand amf n =
     xor (sqn_bytes n) (f5 k opc rand) ++ amf ++ f1 k opc rand (sqn_bytes n) amf
 
--- the vector of a number with a RAND, under a secret and an AMF: XRES, CK and IK are f2, f3 and f4 of the RAND
-abbrev pub vector_of : Secret → List ℕ → ℕ → List ℕ → Vector
-vector_of s amf n rand = record {
+-- the vector of a number with a RAND, under a secret and an AMF, for a method and the network's name: XRES is f2 of the
+-- RAND, and CK and IK are what the method makes of f3 and f4
+abbrev pub vector_of : Secret → Method → List ℕ → List ℕ → ℕ → List ℕ → Vector
+vector_of s method amf name n rand = record {
   n = n;
   rand = rand;
   autn = autn_of s.k s.opc rand amf n;
   xres = f2 s.k s.opc rand;
-  ck = f3 s.k s.opc rand;
-  ik = f4 s.k s.opc rand;
+  ck = ck_by method name (autn_of s.k s.opc rand amf n) (f3 s.k s.opc rand) (f4 s.k s.opc rand);
+  ik = ik_by method name (autn_of s.k s.opc rand amf n) (f3 s.k s.opc rand) (f4 s.k s.opc rand);
 }
 
 -- what the vectors of one subscriber are made from

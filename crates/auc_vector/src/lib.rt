@@ -1,29 +1,29 @@
-//! Authentication vectors (TS 33.102 §6.3.2), the random bytes that go into them, AUTS (TS 33.102 §6.3.3), and the
-//! authentication centre whose numbers they are of.
+//! Authentication vectors (TS 33.102 §6.3.2) for EAP-AKA and EAP-AKA', the keys made from them, AUTS (TS 33.102 §6.3.3),
+//! and the authentication centre whose numbers they are of.
 //!
-//! [`vector`] makes the [`Vector`] of a number under a secret, and [`Rands`] gives its RAND by subscriber and
-//! number, as words of ChaCha20: the same key gives the same bytes again. For many vectors of one subscriber, [`Vectors`]
-//! makes them with one key schedule and one generator. [`read_auts`] reads a USIM's AUTS.
+//! [`vector`] makes the [`Vector`] of a number with a RAND under a secret. For EAP-AKA' it has CK' and IK' in the place of CK
+//! and IK, bound to the network's name, as [`keys_by`] makes them (RFC 9048 §3.3); [`keys_of`] makes the keys of a full
+//! authentication by either method. For many vectors of one subscriber for EAP-AKA, [`Vectors`] makes them with one key
+//! schedule and one generator. [`read_auts`] reads a USIM's AUTS.
 //!
 //! A [`Centre`] gives numbers and resynchronises them; its ghost members say which entries of a subscriber's history
 //! each call made. [`CoreCentre`] is the one over the pure core. [`ask`] and [`report`] call a centre and note its answer;
 //! a [`Turn`] is what an end of a session does with what it received, with its [`Notes`].
 //!
-//! Contracts see a `Rands` as the 32 bytes of its key, a `RandStream` and a `Vectors` as what they are made from
-//! (`specs/Random`, `specs/Vector`), and a `CoreCentre` as the list of its subscribers' words. Nothing here takes memory
-//! or can fail. A `Centre`'s calls may wait, and those of `CoreCentre` wait for nobody.
+//! Contracts see a `Vectors` as what its vectors are made from (`specs/Vector`), keys as functions of bytes (`specs/Keys`),
+//! and a `CoreCentre` as the list of its subscribers' words. Nothing here takes memory or can fail. A `Centre`'s calls may
+//! wait, and those of `CoreCentre` wait for nobody.
 #![tactic(auto)]
 
 mod asking;
 mod auts;
 mod centre;
 mod core_centre;
+mod keys;
 mod law;
 mod making;
 mod notes;
 mod parts;
-mod rand_stream;
-mod rands;
 #[cfg(test)]
 mod tests;
 mod turn;
@@ -33,6 +33,7 @@ pub use asking::{ask, report};
 pub use auts::{Auts, read_auts};
 pub use centre::{Centre, CentreRefusal, Resynced};
 pub use core_centre::CoreCentre;
+pub use keys::{keys_by, keys_of};
 pub use law::{
     each_autn_carries_the_sqn_of_its_number, each_autn_has_the_mac_of_its_sqn,
     each_auts_is_read_back,
@@ -40,7 +41,5 @@ pub use law::{
 pub use making::vector;
 pub use notes::{CounterNote, Notes, NumberNote, ResyncNote, UsimNote};
 pub use parts::Vector;
-pub use rand_stream::RandStream;
-pub use rands::Rands;
 pub use turn::{Outcome, Reason, Step, Turn};
 pub use vectors::Vectors;

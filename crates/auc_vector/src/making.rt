@@ -1,29 +1,43 @@
 //! The authentication vector of a number.
 
-ghost use Rattle.std.specs.Prelude.{◌≡◌, ◌≤◌, ◌++◌};
+ghost use Rattle.std.specs.Prelude.{◌≡◌, ◌≤◌, ◌++◌, [], length};
+ghost use Rattle.auc_hmac.specs.declared.method.Method.TheVariants.{Aka};
 ghost use Rattle.auc_vector.specs.Vector.{vector_of};
 ghost use Rattle.auc_sqn.specs.Number.{max_seq};
 
+use crate::keys::keys_by;
 use crate::parts::Vector;
 use auc_aes::xor;
+use auc_hmac::Method;
 use auc_milenage::{Four, Milenage, Secret};
 use auc_sqn::sqn_of;
 
-/// The vector of number `n` with a RAND, under a subscriber's secret and AMF.
-pub fn vector(s: &Secret, amf: [u8; 2], n: u64, rand: [u8; 16]) -> Vector
+/// The vector of number `n` with a RAND, under a subscriber's secret and AMF, for a method and the name of the network,
+/// of which EAP-AKA makes no use.
+pub fn vector(
+    s: &Secret,
+    method: Method,
+    amf: [u8; 2],
+    name: &[u8],
+    n: u64,
+    rand: [u8; 16],
+) -> Vector
+    requires short { length name.now ≤ 255 }
     requires first { 1 ≤ n }
     requires last { n ≤ max_seq }
-    ensures { result ≡ vector_of s.now amf n rand }
+    ensures { result ≡ vector_of s.now method amf name.now n rand }
 {
-    vector_under(&Milenage::new(s), amf, n, rand)
+    let made = vector_under(&Milenage::new(s), amf, n, rand);
+    let (ck, ik) = keys_by(method, name, made.autn, made.ck, made.ik);
+    Vector { ck, ik, ..made }
 }
 
-/// The vector of number `n` with a RAND, under a secret whose key schedule is there.
+/// The vector of number `n` with a RAND for EAP-AKA, under a secret whose key schedule is there.
 #[tactic(auto, unfolding(crate::specs::Vector::autn_of))]
 pub(crate) fn vector_under(m: &Milenage, amf: [u8; 2], n: u64, rand: [u8; 16]) -> Vector
     requires first { 1 ≤ n }
     requires last { n ≤ max_seq }
-    ensures { result ≡ vector_of m.now amf n rand }
+    ensures { result ≡ vector_of m.now Aka amf [] n rand }
 {
     let sqn = sqn_of(n);
     let (mac, four) = m.f12345(rand, sqn, amf);

@@ -11,8 +11,8 @@ pub struct Vector {
     pub autn: [u8; 16],
     /// XRES, the response that is expected.
     pub xres: [u8; 8],
-    /// CK, the cipher key.
+    /// CK, the cipher key; for EAP-AKA' CK'.
     pub ck: [u8; 16],
-    /// IK, the integrity key.
+    /// IK, the integrity key; for EAP-AKA' IK'.
     pub ik: [u8; 16],
 }

@@ -3,11 +3,13 @@
 ghost use Rattle.std.specs.Prelude.{◌≡◌, ◌<◌};
 
 use crate::{
-    Auts, Centre, CentreRefusal, CoreCentre, NumberNote, Rands, ResyncNote, Resynced, Vectors, ask,
-    read_auts, report, vector,
+    Auts, Centre, CentreRefusal, CoreCentre, NumberNote, ResyncNote, Resynced, Vectors, ask,
+    keys_by, keys_of, read_auts, report, vector,
 };
 use auc_core::Core;
+use auc_hmac::{KeySet, Method};
 use auc_milenage::{Secret, make_auts};
+use auc_random::Rands;
 use auc_sqn::{MAX_SEQ, sqn_of};
 use std::sync::Wait;
 use std::test::Fail;
@@ -18,47 +20,6 @@ fn rands() -> Rands {
         0, 1, 2, 3, 4, 5, 6, 7, 8, 9, 10, 11, 12, 13, 14, 15, 16, 17, 18, 19, 20, 21, 22, 23, 24,
         25, 26, 27, 28, 29, 30, 31,
     ])
-}
-
-// The key stream of Python's `cryptography` 48 (ChaCha20 with a counter of 64 bits, and the stream as its nonce),
-// bytes 16 n to 16 n + 15: subscriber, number, RAND.
-#[test]
-fn rand_is_the_key_stream_of_the_subscriber_at_the_number(rt: HostRuntime) {
-    let cases: [(u32, u64, u128); 4] = [
-        (0, 0, 0x39fd2b7dd9c5196a8dbd0377b8dc4a49),
-        (0, 1, 0x8a35d86fbcde6accb2cc7d4cd8ea2492),
-        (1, 1, 0x71c65f21ef9eee784c3f2d89061ae895),
-        (65535, 8796093022207, 0x6d4617702b535d0f2fc4026cea4b9f51),
-    ];
-    let rands = rands();
-    for (sub, n, rand) in cases {
-        assert_eq!(rt;
-            rands.rand_of(sub, n),
-            rand.to_be_bytes(),
-            "of {sub} at {n}"
-        );
-    }
-}
-
-// The same key stream, of subscriber 7: number, RAND. The generator steps on, jumps ahead, jumps back and repeats.
-#[test]
-fn stream_gives_the_rand_of_each_number_in_any_order(rt: HostRuntime) {
-    let cases: [(u64, u128); 10] = [
-        (1, 0x147f999fdb769ab661f0eb73b36ce7c8),
-        (2, 0xed24fee9481eb65eba4b4df7f80b0121),
-        (16, 0x626ca442b43ecc6f38c5e29602ec81a8),
-        (17, 0xbc4058178341013f197f505f0fe31d32),
-        (5, 0x329da241f1ed0905aa9a33e7e7e9d71c),
-        (4, 0xf10f844822e87a8962364e33fc88109a),
-        (15, 0x77b349ce2ad80b2642be1c010b19b428),
-        (16, 0x626ca442b43ecc6f38c5e29602ec81a8),
-        (8796093022207, 0x89fe4fe7970f7f4d0dffe0de36f144cf),
-        (0, 0x480f443fe9dbb832560a751a4ff29af7),
-    ];
-    let mut stream = rands().stream(7);
-    for (n, rand) in cases {
-        assert_eq!(rt; stream.rand_of(n), rand.to_be_bytes(), "at {n}");
-    }
 }
 
 // The equations of TS 35.206 over the AES of Python's `cryptography` 48, under K and OPc of TS 35.208, test set 1:
@@ -101,7 +62,7 @@ fn each_part_of_a_vector_is_that_of_another_implementation(rt: HostRuntime) {
     let rands = rands();
     for (sub, n, amf, autn, xres, ck, ik) in cases {
         let rand = rands.rand_of(sub, n);
-        let made = vector(&s, amf.to_be_bytes(), n, rand);
+        let made = vector(&s, Method::Aka, amf.to_be_bytes(), &[], n, rand);
         let mut vectors = Vectors::new(&s, amf.to_be_bytes(), rands.stream(sub));
         assert_eq!(rt;
             vectors.vector_of(n),
@@ -114,6 +75,128 @@ fn each_part_of_a_vector_is_that_of_another_implementation(rt: HostRuntime) {
         assert_eq!(rt; made.xres, xres.to_be_bytes(), "XRES at {n}");
         assert_eq!(rt; made.ck, ck.to_be_bytes(), "CK at {n}");
         assert_eq!(rt; made.ik, ik.to_be_bytes(), "IK at {n}");
+    }
+}
+
+// Of the vectors above CK' and IK' by Python's `hmac`: subscriber, number, AMF, the network's name, CK' and IK'.
+#[test]
+fn only_the_keys_of_a_vector_depend_on_the_method(rt: HostRuntime) {
+    let cases: [(u32, u64, u16, &[u8], u128, u128); 2] = [
+        (
+            0,
+            1,
+            0x8000,
+            b"WLAN",
+            0x4e177d3f9d8fd0381a40eaf377ef87ff,
+            0x262c8762e915c4deb3d8cc1c4c7775f1,
+        ),
+        (
+            7,
+            500,
+            0xb9b9,
+            b"5G:mnc001.mcc232.3gppnetwork.org",
+            0x61cd4aa4d0d8a4fc32248d6ee9af38f9,
+            0x44a003c01c98223490da7d0af8508a87,
+        ),
+    ];
+    for (sub, n, amf, name, ck, ik) in cases {
+        let rand = rands().rand_of(sub, n);
+        let own = vector(&secret(), Method::Aka, amf.to_be_bytes(), name, n, rand);
+        let made = vector(&secret(), Method::Prime, amf.to_be_bytes(), name, n, rand);
+        assert_eq!(rt; made.ck, ck.to_be_bytes(), "CK' at {n}");
+        assert_eq!(rt; made.ik, ik.to_be_bytes(), "IK' at {n}");
+        assert_eq!(rt; made.autn, own.autn, "AUTN at {n}");
+        assert_eq!(rt; made.xres, own.xres, "XRES at {n}");
+    }
+}
+
+// RFC 9048 Appendix C, cases 1 and 2, which differ only in the network's name: the name, CK', IK' and the keys.
+#[test]
+fn keys_of_eap_aka_prime_are_those_of_the_published_cases(rt: HostRuntime) {
+    let autn = 0xbb52e91c747ac3ab2a5c23d15ee351d5_u128.to_be_bytes();
+    let ck = 0x5349fbe098649f948f5d2e973a81c00f_u128.to_be_bytes();
+    let ik = 0x9744871ad32bf9bbd1dd5ce54e3e2e5a_u128.to_be_bytes();
+    let cases: [(&[u8], u128, u128, KeySet); 2] = [
+        (
+            b"WLAN",
+            0x0093962d0dd84aa5684b045c9edffa04,
+            0xccfc230ca74fcc96c0a5d61164f5a76c,
+            KeySet {
+                k_encr: [
+                    0x76, 0x6f, 0xa0, 0xa6, 0xc3, 0x17, 0x17, 0x4b, 0x81, 0x2d, 0x52, 0xfb, 0xcd,
+                    0x11, 0xa1, 0x79,
+                ],
+                k_aut: [
+                    0x08, 0x42, 0xea, 0x72, 0x2f, 0xf6, 0x83, 0x5b, 0xfa, 0x20, 0x32, 0x49, 0x9f,
+                    0xc3, 0xec, 0x23, 0xc2, 0xf0, 0xe3, 0x88, 0xb4, 0xf0, 0x75, 0x43, 0xff, 0xc6,
+                    0x77, 0xf1, 0x69, 0x6d, 0x71, 0xea,
+                ],
+                k_re: [
+                    0xcf, 0x83, 0xaa, 0x8b, 0xc7, 0xe0, 0xac, 0xed, 0x89, 0x2a, 0xcc, 0x98, 0xe7,
+                    0x6a, 0x9b, 0x20, 0x95, 0xb5, 0x58, 0xc7, 0x79, 0x5c, 0x70, 0x94, 0x71, 0x5c,
+                    0xb3, 0x39, 0x3a, 0xa7, 0xd1, 0x7a,
+                ],
+                msk: [
+                    0x67, 0xc4, 0x2d, 0x9a, 0xa5, 0x6c, 0x1b, 0x79, 0xe2, 0x95, 0xe3, 0x45, 0x9f,
+                    0xc3, 0xd1, 0x87, 0xd4, 0x2b, 0xe0, 0xbf, 0x81, 0x8d, 0x30, 0x70, 0xe3, 0x62,
+                    0xc5, 0xe9, 0x67, 0xa4, 0xd5, 0x44, 0xe8, 0xec, 0xfe, 0x19, 0x35, 0x8a, 0xb3,
+                    0x03, 0x9a, 0xff, 0x03, 0xb7, 0xc9, 0x30, 0x58, 0x8c, 0x05, 0x5b, 0xab, 0xee,
+                    0x58, 0xa0, 0x26, 0x50, 0xb0, 0x67, 0xec, 0x4e, 0x93, 0x47, 0xc7, 0x5a,
+                ],
+                emsk: [
+                    0xf8, 0x61, 0x70, 0x3c, 0xd7, 0x75, 0x59, 0x0e, 0x16, 0xc7, 0x67, 0x9e, 0xa3,
+                    0x87, 0x4a, 0xda, 0x86, 0x63, 0x11, 0xde, 0x29, 0x07, 0x64, 0xd7, 0x60, 0xcf,
+                    0x76, 0xdf, 0x64, 0x7e, 0xa0, 0x1c, 0x31, 0x3f, 0x69, 0x92, 0x4b, 0xdd, 0x76,
+                    0x50, 0xca, 0x9b, 0xac, 0x14, 0x1e, 0xa0, 0x75, 0xc4, 0xef, 0x9e, 0x80, 0x29,
+                    0xc0, 0xe2, 0x90, 0xcd, 0xba, 0xd5, 0x63, 0x8b, 0x63, 0xbc, 0x23, 0xfb,
+                ],
+            },
+        ),
+        (
+            b"HRPD",
+            0x3820f0277fa5f77732b1fb1d90c1a0da,
+            0xdb94a0ab557ef6c9ab48619ca05b9a9f,
+            KeySet {
+                k_encr: [
+                    0x05, 0xad, 0x73, 0xac, 0x91, 0x5f, 0xce, 0x89, 0xac, 0x77, 0xe1, 0x52, 0x0d,
+                    0x82, 0x18, 0x7b,
+                ],
+                k_aut: [
+                    0x5b, 0x4a, 0xca, 0xef, 0x62, 0xc6, 0xeb, 0xb8, 0x88, 0x2b, 0x2f, 0x3d, 0x53,
+                    0x4c, 0x4b, 0x35, 0x27, 0x73, 0x37, 0xa0, 0x01, 0x84, 0xf2, 0x0f, 0xf2, 0x5d,
+                    0x22, 0x4c, 0x04, 0xbe, 0x2a, 0xfd,
+                ],
+                k_re: [
+                    0x3f, 0x90, 0xbf, 0x5c, 0x6e, 0x5e, 0xf3, 0x25, 0xff, 0x04, 0xeb, 0x5e, 0xf6,
+                    0x53, 0x9f, 0xa8, 0xcc, 0xa8, 0x39, 0x81, 0x94, 0xfb, 0xd0, 0x0b, 0xe4, 0x25,
+                    0xb3, 0xf4, 0x0d, 0xba, 0x10, 0xac,
+                ],
+                msk: [
+                    0x87, 0xb3, 0x21, 0x57, 0x01, 0x17, 0xcd, 0x6c, 0x95, 0xab, 0x6c, 0x43, 0x6f,
+                    0xb5, 0x07, 0x3f, 0xf1, 0x5c, 0xf8, 0x55, 0x05, 0xd2, 0xbc, 0x5b, 0xb7, 0x35,
+                    0x5f, 0xc2, 0x1e, 0xa8, 0xa7, 0x57, 0x57, 0xe8, 0xf8, 0x6a, 0x2b, 0x13, 0x80,
+                    0x02, 0xe0, 0x57, 0x52, 0x91, 0x3b, 0xb4, 0x3b, 0x82, 0xf8, 0x68, 0xa9, 0x61,
+                    0x17, 0xe9, 0x1a, 0x2d, 0x95, 0xf5, 0x26, 0x67, 0x7d, 0x57, 0x29, 0x00,
+                ],
+                emsk: [
+                    0xc8, 0x91, 0xd5, 0xf2, 0x0f, 0x14, 0x8a, 0x10, 0x07, 0x55, 0x3e, 0x2d, 0xea,
+                    0x55, 0x5c, 0x9c, 0xb6, 0x72, 0xe9, 0x67, 0x5f, 0x4a, 0x66, 0xb4, 0xba, 0xfa,
+                    0x02, 0x73, 0x79, 0xf9, 0x3a, 0xee, 0x53, 0x9a, 0x59, 0x79, 0xd0, 0xa0, 0x04,
+                    0x2b, 0x9d, 0x2a, 0xe2, 0x8b, 0xed, 0x3b, 0x17, 0xa3, 0x1d, 0xc8, 0xab, 0x75,
+                    0x07, 0x2b, 0x80, 0xbd, 0x0c, 0x1d, 0xa6, 0x12, 0x46, 0x6e, 0x40, 0x2c,
+                ],
+            },
+        ),
+    ];
+    for (name, primed_ck, primed_ik, keys) in cases {
+        let (own_ck, own_ik) = keys_by(Method::Prime, name, autn, ck, ik);
+        assert_eq!(rt; own_ck, primed_ck.to_be_bytes(), "CK' for {name:?}");
+        assert_eq!(rt; own_ik, primed_ik.to_be_bytes(), "IK' for {name:?}");
+        assert_eq!(rt;
+            keys_of(Method::Prime, b"0555444333222111", own_ik, own_ck),
+            keys,
+            "keys for {name:?}"
+        );
     }
 }
 

@@ -1,17 +1,18 @@
 //! The authentication vectors of one subscriber.
 
-ghost use Rattle.std.specs.Prelude.{◌≡◌, ◌≤◌};
-ghost use Rattle.auc_vector.specs.Random.{rand_of};
+ghost use Rattle.std.specs.Prelude.{◌≡◌, ◌≤◌, []};
+ghost use Rattle.auc_hmac.specs.declared.method.Method.TheVariants.{Aka};
+ghost use Rattle.auc_random.specs.Random.{rand_of};
 ghost use Rattle.auc_vector.specs.Vector.{vector_of};
 ghost use Rattle.auc_sqn.specs.Number.{max_seq};
 
 use crate::making::vector_under;
 use crate::parts::Vector;
-use crate::rand_stream::RandStream;
 use auc_milenage::{Milenage, Secret};
+use auc_random::RandStream;
 use std::marker::Model;
 
-/// The authentication vectors of one subscriber (TS 33.102 §6.3.2), with the key schedule of its K and the generator of
+/// The authentication vectors of one subscriber for EAP-AKA (TS 33.102 §6.3.2), with the key schedule of its K and the generator of
 /// its RANDs kept from vector to vector. Contracts see its secret, its AMF and its RANDs.
 #[derive(Drop)]
 pub struct Vectors {
@@ -44,7 +45,7 @@ impl Vectors {
     pub fn vector_of(&mut self, n: u64) -> Vector
         requires first { 1 ≤ n }
         requires last { n ≤ max_seq }
-        ensures value { result ≡ vector_of self.old.secret self.old.amf n
+        ensures value { result ≡ vector_of self.old.secret Aka self.old.amf [] n
             (rand_of self.old.rands.key self.old.rands.sub n) }
         ensures kept { self.new ≡ self.old }
     {

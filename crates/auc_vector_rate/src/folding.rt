@@ -1,5 +1,6 @@
 //! A digest of many vectors.
 
+use auc_hmac::Method;
 use auc_milenage::Secret;
 use auc_sqn::MAX_SEQ;
 use auc_vector::vector;
@@ -32,7 +33,7 @@ impl Folded {
         let mut autn = 0u128;
         for n in 1..=count.min(MAX_SEQ) {
             let rand = (RAND ^ u128::from(n)).to_be_bytes();
-            let made = vector(&SECRET, [0x80, 0], n, rand);
+            let made = vector(&SECRET, Method::Aka, [0x80, 0], &[], n, rand);
             xres ^= u64::from_be_bytes(made.xres);
             autn ^= u128::from_be_bytes(made.autn);
         }

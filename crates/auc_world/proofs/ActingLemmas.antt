@@ -1,5 +1,5 @@
 -- For `acting`: what an end does by itself, in each network in which its session stands.
-use Rattle.std.proofs.Common.{◌≡◌, ℕ, List, [], ◌∷◌, ◌++◌, Bool, true, false, Option, Some, None, Ok, Err, is_some, refl, sym, ap, ◌∙◌, subst}
+use Rattle.std.proofs.Common.{◌≡◌, ℕ, List, [], true, false, Option, Some, None, Ok, Err, is_some, refl, sym, ap, ◌∙◌, subst}
 use Rattle.std.specs.Prelude.{slice_set}
 use Rattle.std.proofs.lemmas.List.{append-nil}
 use Rattle.auc_hmac.specs.declared.keys.KeySet.{KeySet}
@@ -14,7 +14,6 @@ use Rattle.auc_server.specs.Steps.{IsHeld}
 use Rattle.auc_server.specs.Table.{gave_up as server_gave_up, repeated, silent}
 use Rattle.auc_server.specs.declared.server.ServerState.{ServerState}
 use Rattle.auc_server.specs.declared.server.ServerState.TheVariants as state
-use Rattle.auc_server.specs.declared.setting.HomeRow.{HomeRow}
 use Rattle.auc_server.specs.declared.why.ServerWhy.{ServerWhy}
 use Rattle.auc_vector.specs.declared.turn.Step.{Step}
 use Rattle.auc_vector.specs.declared.turn.Step.TheVariants as step
@@ -39,7 +38,7 @@ numbered w packets (Some bytes) same = ap (λ (ps : List SentPacket). number_aft
 
 -- a note in which nobody was asked
 abbrev pub note_of : NoteStep → Option ℕ → Note
-note_of what packet = record { notes = silent; step = what; packet = packet; asked = None; device = None }
+note_of what packet = record { notes = silent; step = what; packet = packet; asked = None; device = None; vector = None }
 
 module _ (w : Net) (place : ℕ) (packets : List SentPacket) (session : Session) (at' : Stands w place packets session) where
   -- a server that takes a step, in its session
@@ -51,7 +50,7 @@ module _ (w : Net) (place : ℕ) (packets : List SentPacket) (session : Session)
     released = append-nil w.released j;
   }
 
-  noted : (what : Step ServerWhy) → by_server w silent what None ≡ note_of (did.Server what) (number_after packets (sent_by what))
+  noted : (what : Step ServerWhy) → by_server w silent what None None ≡ note_of (did.Server what) (number_after packets (sent_by what))
   noted what = ap (note_of (did.Server what)) (numbered w packets (sent_by what) at'.packets_are)
 
 -- a session without a change
@@ -67,37 +66,39 @@ started_before packets session there = by session.server refl there
     by : (s : Option ServerEnd) → session.server ≡ s → is_some s ≡ true → Acts deed.Start packets session packets session (Err refused.Started)
     by None is there = absurd cc
     by (Some s) is there = record {
-      is = λ w place at'. ap (came_started w) (sym is);
+      is = λ w place at'. ap (came_started w session.options) (sym is);
       leads = λ w place at'. ap (start w place session) is ∙ stays w place packets session at';
       number = refl;
+      options = refl;
       held = λ homes held. held;
     }
 
 -- one that hadn't sends its first request
 pub starts : (packets sent : List SentPacket) (session : Session) (s : ServerEnd) (bytes : List ℕ) (packet : Option ℕ) (n : Note)
-    → is_some session.server ≡ false → s ≡ started → bytes ≡ started.last → sent ≡ posted packets end.Server None (Some bytes)
+    → is_some session.server ≡ false → s ≡ started session.options → bytes ≡ (started session.options).last → sent ≡ posted packets end.Server None (Some bytes)
     → packet ≡ number_after packets (Some bytes) → n ≡ note_of (did.Server (step.Sent bytes)) packet
     → Acts deed.Start packets session sent (record session { server = Some s }) (Ok n)
 starts packets sent session s bytes packet n none is_s is_bytes is_sent is_packet is_n = by session.server refl none
   where
     first : Step ServerWhy
-    first = step.Sent started.last
+    first = step.Sent (started session.options).last
 
-    told : n ≡ note_of (did.Server first) (number_after packets (Some started.last))
+    told : n ≡ note_of (did.Server first) (number_after packets (Some (started session.options).last))
     told = is_n ∙ ap (note_of (did.Server (step.Sent bytes))) is_packet ∙ ap (λ (b : List ℕ). note_of (did.Server (step.Sent b)) (number_after packets (Some b))) is_bytes
 
-    went : sent ≡ posted packets end.Server None (Some started.last)
+    went : sent ≡ posted packets end.Server None (Some (started session.options).last)
     went = is_sent ∙ ap (λ (b : List ℕ). posted packets end.Server None (Some b)) is_bytes
 
     by : (before : Option ServerEnd) → session.server ≡ before → is_some before ≡ false → Acts deed.Start packets session sent (record session { server = Some s }) (Ok n)
     by (Some other) is none = absurd cc
     by None is none = record {
-      is = λ w place at'. ap Ok (told ∙ sym (noted w place packets session at' first)) ∙ ap (came_started w) (sym is);
+      is = λ w place at'. ap Ok (told ∙ sym (noted w place packets session at' first)) ∙ ap (came_started w session.options) (sym is);
       leads = λ w place at'.
-          let changed : with_session w place (posted packets end.Server None (Some started.last)) (record session { server = Some started })
+          let changed : with_session w place (posted packets end.Server None (Some (started session.options).last)) (record session { server = Some (started session.options) })
           ≡ with_session w place sent (record session { server = Some s }) = λ j. with_session w place (sym went j) (record session { server = Some (sym is_s j) }) in
-          ap (start w place session) is ∙ served w place packets session at' started first ∙ changed;
+          ap (start w place session) is ∙ served w place packets session at' (started session.options) first ∙ changed;
       number = refl;
+      options = refl;
       held = λ homes held. subst (λ (t : ServerEnd). IsHeld homes t.challenged) (sym is_s) tt;
     }
 
@@ -108,6 +109,7 @@ repeats_nothing packets session is = record {
   is = λ w place at'. ap (came_repeated w) (sym is);
   leads = λ w place at'. ap (repeat w place session) is ∙ stays w place packets session at';
   number = refl;
+  options = refl;
   held = λ homes held. held;
 }
 
@@ -117,12 +119,13 @@ pub repeats : (packets sent : List SentPacket) (session : Session) (s : ServerEn
     → Acts deed.Repeat packets session sent session (Ok n)
 repeats packets sent session s what packet n is is_what is_sent is_packet is_n = record {
   is = λ w place at'. ap Ok (is_n ∙ ap (note_of (did.Server what)) is_packet ∙ sym (noted w place packets session at' what)
-      ∙ ap (λ (x : Step ServerWhy). by_server w silent x None) is_what) ∙ ap (came_repeated w) (sym is);
+      ∙ ap (λ (x : Step ServerWhy). by_server w silent x None None) is_what) ∙ ap (came_repeated w) (sym is);
   leads = λ w place at'.
       let changed : with_session w place (posted packets end.Server (inputs_of_server s) (sent_by what)) (record session { server = Some s })
       ≡ with_session w place sent session = λ j. with_session w place (sym is_sent j) (same_server session s is j) in
       ap (repeat w place session) is ∙ ap (with_server w place session [] s) (sym is_what) ∙ served w place packets session at' s what ∙ changed;
   number = refl;
+  options = refl;
   held = λ homes held. held;
 }
 
@@ -145,6 +148,7 @@ nobody_gives_up packets session is = record {
   is = λ w place at'. ap (server_came_to_give_up w) (sym is);
   leads = λ w place at'. ap (server_gives_up w place session) is ∙ stays w place packets session at';
   number = refl;
+  options = refl;
   held = λ homes held. held;
 }
 
@@ -153,11 +157,12 @@ pub server_gives_up_now : (packets : List SentPacket) (session : Session) (s new
     → Acts (deed.GiveUp end.Server) packets session packets (record session { server = Some new }) (Ok n)
 server_gives_up_now packets session s new what n is turn is_n = record {
   is = λ w place at'. ap Ok (is_n ∙ ap (note_of (did.Server what)) (ap (number_after packets) (sym silence)) ∙ sym (noted w place packets session at' what)
-      ∙ ap (λ (x : ServerEnd × Step ServerWhy). by_server w silent x.1 None) turn) ∙ ap (server_came_to_give_up w) (sym is);
+      ∙ ap (λ (x : ServerEnd × Step ServerWhy). by_server w silent x.1 None None) turn) ∙ ap (server_came_to_give_up w) (sym is);
   leads = λ w place at'. ap (server_gives_up w place session) is ∙ ap (λ (x : ServerEnd × Step ServerWhy). with_server w place session [] x.0 x.1) (sym turn)
       ∙ served w place packets session at' new what
       ∙ ap (λ (x : Option (List ℕ)). with_session w place (posted packets end.Server (inputs_of_server new) x) (record session { server = Some new })) silence;
   number = refl;
+  options = refl;
   held = λ homes held. subst (λ c. IsHeld homes c) (sym (keeps_challenge s s.state) ∙ ap (λ (x : ServerEnd × Step ServerWhy). x.0.challenged) (sym turn))
       (subst (HasHeld homes) is held);
 }
@@ -190,6 +195,7 @@ peer_gives_up_now packets session new what n turn is_n = record {
       } in
       ap (λ (x : Peer × Step PeerWhy). with_peer w place session x.0 x.1) (sym turn) ∙ same;
   number = refl;
+  options = refl;
   held = λ homes held. held;
 }
   where

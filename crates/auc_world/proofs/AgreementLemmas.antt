@@ -9,7 +9,7 @@ use Rattle.auc_milenage.specs.declared.secret.Secret.{Secret}
 use Rattle.auc_peer.specs.Laws as peer_laws
 use Rattle.auc_peer.specs.Laws.{keys_of_inputs}
 use Rattle.auc_peer.specs.Subscription.{Subscription}
-use Rattle.auc_peer.specs.Table.{keys_for, text_or_none, gave_up as peer_gave_up}
+use Rattle.auc_peer.specs.Table.{in_state, text_or_none, gave_up as peer_gave_up}
 use Rattle.auc_peer.specs.declared.peer.Challenge.{Challenge}
 use Rattle.auc_peer.specs.declared.peer.Peer.{Peer}
 use Rattle.auc_peer.specs.declared.peer.PeerState.{PeerState}
@@ -17,12 +17,13 @@ use Rattle.auc_peer.specs.declared.peer.PeerState.TheVariants as peer_state
 use Rattle.auc_peer.specs.declared.why.PeerWhy.{PeerWhy}
 use Rattle.auc_peer.specs.declared.why.PeerWhy.TheVariants as peer_why
 use Rattle.auc_server.specs.Laws.{EachTurnFits, EachTurnKeepsOrChallenges, Fits, KeepsChallenge, SendsChallenge}
-use Rattle.auc_server.specs.Messages.{keys_of}
+use Rattle.auc_server.proofs.Facts.{turn_options}
 use Rattle.auc_server.specs.Rows.{server_row}
 use Rattle.auc_server.specs.Server.{ServerEnd, started}
 use Rattle.auc_server.specs.Setting.{Setting}
 use Rattle.auc_server.specs.Steps.{asking}
 use Rattle.auc_server.specs.Table.{challenge_of, gave_up, repeated, vector_at, vector_of_row}
+use Rattle.auc_server.specs.declared.options.ServerOptions.{ServerOptions}
 use Rattle.auc_server.specs.declared.server.Challenged.{Challenged}
 use Rattle.auc_server.specs.declared.server.ServerState.{ServerState}
 use Rattle.auc_server.specs.declared.server.ServerState.TheVariants as state
@@ -31,8 +32,9 @@ use Rattle.auc_server.specs.declared.why.ServerWhy.TheVariants as why
 use Rattle.auc_sqn.specs.Number.{max_seq}
 use Rattle.auc_subs.specs.Subscriber.{AreSubscribers, IsRow}
 use Rattle.auc_subs.specs.declared.row.Row.{Row}
+use Rattle.auc_vector.specs.Keys.{ck_by, ik_by, keys_of}
 use Rattle.auc_vector.specs.Notes.{Asking}
-use Rattle.auc_vector.specs.Random.{rand_of}
+use Rattle.auc_random.specs.Random.{rand_of}
 use Rattle.auc_vector.specs.Vector.{NumbersHaveDifferentSqns, autn_of, sqn_in, vector_of}
 use Rattle.auc_vector.specs.declared.parts.Vector.{Vector}
 use Rattle.auc_vector.specs.declared.turn.Outcome.{Outcome}
@@ -42,6 +44,7 @@ use Rattle.auc_vector.specs.declared.turn.Step.TheVariants as step
 use Rattle.auc_world.specs.Agreement.{Agree, AreOfOneChallenge, AreReleasedOnce, EachHonestRunAgrees, Happening, HaveSecrets, IsFresh, IsHonest, IsHonestAt, IsHonestFinding, Noted, Occurs, after, after_one}
 use Rattle.auc_world.specs.Happened.{Delivery, Told, at_place, at_session, delivered, delivery_at, delivery_of, found, found_by, give_up, in_session, keys_won, moved, opened, peer_finds, peer_turn, released_by, repeat, sent_by, server_gives_up, server_turn, start, to_peer, to_server, with_peer, with_server}
 use Rattle.auc_world.specs.Net.{Net, device_place, inputs_accepted, inputs_of_peer, inputs_of_server, inputs_sent, packet_at, posted, session_place}
+use Rattle.auc_lines.specs.declared.part.SessionLine.{SessionLine}
 use Rattle.auc_lines.specs.declared.part.End.{End}
 use Rattle.auc_lines.specs.declared.part.End.TheVariants as end
 use Rattle.auc_world.specs.declared.event.Event.{Event}
@@ -131,17 +134,18 @@ peer_posts packets inputs (Some bytes) i p =
 
 -- ---- what holds of a network
 
--- inputs are those of the vector of a released number
-pub record AsksWhatItNeeds (set : Setting) (released : List Number) (i : Inputs) : Type 0 where
+-- inputs are those of the vector of a released number, which a server with some options made
+pub record IsDrawn (set : Setting) (released : List Number) (i : Inputs) : Type 0 where
   pub n : ℕ
+  pub options : ServerOptions
   pub vector : Vector
   pub is_in : Contains released (record { sub = i.sub; n = n })
-  pub of_number : vector_at set i.sub n ≡ Some vector
+  pub of_number : vector_at set options i.sub n ≡ Some vector
   pub rand : i.rand ≡ vector.rand
   pub autn : i.autn ≡ vector.autn
 
 abbrev pub HasNumber : Setting → ServerEnd → Type 0
-HasNumber set s = (sent : Challenged) → s.challenged ≡ Some sent → (n : ℕ) × (vector_at set sent.sub n ≡ Some sent.vector)
+HasNumber set s = (sent : Challenged) → s.challenged ≡ Some sent → (n : ℕ) × (vector_at set s.options sent.sub n ≡ Some sent.vector)
 
 pub record ServerFine (set : Setting) (packets : List SentPacket) (s : ServerEnd) : Type 0 where
   pub fits : Fits s
@@ -149,13 +153,20 @@ pub record ServerFine (set : Setting) (packets : List SentPacket) (s : ServerEnd
   pub drawn : HasNumber set s
 
 abbrev pub inputs_at : ℕ → Challenge → Peer → Inputs
-inputs_at sub c p = record { sub = sub; rand = c.rand; autn = c.autn; identity = text_or_none p.identity }
+inputs_at sub c p = record {
+  method = p.options.method;
+  name = p.network;
+  sub = sub;
+  rand = c.rand;
+  autn = c.autn;
+  identity = text_or_none p.identity;
+}
 
 -- a peer's keys are those of inputs that a server posted
 pub record PeerIs (device : Subscription) (packets : List SentPacket) (sub : ℕ) (p : Peer) (keys : KeySet) : Type 0 where
   pub challenge : Challenge
   pub was_accepted : p.accepted ≡ Some challenge
-  pub same : keys ≡ keys_of_inputs device challenge (text_or_none p.identity)
+  pub same : keys ≡ keys_of_inputs device p.options.method p.network challenge (text_or_none p.identity)
   pub was_posted : IsPosted packets (inputs_at sub challenge p)
 
 abbrev pub Live : List Subscription → List SentPacket → ℕ → ℕ → Peer → Type 0
@@ -178,7 +189,7 @@ pub record SessionFine (set : Setting) (devices : List Subscription) (packets : 
 
 pub record Holds (set : Setting) (devices : List Subscription) (packets : List SentPacket) (sessions : List Session) (released : List Number) : Type 0 where
   pub secrets : HaveSecrets set devices
-  pub drawn : (i : Inputs) → IsPosted packets i → AsksWhatItNeeds set released i
+  pub drawn : (i : Inputs) → IsPosted packets i → IsDrawn set released i
   pub alike : (i j : Inputs) → IsPosted packets i → IsPosted packets j → AreOfOneChallenge i j → i ≡ j
   pub fine : All (SessionFine set devices packets) sessions
 
@@ -222,9 +233,10 @@ session_later set devices packets from inputs sent a f = record {
   done = λ keys e. done_later devices packets from inputs sent a.device a.sub a.peer keys (f.done keys e);
 }
 
-drawn_later : (set : Setting) (released more : List Number) (i : Inputs) → AsksWhatItNeeds set released i → AsksWhatItNeeds set (released ++ more) i
+drawn_later : (set : Setting) (released more : List Number) (i : Inputs) → IsDrawn set released i → IsDrawn set (released ++ more) i
 drawn_later set released more i d = record {
   n = d.n;
+  options = d.options;
   vector = d.vector;
   is_in = Contains-append_left released more (record { sub = i.sub; n = d.n }) d.is_in;
   of_number = d.of_number;
@@ -234,12 +246,12 @@ drawn_later set released more i d = record {
 
 -- ---- numbers
 
--- two vectors of a subscriber with one RAND and one AUTN are of one number
-pub one_number : Laws → (set : Setting) (sub m n : ℕ) (v u : Vector) → AreSubscribers set.rows → vector_at set sub m ≡ Some v → vector_at set sub n ≡ Some u
+-- two vectors of a subscriber with one RAND and one AUTN are of one number, whatever they were made for
+pub one_number : Laws → (set : Setting) (a b : ServerOptions) (sub m n : ℕ) (v u : Vector) → AreSubscribers set.rows → vector_at set a sub m ≡ Some v → vector_at set b sub n ≡ Some u
     → v.rand ≡ u.rand → v.autn ≡ u.autn → m ≤ max_seq → n ≤ max_seq → m ≡ n
-one_number laws set sub m n v u subscribers ev eu rand autn mm nn = by (slice_get set.rows sub) refl ev eu
+one_number laws set a b sub m n v u subscribers ev eu rand autn mm nn = by (slice_get set.rows sub) refl ev eu
   where
-    by : (o : Option Row) → slice_get set.rows sub ≡ o → vector_of_row set sub m o ≡ Some v → vector_of_row set sub n o ≡ Some u → m ≡ n
+    by : (o : Option Row) → slice_get set.rows sub ≡ o → vector_of_row set a sub m o ≡ Some v → vector_of_row set b sub n o ≡ Some u → m ≡ n
     by None e f g = absurd (none_some None v refl f)
     by (Some home) e f g =
         let row = at IsRow set.rows sub home subscribers.each e in
@@ -247,8 +259,8 @@ one_number laws set sub m n v u subscribers ev eu rand autn mm nn = by (slice_ge
         let opc = home.secret.opc in
         let r = rand_of set.key sub m in
         let s = rand_of set.key sub n in
-        let left : vector_of home.secret home.amf m r ≡ v = one (Some v) (vector_of home.secret home.amf m r) v (sym f) refl in
-        let right : vector_of home.secret home.amf n s ≡ u = one (Some u) (vector_of home.secret home.amf n s) u (sym g) refl in
+        let left : vector_of home.secret a.method home.amf a.name m r ≡ v = one (Some v) (vector_of home.secret a.method home.amf a.name m r) v (sym f) refl in
+        let right : vector_of home.secret b.method home.amf b.name n s ≡ u = one (Some u) (vector_of home.secret b.method home.amf b.name n s) u (sym g) refl in
         let rands : r ≡ s = ap (λ (x : Vector). x.rand) left ∙ rand ∙ sym (ap (λ (x : Vector). x.rand) right) in
         let autns : autn_of k opc r home.amf m ≡ autn_of k opc s home.amf n = ap (λ (x : Vector). x.autn) left ∙ autn ∙ sym (ap (λ (x : Vector). x.autn) right) in
         laws.numbers k opc home.amf r s m n row.key row.operator mm nn
@@ -297,7 +309,14 @@ posts packets inputs bytes i e = record {
 
 -- the inputs of a vector's challenge
 abbrev pub inputs_new : ServerEnd → ℕ → Vector → Inputs
-inputs_new s sub v = record { sub = sub; rand = v.rand; autn = v.autn; identity = s.identity }
+inputs_new s sub v = record {
+  method = s.options.method;
+  name = s.options.name;
+  sub = sub;
+  rand = v.rand;
+  autn = v.autn;
+  identity = s.identity;
+}
 
 same_number : (sub m n : ℕ) → m ≡ n → ◌≡◌ {A = Number} (record { sub = sub; n = m }) (record { sub = sub; n = n })
 same_number sub m n e = cc
@@ -309,51 +328,51 @@ contains_same : (xs : List Number) (x y : Number) → x ≡ y → Contains xs x 
 contains_same xs x y e c = subst (Contains xs) e c
 
 -- no inputs that were posted before are those of a number that is released now
-fresh : Laws → (set : Setting) (w : Net) (sub n : ℕ) (v : Vector) (i : Inputs) → AreSubscribers set.rows → HoldsOf set w → AreReleasedOnce (w.released ++ record { sub = sub; n = n } ∷ [])
-    → vector_at set sub n ≡ Some v → IsPosted w.packets i → i.sub ≡ sub → i.rand ≡ v.rand → i.autn ≡ v.autn → ⊥
-fresh laws set w sub n v i subscribers h once of p is rand autn =
+fresh : Laws → (set : Setting) (w : Net) (b : ServerOptions) (sub n : ℕ) (v : Vector) (i : Inputs) → AreSubscribers set.rows → HoldsOf set w → AreReleasedOnce (w.released ++ record { sub = sub; n = n } ∷ [])
+    → vector_at set b sub n ≡ Some v → IsPosted w.packets i → i.sub ≡ sub → i.rand ≡ v.rand → i.autn ≡ v.autn → ⊥
+fresh laws set w b sub n v i subscribers h once of p is rand autn =
     let d = h.drawn i p in
     let x : Number = record { sub = sub; n = n } in
     let front = once_front w.released (x ∷ []) once in
     let mm = number_fits w.released (record { sub = i.sub; n = d.n }) front d.is_in in
     let nn = number_fits (w.released ++ x ∷ []) x once (Contains-push w.released x) in
-    let m_at : vector_at set sub d.n ≡ Some d.vector = ap (λ (k : ℕ). vector_at set k d.n) (sym is) ∙ d.of_number in
-    let number = one_number laws set sub d.n n d.vector v subscribers m_at of (sym d.rand ∙ rand) (sym d.autn ∙ autn) mm nn in
+    let m_at : vector_at set d.options sub d.n ≡ Some d.vector = ap (λ (k : ℕ). vector_at set d.options k d.n) (sym is) ∙ d.of_number in
+    let number = one_number laws set d.options b sub d.n n d.vector v subscribers m_at of (sym d.rand ∙ rand) (sym d.autn ∙ autn) mm nn in
     not_before w.released x once
     (contains_same w.released (record { sub = i.sub; n = d.n }) x (same_subscriber i.sub sub d.n is ∙ same_number sub d.n n number) d.is_in)
 
 -- a turn that sends a new challenge
 server_new : Laws → (set : Setting) (w : Net) (place : ℕ) (session : Session) (s : ServerEnd) (did : Step ServerWhy) (sub n : ℕ) (v : Vector) (bytes : List ℕ)
-    → AreSubscribers set.rows → HoldsOf set w → slice_get w.sessions place ≡ Some session → Fits s → vector_at set sub n ≡ Some v → s.challenged ≡ Some (challenge_of s sub v)
+    → AreSubscribers set.rows → HoldsOf set w → slice_get w.sessions place ≡ Some session → Fits s → vector_at set s.options sub n ≡ Some v → s.challenged ≡ Some (challenge_of s sub v)
     → did ≡ step.Sent bytes → AreReleasedOnce (w.released ++ record { sub = sub; n = n } ∷ []) → HoldsOf set (with_server w place session (record { sub = sub; n = n } ∷ []) s did)
 server_new laws set w place session s did sub n v bytes subscribers h there fits of sent_is did_is once =
     let x : Number = record { sub = sub; n = n } in
     let j = inputs_new s sub v in
     let after' = posted w.packets end.Server (inputs_of_server s) (sent_by did) in
-    let own : inputs_of_server s ≡ Some j = ap (inputs_sent s.identity) sent_is in
+    let own : inputs_of_server s ≡ Some j = ap (inputs_sent s.options s.identity) sent_is in
     let here : IsPosted after' j =
     subst (λ (d : Step ServerWhy). IsPosted (posted w.packets end.Server (inputs_of_server s) (sent_by d)) j) (sym did_is) (posts w.packets (inputs_of_server s) bytes j own) in
     let cases : (i : Inputs) → IsPosted after' i → IsPosted w.packets i ⊎ (j ≡ i) =
     λ i p. ⊎_elim (λ old. inl old) (λ is. inr (one (inputs_of_server s) j i own is)) (posted_cases w.packets (inputs_of_server s) (sent_by did) i p) in
-    let new : AsksWhatItNeeds set (w.released ++ x ∷ []) j = record { n = n; vector = v; is_in = Contains-push w.released x; of_number = of; rand = refl; autn = refl } in
+    let new : IsDrawn set (w.released ++ x ∷ []) j = record { n = n; options = s.options; vector = v; is_in = Contains-push w.released x; of_number = of; rand = refl; autn = refl } in
     record {
       secrets = h.secrets;
-      drawn = λ i p. ⊎_elim (λ old. drawn_later set w.released (x ∷ []) i (h.drawn i old)) (λ is. subst (AsksWhatItNeeds set (w.released ++ x ∷ [])) is new) (cases i p);
+      drawn = λ i p. ⊎_elim (λ old. drawn_later set w.released (x ∷ []) i (h.drawn i old)) (λ is. subst (IsDrawn set (w.released ++ x ∷ [])) is new) (cases i p);
       alike = λ i k p q alike.
           ⊎_elim
           (λ old. ⊎_elim
           (λ other. h.alike i k old other alike)
-          (λ is. absurd (fresh laws set w sub n v i subscribers h once of old (alike.sub ∙ sym (ap (λ (y : Inputs). y.sub) is)) (alike.rand ∙ sym (ap (λ (y : Inputs). y.rand) is)) (alike.autn ∙ sym (ap (λ (y : Inputs). y.autn) is))))
+          (λ is. absurd (fresh laws set w s.options sub n v i subscribers h once of old (alike.sub ∙ sym (ap (λ (y : Inputs). y.sub) is)) (alike.rand ∙ sym (ap (λ (y : Inputs). y.rand) is)) (alike.autn ∙ sym (ap (λ (y : Inputs). y.autn) is))))
           (cases k q))
           (λ is. ⊎_elim
-          (λ other. absurd (fresh laws set w sub n v k subscribers h once of other (sym alike.sub ∙ sym (ap (λ (y : Inputs). y.sub) is)) (sym alike.rand ∙ sym (ap (λ (y : Inputs). y.rand) is)) (sym alike.autn ∙ sym (ap (λ (y : Inputs). y.autn) is))))
+          (λ other. absurd (fresh laws set w s.options sub n v k subscribers h once of other (sym alike.sub ∙ sym (ap (λ (y : Inputs). y.sub) is)) (sym alike.rand ∙ sym (ap (λ (y : Inputs). y.rand) is)) (sym alike.autn ∙ sym (ap (λ (y : Inputs). y.autn) is))))
           (λ same. sym is ∙ same)
           (cases k q))
           (cases i p);
       fine = set_server set w.devices w.packets w.sessions place session s (sent_by did) h.fine there (record {
         fits = fits;
         was_posted = λ i e. subst (IsPosted after') (one (inputs_of_server s) j i own e) here;
-        drawn = λ sent e. subst (λ (c : Challenged). (m : ℕ) × (vector_at set c.sub m ≡ Some c.vector)) (one s.challenged (challenge_of s sub v) sent sent_is e) (n, of);
+        drawn = λ sent e. subst (λ (c : Challenged). (m : ℕ) × (vector_at set s.options c.sub m ≡ Some c.vector)) (one s.challenged (challenge_of s sub v) sent sent_is e) (n, of);
       });
     }
 
@@ -384,27 +403,27 @@ set_peer set w place session p did h there live done =
 
 -- ---- agreement
 
-keys_alike : (text : List ℕ) (v : Vector) → keys_of text v ≡ keys_for text v.ik v.ck
-unfolding keys_of keys_for
-keys_alike text v = refl
-
--- the keys of a vector's challenge are those of a USIM with the subscriber's secret
-vector_keys : (set : Setting) (sub n : ℕ) (v : Vector) (device : Subscription) (c : Challenge) (text : List ℕ) → vector_at set sub n ≡ Some v → c.rand ≡ v.rand
-    → ((row : Row) → slice_get set.rows sub ≡ Some row → device.secret ≡ row.secret) → keys_of text v ≡ keys_of_inputs device c text
-vector_keys set sub n v device c text e rand secret = by (slice_get set.rows sub) refl e
+-- the keys of a vector's challenge are those of a USIM with the subscriber's secret, by the server's method and name
+vector_keys : (set : Setting) (o : ServerOptions) (sub n : ℕ) (v : Vector) (device : Subscription) (c : Challenge) (text : List ℕ) → vector_at set o sub n ≡ Some v → c.rand ≡ v.rand → c.autn ≡ v.autn
+    → ((row : Row) → slice_get set.rows sub ≡ Some row → device.secret ≡ row.secret) → keys_of o.method text v.ik v.ck ≡ keys_of_inputs device o.method o.name c text
+vector_keys set o sub n v device c text e rand autn secret = by (slice_get set.rows sub) refl e
   where
-    by : (o : Option Row) → slice_get set.rows sub ≡ o → vector_of_row set sub n o ≡ Some v → keys_of text v ≡ keys_of_inputs device c text
+    keys_with : Secret → List ℕ → List ℕ → KeySet
+    keys_with s r a = keys_of o.method text (ik_by o.method o.name a (f3 s.k s.opc r) (f4 s.k s.opc r)) (ck_by o.method o.name a (f3 s.k s.opc r) (f4 s.k s.opc r))
+
+    by : (x : Option Row) → slice_get set.rows sub ≡ x → vector_of_row set o sub n x ≡ Some v → keys_of o.method text v.ik v.ck ≡ keys_of_inputs device o.method o.name c text
     by None at' f = absurd (none_some None v refl f)
     by (Some home) at' f =
         let r = rand_of set.key sub n in
-        let is : vector_of home.secret home.amf n r ≡ v = one (Some v) (vector_of home.secret home.amf n r) v (sym f) refl in
+        let u = vector_of home.secret o.method home.amf o.name n r in
+        let is : u ≡ v = one (Some v) u v (sym f) refl in
         let same : home.secret ≡ device.secret = sym (secret home at') in
         let rands : r ≡ c.rand = ap (λ (x : Vector). x.rand) is ∙ sym rand in
-        let ik : v.ik ≡ f4 device.secret.k device.secret.opc c.rand =
-        sym (ap (λ (x : Vector). x.ik) is) ∙ ap (λ (s : Secret). f4 s.k s.opc r) same ∙ ap (λ (x : List ℕ). f4 device.secret.k device.secret.opc x) rands in
-        let ck : v.ck ≡ f3 device.secret.k device.secret.opc c.rand =
-        sym (ap (λ (x : Vector). x.ck) is) ∙ ap (λ (s : Secret). f3 s.k s.opc r) same ∙ ap (λ (x : List ℕ). f3 device.secret.k device.secret.opc x) rands in
-        keys_alike text v ∙ ap (λ (x : List ℕ). keys_for text x v.ck) ik ∙ ap (λ (x : List ℕ). keys_for text (f4 device.secret.k device.secret.opc c.rand) x) ck
+        let autns : u.autn ≡ c.autn = ap (λ (x : Vector). x.autn) is ∙ sym autn in
+        ap (λ (x : Vector). keys_of o.method text x.ik x.ck) (sym is)
+        ∙ ap (λ (s : Secret). keys_with s r u.autn) same
+        ∙ ap (λ (x : List ℕ). keys_with device.secret x u.autn) rands
+        ∙ ap (λ (x : List ℕ). keys_with device.secret c.rand x) autns
 
 contained : {X : Type 0} (P : X → Type 0) (xs : List X) (x : X) → All P xs → Contains xs x → P x
 contained P xs x all c = subst P c.2 (all c.0 x c.1)
@@ -412,22 +431,24 @@ contained P xs x all c = subst P c.2 (all c.0 x c.1)
 pub agreed : (set : Setting) (w : Net) → HoldsOf set w → Agree w
 agreed set w h a b k l i j ina inb won other alike =
     let s = won.server in
+    let p = b.peer in
     let fa = (contained (SessionFine set w.devices w.packets) w.sessions a h.fine ina).server s won.is in
     let fb = contained (SessionFine set w.devices w.packets) w.sessions b h.fine inb in
     let done = fb.done l other.won in
     let (sent, last, keys) = fa.fits.success k won.won in
     let c = done.is.challenge in
-    let text = text_or_none b.peer.identity in
+    let text = text_or_none p.identity in
     let here = inputs_new s sent.sub sent.vector in
-    let there = inputs_at b.sub c b.peer in
-    let is_i : here ≡ i = one (inputs_of_server s) here i (ap (inputs_sent s.identity) last) won.inputs in
-    let is_j : there ≡ j = one (inputs_of_peer b.sub b.peer) there j (ap (inputs_accepted b.sub b.peer.identity) done.is.was_accepted) other.inputs in
+    let there = inputs_at b.sub c p in
+    let is_i : here ≡ i = one (inputs_of_server s) here i (ap (inputs_sent s.options s.identity) last) won.inputs in
+    let is_j : there ≡ j = one (inputs_of_peer b.sub p) there j (ap (inputs_accepted p.options.method p.network b.sub p.identity) done.is.was_accepted) other.inputs in
     let both = h.alike i j (fa.was_posted i won.inputs) (subst (IsPosted w.packets) is_j done.is.was_posted) alike in
     let same : here ≡ there = is_i ∙ both ∙ sym is_j in
     let (n, of) = fa.drawn sent last in
-    keys ∙ fa.fits.keys sent last ∙ ap (λ (t : List ℕ). keys_of t sent.vector) (ap (λ (y : Inputs). y.identity) same)
-    ∙ vector_keys set sent.sub n sent.vector done.device c text of (sym (ap (λ (y : Inputs). y.rand) same))
-    (λ row e. fb.card done.device row done.there (ap (slice_get set.rows) (sym (ap (λ (y : Inputs). y.sub) same)) ∙ e)) ∙ sym done.is.same
+    keys ∙ fa.fits.keys sent last ∙ ap (λ (y : Inputs). keys_of s.options.method y.identity sent.vector.ik sent.vector.ck) same
+    ∙ vector_keys set s.options sent.sub n sent.vector done.device c text of (sym (ap (λ (y : Inputs). y.rand) same)) (sym (ap (λ (y : Inputs). y.autn) same))
+    (λ row e. fb.card done.device row done.there (ap (slice_get set.rows) (sym (ap (λ (y : Inputs). y.sub) same)) ∙ e))
+    ∙ ap (λ (y : Inputs). keys_of_inputs done.device y.method y.name c text) same ∙ sym done.is.same
 
 -- ---- events
 
@@ -454,19 +475,21 @@ server_in set w place session s there is h = (at (SessionFine set w.devices w.pa
 
 -- ---- a delivery to a server
 
-inputs_kept : (s t : ServerEnd) → KeepsChallenge s t → (i : Inputs) → inputs_of_server t ≡ Some i → inputs_of_server s ≡ Some i
-inputs_kept s t k i e = by s.challenged refl
+inputs_kept : (s t : ServerEnd) → KeepsChallenge s t → t.options ≡ s.options → (i : Inputs) → inputs_of_server t ≡ Some i → inputs_of_server s ≡ Some i
+inputs_kept s t k stays i e = by s.challenged refl
   where
     by : (o : Option Challenged) → s.challenged ≡ o → inputs_of_server s ≡ Some i
-    by None f = absurd (none_some (inputs_of_server t) i (ap (inputs_sent t.identity) (k.challenge ∙ f)) e)
+    by None f = absurd (none_some (inputs_of_server t) i (ap (inputs_sent t.options t.identity) (k.challenge ∙ f)) e)
     by (Some sent) f =
-        ap (inputs_sent s.identity) f ∙ ap (λ (x : List ℕ). inputs_sent x (Some sent)) (sym (k.identity sent f)) ∙ ap (inputs_sent t.identity) (sym (k.challenge ∙ f)) ∙ e
+        ap (inputs_sent s.options s.identity) f ∙ ap (λ (o : ServerOptions). inputs_sent o s.identity (Some sent)) (sym stays)
+        ∙ ap (λ (x : List ℕ). inputs_sent t.options x (Some sent)) (sym (k.identity sent f)) ∙ ap (inputs_sent t.options t.identity) (sym (k.challenge ∙ f)) ∙ e
 
-kept_fine : (set : Setting) (packets : List SentPacket) (s t : ServerEnd) → ServerFine set packets s → KeepsChallenge s t → Fits t → ServerFine set packets t
-kept_fine set packets s t f k fits = record {
+kept_fine : (set : Setting) (packets : List SentPacket) (s t : ServerEnd) → ServerFine set packets s → KeepsChallenge s t → t.options ≡ s.options → Fits t
+    → ServerFine set packets t
+kept_fine set packets s t f k stays fits = record {
   fits = fits;
-  was_posted = λ i e. f.was_posted i (inputs_kept s t k i e);
-  drawn = λ sent e. f.drawn sent (sym k.challenge ∙ e);
+  was_posted = λ i e. f.was_posted i (inputs_kept s t k stays i e);
+  drawn = λ sent e. subst (λ (o : ServerOptions). (n : ℕ) × (vector_at set o sent.sub n ≡ Some sent.vector)) (sym stays) (f.drawn sent (sym k.challenge ∙ e));
 }
 
 to_server_next : Laws → (set : Setting) (w : Net) (d : Delivery) (told : Told) (o : Option ServerEnd) → AreSubscribers set.rows → d.session.server ≡ o
@@ -483,7 +506,7 @@ to_server_next laws set w d told (Some s) subscribers is there =
           let old = server_in set w d.place d.session s there is h in
           let fits = laws.server_fits set w.homes s told.seen told.notes old.fits in
           ⊎_elim
-          (λ kept. server_kept set w d.place d.session turn.0 turn.1.step more h there (kept_fine set w.packets s turn.0 old kept fits))
+          (λ kept. server_kept set w d.place d.session turn.0 turn.1.step more h there (kept_fine set w.packets s turn.0 old kept (turn_options set w.homes s told.seen told.notes) fits))
           (λ (new : SendsChallenge set asked turn.0 turn.1).
           let x : Number = record { sub = new.request.sub; n = new.n } in
           let is_more : more ≡ x ∷ [] = ap (λ (a : Option Asking). released_by a turn.1.notes.number) new.of ∙ ap (released_by (Some new.request)) new.drawn in
@@ -495,14 +518,22 @@ to_server_next laws set w d told (Some s) subscribers is there =
 -- ---- a delivery to a peer
 
 peer_kept : (device : Subscription) (packets : List SentPacket) (sub : ℕ) (p z : Peer) (keys : KeySet) → PeerIs device packets sub p keys → z.accepted ≡ p.accepted → z.identity ≡ p.identity
-    → PeerIs device packets sub z keys
-peer_kept device packets sub p z keys f acc id =
+    → z.options ≡ p.options → z.network ≡ p.network → PeerIs device packets sub z keys
+peer_kept device packets sub p z keys f acc id opt net =
     let c = f.challenge in
+    let same : inputs_at sub c p ≡ inputs_at sub c z = λ j. record {
+      method = (sym opt j).method;
+      name = sym net j;
+      sub = sub;
+      rand = c.rand;
+      autn = c.autn;
+      identity = text_or_none (sym id j);
+    } in
     record {
       challenge = c;
       was_accepted = acc ∙ f.was_accepted;
-      same = f.same ∙ ap (λ (t : Option (List ℕ)). keys_of_inputs device c (text_or_none t)) (sym id);
-      was_posted = subst (λ (t : Option (List ℕ)). IsPosted packets (record { sub = sub; rand = c.rand; autn = c.autn; identity = text_or_none t })) (sym id) f.was_posted;
+      same = f.same ∙ ap (λ (y : Inputs). keys_of_inputs device y.method y.name c y.identity) same;
+      was_posted = subst (IsPosted packets) same f.was_posted;
     }
 
 no_waiting : (s : PeerState) (keys : KeySet) → s ≡ peer_state.Waiting → s ≡ peer_state.Answered keys → ⊥
@@ -534,13 +565,15 @@ to_peer_next laws set w d told (Some device) is there honest =
           let fits = laws.peer_fits device p told.seen told.notes.usim told.readable (λ keys e.
           let f = old.live device keys is e in record { challenge = f.challenge; was_accepted = f.was_accepted; same = f.same }) in
           let kept : (other : Subscription) (keys : KeySet) → PeerIs other w.packets sub p keys → (p.state ≡ peer_state.Waiting → ⊥) → PeerIs other w.packets sub z keys =
-          λ other keys f apart. ⊎_elim (λ waits. absurd (apart waits)) (λ same. peer_kept other w.packets sub p z keys f same.0 same.1) m.keeps in
+          λ other keys f apart. ⊎_elim (λ waits. absurd (apart waits))
+          (λ same. ⊎_elim (λ waits. absurd (apart waits)) (λ stays. peer_kept other w.packets sub p z keys f same.0 same.1 m.options stays) m.network)
+          m.keeps in
           let fresh_keys : (keys : KeySet) → z.state ≡ peer_state.Answered keys → turn.1.checked ≡ true → PeerIs device w.packets sub z keys =
           λ keys e checked.
           let f = fits keys e in
           let s = honest checked in
           let own = inputs_at sub f.challenge z in
-          let same : s.own ≡ own = one (inputs_of_peer sub z) s.own own s.same_inputs (ap (inputs_accepted sub z.identity) f.was_accepted) in
+          let same : s.own ≡ own = one (inputs_of_peer sub z) s.own own s.same_inputs (ap (inputs_accepted z.options.method z.network sub z.identity) f.was_accepted) in
           record {
             challenge = f.challenge;
             was_accepted = f.was_accepted;
@@ -609,8 +642,8 @@ no_ended_success keys e = cc
 nothing : {X : Type 0} (x : X) → ◌≡◌ {A = Option X} None (Some x) → ⊥
 nothing x e = cc
 
-started_fine : (set : Setting) (packets : List SentPacket) → ServerFine set packets started
-started_fine set packets = record {
+started_fine : (set : Setting) (packets : List SentPacket) (o : ServerOptions) → ServerFine set packets (started o)
+started_fine set packets o = record {
   fits = record {
     first = λ e. refl;
     keys = λ sent e. absurd (nothing sent e);
@@ -621,7 +654,8 @@ started_fine set packets = record {
 }
 
 start_next : (set : Setting) (w : Net) (place : ℕ) (session : Session) (o : Option ServerEnd) → slice_get w.sessions place ≡ Some session → Next set w (start w place session o)
-start_next set w place session None there = kept_next set w place session started (step.Sent started.last) there (λ h. started_fine set w.packets)
+start_next set w place session None there =
+    let first = started session.options in kept_next set w place session first (step.Sent first.last) there (λ h. started_fine set w.packets session.options)
 start_next set w place session (Some s) there = still set w
 
 repeat_next : (set : Setting) (w : Net) (place : ℕ) (session : Session) (o : Option ServerEnd) → session.server ≡ o → slice_get w.sessions place ≡ Some session → Next set w (repeat w place session o)
@@ -660,7 +694,7 @@ server_gives_next set w place session (Some s) is there = by s.state
     by (state.Notifying cause) = kept_next set w place session (given_up s) (gave_up s (state.Notifying cause)).1 there (λ h. given_up_fine set w.packets s (server_in set w place session s there is h))
 
 abbrev peer_over : Peer → Peer
-peer_over p = record { state = peer_state.Ended; last = p.last; identity = p.identity; accepted = p.accepted }
+peer_over p = in_state p peer_state.Ended
 
 no_answered : (keys : KeySet) → peer_state.Ended ≡ peer_state.Answered keys → ⊥
 no_answered keys e = cc
@@ -680,7 +714,7 @@ peer_gives_next set w place session there = by session.peer.state
             ended = refl;
             device = f.device;
             there = f.there;
-            is = peer_kept f.device w.packets session.sub session.peer (peer_over session.peer) keys f.is refl refl;
+            is = peer_kept f.device w.packets session.sub session.peer (peer_over session.peer) keys f.is refl refl refl refl;
           });
     }
 
@@ -703,10 +737,10 @@ give_up_next set w end.Peer place session there = peer_gives_next set w place se
 no_waiting_answered : (keys : KeySet) → peer_state.Waiting ≡ peer_state.Answered keys → ⊥
 no_waiting_answered keys e = cc
 
-opened_next : (set : Setting) (w : Net) (session sub : ℕ) (old o : Option ℕ) → device_place set.rows w.devices sub ≡ o → Next set w (opened w session sub old o)
-opened_next set w session sub (Some first) o e = still set w
-opened_next set w session sub None None e = still set w
-opened_next set w session sub None (Some place) e = record {
+opened_next : (set : Setting) (w : Net) (opening : SessionLine) (old o : Option ℕ) → device_place set.rows w.devices opening.sub ≡ o → Next set w (opened w opening old o)
+opened_next set w opening (Some first) o e = still set w
+opened_next set w opening None None e = still set w
+opened_next set w opening None (Some place) e = record {
   more = [];
   grows = sym (append-nil w.released);
   holds = λ h o. record {
@@ -715,7 +749,7 @@ opened_next set w session sub None (Some place) e = record {
     alike = h.alike;
     fine = All-push (SessionFine set w.devices w.packets) w.sessions _ h.fine (record {
       server = λ s is. absurd (nothing s is);
-      card = λ device row there is. h.secrets sub place device row e there is;
+      card = λ device row there is. h.secrets opening.sub place device row e there is;
       live = λ device keys there is. absurd (no_waiting_answered keys is);
       done = λ keys is. absurd (nothing keys is);
     });
@@ -725,7 +759,8 @@ opened_next set w session sub None (Some place) e = record {
 -- ---- a run
 
 moved_next : Laws → (set : Setting) (w : Net) (e : Event) (told : Told) → AreSubscribers set.rows → IsHonestFinding w.packets (found set w e told) → Next set w (moved set w e told)
-moved_next laws set w (event.Open session sub) told subscribers honest = opened_next set w session sub (session_place w.sessions session) (device_place set.rows w.devices sub) refl
+moved_next laws set w (event.Open opening) told subscribers honest =
+    opened_next set w opening (session_place w.sessions opening.session) (device_place set.rows w.devices opening.sub) refl
 moved_next laws set w (event.Start session) told subscribers honest =
     session_next set w session (λ place s. start w place s s.server) (λ place s there. start_next set w place s s.server there)
 moved_next laws set w (event.Deliver session end.Server packet) told subscribers honest = server_delivered laws set w told packet (session_place w.sessions session) subscribers

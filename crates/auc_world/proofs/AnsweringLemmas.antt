@@ -1,12 +1,11 @@
 -- For `world`: a packet that reaches a peer.
-use Rattle.std.proofs.Common.{◌≡◌, ℕ, zero, suc, List, [], ◌∷◌, ◌++◌, map, Option, Some, None, Ok, Err, refl, sym, ap, ◌∙◌, subst}
+use Rattle.std.proofs.Common.{◌≡◌, ℕ, zero, suc, List, [], ◌∷◌, map, Option, Some, None, Ok, Err, refl, sym, ap, ◌∙◌, subst}
 use Rattle.std.specs.Prelude.{slice_get, slice_set}
 use Rattle.auc_hmac.specs.declared.keys.KeySet.{KeySet}
 use Rattle.auc_lines.specs.declared.part.End.TheVariants as end
-use Rattle.auc_peer.specs.Rows.{peer_row}
 use Rattle.auc_peer.specs.Subscription.{Subscription, subscription_of}
 use Rattle.auc_peer.specs.Table.{peer_step}
-use Rattle.auc_peer.specs.Turn.{Steps, asked, was_readable}
+use Rattle.auc_peer.specs.Turn.{Steps, was_readable}
 use Rattle.auc_peer.specs.declared.device.Device.{Device}
 use Rattle.auc_peer.specs.declared.peer.Peer.{Peer}
 use Rattle.auc_peer.specs.declared.why.PeerWhy.{PeerWhy}
@@ -91,7 +90,7 @@ module _ (packets : List SentPacket) (sessions : List Session) (released : List 
         → broken' ≡ judged looked broken (Some (record { checked = turn.checked; inputs = inputs; bytes = bytes; delivery = breach_at d0 end.Peer }))
         → sessions' ≡ slice_set sessions place (record session { peer = new; peer_keys = keys })
         → Answers old d0 (state_of packets' sessions' released homes broken' (slice_set devices session.device card))
-        (Ok (record { notes = turn.notes; step = did.Peer turn.step; packet = posted_as; asked = None; device = Some session.sub }))
+        (Ok (record { notes = turn.notes; step = did.Peer turn.step; packet = posted_as; asked = None; device = Some session.sub; vector = None }))
     answers read looked packets' sessions' broken' inputs sent posted_as keys is_read is_looked is_inputs is_sent is_packets is_posted is_keys is_broken is_sessions =
         let here : slice_get old.net.devices session.device ≡ Some (subscription_of device) = subscription_at devices session.device device there in
         let post : posted read end.Peer inputs sent ≡ posted packets end.Peer (inputs_of_peer session.sub new) (sent_by turn.step) = λ j. posted (is_read j) end.Peer (is_inputs j) (is_sent j) in
@@ -108,8 +107,8 @@ module _ (packets : List SentPacket) (sessions : List Session) (released : List 
         λ j. record old.net { packets = put j; sessions = kept j; devices = alike j; broken = breach j } in
         let number_is : posted_as ≡ packet_number old.net (sent_by turn.step) =
         is_posted ∙ ap (λ (ps : List SentPacket). number_after ps sent) is_read ∙ ap (number_after packets) is_sent ∙ sym (numbered old.net packets (sent_by turn.step) refl) in
-        let note_is : record { notes = turn.notes; step = did.Peer turn.step; packet = posted_as; asked = None; device = Some session.sub } ≡ by_peer old.net turn.notes turn.step (Some session.sub) =
-        λ j. record { notes = turn.notes; step = did.Peer turn.step; packet = number_is j; asked = None; device = Some session.sub } in
+        let note_is : record { notes = turn.notes; step = did.Peer turn.step; packet = posted_as; asked = None; device = Some session.sub; vector = None } ≡ by_peer old.net turn.notes turn.step (Some session.sub) =
+        λ j. record { notes = turn.notes; step = did.Peer turn.step; packet = number_is j; asked = None; device = Some session.sub; vector = None } in
         record {
           told = told;
           is = ap (λ (n : Note). Ok n) note_is ∙ ap (λ (x : Peer × Turn PeerWhy). Ok (by_peer old.net x.1.notes x.1.step (Some session.sub))) turn_is ∙ ap (came_at_peer old.net d0 told) (sym here);

@@ -106,8 +106,8 @@ line_quiet set before net next (line.Draw who count) sub lines (gives, is) none 
 line_quiet set before net next (line.Sync who seq bit count) sub lines (gives, is) none others =
     (ap (accepted sub) gives.lines_are ∙ follows_quiet set who count sub gives.answer gives.more gives.follows, subst (AreOthers sub) (sym is) others)
 line_quiet set before net next (line.Give who n) sub lines (gives, is) none others = (ap (accepted sub) gives.lines_are ∙ give_quiet sub who n gives.answer none, subst (AreOthers sub) (sym is) others)
-line_quiet set before net next (line.Session session who) sub lines gives none others =
-    (event_line_quiet set before net next (event.Open session who) sub lines gives others, others_stay set before net next (event.Open session who) sub lines gives others none)
+line_quiet set before net next (line.Session opening) sub lines gives none others =
+    (event_line_quiet set before net next (event.Open opening) sub lines gives others, others_stay set before net next (event.Open opening) sub lines gives others none)
 line_quiet set before net next (line.Start session) sub lines gives none others =
     (event_line_quiet set before net next (event.Start session) sub lines gives others, others_stay set before net next (event.Start session) sub lines gives others tt)
 line_quiet set before net next (line.Deliver session at' packet) sub lines gives none others =
@@ -220,9 +220,9 @@ line_beside set early own beside done net next (line.Give who n) lines held stil
       ),
       subst (λ (w : Net). AreOf (IsStill own beside) w.sessions) (sym is) still,
     )
-line_beside set early own beside done net next (line.Session session who) lines held still gives =
-    let e = event.Open session who in
-    (event_beside set early own beside done net next e lines still gives, event_still set (place early own done) own beside net next e lines still (held who (eq-eqb who who refl)) gives)
+line_beside set early own beside done net next (line.Session opening) lines held still gives =
+    let e = event.Open opening in
+    (event_beside set early own beside done net next e lines still gives, event_still set (place early own done) own beside net next e lines still (held opening.sub (eq-eqb opening.sub opening.sub refl)) gives)
 line_beside set early own beside done net next (line.Start session) lines held still gives =
     let e = event.Start session in (event_beside set early own beside done net next e lines still gives, event_still set (place early own done) own beside net next e lines still tt gives)
 line_beside set early own beside done net next (line.Deliver session at' packet) lines held still gives =

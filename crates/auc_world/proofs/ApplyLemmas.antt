@@ -1,15 +1,14 @@
 -- For `World::apply`: an event, by what its kind comes to.
-use Rattle.std.proofs.Common.{◌≡◌, ◌≢◌, ◌<◌, ◌≤◌, ℕ, zero, suc, List, [], ◌∷◌, length, map, Option, Some, None, Result, Ok, Err, refl, sym, ap, ◌∙◌, subst, arith}
-use Rattle.std.specs.Prelude.{IfOk, slice_get, slice_set}
+use Rattle.std.proofs.Common.{◌≡◌, ◌<◌, ℕ, zero, suc, List, [], ◌∷◌, length, Option, Some, None, Result, Ok, Err, refl, sym, ap, ◌∙◌, subst, arith}
+use Rattle.std.specs.Prelude.{IfOk, slice_get}
 use Rattle.auc_edge.specs.declared.stop.Stop.{Stop}
 use Rattle.auc_history.specs.declared.entry.Entry.{Entry}
+use Rattle.auc_lines.specs.declared.part.SessionLine.{SessionLine}
 use Rattle.auc_lines.specs.declared.part.End.{End}
 use Rattle.auc_lines.specs.declared.part.End.TheVariants as end
-use Rattle.auc_peer.specs.Table.{gave_up as peer_gave_up}
 use Rattle.auc_server.specs.Server.{ServerEnd}
 use Rattle.auc_server.specs.Setting.{Setting}
 use Rattle.auc_vector.specs.Notes.{Asked}
-use Rattle.auc_subs.specs.declared.row.Row.{Row}
 use Rattle.auc_world.proofs.ServingLemmas.{delivery_to, has_packet, nothing_told, unjudged}
 use Rattle.auc_world.specs.Came.{AreReceived, Came, AsksIn, TellsNotes, asking_in, came, came_delivered, came_in, came_opened, came_repeated, came_started, presented_in, received_at, server_came_to_give_up, session_of}
 use Rattle.auc_world.specs.Happened.{Delivery, Told, at_place, at_session, delivered, delivery_at, delivery_in, found_by, happened, in_session, opened, repeat, server_gives_up, start}
@@ -20,7 +19,6 @@ use Rattle.auc_world.specs.declared.acting.Deed.{Deed}
 use Rattle.auc_world.specs.declared.acting.Deed.TheVariants as deed
 use Rattle.auc_world.specs.declared.event.Event.TheVariants as event
 use Rattle.auc_world.specs.declared.event.WorldRefusal.{WorldRefusal}
-use Rattle.auc_world.specs.declared.net.Breach.{Breach}
 use Rattle.auc_world.specs.declared.net.SentPacket.{SentPacket}
 use Rattle.auc_world.specs.declared.net.Session.{Session}
 
@@ -39,10 +37,10 @@ both_ok (Err e) P R Q then p q = tt
 kept_breach : (w new : Net) → new.broken ≡ w.broken → new ≡ record new { broken = judged w.packets w.broken None }
 kept_breach w new same = let stays : new.broken ≡ judged w.packets w.broken None = same ∙ unjudged w.packets w.broken in λ j. record new { broken = stays j }
 
-opened_breach : (w : Net) (number sub : ℕ) (found place : Option ℕ) → (opened w number sub found place).broken ≡ w.broken
-opened_breach w number sub (Some other) place = refl
-opened_breach w number sub None None = refl
-opened_breach w number sub None (Some place) = refl
+opened_breach : (w : Net) (opening : SessionLine) (found place : Option ℕ) → (opened w opening found place).broken ≡ w.broken
+opened_breach w opening (Some other) place = refl
+opened_breach w opening None None = refl
+opened_breach w opening None (Some place) = refl
 
 opened_tells : (found place : Option ℕ) → TellsNotes nothing_told (came_opened found place)
 opened_tells (Some other) place = tt
@@ -67,8 +65,8 @@ session_breach w what None = refl
 session_breach w what (Some place) = place_breach w what place (slice_get w.sessions place)
 
 server_tells : (w : Net) (session : Session) (s : Option ServerEnd) (what : Deed) → session.server ≡ s → TellsNotes nothing_told (came_of w what session)
-server_tells w session None deed.Start is = subst (λ (o : Option ServerEnd). TellsNotes nothing_told (came_started w o)) (sym is) refl
-server_tells w session (Some s) deed.Start is = subst (λ (o : Option ServerEnd). TellsNotes nothing_told (came_started w o)) (sym is) tt
+server_tells w session None deed.Start is = subst (λ (o : Option ServerEnd). TellsNotes nothing_told (came_started w session.options o)) (sym is) refl
+server_tells w session (Some s) deed.Start is = subst (λ (o : Option ServerEnd). TellsNotes nothing_told (came_started w session.options o)) (sym is) tt
 server_tells w session None deed.Repeat is = subst (λ (o : Option ServerEnd). TellsNotes nothing_told (came_repeated w o)) (sym is) tt
 server_tells w session (Some s) deed.Repeat is = subst (λ (o : Option ServerEnd). TellsNotes nothing_told (came_repeated w o)) (sym is) refl
 server_tells w session None (deed.GiveUp end.Server) is = subst (λ (o : Option ServerEnd). TellsNotes nothing_told (server_came_to_give_up w o)) (sym is) tt
@@ -87,17 +85,17 @@ has_session (session ∷ sessions) (suc place) within = has_session sessions pla
 module _ {S : Type 0} (goes : S → ℕ → List Entry → List (ℕ × Stop) → S → Type 0) (kept : S → ℕ → Option ℕ) (top : S → ℕ → ℕ) (set : Setting) (old new : WorldState)
     (before after : S) (stays : (a : S) (i : ℕ) → goes a i [] [] a) where
   -- a session is opened
-  pub open_applies : (number sub : ℕ) (result : Came) → result ≡ came_opened (session_place old.net.sessions number) (device_place set.rows old.net.devices sub)
-      → new ≡ record old { net = opened old.net number sub (session_place old.net.sessions number) (device_place set.rows old.net.devices sub) }
-      → Applies goes kept top set old (event.Open number sub) before new result before
-  open_applies number sub result is leads = record {
+  pub open_applies : (opening : SessionLine) (result : Came) → result ≡ came_opened (session_place old.net.sessions opening.session) (device_place set.rows old.net.devices opening.sub)
+      → new ≡ record old { net = opened old.net opening (session_place old.net.sessions opening.session) (device_place set.rows old.net.devices opening.sub) }
+      → Applies goes kept top set old (event.Open opening) before new result before
+  open_applies opening result is leads = record {
     told = nothing_told;
     is = is;
     leads = ap (λ (w : WorldState). w.net) leads
-        ∙ kept_breach old.net (opened old.net number sub (session_place old.net.sessions number) (device_place set.rows old.net.devices sub))
-        (opened_breach old.net number sub (session_place old.net.sessions number) (device_place set.rows old.net.devices sub));
+        ∙ kept_breach old.net (opened old.net opening (session_place old.net.sessions opening.session) (device_place set.rows old.net.devices opening.sub))
+        (opened_breach old.net opening (session_place old.net.sessions opening.session) (device_place set.rows old.net.devices opening.sub));
     received = tt;
-    notes = opened_tells (session_place old.net.sessions number) (device_place set.rows old.net.devices sub);
+    notes = opened_tells (session_place old.net.sessions opening.session) (device_place set.rows old.net.devices opening.sub);
     centre = ((λ i. stays before i), (λ i. refl));
     drawn = tt;
     usims = ap (λ (w : WorldState). w.devices) leads;

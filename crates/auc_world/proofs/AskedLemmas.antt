@@ -1,11 +1,11 @@
 -- For worlds: the subscriber for whom a server asks the centre has a row.
-use Rattle.std.proofs.Common.{◌≡◌, ℕ, ◌<◌, ◌==◌, Bool, true, false, List, [], ◌∷◌, length, All, refl, sym, subst, ⊎_elim}
+use Rattle.std.proofs.Common.{◌≡◌, ℕ, ◌<◌, ◌==◌, Bool, true, false, List, [], ◌∷◌, length, refl, sym, subst, ⊎_elim}
 use Rattle.std.specs.Prelude.{Option, Some, None, IfSome, if◌then◌else◌}
 use Rattle.std.proofs.lemmas.Bool.{eqb-true, false≢true, or_cases}
 use Rattle.std.proofs.lemmas.List.Elements.{All-head, All-tail}
 use Rattle.auc_edge.specs.Identity.{Identity}
 use Rattle.auc_server.specs.Asked.{asked_after, sub_of}
-use Rattle.auc_server.specs.Rows.{held_place, if_held, is_held, subscriber_in}
+use Rattle.auc_server.specs.Rows.{held_place, if_held, is_held}
 use Rattle.auc_server.specs.Server.{ServerEnd}
 use Rattle.auc_server.specs.Setting.{Setting}
 use Rattle.auc_server.specs.Steps.{IsHeld, IsHome}
@@ -76,7 +76,7 @@ pub acted_asks_nobody : (w : Net) (what : Deed) (o : Option Session) → asked_i
 acted_asks_nobody w what None = refl
 acted_asks_nobody w deed.Start (Some session) = by session.server
   where
-    by : (o : Option ServerEnd) → asked_in (came_started w o) ≡ None
+    by : (o : Option ServerEnd) → asked_in (came_started w session.options o) ≡ None
     by None = refl
     by (Some s) = refl
 acted_asks_nobody w deed.Repeat (Some session) = by session.server

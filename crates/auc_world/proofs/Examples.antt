@@ -1,5 +1,6 @@
 -- For Net: the premise of a few deliveries, by hand.
-use Rattle.std.proofs.Common.{◌≡◌, ℕ, Bool, true, false, List, [], ◌∷◌, Option, Some, None, refl}
+use Rattle.std.proofs.Common.{◌≡◌, ℕ, true, false, List, [], ◌∷◌, Option, Some, None, refl}
+use Rattle.auc_hmac.specs.declared.method.Method.TheVariants as method
 use Rattle.auc_world.specs.Net.{Finding, judged}
 use Rattle.auc_lines.specs.declared.part.End.{End}
 use Rattle.auc_lines.specs.declared.part.End.TheVariants as end
@@ -9,10 +10,10 @@ use Rattle.auc_world.specs.declared.net.SentPacket.{SentPacket}
 
 -- two identities under one challenge
 abbrev own : Inputs
-own = record { sub = 3; rand = 7 ∷ []; autn = 8 ∷ []; identity = 48 ∷ 49 ∷ [] }
+own = record { method = method.Prime; name = 87 ∷ []; sub = 3; rand = 7 ∷ []; autn = 8 ∷ []; identity = 48 ∷ 49 ∷ [] }
 
 abbrev foreign : Inputs
-foreign = record { sub = 3; rand = 7 ∷ []; autn = 8 ∷ []; identity = 48 ∷ 50 ∷ [] }
+foreign = record { method = method.Prime; name = 87 ∷ []; sub = 3; rand = 7 ∷ []; autn = 8 ∷ []; identity = 48 ∷ 50 ∷ [] }
 
 -- a request without keys, a challenge, and its answer
 abbrev packets : List SentPacket
@@ -37,6 +38,19 @@ answer_is_honest = refl
 -- the challenge again, to a peer that has another identity
 replay_breaks : judged packets None (right end.Peer 2 foreign (1 ∷ 2 ∷ [])) ≡ Some (to end.Peer 2)
 replay_breaks = refl
+
+-- the challenge again, to a peer of another network, and to one of EAP-AKA
+abbrev of_other_network : Inputs
+of_other_network = record own { name = 88 ∷ [] }
+
+abbrev of_other_method : Inputs
+of_other_method = record own { method = method.Aka }
+
+other_network_breaks : judged packets None (right end.Peer 2 of_other_network (1 ∷ 2 ∷ [])) ≡ Some (to end.Peer 2)
+other_network_breaks = refl
+
+other_method_breaks : judged packets None (right end.Peer 2 of_other_method (1 ∷ 2 ∷ [])) ≡ Some (to end.Peer 2)
+other_method_breaks = refl
 
 -- the answer comes back to a peer
 reflection_breaks : judged packets None (right end.Peer 3 own (2 ∷ 2 ∷ [])) ≡ Some (to end.Peer 3)

@@ -1,5 +1,5 @@
 -- What other crates may cite of the proofs here; every other module is private.
-pub use Rattle.auc_world.proofs.AgreementLemmas.{HoldsOf, AsksWhatItNeeds, Laws, agreed}
+pub use Rattle.auc_world.proofs.AgreementLemmas.{HoldsOf, IsDrawn, Laws, agreed}
 pub use Rattle.auc_world.proofs.ApartLemmas.{accepted-append, job_quiet, jobs_give_after_all_lines}
 pub use Rattle.auc_world.proofs.BitLemmas.{bit_mask_is_bytes}
 pub use Rattle.auc_world.proofs.HeldLemmas.{withheld_of-held_of, none_held}

@@ -3,6 +3,7 @@ use Rattle.std.proofs.Common.{◌≡◌, ℕ, ◌<◌, ◌==◌, Bool, true, fal
 use Rattle.std.specs.Prelude.{if◌then◌else◌, flat_map}
 use Rattle.std.proofs.lemmas.List.Concat.{flat_map-append}
 use Rattle.std.proofs.lemmas.List.Elements.{All-cons, All-nil}
+use Rattle.auc_lines.specs.declared.part.SessionLine.{SessionLine}
 use Rattle.auc_lines.specs.Part.{is_that}
 use Rattle.auc_lines.specs.declared.part.End.{End}
 use Rattle.auc_lines.specs.declared.part.End.TheVariants as end
@@ -116,9 +117,9 @@ session_releases set w does comes (Some place) each = by (slice_get w.sessions p
 adds_none : (set : Setting) (w next : Net) (result : Came) → next.released ≡ w.released ++ [] → event_number result ≡ None → Releases set w next result
 adds_none set w next result same none = stays set w next result (same ∙ append-nil w.released) none
 
-start_releases : (set : Setting) (w : Net) (place : ℕ) (s : Session) (o : Option ServerEnd) → Releases set w (start w place s o) (came_started w o)
-start_releases set w place s None = adds_none set w (start w place s None) (came_started w None) refl refl
-start_releases set w place s (Some server) = stays set w w (came_started w (Some server)) refl refl
+start_releases : (set : Setting) (w : Net) (place : ℕ) (s : Session) (o : Option ServerEnd) → Releases set w (start w place s o) (came_started w s.options o)
+start_releases set w place s None = adds_none set w (start w place s None) (came_started w s.options None) refl refl
+start_releases set w place s (Some server) = stays set w w (came_started w s.options (Some server)) refl refl
 
 repeat_releases : (set : Setting) (w : Net) (place : ℕ) (s : Session) (o : Option ServerEnd) → Releases set w (repeat w place s o) (came_repeated w o)
 repeat_releases set w place s None = stays set w w (came_repeated w None) refl refl
@@ -132,15 +133,15 @@ give_up_releases : (set : Setting) (w : Net) (at' : End) (place : ℕ) (s : Sess
 give_up_releases set w end.Server place s = server_over_releases set w place s s.server
 give_up_releases set w end.Peer place s = stays set w (give_up w end.Peer place s) (came_given_up w end.Peer s) refl refl
 
-open_releases : (set : Setting) (w : Net) (session sub : ℕ) (first place : Option ℕ) → Releases set w (opened w session sub first place) (came_opened first place)
-open_releases set w session sub (Some first) place = stays set w w (came_opened (Some first) place) refl refl
-open_releases set w session sub None None = stays set w w (came_opened None None) refl refl
-open_releases set w session sub None (Some place) = stays set w (opened w session sub None (Some place)) (came_opened None (Some place)) refl refl
+open_releases : (set : Setting) (w : Net) (opening : SessionLine) (first place : Option ℕ) → Releases set w (opened w opening first place) (came_opened first place)
+open_releases set w opening (Some first) place = stays set w w (came_opened (Some first) place) refl refl
+open_releases set w opening None None = stays set w w (came_opened None None) refl refl
+open_releases set w opening None (Some place) = stays set w (opened w opening None (Some place)) (came_opened None (Some place)) refl refl
 
 pub moved_releases : (set : Setting) (w : Net) (e : Event) (told : Told) → IsCentreAsked set (asking_of set w e told) told.notes → Releases set w (moved set w e told) (came set w e told)
-moved_releases set w (event.Open session sub) told is = open_releases set w session sub (session_place w.sessions session) (device_place set.rows w.devices sub)
+moved_releases set w (event.Open opening) told is = open_releases set w opening (session_place w.sessions opening.session) (device_place set.rows w.devices opening.sub)
 moved_releases set w (event.Start session) told is =
-    session_releases set w (λ place s. start w place s s.server) (λ s. came_started w s.server) (session_place w.sessions session) (λ place s. start_releases set w place s s.server)
+    session_releases set w (λ place s. start w place s s.server) (λ s. came_started w s.options s.server) (session_place w.sessions session) (λ place s. start_releases set w place s s.server)
 moved_releases set w (event.Deliver session at' packet) told is = delivered_releases set w at' told packet (session_place w.sessions session) is
 moved_releases set w (event.Repeat session) told is =
     session_releases set w (λ place s. repeat w place s s.server) (λ s. came_repeated w s.server) (session_place w.sessions session) (λ place s. repeat_releases set w place s s.server)

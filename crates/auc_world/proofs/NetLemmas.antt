@@ -1,11 +1,12 @@
 -- For networks: the subscribers of the sessions, through an event.
-use Rattle.std.proofs.Common.{◌≡◌, ℕ, List, [], ◌∷◌, ◌++◌, All, refl}
-use Rattle.std.specs.Prelude.{Option, Some, None, Ok, Err, slice_get, slice_set}
+use Rattle.std.proofs.Common.{◌≡◌, ℕ, List, [], All, refl}
+use Rattle.std.specs.Prelude.{Option, Some, None, slice_get}
 use Rattle.std.proofs.lemmas.List.Elements.{All-push, All-set}
+use Rattle.auc_lines.specs.declared.part.SessionLine.{SessionLine}
 use Rattle.auc_lines.specs.declared.part.End.{End}
 use Rattle.auc_lines.specs.declared.part.End.TheVariants as end
 use Rattle.auc_peer.specs.Subscription.{Subscription}
-use Rattle.auc_peer.specs.Table.{gave_up as peer_gave_up, new_peer}
+use Rattle.auc_peer.specs.Table.{gave_up as peer_gave_up}
 use Rattle.auc_peer.specs.declared.peer.Peer.{Peer}
 use Rattle.auc_peer.specs.declared.why.PeerWhy.{PeerWhy}
 use Rattle.auc_server.specs.Rows.{server_row}
@@ -13,12 +14,13 @@ use Rattle.auc_server.specs.Server.{ServerEnd, started}
 use Rattle.auc_server.specs.Setting.{Setting}
 use Rattle.auc_server.specs.Steps.{asking}
 use Rattle.auc_server.specs.Table.{gave_up as server_gave_up, repeated}
+use Rattle.auc_server.specs.declared.options.ServerOptions.{ServerOptions}
 use Rattle.auc_server.specs.declared.why.ServerWhy.{ServerWhy}
 use Rattle.auc_vector.specs.declared.turn.Step.{Step}
 use Rattle.auc_vector.specs.declared.turn.Step.TheVariants as step
 use Rattle.auc_world.specs.Came.{Came, Presented, came, came_at_peer, came_at_server, came_delivered, came_given_up, came_in, came_opened, came_repeated, came_started, presented_by, presented_in, presented_at, server_came_to_give_up, session_of}
 use Rattle.auc_world.specs.Event.{device_in}
-use Rattle.auc_world.specs.Happened.{Delivery, Told, at_place, at_session, delivered, delivery_at, delivery_in, delivery_of, give_up, happened, in_session, moved, opened, peer_turn, released_by, repeat, server_gives_up, server_turn, start, to_peer, to_server, with_peer, with_server}
+use Rattle.auc_world.specs.Happened.{Delivery, Told, at_place, delivered, delivery_at, delivery_of, give_up, happened, in_session, new_session, opened, peer_turn, released_by, repeat, server_gives_up, server_turn, start, to_peer, to_server, with_peer, with_server}
 use Rattle.auc_world.specs.Net.{Net, device_place, packet_at, session_place}
 use Rattle.auc_world.specs.declared.event.Event.{Event}
 use Rattle.auc_world.specs.declared.event.Event.TheVariants as event
@@ -46,7 +48,7 @@ peer_stays : (Q : ℕ → ℕ → Type 0) (w : Net) (place : ℕ) (session : Ses
 peer_stays Q w place session p did all own = All-set (λ s. Q s.sub s.device) w.sessions place _ own all
 
 start_stays : (Q : ℕ → ℕ → Type 0) (w : Net) (place : ℕ) (session : Session) (o : Option ServerEnd) → AreAt Q w.sessions → Q session.sub session.device → AreAt Q (start w place session o).sessions
-start_stays Q w place session None all own = server_stays Q w place session [] started (step.Sent started.last) all own
+start_stays Q w place session None all own = server_stays Q w place session [] (started session.options) (step.Sent (started session.options).last) all own
 start_stays Q w place session (Some s) all own = all
 
 repeat_stays : (Q : ℕ → ℕ → Type 0) (w : Net) (place : ℕ) (session : Session) (o : Option ServerEnd) → AreAt Q w.sessions → Q session.sub session.device → AreAt Q (repeat w place session o).sessions
@@ -73,10 +75,11 @@ at_stays : (Q : ℕ → ℕ → Type 0) (w : Net) (does : ℕ → Session → Ne
 at_stays Q w does None all each = all
 at_stays Q w does (Some place) all each = in_stays Q w does place (slice_get w.sessions place) refl all (each place)
 
-opened_stays : (Q : ℕ → ℕ → Type 0) (w : Net) (session sub : ℕ) (old place : Option ℕ) → AreAt Q w.sessions → ((at' : ℕ) → place ≡ Some at' → Q sub at') → AreAt Q (opened w session sub old place).sessions
-opened_stays Q w session sub (Some first) place all own = all
-opened_stays Q w session sub None None all own = all
-opened_stays Q w session sub None (Some place) all own = All-push (λ s. Q s.sub s.device) w.sessions (record { number = session; sub = sub; device = place; server = None; peer = new_peer; peer_keys = None }) all (own place refl)
+opened_stays : (Q : ℕ → ℕ → Type 0) (w : Net) (opening : SessionLine) (old place : Option ℕ) → AreAt Q w.sessions → ((at' : ℕ) → place ≡ Some at' → Q opening.sub at')
+    → AreAt Q (opened w opening old place).sessions
+opened_stays Q w opening (Some first) place all own = all
+opened_stays Q w opening None None all own = all
+opened_stays Q w opening None (Some place) all own = All-push (λ s. Q s.sub s.device) w.sessions (new_session opening place) all (own place refl)
 
 delivered_stays : (Q : ℕ → ℕ → Type 0) (set : Setting) (w : Net) (at' : End) (told : Told) (packet : ℕ) (o : Option ℕ) → AreAt Q w.sessions
     → AreAt Q (delivered set w at' told (delivery_at w packet o)).sessions
@@ -107,14 +110,15 @@ delivered_stays Q set w at' told packet (Some place) all = by (slice_get w.sessi
 
 -- the subscriber and the device of a session that an event opens are such
 abbrev pub OpensAt : (ℕ → ℕ → Type 0) → Setting → Net → Event → Type 0
-OpensAt Q set w (event.Open session sub) = (place : ℕ) → device_place set.rows w.devices sub ≡ Some place → Q sub place
+OpensAt Q set w (event.Open opening) = (place : ℕ) → device_place set.rows w.devices opening.sub ≡ Some place → Q opening.sub place
 OpensAt Q set w (event.Start session) = Unit {0}
 OpensAt Q set w (event.Deliver session at' packet) = Unit {0}
 OpensAt Q set w (event.Repeat session) = Unit {0}
 OpensAt Q set w (event.GiveUp session at') = Unit {0}
 
 pub places_stay : (Q : ℕ → ℕ → Type 0) (set : Setting) (w : Net) (e : Event) (told : Told) → AreAt Q w.sessions → OpensAt Q set w e → AreAt Q (happened set w e told).sessions
-places_stay Q set w (event.Open session sub) told all own = opened_stays Q w session sub (session_place w.sessions session) (device_place set.rows w.devices sub) all own
+places_stay Q set w (event.Open opening) told all own =
+    opened_stays Q w opening (session_place w.sessions opening.session) (device_place set.rows w.devices opening.sub) all own
 places_stay Q set w (event.Start session) told all own =
     at_stays Q w (λ place s. start w place s s.server) (session_place w.sessions session) all (λ place s. start_stays Q w place s s.server all)
 places_stay Q set w (event.Deliver session at' packet) told all own = delivered_stays Q set w at' told packet (session_place w.sessions session) all
@@ -124,14 +128,14 @@ places_stay Q set w (event.GiveUp session at') told all own = at_stays Q w (give
 
 -- the subscriber of a session that an event opens is one of these
 abbrev pub Opens : (ℕ → Type 0) → Event → Type 0
-Opens P (event.Open session sub) = P sub
+Opens P (event.Open opening) = P opening.sub
 Opens P (event.Start session) = Unit {0}
 Opens P (event.Deliver session at' packet) = Unit {0}
 Opens P (event.Repeat session) = Unit {0}
 Opens P (event.GiveUp session at') = Unit {0}
 
 opens_at : (P : ℕ → Type 0) (set : Setting) (w : Net) (e : Event) → Opens P e → OpensAt (λ sub place. P sub) set w e
-opens_at P set w (event.Open session sub) own = λ place is. own
+opens_at P set w (event.Open opening) own = λ place is. own
 opens_at P set w (event.Start session) own = tt
 opens_at P set w (event.Deliver session at' packet) own = tt
 opens_at P set w (event.Repeat session) own = tt
@@ -159,17 +163,17 @@ came_in_of P does (Some session) each = by (device_in (does session)) (each sess
 
 -- it is that of a session
 pub device_is_of : (P : ℕ → Type 0) (set : Setting) (w : Net) (e : Event) (told : Told) → AreOf P w.sessions → IsOf P (device_in (came set w e told))
-device_is_of P set w (event.Open session sub) told all = by (session_place w.sessions session) (device_place set.rows w.devices sub)
+device_is_of P set w (event.Open opening) told all = by (session_place w.sessions opening.session) (device_place set.rows w.devices opening.sub)
   where
     by : (old place : Option ℕ) → IsOf P (device_in (came_opened old place))
     by (Some first) place = tt
     by None None = tt
     by None (Some place) = tt
-device_is_of P set w (event.Start session) told all = came_in_of P (λ s. came_started w s.server) (session_of w session) (λ s. by s.server)
+device_is_of P set w (event.Start session) told all = came_in_of P (λ s. came_started w s.options s.server) (session_of w session) (λ s. by s.options s.server)
   where
-    by : (o : Option ServerEnd) → device_in (came_started w o) ≡ None
-    by None = refl
-    by (Some s) = refl
+    by : (options : ServerOptions) (o : Option ServerEnd) → device_in (came_started w options o) ≡ None
+    by options None = refl
+    by options (Some s) = refl
 device_is_of P set w (event.Repeat session) told all = came_in_of P (λ s. came_repeated w s.server) (session_of w session) (λ s. by s.server)
   where
     by : (o : Option ServerEnd) → device_in (came_repeated w o) ≡ None
@@ -216,7 +220,7 @@ IsPresentedAt Q None = Unit {0}
 IsPresentedAt Q (Some p) = Q p.delivery.session.sub p.delivery.session.device
 
 pub presented_is_at : (Q : ℕ → ℕ → Type 0) (w : Net) (e : Event) (told : Told) → AreAt Q w.sessions → IsPresentedAt Q (presented_by w e told)
-presented_is_at Q w (event.Open session sub) told all = tt
+presented_is_at Q w (event.Open opening) told all = tt
 presented_is_at Q w (event.Start session) told all = tt
 presented_is_at Q w (event.Repeat session) told all = tt
 presented_is_at Q w (event.GiveUp session at') told all = tt

@@ -1,12 +1,12 @@
 -- For plain sessions: a server finds the subscriber whose permanent identity it receives.
-use Rattle.std.proofs.Common.{◌≡◌, ◌≢◌, ◌⊎◌, ℕ, zero, suc, ◌+◌, ◌/◌, ◌%◌, ◌<◌, ◌≤◌, ◌==◌, ◌&&◌, Bool, true, false, cond, if◌then◌else◌, ltb, List, [], ◌∷◌, ◌++◌, length, take, get_or, Option, Some, None, slice_get, refl, sym, ap, ◌∙◌, subst, arith, eq-eqb, ⊎_elim, length-append}
+use Rattle.std.proofs.Common.{◌≡◌, ◌≢◌, ℕ, zero, suc, ◌+◌, ◌/◌, ◌%◌, ◌<◌, ◌≤◌, ◌==◌, Bool, true, false, cond, if◌then◌else◌, ltb, List, [], ◌∷◌, ◌++◌, length, get_or, Option, Some, None, slice_get, refl, sym, ap, ◌∙◌, subst, arith, eq-eqb, length-append}
 use Rattle.std.proofs.lemmas.Bool.{and_from, and_parts, eqb-true, le-ltb, lt-ltb, ltb-false, ltb-true, ne_eqb}
 use Rattle.std.proofs.lemmas.List.{get_or_append_left, get_or_push, take_at}
 use Rattle.std.proofs.lemmas.List.Sums.{position_or_len_is}
 use Rattle.std.proofs.Math.Seq.{get_or-append_seam}
 use Rattle.std.proofs.lemmas.Option.{get_or_from_slice_get, slice_get_within}
-use Rattle.std.specs.Prelude.{position}
 use Rattle.auc_edge.specs.Identity.{Identity, IsIdentity, digits_of, last_digits}
+use Rattle.auc_hmac.specs.declared.method.Method.{Method}
 use Rattle.auc_hmac.specs.declared.method.Method.TheVariants as method
 use Rattle.auc_ident.specs.Permanent.{permanent_in, permanent_text, up_to, username}
 use Rattle.auc_peer.specs.Subscription.{Subscription, identity_text, with_realm}
@@ -48,22 +48,23 @@ no_digit_at (suc count) number k lt =
         ap is_at (get_or_push front (48 + number % 10) 0 k last) ∙ ne_eqb (48 + number % 10) 64 (λ same. omega (arith, same))
 
 -- the leading digit and the digits of an IMSI have none
-no_at : (imsi : Identity) (k : ℕ) → k < length (permanent_text method.Aka imsi) → is_at (get_or (permanent_text method.Aka imsi) k 0) ≡ false
-no_at imsi zero lt = refl
-no_at imsi (suc k) lt = no_digit_at imsi.digits imsi.number k (omega (arith, lt, length-last_digits imsi.digits imsi.number))
+no_at : (m : Method) (imsi : Identity) (k : ℕ) → k < length (permanent_text m imsi) → is_at (get_or (permanent_text m imsi) k 0) ≡ false
+no_at method.Aka imsi zero lt = refl
+no_at method.Prime imsi zero lt = refl
+no_at m imsi (suc k) lt = no_digit_at imsi.digits imsi.number k (omega (arith, lt, length-last_digits imsi.digits imsi.number))
 
 -- the username of a permanent identity
-pub username_is : (imsi : Identity) (realm : List ℕ) → username (with_realm (permanent_text method.Aka imsi) realm) ≡ permanent_text method.Aka imsi
-username_is imsi [] =
-    let text = permanent_text method.Aka imsi in
+pub username_is : (m : Method) (imsi : Identity) (realm : List ℕ) → username (with_realm (permanent_text m imsi) realm) ≡ permanent_text m imsi
+username_is m imsi [] =
+    let text = permanent_text m imsi in
     let long = length text in
-    let none = position_or_len_is is_at text long 0 (omega arith) (λ k lt. no_at imsi k lt) (λ lt. absurd (omega (arith, lt))) in
+    let none = position_or_len_is is_at text long 0 (omega arith) (λ k lt. no_at m imsi k lt) (λ lt. absurd (omega (arith, lt))) in
     ap (λ (o : Option ℕ). up_to o text) (ap (λ (k : ℕ). cond (ltb k long) (Some k) None) none ∙ ap (λ (b : Bool). cond b (Some long) None) (le-ltb long long (omega arith)))
-username_is imsi (letter ∷ letters) =
-    let text = permanent_text method.Aka imsi in
+username_is m imsi (letter ∷ letters) =
+    let text = permanent_text m imsi in
     let whole = text ++ 64 ∷ letter ∷ letters in
     let long : length whole ≡ length text + length (64 ∷ letter ∷ letters) = length-append text (64 ∷ letter ∷ letters) in
-    let before : (k : ℕ) → k < length text → is_at (get_or whole k 0) ≡ false = λ k lt. ap is_at (get_or_append_left text (64 ∷ letter ∷ letters) 0 k lt) ∙ no_at imsi k lt in
+    let before : (k : ℕ) → k < length text → is_at (get_or whole k 0) ≡ false = λ k lt. ap is_at (get_or_append_left text (64 ∷ letter ∷ letters) 0 k lt) ∙ no_at m imsi k lt in
     let here : is_at (get_or whole (length text) 0) ≡ true = ap is_at (get_or-append_seam text 64 (letter ∷ letters) 0) in
     let first = position_or_len_is is_at whole (length text) 0 (omega (arith, long)) before (λ lt. here) in
     let within : length text < length whole = omega (arith, long) in
@@ -72,15 +73,15 @@ username_is imsi (letter ∷ letters) =
     ∙ take_at text (64 ∷ letter ∷ letters) (length text) refl
 
 -- a permanent identity takes a byte more than the IMSI has digits, and one more than that with its realm
-pub identity_size : (device : Subscription) → device.imsi.digits ≤ 15 → length device.realm ≤ 255 → length (identity_text device) ≤ 4091
-identity_size device few short = by device.realm short
+pub identity_size : (m : Method) (device : Subscription) → device.imsi.digits ≤ 15 → length device.realm ≤ 255 → length (identity_text m device) ≤ 4091
+identity_size m device few short = by device.realm short
   where
     digits : length (digits_of device.imsi) ≡ device.imsi.digits
     digits = length-last_digits device.imsi.digits device.imsi.number
 
-    by : (realm : List ℕ) → length realm ≤ 255 → length (with_realm (permanent_text method.Aka device.imsi) realm) ≤ 4091
+    by : (realm : List ℕ) → length realm ≤ 255 → length (with_realm (permanent_text m device.imsi) realm) ≤ 4091
     by [] h = omega (arith, digits, few)
-    by (letter ∷ letters) h = omega (arith, digits, few, h, length-append (permanent_text method.Aka device.imsi) (64 ∷ letter ∷ letters))
+    by (letter ∷ letters) h = omega (arith, digits, few, h, length-append (permanent_text m device.imsi) (64 ∷ letter ∷ letters))
 
 -- ---- the row
 
@@ -106,13 +107,13 @@ place_is rows sub row subscribers there =
     (subst (λ (r : Row). (get_or rows k row).imsi ≢ r.imsi) here (subscribers.differ k sub row lt (slice_get_within rows sub row there))))
 
 -- and by its permanent identity with any realm, if it is held
-pub subscriber_is : Laws → (set : Setting) (homes : List HomeRow) (sub : ℕ) (row : Row) (device : Subscription) → AreSubscribers set.rows → slice_get set.rows sub ≡ Some row → device.imsi ≡ row.imsi
-    → is_held homes sub ≡ true → subscriber_in set homes (identity_text device) ≡ Some sub
-subscriber_is laws set homes sub row device subscribers there same held =
-    let text = permanent_text method.Aka device.imsi in
+pub subscriber_is : Laws → (m : Method) (set : Setting) (homes : List HomeRow) (sub : ℕ) (row : Row) (device : Subscription) → AreSubscribers set.rows → slice_get set.rows sub ≡ Some row → device.imsi ≡ row.imsi
+    → is_held homes sub ≡ true → subscriber_in m set homes (identity_text m device) ≡ Some sub
+subscriber_is laws m set homes sub row device subscribers there same held =
+    let text = permanent_text m device.imsi in
     let is_row = all_at IsRow set.rows sub row subscribers.each there in
-    let read : permanent_in method.Aka text ≡ Some device.imsi =
-    (laws.permanent method.Aka text device.imsi (subst (λ (i : Identity). IsIdentity i.digits i.number) (sym same) is_row.identity)).1 refl in
-    ap (λ (t : List ℕ). held_place set.rows homes (permanent_in method.Aka t)) (username_is device.imsi device.realm) ∙ ap (held_place set.rows homes) read
+    let read : permanent_in m text ≡ Some device.imsi =
+    (laws.permanent m text device.imsi (subst (λ (i : Identity). IsIdentity i.digits i.number) (sym same) is_row.identity)).1 refl in
+    ap (λ (t : List ℕ). held_place set.rows homes (permanent_in m t)) (username_is m device.imsi device.realm) ∙ ap (held_place set.rows homes) read
     ∙ ap (λ (i : Identity). if_held homes (place_of set.rows i)) same ∙ ap (if_held homes) (place_is set.rows sub row subscribers there)
     ∙ ap (λ (b : Bool). if b then Some sub else None) held

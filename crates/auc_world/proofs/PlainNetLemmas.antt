@@ -1,6 +1,6 @@
 -- For plain sessions: a packet that is under way reaches its end, and the packet that the end sends is under way to the other one.
-use Rattle.std.proofs.Common.{◌≡◌, ℕ, ◌+◌, ◌-◌, ◌<◌, ◌≤◌, ◌==◌, Bool, true, false, List, [], ◌∷◌, ◌++◌, length, Option, Some, None, Result, Ok, Err, slice_get, slice_set, get_or, zero, suc, refl, sym, ap, ◌∙◌, subst, arith, cond, ltb, length-append}
-use Rattle.std.specs.Prelude.{All, flat_map, position}
+use Rattle.std.proofs.Common.{◌≡◌, ℕ, ◌+◌, ◌-◌, ◌<◌, ◌≤◌, ◌==◌, Bool, true, false, List, [], ◌∷◌, ◌++◌, length, Option, Some, None, Ok, slice_get, slice_set, get_or, suc, refl, sym, ap, ◌∙◌, subst, arith, cond, ltb, length-append}
+use Rattle.std.specs.Prelude.{flat_map, position}
 use Rattle.std.proofs.lemmas.Bool.{lt-ltb}
 use Rattle.std.proofs.lemmas.List.{get_or-set_other, get_or-set_same, get_or_push, length-set, length_push}
 use Rattle.std.proofs.lemmas.List.Elements.{All-head, All-tail}
@@ -9,7 +9,7 @@ use Rattle.std.proofs.lemmas.List.Sums.{position_or_len_is}
 use Rattle.std.proofs.lemmas.Option.{get_or_from_slice_get, slice_get-get_or, slice_get_within}
 use Rattle.auc_lines.specs.declared.part.End.{End}
 use Rattle.auc_lines.specs.declared.part.End.TheVariants as end
-use Rattle.auc_packet.specs.Received.{IsReceived, Seen}
+use Rattle.auc_packet.specs.Received.{IsReceived}
 use Rattle.auc_peer.specs.Rows.{peer_row}
 use Rattle.auc_peer.specs.Subscription.{Subscription}
 use Rattle.auc_peer.specs.Table.{peer_step}
@@ -30,15 +30,14 @@ use Rattle.auc_vector.specs.declared.notes.Notes.{Notes}
 use Rattle.auc_vector.specs.declared.turn.Step.{Step}
 use Rattle.auc_vector.specs.declared.turn.Step.TheVariants as step
 use Rattle.auc_vector.specs.declared.turn.Turn.{Turn}
-use Rattle.auc_world.specs.Came.{AreReceived, Came, Presented, TellsNotes, asking_at, asking_in, by_peer, by_server, came, came_at_peer, came_at_server, came_delivered, came_in, came_started, packet_number, presented_at, presented_in, received_at, received_by, session_at, session_of}
+use Rattle.auc_world.specs.Came.{AreReceived, Came, Presented, TellsNotes, asking_at, asking_in, by_peer, by_server, came, came_at_peer, came_at_server, came_delivered, came_in, came_started, packet_number, presented_at, presented_in, received_at, received_by, session_at, session_of, vector_sent}
 use Rattle.auc_world.specs.Event.{number_in, resync_in, usim_in}
-use Rattle.auc_world.specs.Given.{Before, EventGives, IsCentreAsked, IsUsimAsked, PlainGives, RelayGives, UsimNotes, behind, packet_in, packet_of, past_before}
-use Rattle.auc_world.specs.Happened.{Delivery, Told, at_place, delivered, delivery_at, delivery_in, delivery_of, happened, in_session, keys_won, moved, released_by, sent_by, start, to_peer, to_server, with_peer, with_server}
-use Rattle.auc_world.specs.Net.{Net, inputs_of_peer, inputs_of_server, other, packet_at, posted, session_place}
+use Rattle.auc_world.specs.Given.{Before, IsCentreAsked, IsUsimAsked, PlainGives, RelayGives, UsimNotes, behind, packet_of, past_before}
+use Rattle.auc_world.specs.Happened.{Delivery, Told, at_place, delivered, delivery_at, delivery_in, delivery_of, in_session, keys_won, moved, released_by, sent_by, start, to_peer, to_server, with_peer, with_server}
+use Rattle.auc_world.specs.Net.{Net, inputs_of_peer, inputs_of_server, packet_at, posted, session_place}
 use Rattle.auc_world.specs.Plain.{TellNoCause, is_refused, is_too_far, results, sqn_reported}
 use Rattle.auc_world.specs.declared.event.Event.{Event}
 use Rattle.auc_world.specs.declared.event.Event.TheVariants as event
-use Rattle.auc_world.specs.declared.event.EventRecord.{EventRecord}
 use Rattle.auc_world.specs.declared.event.Note.{Note}
 use Rattle.auc_world.specs.declared.net.Inputs.{Inputs}
 use Rattle.auc_world.specs.declared.net.SentPacket.{SentPacket}
@@ -311,7 +310,7 @@ server_takes set number s device bytes q syncs next is o = by o.lines o.gives o.
         let there : delivery_in w number o.packet ≡ Some d = delivers w number o.packet o.place s o.sent o.stands o.under_way in
         let turn = server_step set w.homes q told.seen told.notes in
         let asks = asking (server_row set w.homes q told.seen) in
-        let note : Note = by_server w turn.1.notes turn.1.step asks in
+        let note : Note = by_server w turn.1.notes turn.1.step asks (vector_sent turn.1.notes.number turn.0.challenged) in
         let came_is : came set w e told ≡ Ok note =
         ap (λ (p : Option SentPacket). came_delivered set w end.Server told p (delivery_in w number o.packet)) o.under_way
         ∙ ap (came_delivered set w end.Server told (Some o.sent)) there ∙ ap (came_at_server set w told) is in
@@ -355,29 +354,30 @@ server_takes set number s device bytes q syncs next is o = by o.lines o.gives o.
 
 pub starts : (set : Setting) (before : Before) (w next : Net) (number place : ℕ) (s : Session) (device : Subscription) (syncs : ℕ) (lines : List LineRecord) → Stands w number place s → s.server ≡ None
     → slice_get w.devices s.device ≡ Some device → is_held w.homes s.sub ≡ true → PlainGives set before w number lines next → TellNoCause syncs lines
-    → OnWay set number end.Peer (server_new s started) device started.last syncs next
+    → OnWay set number end.Peer (server_new s (started s.options)) device (started s.options).last syncs next
 starts set before w next number place s device syncs [] st none card held gives well = absurd gives
 starts set before w next number place s device syncs (line ∷ lines) st none card held (mid, gives, relay) well =
     let e : Event = event.Start number in
     let told = gives.told in
-    let did : Step ServerWhy = step.Sent started.last in
-    let note : Note = by_server w silent did None in
+    let first = started s.options in
+    let did : Step ServerWhy = step.Sent first.last in
+    let note : Note = by_server w silent did None None in
     let came_is : came set w e told ≡ Ok note =
-    ap (λ (x : Option Session). came_in (λ (t : Session). came_started w t.server) x) (stands_as w number place s st) ∙ ap (came_started w) none in
+    ap (λ (x : Option Session). came_in (λ (t : Session). came_started w t.options t.server) x) (stands_as w number place s st) ∙ ap (came_started w s.options) none in
     let line_is : line ≡ record_of.Event (record { event = e; result = Ok note }) =
     one_line line (record_of.Event (record { event = e; result = came set w e told })) gives.lines_are
     ∙ ap (λ (c : Came). record_of.Event (record { event = e; result = c })) came_is in
     let does : ℕ → Session → Net = λ k t. start w k t t.server in
-    let moved_is : moved set w e told ≡ with_server w place s [] started did =
+    let moved_is : moved set w e told ≡ with_server w place s [] first did =
     ap (at_place w does) st.numbered ∙ ap (in_session w does place) st.there ∙ ap (start w place s) none in
     let spare = spared syncs e note lines (subst (λ (l : LineRecord). TellNoCause syncs (l ∷ lines)) line_is well) in
-    let steps : Steps w mid place (server_new s started) end.Server (inputs_of_server started) (Some started.last) =
+    let steps : Steps w mid place (server_new s first) end.Server (inputs_of_server first) (Some first.last) =
     record {
       sessions = ap (λ (n : Net). n.sessions) gives.leads ∙ ap (λ (n : Net). n.sessions) moved_is;
       packets = ap (λ (n : Net). n.packets) gives.leads ∙ ap (λ (n : Net). n.packets) moved_is;
       devices = ap (λ (n : Net). n.devices) gives.leads ∙ ap (λ (n : Net). n.devices) moved_is;
       homes = ap (λ (n : Net). n.homes) gives.leads ∙ ap (λ (n : Net). n.homes) moved_is;
     } in
-    goes_on set number end.Peer end.Server place s (server_new s started) device syncs (behind before (line ∷ [])) w mid next (inputs_of_server started) (Some started.last) lines st refl card held steps
+    goes_on set number end.Peer end.Server place s (server_new s first) device syncs (behind before (line ∷ [])) w mid next (inputs_of_server first) (Some first.last) lines st refl card held steps
     (subst (λ (p : Option ℕ). RelayGives set (behind before (line ∷ [])) mid number end.Peer p lines next) (ap packet_of line_is) relay)
     (subst (λ (n : ℕ). TellNoCause n lines) (omega arith) spare.later)

@@ -1,14 +1,14 @@
 -- For plain sessions: how many bytes the values of a vector and an AUTS have.
-use Rattle.std.proofs.Common.{◌≡◌, ℕ, zero, suc, ◌+◌, ◌*◌, ◌<◌, List, [], ◌∷◌, ◌++◌, length, take, drop, refl, sym, ap, ◌∙◌, arith, length-append}
+use Rattle.std.proofs.Common.{◌≡◌, ℕ, zero, suc, ◌+◌, ◌*◌, ◌<◌, List, [], ◌∷◌, ◌++◌, length, refl, sym, ◌∙◌, arith, length-append}
 use Rattle.std.proofs.lemmas.List.{length-drop, length-take-le}
-use Rattle.std.specs.Int.{w32, w128, bytes_high_first, bytes_low_first, byte_at, from_be_bytes, rotate_left, to_be_bytes, to_le_bytes}
+use Rattle.std.specs.Int.{w128, bytes_high_first, bytes_low_first, byte_at, from_be_bytes, rotate_left, to_be_bytes}
 use Rattle.auc_aes.proofs.Facts.{aes_block, bytes_append, length_xor, xor_block}
 use Rattle.auc_aes.specs.Bytes.{IsBlock, IsBytes, rot, xor}
 use Rattle.auc_aes.specs.Cipher.{aes}
 use Rattle.auc_milenage.proofs.Facts.{f5_size, out_block}
 use Rattle.auc_milenage.specs.Milenage.{auts, c1, c2, c5, f1, f1_star, f2, f5, f5_star, in1_of, out, out1, r1, r2, r5, temp_of}
 use Rattle.auc_sqn.specs.Number.{sqn_bytes}
-use Rattle.auc_vector.specs.Random.{rand_of, sixteen_at, word_bytes}
+use Rattle.auc_random.specs.Random.{rand_of, sixteen_at, word_bytes}
 use Rattle.auc_vector.specs.Vector.{autn_of}
 
 -- ---- numbers as bytes

@@ -4,10 +4,12 @@ use Rattle.std.proofs.lemmas.Bool.{and_from, and_parts, eqb-true, false≢true}
 use Rattle.std.proofs.lemmas.List.Folds.{Any-from_list_any, list_any-from_Any}
 use Rattle.std.proofs.lemmas.Slice.Eq.{bytes_eq-Decides}
 use Rattle.std.specs.Str.{bytes_eq}
+use Rattle.auc_hmac.specs.declared.method.Method.{Method}
+use Rattle.auc_hmac.specs.declared.method.Method.TheVariants as method
 use Rattle.auc_server.specs.Setting.{Setting}
 use Rattle.auc_world.specs.Agreement.{BreachIsFirst, BrokenTells, Happening, IsFirst, IsHonest, IsHonestAt, IsHonestFinding, Noted, Occurs, SentBefore, after, after_one}
 use Rattle.auc_world.specs.Happened.{found}
-use Rattle.auc_world.specs.Net.{Finding, Net, breaks, judged, other, same_end, same_inputs, share_inputs, was_sent}
+use Rattle.auc_world.specs.Net.{Finding, Net, breaks, judged, other, same_challenge, same_end, same_inputs, same_method, share_inputs, was_sent}
 use Rattle.auc_lines.specs.declared.part.End.{End}
 use Rattle.auc_lines.specs.declared.part.End.TheVariants as end
 use Rattle.auc_world.specs.declared.net.Breach.{Breach}
@@ -26,23 +28,38 @@ end_itself : (a : End) → same_end a a ≡ true
 end_itself end.Server = refl
 end_itself end.Peer = refl
 
-fields_one : (s t : ℕ) (r q a b i j : List ℕ) → s ≡ t → r ≡ q → a ≡ b → i ≡ j
-    → ◌≡◌ {A = Inputs} (record { sub = s; rand = r; autn = a; identity = i }) (record { sub = t; rand = q; autn = b; identity = j })
-fields_one s t r q a b i j e f g h = cc
+one_method : (a b : Method) → same_method a b ≡ true → a ≡ b
+one_method method.Aka method.Aka e = refl
+one_method method.Prime method.Prime e = refl
+one_method method.Aka method.Prime e = absurd (false≢true e)
+one_method method.Prime method.Aka e = absurd (false≢true e)
+
+method_itself : (a : Method) → same_method a a ≡ true
+method_itself method.Aka = refl
+method_itself method.Prime = refl
 
 one_inputs : (a b : Inputs) → same_inputs a b ≡ true → a ≡ b
 one_inputs a b e =
-    let (sub, rest) = and_parts (a.sub == b.sub) (bytes_eq a.rand b.rand && (bytes_eq a.autn b.autn && bytes_eq a.identity b.identity)) e in
+    let (by, named) = and_parts (same_method a.method b.method) (bytes_eq a.name b.name && same_challenge a b) e in
+    let (name, whole) = and_parts (bytes_eq a.name b.name) (same_challenge a b) named in
+    let (sub, rest) = and_parts (a.sub == b.sub) (bytes_eq a.rand b.rand && (bytes_eq a.autn b.autn && bytes_eq a.identity b.identity)) whole in
     let (rand, tail) = and_parts (bytes_eq a.rand b.rand) (bytes_eq a.autn b.autn && bytes_eq a.identity b.identity) rest in
     let (autn, identity) = and_parts (bytes_eq a.autn b.autn) (bytes_eq a.identity b.identity) tail in
-    fields_one a.sub b.sub a.rand b.rand a.autn b.autn a.identity b.identity
-    (eqb-true a.sub b.sub sub) ((bytes_eq-Decides a.rand b.rand).0 rand) ((bytes_eq-Decides a.autn b.autn).0 autn) ((bytes_eq-Decides a.identity b.identity).0 identity)
+    let m = one_method a.method b.method by in
+    let n = (bytes_eq-Decides a.name b.name).0 name in
+    let s = eqb-true a.sub b.sub sub in
+    let r = (bytes_eq-Decides a.rand b.rand).0 rand in
+    let t = (bytes_eq-Decides a.autn b.autn).0 autn in
+    let i = (bytes_eq-Decides a.identity b.identity).0 identity in
+    λ j. record { method = m j; name = n j; sub = s j; rand = r j; autn = t j; identity = i j }
 
 inputs_itself : (a : Inputs) → same_inputs a a ≡ true
 inputs_itself a =
-    and_from (a.sub == a.sub) (bytes_eq a.rand a.rand && (bytes_eq a.autn a.autn && bytes_eq a.identity a.identity)) (eq-eqb a.sub a.sub refl)
+    and_from (same_method a.method a.method) (bytes_eq a.name a.name && same_challenge a a) (method_itself a.method)
+    (and_from (bytes_eq a.name a.name) (same_challenge a a) ((bytes_eq-Decides a.name a.name).1 refl)
+    (and_from (a.sub == a.sub) (bytes_eq a.rand a.rand && (bytes_eq a.autn a.autn && bytes_eq a.identity a.identity)) (eq-eqb a.sub a.sub refl)
     (and_from (bytes_eq a.rand a.rand) (bytes_eq a.autn a.autn && bytes_eq a.identity a.identity) ((bytes_eq-Decides a.rand a.rand).1 refl)
-    (and_from (bytes_eq a.autn a.autn) (bytes_eq a.identity a.identity) ((bytes_eq-Decides a.autn a.autn).1 refl) ((bytes_eq-Decides a.identity a.identity).1 refl)))
+    (and_from (bytes_eq a.autn a.autn) (bytes_eq a.identity a.identity) ((bytes_eq-Decides a.autn a.autn).1 refl) ((bytes_eq-Decides a.identity a.identity).1 refl)))))
 
 shared : (a b : Option Inputs) → share_inputs a b ≡ true → (own : Inputs) × (a ≡ Some own) × (b ≡ Some own)
 shared (Some a) (Some b) e = (a, refl, ap Some (sym (one_inputs a b e)))

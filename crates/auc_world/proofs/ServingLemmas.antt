@@ -5,7 +5,6 @@ use Rattle.std.proofs.lemmas.Option.{get_or_from_slice_get}
 use Rattle.auc_edge.specs.declared.stop.Stop.{Stop}
 use Rattle.auc_history.specs.declared.entry.Entry.{Entry}
 use Rattle.auc_lines.specs.declared.part.End.TheVariants as end
-use Rattle.auc_packet.specs.Received.{Seen}
 use Rattle.auc_packet.specs.declared.received.Reading.TheVariants as reading
 use Rattle.auc_packet.specs.declared.refusal.PacketRefusal.TheVariants as refusal
 use Rattle.auc_peer.specs.declared.device.Device.{Device}
@@ -16,19 +15,20 @@ use Rattle.auc_server.specs.Rows.{server_row}
 use Rattle.auc_server.specs.Server.{ServerEnd}
 use Rattle.auc_server.specs.Setting.{Setting}
 use Rattle.auc_server.specs.Steps.{Steps, asking}
-use Rattle.auc_server.specs.Table.{server_step, silent}
+use Rattle.auc_server.specs.Table.{silent}
 use Rattle.auc_server.specs.declared.setting.HomeRow.{HomeRow}
 use Rattle.auc_server.specs.declared.why.ServerWhy.{ServerWhy}
 use Rattle.auc_vector.specs.Notes.{Asked, Asking}
 use Rattle.auc_vector.specs.declared.notes.Notes.{Notes}
 use Rattle.auc_vector.specs.declared.notes.NumberNote.{NumberNote}
 use Rattle.auc_vector.specs.declared.notes.NumberNote.TheVariants as number
+use Rattle.auc_vector.specs.declared.parts.Vector.{Vector}
 use Rattle.auc_vector.specs.declared.turn.Turn.{Turn}
 use Rattle.auc_world.proofs.ActingLemmas.{numbered}
-use Rattle.auc_world.specs.Came.{AreReceived, Came, AsksAt, asked_sub, asking_at, by_server, came_at_server, packet_number, received_by}
+use Rattle.auc_world.specs.Came.{AreReceived, Came, AsksAt, asked_sub, asking_at, by_server, came_at_server, packet_number, received_by, vector_sent}
 use Rattle.auc_world.specs.Happened.{Delivery, Told, breach_at, delivery_at, released_by, sent_by, server_finds, to_server, with_server}
 use Rattle.auc_world.specs.InnerWorld.{Serves, number_after, refusal_of, released_for, state_of}
-use Rattle.auc_world.specs.Net.{Finding, Net, inputs_of_server, judged, packet_at, posted}
+use Rattle.auc_world.specs.Net.{Net, inputs_of_server, judged, packet_at, posted}
 use Rattle.auc_world.specs.World.{WorldState}
 use Rattle.auc_world.specs.declared.event.Note.{Note}
 use Rattle.auc_world.specs.declared.event.NoteStep.TheVariants as did
@@ -157,9 +157,10 @@ module _ {S : Type 0} (goes : S → ℕ → List Entry → List (ℕ × Stop) �
         → asked ≡ asked_after set served new turn.notes.resync turn.notes.number → released' ≡ noted ++ released_for asked turn.notes.number
         → broken' ≡ judged looked broken (Some (record { checked = turn.checked; inputs = inputs_before; bytes = bytes; delivery = breach_at d0 end.Server }))
         → sessions' ≡ slice_set sessions place (record session { server = Some new })
+        → (vector : Option Vector) → vector ≡ vector_sent turn.notes.number new.challenged
         → Serves goes kept top set old d0 before (state_of packets' sessions' released' homes' broken' devices)
-        (Ok (record { notes = turn.notes; step = did.Server turn.step; packet = posted_as; asked = asked; device = None })) after
-    serves read looked packets' sessions' noted released' served homes' broken' inputs inputs_before sent asked posted_as is_read is_looked is_noted is_served is_homes is_before is_inputs is_sent is_packets is_posted is_asked is_released is_broken is_sessions =
+        (Ok (record { notes = turn.notes; step = did.Server turn.step; packet = posted_as; asked = asked; device = None; vector = vector })) after
+    serves read looked packets' sessions' noted released' served homes' broken' inputs inputs_before sent asked posted_as is_read is_looked is_noted is_served is_homes is_before is_inputs is_sent is_packets is_posted is_asked is_released is_broken is_sessions vector is_vector =
         let for_whom : asked ≡ asked_sub asks = is_asked ∙ ap (λ (h : List HomeRow). asked_after set h new turn.notes.resync turn.notes.number) is_served ∙ asked_for in
         let post : posted read end.Server inputs sent ≡ posted packets end.Server (inputs_of_server new) (sent_by turn.step) = λ j. posted (is_read j) end.Server (is_inputs j) (is_sent j) in
         let out : released' ≡ released ++ released_by asks turn.notes.number =
@@ -175,11 +176,12 @@ module _ {S : Type 0} (goes : S → ℕ → List Entry → List (ℕ × Stop) �
         λ j. record old.net { packets = put j; sessions = is_sessions j; released = out j; homes = is_homes j; broken = breach j } in
         let number_is : posted_as ≡ packet_number old.net (sent_by turn.step) =
         is_posted ∙ ap (λ (ps : List SentPacket). number_after ps sent) is_read ∙ ap (number_after packets) is_sent ∙ sym (numbered old.net packets (sent_by turn.step) refl) in
-        let note_is : record { notes = turn.notes; step = did.Server turn.step; packet = posted_as; asked = asked; device = None } ≡ by_server old.net turn.notes turn.step asks =
-        λ j. record { notes = turn.notes; step = did.Server turn.step; packet = number_is j; asked = for_whom j; device = None } in
+        let note_is : record { notes = turn.notes; step = did.Server turn.step; packet = posted_as; asked = asked; device = None; vector = vector }
+        ≡ by_server old.net turn.notes turn.step asks (vector_sent turn.notes.number new.challenged) =
+        λ j. record { notes = turn.notes; step = did.Server turn.step; packet = number_is j; asked = for_whom j; device = None; vector = is_vector j } in
         record {
           told = told;
-          is = ap (λ (n : Note). Ok n) note_is ∙ ap (λ (x : ServerEnd × Turn ServerWhy). Ok (by_server old.net x.1.notes x.1.step asks)) steps.same ∙ ap (came_at_server set old.net told) (sym is);
+          is = ap (λ (n : Note). Ok n) note_is ∙ ap (λ (x : ServerEnd × Turn ServerWhy). Ok (by_server old.net x.1.notes x.1.step asks (vector_sent x.1.notes.number x.0.challenged))) steps.same ∙ ap (came_at_server set old.net told) (sym is);
           leads = net_is ∙ ap after_turn steps.same
               ∙ ap (λ (o : Option ServerEnd). record (to_server set old.net d0 told o) { broken = judged packets broken (server_finds set old.net d0 told o) }) (sym is);
           received = subst (λ (o : Option ServerEnd). AreReceived (received_by sent_packet.bytes o) steps.seen) (sym is) (steps.received, steps.of ∙ of_packet);

@@ -1,27 +1,27 @@
 -- For `acting` and `world`: networks in which one session or one device changes.
-use Rattle.std.proofs.Common.{◌≡◌, ◌≤◌, ℕ, ◌==◌, nat_lt, Bool, true, false, not, List, [], ◌∷◌, ◌++◌, length, map, zero, suc, get_or, Option, Some, None, Result, Ok, Err, is_some, true≢false, refl, sym, ap, ◌∙◌, subst, arith, All, if◌then◌else◌}
+use Rattle.std.proofs.Common.{◌≡◌, ◌≤◌, ℕ, ◌==◌, true, false, List, [], ◌∷◌, ◌++◌, length, map, zero, suc, Option, Some, None, Result, Ok, Err, is_some, true≢false, refl, sym, ap, ◌∙◌, subst, arith, All}
 use Rattle.std.specs.Prelude.{OnErr, slice_get, slice_set}
-use Rattle.std.specs.List.{position, position_or_len, prefix_len}
+use Rattle.std.specs.List.{position, position_or_len}
 use Rattle.std.proofs.lemmas.Bool.Decides.{nat_tests}
-use Rattle.std.proofs.lemmas.List.{length-map, map-append, map-set, set-get_or}
+use Rattle.std.proofs.lemmas.List.{length-map, map-append, set-get_or}
 use Rattle.std.proofs.lemmas.List.Elements.{All-push, All-set}
 use Rattle.std.proofs.lemmas.Option.{get_or_from_slice_get, slice_get_within}
 use Rattle.std.proofs.Math.Seq.{map-set_same}
 use Rattle.indexmap.specs.IndexMap.{set_value_at}
-use Rattle.auc_lines.specs.declared.part.End.{End}
+use Rattle.auc_lines.specs.declared.part.SessionLine.{SessionLine}
 use Rattle.auc_peer.specs.Subscription.{Subscription, subscription_of}
-use Rattle.auc_peer.specs.Table.{new_peer}
 use Rattle.auc_peer.specs.declared.device.Device.{Device}
 use Rattle.auc_released.specs.declared.numbers.Number.{Number}
 use Rattle.auc_server.specs.Server.{ServerEnd}
 use Rattle.auc_server.specs.Steps.{IsHome, IsServed}
+use Rattle.auc_server.specs.declared.options.ServerOptions.{ServerOptions}
 use Rattle.auc_server.specs.declared.setting.HomeRow.{HomeRow}
 use Rattle.auc_world.specs.Came.{Came, came_in, came_opened, of_opening, session_at, session_of}
-use Rattle.auc_world.specs.Happened.{at_place, at_session, opened}
+use Rattle.auc_world.specs.Happened.{at_place, at_session, new_session, opened}
 use Rattle.auc_world.specs.InnerWorld.{Acts, AreNumbered, ArePlaced, IsKept, Stands, came_of, device_with, net_of, state_of, with_session}
 use Rattle.auc_subs.specs.declared.row.Row.{Row}
 use Rattle.auc_world.specs.Net.{Net, device_place, place_with, session_place}
-use Rattle.auc_world.specs.World.{HasHeld, WorldState}
+use Rattle.auc_world.specs.World.{HasHeld, IsName, WorldState}
 use Rattle.auc_world.specs.declared.acting.Deed.{Deed}
 use Rattle.auc_world.specs.declared.event.WorldRefusal.TheVariants as refused
 use Rattle.auc_world.specs.declared.net.Breach.{Breach}
@@ -96,13 +96,16 @@ module _ (numbers : List ℕ) (found : DeviceKey → Option ℕ) (packets : List
     (broken : Option Breach) (devices : List Device) (kept : IsKept numbers found (state_of packets sessions released homes broken devices)) where
   -- a session changes, but not its number
   pub kept_session : (numbers' : List ℕ) (packets' : List SentPacket) (sessions' : List Session) (released' : List Number) (broken' : Option Breach) (place : ℕ) (session changed : Session)
-      → numbers' ≡ numbers → sessions' ≡ slice_set sessions place changed → slice_get sessions place ≡ Some session → changed.number ≡ session.number
+      → numbers' ≡ numbers → sessions' ≡ slice_set sessions place changed → slice_get sessions place ≡ Some session → changed.number ≡ session.number → changed.options ≡ session.options
       → HasHeld homes changed.server → IsKept numbers' found (state_of packets' sessions' released' homes broken' devices)
-  kept_session numbers' packets' sessions' released' broken' place session changed same_numbers same_sessions there same_number held = record {
+  kept_session numbers' packets' sessions' released' broken' place session changed same_numbers same_sessions there same_number same_options held = record {
     world = record {
       subscriptions = refl;
       realms = kept.world.realms;
       held = subst (All (λ s. HasHeld homes s.server)) (sym same_sessions) (All-set (λ s. HasHeld homes s.server) sessions place changed held kept.world.held);
+      names = subst (All (λ s. IsName s.options.name)) (sym same_sessions)
+          (All-set (λ s. IsName s.options.name) sessions place changed
+          (subst (λ (o : ServerOptions). IsName o.name) (sym same_options) (of_all (λ (s : Session). IsName s.options.name) sessions place session kept.world.names there)) kept.world.names);
     };
     numbered = same_numbers ∙ kept.numbered ∙ sym (map_same (λ (s : Session). s.number) sessions place session changed there same_number)
         ∙ ap (map (λ (s : Session). s.number)) (sym same_sessions);
@@ -119,6 +122,7 @@ module _ (numbers : List ℕ) (found : DeviceKey → Option ℕ) (packets : List
           (subst (λ (realm : List ℕ). length realm ≤ 255) (ap (λ (s : Subscription). s.realm) (sym same)) (of_all (λ (d : Device). length d.realm ≤ 255) devices place device kept.world.realms there))
           kept.world.realms;
       held = kept.world.held;
+      names = kept.world.names;
     };
     numbered = kept.numbered;
     placed = subst (λ (all : List Subscription). ArePlaced found all) (sym (map_same subscription_of devices place device card there same)) kept.placed;
@@ -190,24 +194,24 @@ started_there : (found place : Option ℕ) → true ≡ is_some found → Err re
 started_there None place some = absurd cc
 started_there (Some other) place some = refl
 
-stays_there : (w : Net) (number sub : ℕ) (found place : Option ℕ) → true ≡ is_some found → w ≡ opened w number sub found place
-stays_there w number sub None place some = absurd cc
-stays_there w number sub (Some other) place some = refl
+stays_there : (w : Net) (opening : SessionLine) (found place : Option ℕ) → true ≡ is_some found → w ≡ opened w opening found place
+stays_there w opening None place some = absurd cc
+stays_there w opening (Some other) place some = refl
 
 -- one of its number is open
 module _ (packets : List SentPacket) (sessions : List Session) (released : List Number) (homes : List HomeRow) (broken : Option Breach) (devices : List Device)
-    (now : WorldState) (is : state_of packets sessions released homes broken devices ≡ now) (number sub : ℕ) (place : Option ℕ) (found : Option ℕ)
-    (same : found ≡ session_place sessions number) (some : true ≡ is_some found) where
-  abbrev there_now : found ≡ session_place now.net.sessions number
-  there_now = same ∙ ap (λ (w : WorldState). session_place w.net.sessions number) is
+    (now : WorldState) (is : state_of packets sessions released homes broken devices ≡ now) (opening : SessionLine) (place : Option ℕ) (found : Option ℕ)
+    (same : found ≡ session_place sessions opening.session) (some : true ≡ is_some found) where
+  abbrev there_now : found ≡ session_place now.net.sessions opening.session
+  there_now = same ∙ ap (λ (w : WorldState). session_place w.net.sessions opening.session) is
 
-  pub twice_came : Err refused.Started ≡ came_opened (session_place now.net.sessions number) place
+  pub twice_came : Err refused.Started ≡ came_opened (session_place now.net.sessions opening.session) place
   twice_came = started_there found place some ∙ ap (λ (f : Option ℕ). came_opened f place) there_now
 
-  pub twice_net : now ≡ record now { net = opened now.net number sub (session_place now.net.sessions number) place }
+  pub twice_net : now ≡ record now { net = opened now.net opening (session_place now.net.sessions opening.session) place }
   twice_net =
-      ap (λ (n : Net). record now { net = n }) (stays_there now.net number sub found place some)
-      ∙ ap (λ (f : Option ℕ). record now { net = opened now.net number sub f place }) there_now
+      ap (λ (n : Net). record now { net = n }) (stays_there now.net opening found place some)
+      ∙ ap (λ (f : Option ℕ). record now { net = opened now.net opening f place }) there_now
 
 -- the entries of a map with a further one
 pub keys_push : (entries : List (ℕ × Session)) (entries' : List (ℕ × Session)) (number : ℕ) (session : Session) → entries' ≡ entries ++ (number, session) ∷ []
@@ -220,34 +224,37 @@ values_push entries entries' number session put = ap (map (λ (e : ℕ × Sessio
 
 -- none is, and the device is there
 module _ (packets : List SentPacket) (sessions : List Session) (released : List Number) (homes : List HomeRow) (broken : Option Breach) (devices : List Device)
-    (now : WorldState) (is : state_of packets sessions released homes broken devices ≡ now) (number sub device : ℕ) (place : Option ℕ)
-    (none : session_place sessions number ≡ None) (here : Some device ≡ place) where
-  abbrev none_now : session_place now.net.sessions number ≡ None
-  none_now = ap (λ (w : WorldState). session_place w.net.sessions number) (sym is) ∙ none
+    (now : WorldState) (is : state_of packets sessions released homes broken devices ≡ now) (opening : SessionLine) (device : ℕ) (place : Option ℕ)
+    (none : session_place sessions opening.session ≡ None) (here : Some device ≡ place) where
+  abbrev none_now : session_place now.net.sessions opening.session ≡ None
+  none_now = ap (λ (w : WorldState). session_place w.net.sessions opening.session) (sym is) ∙ none
 
-  pub opened_came : Ok of_opening ≡ came_opened (session_place now.net.sessions number) place
+  pub opened_came : Ok of_opening ≡ came_opened (session_place now.net.sessions opening.session) place
   opened_came = ap (came_opened None) here ∙ ap (λ (f : Option ℕ). came_opened f place) (sym none_now)
 
-  pub opened_net : (sessions' : List Session) → sessions' ≡ sessions ++ record { number = number; sub = sub; device = device; server = None; peer = new_peer; peer_keys = None } ∷ []
-      → state_of packets sessions' released homes broken devices ≡ record now { net = opened now.net number sub (session_place now.net.sessions number) place }
+  pub opened_net : (sessions' : List Session) → sessions' ≡ sessions ++ new_session opening device ∷ []
+      → state_of packets sessions' released homes broken devices ≡ record now { net = opened now.net opening (session_place now.net.sessions opening.session) place }
   opened_net sessions' put =
       let put_net : state_of packets sessions' released homes broken devices
-      ≡ record (state_of packets sessions released homes broken devices) { net = opened (state_of packets sessions released homes broken devices).net number sub None (Some device) } =
+      ≡ record (state_of packets sessions released homes broken devices) { net = opened (state_of packets sessions released homes broken devices).net opening None (Some device) } =
       λ j. state_of packets (put j) released homes broken devices in
-      put_net ∙ ap (λ (w : WorldState). record w { net = opened w.net number sub None (Some device) }) is
-      ∙ ap (λ (p : Option ℕ). record now { net = opened now.net number sub None p }) here
-      ∙ ap (λ (f : Option ℕ). record now { net = opened now.net number sub f place }) (sym none_now)
+      put_net ∙ ap (λ (w : WorldState). record w { net = opened w.net opening None (Some device) }) is
+      ∙ ap (λ (p : Option ℕ). record now { net = opened now.net opening None p }) here
+      ∙ ap (λ (f : Option ℕ). record now { net = opened now.net opening f place }) (sym none_now)
 
 pub kept_opened : (numbers : List ℕ) (found : DeviceKey → Option ℕ) (packets : List SentPacket) (sessions : List Session) (released : List Number) (homes : List HomeRow)
     (broken : Option Breach) (devices : List Device) → IsKept numbers found (state_of packets sessions released homes broken devices)
     → (numbers' : List ℕ) (sessions' : List Session) (session : Session) → numbers' ≡ numbers ++ session.number ∷ [] → sessions' ≡ sessions ++ session ∷ [] → session.server ≡ None
+    → IsName session.options.name
     → IsKept numbers' found (state_of packets sessions' released homes broken devices)
-kept_opened numbers found packets sessions released homes broken devices kept numbers' sessions' session same_numbers same_sessions none = record {
+kept_opened numbers found packets sessions released homes broken devices kept numbers' sessions' session same_numbers same_sessions none name = record {
   world = record {
     subscriptions = refl;
     realms = kept.world.realms;
     held = subst (All (λ (s : Session). HasHeld homes s.server)) (sym same_sessions)
         (All-push (λ (s : Session). HasHeld homes s.server) sessions session kept.world.held (subst (HasHeld homes) (sym none) tt));
+    names = subst (All (λ (s : Session). IsName s.options.name)) (sym same_sessions)
+        (All-push (λ (s : Session). IsName s.options.name) sessions session kept.world.names name);
   };
   numbered = same_numbers ∙ ap (λ (ns : List ℕ). ns ++ session.number ∷ []) kept.numbered ∙ sym (map-append (λ (s : Session). s.number) sessions (session ∷ []))
       ∙ ap (map (λ (s : Session). s.number)) (sym same_sessions);

@@ -14,9 +14,14 @@ use Rattle.auc_server.specs.Server.{ServerEnd, started}
 use Rattle.auc_server.specs.Setting.{Setting}
 use Rattle.auc_server.specs.Steps.{AsksAsNeeded, asking}
 use Rattle.auc_server.specs.Table.{gave_up as server_gave_up, repeated, silent}
+use Rattle.auc_server.specs.declared.options.ServerOptions.{ServerOptions}
+use Rattle.auc_server.specs.declared.server.Challenged.{Challenged}
 use Rattle.auc_server.specs.declared.why.ServerWhy.{ServerWhy}
 use Rattle.auc_vector.specs.Notes.{Asking}
 use Rattle.auc_vector.specs.declared.notes.Notes.{Notes}
+use Rattle.auc_vector.specs.declared.notes.NumberNote.{NumberNote}
+use Rattle.auc_vector.specs.declared.notes.NumberNote.TheVariants as number
+use Rattle.auc_vector.specs.declared.parts.Vector.{Vector}
 use Rattle.auc_vector.specs.declared.turn.Step.{Step}
 use Rattle.auc_vector.specs.declared.turn.Step.TheVariants as step
 use Rattle.auc_world.specs.Happened.{Delivery, Told, delivery_in, peer_turn, sent_by, server_turn}
@@ -46,13 +51,19 @@ abbrev pub asked_sub : Option Asking → Option ℕ
 asked_sub None = None
 asked_sub (Some asking) = Some asking.sub
 
-abbrev pub by_server : Net → Notes → Step ServerWhy → Option Asking → Note
-by_server w notes what asked = record {
+-- the vector that was released: that of the challenge that was sent, if a number was drawn
+abbrev pub vector_sent : Option NumberNote → Option Challenged → Option Vector
+vector_sent (Some (number.Drew n)) (Some sent) = Some sent.vector
+vector_sent _ _ = None
+
+abbrev pub by_server : Net → Notes → Step ServerWhy → Option Asking → Option Vector → Note
+by_server w notes what asked vector = record {
   notes = notes;
   step = did.Server what;
   packet = packet_number w (sent_by what);
   asked = asked_sub asked;
   device = None;
+  vector = vector;
 }
 
 abbrev pub by_peer : Net → Notes → Step PeerWhy → Option ℕ → Note
@@ -62,10 +73,11 @@ by_peer w notes what device = record {
   packet = packet_number w (sent_by what);
   asked = None;
   device = device;
+  vector = None;
 }
 
 abbrev pub of_opening : Note
-of_opening = record { notes = silent; step = did.Opened; packet = None; asked = None; device = None }
+of_opening = record { notes = silent; step = did.Opened; packet = None; asked = None; device = None; vector = None }
 
 -- ---- deliveries
 
@@ -77,7 +89,8 @@ asking_at set w told (Some s) = asking (server_row set w.homes s told.seen)
 abbrev pub came_at_server : Setting → Net → Told → Option ServerEnd → Came
 came_at_server set w told None = Err refused.NoSuchEnd
 came_at_server set w told (Some s) =
-    let turn = server_turn set w s told in Ok (by_server w turn.1.notes turn.1.step (asking_at set w told (Some s)))
+    let turn = server_turn set w s told in
+    Ok (by_server w turn.1.notes turn.1.step (asking_at set w told (Some s)) (vector_sent turn.1.notes.number turn.0.challenged))
 
 abbrev pub came_at_peer : Net → Delivery → Told → Option Subscription → Came
 came_at_peer w d told None = Err refused.NoSuchEnd
@@ -98,17 +111,17 @@ came_opened (Some first) place = Err refused.Started
 came_opened None None = Err refused.NoSuchEnd
 came_opened None (Some place) = Ok of_opening
 
-abbrev pub came_started : Net → Option ServerEnd → Came
-came_started w None = Ok (by_server w silent (step.Sent started.last) None)
-came_started w (Some s) = Err refused.Started
+abbrev pub came_started : Net → ServerOptions → Option ServerEnd → Came
+came_started w options None = Ok (by_server w silent (step.Sent (started options).last) None None)
+came_started w options (Some s) = Err refused.Started
 
 abbrev pub came_repeated : Net → Option ServerEnd → Came
 came_repeated w None = Err refused.NoSuchEnd
-came_repeated w (Some s) = Ok (by_server w silent (repeated s s.state) None)
+came_repeated w (Some s) = Ok (by_server w silent (repeated s s.state) None None)
 
 abbrev pub server_came_to_give_up : Net → Option ServerEnd → Came
 server_came_to_give_up w None = Err refused.NoSuchEnd
-server_came_to_give_up w (Some s) = Ok (by_server w silent (server_gave_up s s.state).1 None)
+server_came_to_give_up w (Some s) = Ok (by_server w silent (server_gave_up s s.state).1 None None)
 
 abbrev pub came_given_up : Net → End → Session → Came
 came_given_up w end.Server session = server_came_to_give_up w session.server
@@ -129,8 +142,8 @@ session_of w number = session_at w (session_place w.sessions number)
 -- ---- an event
 
 abbrev pub came : Setting → Net → Event → Told → Came
-came set w (event.Open session sub) told = came_opened (session_place w.sessions session) (device_place set.rows w.devices sub)
-came set w (event.Start session) told = came_in (λ s. came_started w s.server) (session_of w session)
+came set w (event.Open opening) told = came_opened (session_place w.sessions opening.session) (device_place set.rows w.devices opening.sub)
+came set w (event.Start session) told = came_in (λ s. came_started w s.options s.server) (session_of w session)
 came set w (event.Deliver session at' packet) told = came_delivered set w at' told (packet_at w.packets packet) (delivery_in w session packet)
 came set w (event.Repeat session) told = came_in (λ s. came_repeated w s.server) (session_of w session)
 came set w (event.GiveUp session at') told = came_in (came_given_up w at') (session_of w session)

@@ -2,13 +2,13 @@
 use Rattle.std.specs.Prelude.{ℕ, ◌==◌, ◌-◌, Bool, false, List, [], ◌∷◌, Option, Some, None, Result, Ok, Err, if◌then◌else◌}
 use Rattle.auc_lines.specs.Part.{is_that}
 use Rattle.auc_released.specs.declared.numbers.Number.{Number}
-use Rattle.auc_vector.specs.declared.notes.Notes.{Notes}
 use Rattle.auc_vector.specs.declared.notes.NumberNote.{NumberNote}
 use Rattle.auc_vector.specs.declared.notes.NumberNote.TheVariants as number
 use Rattle.auc_vector.specs.declared.notes.ResyncNote.{ResyncNote}
 use Rattle.auc_vector.specs.declared.notes.ResyncNote.TheVariants as resync
 use Rattle.auc_vector.specs.declared.notes.UsimNote.{UsimNote}
 use Rattle.auc_vector.specs.declared.notes.UsimNote.TheVariants as usim
+use Rattle.auc_vector.specs.declared.parts.Vector.{Vector}
 use Rattle.auc_world.specs.declared.event.EventRecord.{EventRecord}
 use Rattle.auc_world.specs.declared.event.Note.{Note}
 use Rattle.auc_world.specs.declared.event.WorldRefusal.{WorldRefusal}
@@ -36,6 +36,11 @@ resync_in (Err why) = None
 abbrev pub usim_in : Result Note WorldRefusal → Option UsimNote
 usim_in (Ok note) = note.notes.usim
 usim_in (Err why) = None
+
+-- the vector that was released
+abbrev pub event_vector : Result Note WorldRefusal → Option Vector
+event_vector (Ok note) = note.vector
+event_vector (Err why) = None
 
 -- the number that was released, with the subscriber for whom it was drawn
 abbrev pub number_with : Option ℕ → Option NumberNote → Option Number

@@ -23,7 +23,7 @@ use Rattle.auc_subs.specs.declared.row.Row.{Row}
 use Rattle.auc_usim.specs.Usim.{IsAnswer}
 use Rattle.auc_vector.specs.Auts.{read_auts_of}
 use Rattle.auc_vector.specs.Notes.{Asking}
-use Rattle.auc_vector.specs.Random.{rand_of}
+use Rattle.auc_random.specs.Random.{rand_of}
 use Rattle.auc_vector.specs.declared.auts.Auts.{Auts}
 use Rattle.auc_vector.specs.declared.auts.Auts.TheVariants as read
 use Rattle.auc_vector.specs.declared.notes.Notes.{Notes}
@@ -267,7 +267,7 @@ abbrev pub LineGives : Setting → Before → Net → Line → List LineRecord �
 LineGives set before net (line.Draw sub count) lines next = DrawGives set sub count lines × (next ≡ net)
 LineGives set before net (line.Sync sub seq bit count) lines next = SyncGives set sub seq bit count lines × (next ≡ net)
 LineGives set before net (line.Give sub n) lines next = GiveGives set before sub n lines × (next ≡ net)
-LineGives set before net (line.Session session sub) lines next = EventGives set before net (event.Open session sub) lines next
+LineGives set before net (line.Session opening) lines next = EventGives set before net (event.Open opening) lines next
 LineGives set before net (line.Start session) lines next = EventGives set before net (event.Start session) lines next
 LineGives set before net (line.Deliver session at' packet) lines next = EventGives set before net (event.Deliver session at' packet) lines next
 LineGives set before net (line.Repeat session) lines next = EventGives set before net (event.Repeat session) lines next

@@ -4,6 +4,7 @@ use Rattle.auc_hmac.specs.declared.keys.KeySet.{KeySet}
 use Rattle.auc_packet.specs.Received.{Seen}
 use Rattle.auc_peer.specs.Subscription.{Subscription}
 use Rattle.auc_peer.specs.Table.{gave_up as peer_gave_up, new_peer, peer_step}
+use Rattle.auc_peer.specs.declared.options.PeerOptions.{PeerOptions}
 use Rattle.auc_peer.specs.declared.peer.Peer.{Peer}
 use Rattle.auc_peer.specs.declared.why.PeerWhy.{PeerWhy}
 use Rattle.auc_server.specs.Rows.{server_row}
@@ -11,6 +12,7 @@ use Rattle.auc_server.specs.Server.{ServerEnd, started}
 use Rattle.auc_server.specs.Setting.{Setting}
 use Rattle.auc_server.specs.Steps.{asking}
 use Rattle.auc_server.specs.Table.{gave_up as server_gave_up, repeated, server_step}
+use Rattle.auc_server.specs.declared.options.ServerOptions.{ServerOptions}
 use Rattle.auc_server.specs.declared.why.ServerWhy.{ServerWhy}
 use Rattle.auc_vector.specs.Notes.{Asking}
 use Rattle.auc_vector.specs.declared.notes.Notes.{Notes}
@@ -21,6 +23,7 @@ use Rattle.auc_vector.specs.declared.turn.Step.{Step}
 use Rattle.auc_vector.specs.declared.turn.Step.TheVariants as step
 use Rattle.auc_vector.specs.declared.turn.Turn.{Turn}
 use Rattle.auc_world.specs.Net.{Finding, Net, device_place, inputs_of_peer, inputs_of_server, judged, packet_at, posted, session_place}
+use Rattle.auc_lines.specs.declared.part.SessionLine.{SessionLine}
 use Rattle.auc_lines.specs.declared.part.End.{End}
 use Rattle.auc_lines.specs.declared.part.End.TheVariants as end
 use Rattle.auc_world.specs.declared.event.Event.{Event}
@@ -144,17 +147,34 @@ found_by set w end.Peer told (Some d) = peer_finds d told (slice_get w.devices d
 
 -- ---- the other events
 
--- a session is opened at the device of a place, unless one of its number is open
-abbrev pub opened : Net → ℕ → ℕ → Option ℕ → Option ℕ → Net
-opened w session sub (Some first) place = w
-opened w session sub None None = w
-opened w session sub None (Some place) = record w {
-  sessions = w.sessions ++ record { number = session; sub = sub; device = place; server = None; peer = new_peer; peer_keys = None } ∷ [];
+-- what the ends of a session start with
+abbrev pub server_options : SessionLine → ServerOptions
+server_options opening = record { method = opening.method; name = opening.name; bidding = opening.bidding }
+
+abbrev pub peer_options : SessionLine → PeerOptions
+peer_options opening = record { method = opening.method; name = opening.peer_name; has_prime = opening.has_prime }
+
+-- a session in which nothing has happened, at the device of a place
+abbrev pub new_session : SessionLine → ℕ → Session
+new_session opening place = record {
+  number = opening.session;
+  sub = opening.sub;
+  device = place;
+  options = server_options opening;
+  server = None;
+  peer = new_peer (peer_options opening);
+  peer_keys = None;
 }
+
+-- a session is opened at the device of a place, unless one of its number is open
+abbrev pub opened : Net → SessionLine → Option ℕ → Option ℕ → Net
+opened w opening (Some first) place = w
+opened w opening None None = w
+opened w opening None (Some place) = record w { sessions = w.sessions ++ new_session opening place ∷ [] }
 
 -- a server starts once
 abbrev pub start : Net → ℕ → Session → Option ServerEnd → Net
-start w place session None = with_server w place session [] started (step.Sent started.last)
+start w place session None = with_server w place session [] (started session.options) (step.Sent (started session.options).last)
 start w place session (Some s) = w
 
 abbrev pub repeat : Net → ℕ → Session → Option ServerEnd → Net
@@ -185,7 +205,7 @@ at_session w session does = at_place w does (session_place w.sessions session)
 
 -- sessions and packets after an event; a refused event changes nothing
 abbrev pub moved : Setting → Net → Event → Told → Net
-moved set w (event.Open session sub) told = opened w session sub (session_place w.sessions session) (device_place set.rows w.devices sub)
+moved set w (event.Open opening) told = opened w opening (session_place w.sessions opening.session) (device_place set.rows w.devices opening.sub)
 moved set w (event.Start session) told = at_session w session (λ place s. start w place s s.server)
 moved set w (event.Deliver session at' packet) told = delivered set w at' told (delivery_in w session packet)
 moved set w (event.Repeat session) told = at_session w session (λ place s. repeat w place s s.server)

@@ -1,12 +1,10 @@
 -- What only private contracts of this crate cite: how a job's network is kept, and what an end does by itself.
-use Rattle.std.specs.Prelude.{ℕ, ◌≡◌, ◌<◌, ◌≤◌, ◌+◌, ◌-◌, ◌^◌, ◌==◌, ◌&&◌, Bool, List, [], ◌∷◌, ◌++◌, map, length, position, Option, Some, None, slice_get, slice_set}
+use Rattle.std.specs.Prelude.{ℕ, ◌≡◌, ◌<◌, ◌≤◌, ◌+◌, ◌-◌, ◌^◌, ◌==◌, ◌&&◌, Bool, List, [], ◌∷◌, map, length, position, Option, Some, None, slice_get, slice_set}
 use Rattle.std.specs.Global.{Vec}
 use Rattle.std.specs.Vec.{vec_len, vec_capacity}
 use Rattle.auc_edge.specs.Identity.{Identity}
 use Rattle.auc_edge.specs.declared.stop.Stop.{Stop}
 use Rattle.auc_history.specs.declared.entry.Entry.{Entry}
-use Rattle.auc_lines.specs.declared.part.End.{End}
-use Rattle.auc_lines.specs.declared.part.End.TheVariants as end
 use Rattle.auc_peer.specs.Subscription.{Subscription, subscription_of}
 use Rattle.auc_peer.specs.declared.device.Device.{Device}
 use Rattle.auc_released.specs.declared.numbers.Number.{Number}
@@ -85,7 +83,7 @@ number_after packets (Some bytes) = Some (length packets + 1)
 -- ---- what an end does by itself
 
 abbrev pub came_of : Net → Deed → Session → Came
-came_of w deed.Start session = came_started w session.server
+came_of w deed.Start session = came_started w session.options session.server
 came_of w deed.Repeat session = came_repeated w session.server
 came_of w (deed.GiveUp at') session = came_given_up w at' session
 
@@ -108,6 +106,7 @@ pub record Acts (what : Deed) (packets : List SentPacket) (session : Session) (s
   pub is : (w : Net) (place : ℕ) → Stands w place packets session → came ≡ came_of w what session
   pub leads : (w : Net) (place : ℕ) → Stands w place packets session → net_of w what place session ≡ with_session w place sent changed
   pub number : changed.number ≡ session.number
+  pub options : changed.options ≡ session.options
   pub held : (homes : List HomeRow) → HasHeld homes session.server → HasHeld homes changed.server
 
 -- ---- deliveries

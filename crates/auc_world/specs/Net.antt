@@ -2,11 +2,14 @@
 use Rattle.std.specs.Prelude.{ℕ, ◌==◌, ◌&&◌, not, Bool, true, false, zero, suc, List, [], ◌∷◌, ◌++◌, Option, Some, None, slice_get, position, if◌then◌else◌}
 use Rattle.std.specs.List.{list_any}
 use Rattle.std.specs.Str.{bytes_eq}
+use Rattle.auc_hmac.specs.declared.method.Method.{Method}
+use Rattle.auc_hmac.specs.declared.method.Method.TheVariants as method
 use Rattle.auc_peer.specs.Subscription.{Subscription}
 use Rattle.auc_peer.specs.Table.{text_or_none}
 use Rattle.auc_peer.specs.declared.peer.Challenge.{Challenge}
 use Rattle.auc_peer.specs.declared.peer.Peer.{Peer}
 use Rattle.auc_server.specs.Server.{ServerEnd}
+use Rattle.auc_server.specs.declared.options.ServerOptions.{ServerOptions}
 use Rattle.auc_server.specs.declared.server.Challenged.{Challenged}
 use Rattle.auc_server.specs.declared.setting.HomeRow.{HomeRow}
 use Rattle.auc_subs.specs.Subscriber.{same_identity}
@@ -35,21 +38,36 @@ pub record Net : Type 0 where
 
 -- ---- the inputs of keys
 
--- a server's: those of its last challenge
-abbrev pub inputs_sent : List ℕ → Option Challenged → Option Inputs
-inputs_sent text None = None
-inputs_sent text (Some sent) = Some (record { sub = sent.sub; rand = sent.vector.rand; autn = sent.vector.autn; identity = text })
+-- a server's: those of its last challenge, by its method and its network's name
+abbrev pub inputs_sent : ServerOptions → List ℕ → Option Challenged → Option Inputs
+inputs_sent options text None = None
+inputs_sent options text (Some sent) = Some (record {
+  method = options.method;
+  name = options.name;
+  sub = sent.sub;
+  rand = sent.vector.rand;
+  autn = sent.vector.autn;
+  identity = text;
+})
 
 abbrev pub inputs_of_server : ServerEnd → Option Inputs
-inputs_of_server s = inputs_sent s.identity s.challenged
+inputs_of_server s = inputs_sent s.options s.identity s.challenged
 
--- a peer's: those of the challenge that it accepted last, at its subscriber's device
-abbrev pub inputs_accepted : ℕ → Option (List ℕ) → Option Challenge → Option Inputs
-inputs_accepted sub text None = None
-inputs_accepted sub text (Some c) = Some (record { sub = sub; rand = c.rand; autn = c.autn; identity = text_or_none text })
+-- a peer's: those of the challenge that it accepted last, at its subscriber's device, by its method and the name in that
+-- challenge
+abbrev pub inputs_accepted : Method → List ℕ → ℕ → Option (List ℕ) → Option Challenge → Option Inputs
+inputs_accepted m name sub text None = None
+inputs_accepted m name sub text (Some c) = Some (record {
+  method = m;
+  name = name;
+  sub = sub;
+  rand = c.rand;
+  autn = c.autn;
+  identity = text_or_none text;
+})
 
 abbrev pub inputs_of_peer : ℕ → Peer → Option Inputs
-inputs_of_peer sub p = inputs_accepted sub p.identity p.accepted
+inputs_of_peer sub p = inputs_accepted p.options.method p.network sub p.identity p.accepted
 
 -- ---- packets
 
@@ -73,8 +91,18 @@ same_end end.Server end.Server = true
 same_end end.Peer end.Peer = true
 same_end _ _ = false
 
+abbrev pub same_method : Method → Method → Bool
+same_method method.Aka method.Aka = true
+same_method method.Prime method.Prime = true
+same_method _ _ = false
+
+-- of one challenge, under one identity
+abbrev pub same_challenge : Inputs → Inputs → Bool
+same_challenge a b = a.sub == b.sub && (bytes_eq a.rand b.rand && (bytes_eq a.autn b.autn && bytes_eq a.identity b.identity))
+
+-- and by one method, for one network
 abbrev pub same_inputs : Inputs → Inputs → Bool
-same_inputs a b = a.sub == b.sub && (bytes_eq a.rand b.rand && (bytes_eq a.autn b.autn && bytes_eq a.identity b.identity))
+same_inputs a b = same_method a.method b.method && (bytes_eq a.name b.name && same_challenge a b)
 
 -- an end without keys shares no inputs
 abbrev pub share_inputs : Option Inputs → Option Inputs → Bool

@@ -1,12 +1,16 @@
 -- Completeness of a plain session: one whose packets reach the other end, each once and in their order, ends in Success at both
 -- ends under the same keys (RFC 4187 §3), unless a line of it tells why not.
-use Rattle.std.specs.Prelude.{◌≡◌, ℕ, ◌≤◌, Bool, true, false, List, [], ◌∷◌, length, flat_map, All, Option, Some, None, slice_get}
+use Rattle.std.specs.Prelude.{◌≡◌, ℕ, ◌≤◌, ◌&&◌, Bool, true, false, List, [], ◌∷◌, length, flat_map, All, Option, Some, None, slice_get, slice_index}
 use Rattle.auc_hmac.specs.declared.keys.KeySet.{KeySet}
+use Rattle.auc_hmac.specs.declared.method.Method.{Method}
+use Rattle.auc_hmac.specs.declared.method.Method.TheVariants as method
+use Rattle.auc_lines.specs.declared.part.SessionLine.{SessionLine}
 use Rattle.auc_peer.specs.Subscription.{Subscription}
 use Rattle.auc_peer.specs.Table.{new_peer}
 use Rattle.auc_server.specs.Rows.{is_held}
 use Rattle.auc_server.specs.Setting.{Setting}
 use Rattle.auc_subs.specs.Subscriber.{AreSubscribers}
+use Rattle.auc_subs.specs.declared.row.Row.{Row}
 use Rattle.auc_vector.specs.declared.notes.NumberNote.{NumberNote}
 use Rattle.auc_vector.specs.declared.notes.NumberNote.TheVariants as number
 use Rattle.auc_vector.specs.declared.notes.ResyncNote.{ResyncNote}
@@ -16,21 +20,53 @@ use Rattle.auc_vector.specs.declared.notes.UsimNote.TheVariants as usim
 use Rattle.auc_world.specs.Came.{Came, session_of}
 use Rattle.auc_world.specs.Event.{number_in, resync_in, usim_in}
 use Rattle.auc_world.specs.Given.{Before, PlainGives}
+use Rattle.auc_world.specs.Happened.{peer_options, server_options}
 use Rattle.auc_world.specs.Net.{Net}
 use Rattle.auc_world.specs.Sessions.{server_keys, verdict_on}
 use Rattle.auc_world.specs.Start.{subscription_at}
+use Rattle.auc_world.specs.World.{IsName}
 use Rattle.auc_world.specs.declared.net.Session.{Session}
 use Rattle.auc_world.specs.declared.record.LineRecord.{LineRecord}
 use Rattle.auc_world.specs.declared.record.LineRecord.TheVariants.{Vector, Withheld, Exhausted, Sync, Give, Event}
 
+-- ---- the options of a session
+
+-- a peer compares the network's name only if it has one
+abbrev pub IsNamed : Option (List ℕ) → List ℕ → Type 0
+IsNamed None name = Unit {0}
+IsNamed (Some own) name = own ≡ name
+
+-- EAP-AKA' needs a subscriber whose AMF has the separation bit, its top bit, a name that isn't empty, and a peer that expects no
+-- other one (RFC 9048 §3.1, TS 33.102 Annex H)
+pub record IsSeparated (amf name : List ℕ) (own : Option (List ℕ)) : Type 0 where
+  pub separated : 128 ≤ slice_index amf 0
+  pub some : 1 ≤ length name
+  pub named : IsNamed own name
+
+-- EAP-AKA ends if the server tells that it would rather use EAP-AKA', and the device has it (RFC 9048 §4)
+abbrev pub EndsSuitBy : Method → List ℕ → SessionLine → Type 0
+EndsSuitBy method.Aka amf opening = opening.has_prime && opening.bidding ≡ false
+EndsSuitBy method.Prime amf opening = IsSeparated amf opening.name opening.peer_name
+
+-- the options with which a session of a subscriber is opened let it end in Success
+pub record EndsSuit (row : Row) (opening : SessionLine) : Type 0 where
+  pub short : IsName opening.name
+  pub by : EndsSuitBy opening.method row.amf opening
+
 -- ---- the session
 
--- a session was opened and nothing has happened in it; its device is that of its subscriber, and its server serves that subscriber
+-- a session was opened with such options and nothing has happened in it; its device is that of its subscriber, and its server
+-- serves that subscriber
 pub record IsReady (set : Setting) (net : Net) (session : ℕ) : Type 0 where
   pub own : Session
   pub is : session_of net session ≡ Some own
+  pub opening : SessionLine
+  pub row : Row
+  pub listed : slice_get set.rows own.sub ≡ Some row
+  pub suits : EndsSuit row opening
+  pub options : own.options ≡ server_options opening
   pub server : own.server ≡ None
-  pub peer : own.peer ≡ new_peer
+  pub peer : own.peer ≡ new_peer (peer_options opening)
   pub device : Subscription
   pub there : slice_get net.devices own.device ≡ Some device
   pub subscribed : subscription_at set own.sub ≡ device ∷ []
@@ -66,7 +102,7 @@ is_refused (Some (number.Drew n)) = false
 is_refused (Some (number.Exhausted word)) = true
 is_refused (Some (number.Withheld n stop)) = true
 
--- the SEQ that a USIM reported was too far above the centre's number
+-- the centre's number was too far above the SEQ that a USIM reported
 abbrev pub is_too_far : Option ResyncNote → Bool
 is_too_far None = false
 is_too_far (Some (resync.Moved seen seq)) = false
@@ -81,8 +117,8 @@ sqn_reported (Some (usim.Accepted sqn)) = []
 sqn_reported (Some (usim.Sync sqn)) = sqn ∷ []
 sqn_reported (Some usim.WrongMac) = []
 
--- no line tells why a session fails: the centre gave each number that it was asked for, no SEQ was too far above, and the USIM
--- reported no more than so many synchronisation failures
+-- no line tells why a session fails: the centre gave each number that it was asked for, its number was never too far
+-- above the SEQ that the USIM reported, and the USIM reported no more than so many synchronisation failures
 pub record TellNoCause (syncs : ℕ) (lines : List LineRecord) : Type 0 where
   pub given : All (λ came. is_refused (number_in came) ≡ false) (results lines)
   pub near : All (λ came. is_too_far (resync_in came) ≡ false) (results lines)

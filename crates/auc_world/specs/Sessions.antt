@@ -1,6 +1,6 @@
 -- What a round tells of its sessions: which of them ended in Success at both ends with equal keys, and whether the premise of
 -- equal keys held.
-use Rattle.std.specs.Prelude.{◌≡◌, ℕ, ◌+◌, ◌≤◌, ◌&&◌, Bool, true, false, List, [], ◌∷◌, flat_map, Option, Some, None, AllPairs, IsPermutation}
+use Rattle.std.specs.Prelude.{ℕ, ◌+◌, ◌≤◌, ◌&&◌, Bool, true, false, List, [], ◌∷◌, flat_map, Option, Some, None, AllPairs, IsPermutation}
 use Rattle.std.specs.Str.{bytes_eq}
 use Rattle.auc_hmac.specs.declared.keys.KeySet.{KeySet}
 use Rattle.auc_server.specs.Server.{ServerEnd}

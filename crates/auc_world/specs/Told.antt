@@ -1,7 +1,9 @@
 -- What the text of a transcript tells of its records. It leaves out what follows from the scenario and from the other lines:
--- the subscribers of events, and the bytes and keys of a full print.
-use Rattle.std.specs.Prelude.{◌≡◌, ℕ, List, [], map, Option, None, Result, Ok, Err}
+-- the subscribers of events, the options of sessions, and the bytes, vectors and keys of a full print.
+use Rattle.std.specs.Prelude.{ℕ, false, List, [], map, None, Ok, Err}
 use Rattle.auc_hmac.specs.declared.keys.KeySet.{KeySet}
+use Rattle.auc_hmac.specs.declared.method.Method.TheVariants as method
+use Rattle.auc_lines.specs.declared.part.SessionLine.{SessionLine}
 use Rattle.auc_vector.specs.declared.turn.Outcome.{Outcome}
 use Rattle.auc_vector.specs.declared.turn.Outcome.TheVariants as outcome
 use Rattle.auc_vector.specs.declared.turn.Step.{Step}
@@ -36,13 +38,25 @@ told_step did.Opened = did.Opened
 told_step (did.Server what) = did.Server (told_what what)
 told_step (did.Peer what) = did.Peer (told_what what)
 
--- nor are subscribers
+-- nor are subscribers and vectors
 abbrev pub told_came : Came → Came
-told_came (Ok note) = Ok (record { notes = note.notes; step = told_step note.step; packet = note.packet; asked = None; device = None })
+told_came (Ok note) = Ok (record { notes = note.notes; step = told_step note.step; packet = note.packet; asked = None; device = None; vector = None })
 told_came (Err why) = Err why
 
+-- of an opening its session alone
+abbrev pub told_opening : ℕ → SessionLine
+told_opening session = record {
+  session = session;
+  sub = 0;
+  method = method.Aka;
+  name = [];
+  peer_name = None;
+  bidding = false;
+  has_prime = false;
+}
+
 abbrev pub told_event : Event → Event
-told_event (event.Open session sub) = event.Open session 0
+told_event (event.Open opening) = event.Open (told_opening opening.session)
 told_event (event.Start session) = event.Start session
 told_event (event.Deliver session at' packet) = event.Deliver session at' packet
 told_event (event.Repeat session) = event.Repeat session

@@ -1,40 +1,37 @@
--- The vectors of a transcript's records: a function of the subscriber, the number and the setting.
+-- The vectors of a transcript's records. Those of draws are a function of the subscriber, the number and the setting.
 use Rattle.std.specs.Prelude.{◌≡◌, ℕ, List, [], ◌∷◌, flat_map, Option, Some, None, slice_get}
+use Rattle.std.specs.Option.{option_to_list}
+use Rattle.auc_hmac.specs.declared.method.Method.TheVariants as method
 use Rattle.auc_subs.specs.Subscriber.{IsRow}
 use Rattle.auc_subs.specs.declared.row.Row.{Row}
-use Rattle.auc_vector.specs.Random.{rand_of}
+use Rattle.auc_random.specs.Random.{rand_of}
 use Rattle.auc_vector.specs.Vector.{vector_of, Source}
 use Rattle.auc_vector.specs.declared.parts.Vector.{Vector as AuthVector}
 use Rattle.auc_world.specs.Given.{IsReleasable}
 use Rattle.auc_world.specs.Setting.{Setting}
 use Rattle.auc_world.specs.declared.record.LineRecord.{LineRecord}
 use Rattle.auc_released.specs.declared.numbers.Number.{Number}
-use Rattle.auc_world.specs.Event.{event_number}
+use Rattle.auc_world.specs.Event.{event_number, event_vector}
 use Rattle.auc_world.specs.declared.record.LineRecord.TheVariants.{Vector, Withheld, Exhausted, Sync, Give, Event}
 
--- the vector of a number, made with a row and a RAND; a subscriber without a row has no vectors, and no line that is
+-- the vector of a number for EAP-AKA, made with a row and a RAND; a subscriber without a row has no vectors, and no line that is
 -- served names one
 abbrev pub vector_with : Option Row → ℕ → List ℕ → List AuthVector
 vector_with None n rand = []
-vector_with (Some row) n rand = vector_of row.secret row.amf n rand ∷ []
+vector_with (Some row) n rand = vector_of row.secret method.Aka row.amf [] n rand ∷ []
 
 -- the vector of a subscriber's number, with the RAND of both
 abbrev pub vector_at : Setting → ℕ → ℕ → List AuthVector
 vector_at set sub n = vector_with (slice_get set.rows sub) n (rand_of set.key sub n)
 
--- the vector of a number that was released, if one was
-abbrev pub vector_of_number : Setting → Option Number → List AuthVector
-vector_of_number set None = []
-vector_of_number set (Some number) = vector_at set number.sub number.n
-
--- the vector that a line releases
+-- the vector that a line releases; an event's is that of its session's challenge, by the session's method and name
 abbrev pub vector_in : Setting → LineRecord → List AuthVector
 vector_in set (Vector sub n) = vector_at set sub n
 vector_in set (Withheld sub n stop) = []
 vector_in set (Exhausted sub word) = []
 vector_in set (Sync sub verdict) = []
 vector_in set (Give sub n verdict) = []
-vector_in set (Event r) = vector_of_number set (event_number r.result)
+vector_in set (Event r) = option_to_list (event_vector r.result)
 
 -- the vectors that some lines release, in the order of the lines
 abbrev pub vectors_in : Setting → List LineRecord → List AuthVector
@@ -54,7 +51,7 @@ pub record IsOfRow (key : List ℕ) (rows : List Row) (sub n : ℕ) (vector : Au
   pub row : Row
   pub there : slice_get rows sub ≡ Some row
   pub is_row : IsRow row
-  pub made : vector ≡ vector_of row.secret row.amf n (rand_of key sub n)
+  pub made : vector ≡ vector_of row.secret method.Aka row.amf [] n (rand_of key sub n)
 
 -- a number that was released, if one was, is one that a vector may have, of a known subscriber
 abbrev pub IsReleasableNumber : Setting → Option Number → Type 0

@@ -1,11 +1,10 @@
 -- A job's network with the devices of its subscribers, and what applying an event does to them.
-use Rattle.std.specs.Prelude.{◌≡◌, ◌≢◌, ℕ, ◌<◌, ◌≤◌, Bool, true, false, List, [], ◌∷◌, ◌++◌, length, map, All, Option, Some, None, Ok, Err, slice_get}
+use Rattle.std.specs.Prelude.{◌≡◌, ◌≢◌, ℕ, ◌<◌, ◌≤◌, List, length, map, All, Option, Some, None, slice_get}
 use Rattle.auc_edge.specs.declared.stop.Stop.{Stop}
 use Rattle.auc_history.specs.declared.entry.Entry.{Entry}
-use Rattle.auc_peer.specs.Subscription.{Subscription, subscription_of}
+use Rattle.auc_peer.specs.Subscription.{subscription_of}
 use Rattle.auc_peer.specs.Turn.{Asked as AsksDevice, Decrypts, decryption_noted}
 use Rattle.auc_peer.specs.declared.device.Device.{Device}
-use Rattle.auc_peer.specs.declared.peer.Challenge.{Challenge}
 use Rattle.auc_server.specs.Server.{ServerEnd}
 use Rattle.auc_server.specs.Setting.{Setting}
 use Rattle.auc_server.specs.Steps.{IsHeld, IsHome}
@@ -20,7 +19,6 @@ use Rattle.auc_world.specs.Happened.{Told, happened}
 use Rattle.auc_world.specs.Net.{Net, device_place}
 use Rattle.auc_world.specs.declared.event.Event.{Event}
 use Rattle.auc_world.specs.declared.event.Event.TheVariants as event
-use Rattle.auc_world.specs.declared.net.Session.{Session}
 
 -- a network, and the devices of its subscribers in the same order
 pub record WorldState : Type 0 where
@@ -46,15 +44,21 @@ abbrev pub HasHeld : List HomeRow → Option ServerEnd → Type 0
 HasHeld homes None = Unit {0}
 HasHeld homes (Some s) = IsHeld homes s.challenged
 
--- a world: its network has the subscriptions of the devices, whose realms aren't too long, and its servers serve the homes
+-- a network's name has at most 255 bytes
+abbrev pub IsName : List ℕ → Type 0
+IsName name = length name ≤ 255
+
+-- a world: its network has the subscriptions of the devices, whose realms aren't too long, its servers serve the homes, and
+-- its sessions are of networks with names
 pub record IsWorld (w : WorldState) : Type 0 where
   pub subscriptions : w.net.devices ≡ map subscription_of w.devices
   pub realms : All (λ device. length device.realm ≤ 255) w.devices
   pub held : All (λ s. HasHeld w.net.homes s.server) w.net.sessions
+  pub names : All (λ s. IsName s.options.name) w.net.sessions
 
--- the subscriber of a session that is opened has a row
+-- the subscriber of a session that is opened has a row, and the network a name
 abbrev pub IsKnownEvent : ℕ → Event → Type 0
-IsKnownEvent count (event.Open session sub) = sub < count
+IsKnownEvent count (event.Open opening) = (opening.sub < count) × IsName opening.name
 IsKnownEvent count other = Unit {0}
 
 -- each home is a row of the subscribers, and a subscriber of the centre

@@ -4,15 +4,17 @@ ghost use Rattle.std.specs.Prelude.{◌≡◌, IfOk, OnErr, None};
 ghost use Rattle.auc_lines.specs.declared.part.End.TheVariants as end;
 ghost use Rattle.auc_server.specs.Table.{silent};
 ghost use Rattle.auc_world.specs.InnerWorld.{Acts};
+ghost use Rattle.auc_world.specs.World.{IsName};
 ghost use Rattle.auc_world.specs.declared.acting.Deed.TheVariants as deed;
 
+use crate::copying::copy_of;
 use crate::event::{Note, NoteStep, WorldRefusal};
 use crate::inputs::server_inputs;
 use crate::net::{SentPacket, Session};
 use crate::posting::{copy_sent, make_place, post};
 use auc_edge::{NoMemory, Octets};
 use auc_lines::End;
-use auc_server::Server;
+use auc_server::{Server, ServerOptions};
 use auc_vector::{Notes, Step};
 use std::alloc::Global;
 
@@ -32,7 +34,7 @@ pub(crate) enum Deed {
 
 /// A note of a step in which neither the centre nor a USIM was asked.
 pub(crate) fn note(step: NoteStep, packet: Option<u32>) -> Note
-    ensures { result ≡ record { notes = silent; step = step; packet = packet; asked = None; device = None } }
+    ensures { result ≡ record { notes = silent; step = step; packet = packet; asked = None; device = None; vector = None } }
 {
     let notes = Notes {
         resync: None,
@@ -47,7 +49,19 @@ pub(crate) fn note(step: NoteStep, packet: Option<u32>) -> Note
         packet,
         asked: None,
         device: None,
+        vector: None,
     }
+}
+
+/// A copy of the options of a session's server.
+fn copy_options(alloc: Global, options: &ServerOptions) -> Result<ServerOptions, NoMemory>
+    ensures { IfOk result (λ copy. copy ≡ options.now) }
+{
+    Ok(ServerOptions {
+        method: options.method,
+        name: copy_of(alloc, &options.name)?,
+        bidding: options.bidding,
+    })
 }
 
 /// Starts a session's server (RFC 3748 §5.1).
@@ -56,6 +70,7 @@ fn start(
     packets: &mut Vec<SentPacket>,
     session: &mut Session,
 ) -> Result<Came, NoMemory>
+    requires { IsName session.old.options.name }
     ensures acts { IfOk result (Acts deed.Start packets.old.items session.old packets.new.items session.new) }
     ensures packets { OnErr result (packets.new.items ≡ packets.old.items) }
     ensures session { OnErr result (session.new ≡ session.old) }
@@ -63,7 +78,8 @@ fn start(
     if session.server.is_some() {
         return Ok(Err(WorldRefusal::Started));
     }
-    let (server, bytes) = Server::start(alloc)?;
+    let options = copy_options(alloc, &session.options)?;
+    let (server, bytes) = Server::start(options, alloc)?;
     let sent = Octets::copied_from(alloc, bytes.as_slice())?;
     make_place(packets)?;
     session.server = Some(server);
@@ -111,6 +127,7 @@ pub(crate) fn act(
     session: &mut Session,
     deed: Deed,
 ) -> Result<Came, NoMemory>
+    requires { IsName session.old.options.name }
     ensures acts { IfOk result (Acts deed packets.old.items session.old packets.new.items session.new) }
     ensures packets { OnErr result (packets.new.items ≡ packets.old.items) }
     ensures session { OnErr result (session.new ≡ session.old) }

@@ -40,7 +40,9 @@ pub fn each_honest_run_agrees()
 }
 
 /// A plain session ends in Success at both ends under the same keys, unless one of its lines tells why not: the centre gave no
-/// number, or the USIM reported a SEQ that is too far above, or two synchronisation failures.
+/// number, or its number was too far above the SEQ that the USIM reported, or the USIM reported two synchronisation failures.
+/// Its options have to suit (`EndsSuit`): EAP-AKA' needs a subscriber whose AMF has the separation bit, and a peer that expects
+/// no other name; a device that has EAP-AKA' takes no bid for it in EAP-AKA (RFC 9048 §3.1 and §4, TS 33.102 Annex H).
 pub fn each_plain_session_succeeds()
     ensures { EachPlainSessionSucceeds }
 {

@@ -1,13 +1,12 @@
 //! The vectors that a job's lines release.
 
-ghost use Rattle.std.specs.Prelude.{◌≡◌, ◌≤◌, ◌<◌, [], ◌∷◌, All, length, IfOk, if◌then◌else◌};
+ghost use Rattle.std.specs.Prelude.{◌≡◌, ◌≤◌, ◌<◌, ◌++◌, [], All, length, IfOk, OnOk, if◌then◌else◌};
 ghost use Rattle.auc_sqn.specs.Number.{max_seq};
 ghost use Rattle.auc_world.specs.Vectors.{AreOfRow, IsOfRow, IsReleasableLine, vector_at as vector_there, vectors_in, vector_in};
 ghost use Rattle.auc_world.specs.InnerVectors.{IsSourceOf};
 
 use crate::record::{JobVectors, LineRecord};
 use auc_edge::{Items, NoMemory};
-use auc_released::Number;
 use auc_server::Setting;
 use auc_vector::{Vector, Vectors};
 use std::alloc::Global;
@@ -22,7 +21,7 @@ fn vectors_of(set: &Setting, sub: u32) -> Vectors
     Vectors::new(&row.secret, row.amf, set.rands.stream(sub))
 }
 
-/// The vector of a subscriber's number, with the RAND of both.
+/// The vector of a subscriber's number for EAP-AKA, with the RAND of both.
 pub fn vector_at(set: &Setting, sub: u32, n: u64) -> Vector
     requires known { sub < length set.now.rows }
     requires first { 1 ≤ n }
@@ -54,6 +53,37 @@ fn source_of(set: &Setting, last: Option<Source>, sub: u32) -> Source
     }
 }
 
+/// Adds the vector that a line releases, if it releases one. An event's record has its own.
+fn add_vector(
+    set: &Setting,
+    all: &mut JobVectors,
+    last: Option<Source>,
+    line: &LineRecord,
+) -> Result<Option<Source>, NoMemory>
+    requires releasable { IsReleasableLine set.now line.now }
+    requires source { IsSourceOf set.now last }
+    ensures added { OnOk result (all.new ≡ all.old ++ vector_in set.now line.now) }
+    ensures source { IfOk result (IsSourceOf set.now) }
+{
+    match line {
+        LineRecord::Vector { sub, n } => {
+            let mut source = source_of(set, last, *sub);
+            all.push(source.vectors.vector_of(*n))?;
+            Ok(Some(source))
+        }
+        LineRecord::Event(event) => {
+            if let Some(vector) = event.record().vector() {
+                all.push(vector)?;
+            }
+            Ok(last)
+        }
+        LineRecord::Withheld { .. }
+        | LineRecord::Exhausted { .. }
+        | LineRecord::Sync { .. }
+        | LineRecord::Give { .. } => Ok(last),
+    }
+}
+
 /// The vectors that a job's lines release, in the order of the lines. Consecutive lines of one subscriber share its key
 /// schedule and its generator.
 fn job_vectors(alloc: Global, set: &Setting, lines: &[LineRecord]) -> Result<JobVectors, NoMemory>
@@ -63,11 +93,7 @@ fn job_vectors(alloc: Global, set: &Setting, lines: &[LineRecord]) -> Result<Job
     let mut all = Items::new(alloc);
     let mut last = None;
     for line in lines {
-        if let Some(Number { sub, n }) = line.number() {
-            let mut source = source_of(set, last, sub);
-            all.push(source.vectors.vector_of(n))?;
-            last = Some(source);
-        }
+        last = add_vector(set, &mut all, last, line)?;
     }
     Ok(all)
 }

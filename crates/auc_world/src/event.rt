@@ -2,20 +2,21 @@
 
 ghost use Rattle.std.specs.Prelude.{◌≡◌, IfOk};
 
+use crate::copying::{copy_if_any, copy_of};
 use auc_edge::NoMemory;
-use auc_lines::End;
+use auc_lines::{End, SessionLine};
 use auc_peer::PeerWhy;
 use auc_released::Number;
 use auc_server::ServerWhy;
-use auc_vector::{Notes, NumberNote, Step};
+use auc_vector::{Notes, NumberNote, Step, Vector};
 use std::alloc::Global;
 use std::marker::Model;
 
 /// An event. A packet's number counts the packets of the job from 1.
-#[derive(Clone, Copy, Debug, PartialEq, Eq)]
+#[derive(Drop)]
 pub enum Event {
-    /// A session is opened under this number, at the subscriber's device.
-    Open { session: u32, sub: u32 },
+    /// A session is opened with these options, at its subscriber's device.
+    Open(SessionLine),
     /// The session's server starts, and sends its first request.
     Start(u32),
     /// A packet reaches an end of the session. It stays there to be delivered again.
@@ -24,6 +25,25 @@ pub enum Event {
     Repeat(u32),
     /// An end of the session gives up.
     GiveUp { session: u32, end: End },
+}
+
+impl Event {
+    ghost use Rattle.auc_world.specs.declared.event.Event.TheVariants as event;
+
+    /// The opening of a session, with copies of the names of its line.
+    pub fn open(alloc: Global, line: &SessionLine) -> Result<Event, NoMemory>
+        ensures { IfOk result (λ opening. opening ≡ event.Open line.now) }
+    {
+        Ok(Event::Open(SessionLine {
+            session: line.session,
+            sub: line.sub,
+            method: line.method,
+            name: copy_of(alloc, &line.name)?,
+            peer_name: copy_if_any(alloc, &line.peer_name)?,
+            bidding: line.bidding,
+            has_prime: line.has_prime,
+        }))
+    }
 }
 
 /// What the end that an event concerns did.
@@ -50,6 +70,8 @@ pub struct Note {
     pub asked: Option<u32>,
     /// The subscriber whose device received a packet, if one did.
     pub device: Option<u32>,
+    /// The vector that was released, if one was: that of the challenge that the server sent.
+    pub vector: Option<Vector>,
 }
 
 /// Why nothing came of an event.
@@ -66,12 +88,14 @@ pub enum WorldRefusal {
 /// An event with what came of it.
 #[derive(Drop)]
 pub struct EventRecord {
+    /// What happened.
     pub event: Event,
+    /// What came of it, or why nothing did.
     pub result: Result<Note, WorldRefusal>,
 }
 
 impl EventRecord {
-    ghost use Rattle.auc_world.specs.Event.{asked_in, event_number};
+    ghost use Rattle.auc_world.specs.Event.{asked_in, event_number, event_vector};
 
     /// The subscriber for whom the centre was asked, if it was asked.
     pub fn asked(&self) -> Option<u32>
@@ -79,6 +103,16 @@ impl EventRecord {
     {
         match &self.result {
             Ok(note) => note.asked,
+            Err(_) => None,
+        }
+    }
+
+    /// The vector that was released, if one was.
+    pub fn vector(&self) -> Option<Vector>
+        ensures { result ≡ event_vector self.now.result }
+    {
+        match &self.result {
+            Ok(note) => note.vector,
             Err(_) => None,
         }
     }

@@ -4,20 +4,23 @@
 ghost use Rattle.std.specs.Prelude.{◌≡◌, ◌≤◌, ◌<◌, ◌&&◌, [], length, Some, IfOk};
 ghost use Rattle.std.specs.Str.{bytes_eq};
 ghost use Rattle.auc_peer.specs.Table.{text_or_none};
-ghost use Rattle.auc_world.specs.Net.{inputs_of_peer, inputs_of_server, judged, other, same_end, same_inputs, share_inputs, was_sent};
+ghost use Rattle.auc_world.specs.Net.{inputs_of_peer, inputs_of_server, judged, other, same_challenge, same_end, same_inputs, same_method, share_inputs, was_sent};
 
+use crate::copying::copy_of;
 use crate::net::{Breach, Inputs, SentPacket};
 use auc_edge::{NoMemory, Octets, Room};
+use auc_hmac::Method;
 use auc_lines::End;
 use auc_peer::{Challenge, Peer};
 use auc_server::{Challenged, Server};
 use auc_vector::Vector;
 use std::alloc::Global;
 
-/// What a server derives its keys from, in memory that was taken before.
-pub(crate) fn put_server_inputs(room: Room, server: &Server) -> Option<Inputs>
+/// What a server derives its keys from, in memory that was taken before, with a copy of its network's name.
+pub(crate) fn put_server_inputs(room: Room, name: Octets, server: &Server) -> Option<Inputs>
     requires empty { room.written ≡ [] }
     requires left { length server.now.identity ≤ room.left }
+    requires name { name ≡ server.now.options.name }
     ensures { result ≡ inputs_of_server server.now }
 {
     let Challenged { sub, vector, .. } = server.challenged()?;
@@ -25,6 +28,8 @@ pub(crate) fn put_server_inputs(room: Room, server: &Server) -> Option<Inputs>
     let mut room = room;
     room.put(server.identity());
     Some(Inputs {
+        method: server.options().method,
+        name,
         sub,
         rand,
         autn,
@@ -32,12 +37,20 @@ pub(crate) fn put_server_inputs(room: Room, server: &Server) -> Option<Inputs>
     })
 }
 
+/// A copy of the name of a server's network.
+pub(crate) fn network_of(alloc: Global, server: &Server) -> Result<Octets, NoMemory>
+    ensures { IfOk result (λ name. name ≡ server.now.options.name) }
+{
+    copy_of(alloc, &server.options().name)
+}
+
 /// What a server derives its keys from.
 pub(crate) fn server_inputs(alloc: Global, server: &Server) -> Result<Option<Inputs>, NoMemory>
     ensures { IfOk result (λ inputs. inputs ≡ inputs_of_server server.now) }
 {
     let room = Room::new(alloc, server.identity().len())?;
-    Ok(put_server_inputs(room, server))
+    let name = network_of(alloc, server)?;
+    Ok(put_server_inputs(room, name, server))
 }
 
 /// The identity that a peer sent last, empty if it has sent none.
@@ -59,6 +72,8 @@ pub(crate) fn peer_inputs(alloc: Global, sub: u32, peer: &Peer) -> Result<Option
     };
     let Challenge { rand, autn } = challenge;
     Ok(Some(Inputs {
+        method: peer.options.method,
+        name: copy_of(alloc, &peer.network)?,
         sub,
         rand,
         autn,
@@ -76,13 +91,29 @@ fn sends_to(end: End, to: End) -> bool
     }
 }
 
-fn same_inputs(a: &Inputs, b: &Inputs) -> bool
-    ensures { result ≡ same_inputs a.now b.now }
+fn same_method(a: Method, b: Method) -> bool
+    ensures { result ≡ same_method a b }
+{
+    match (a, b) {
+        (Method::Aka, Method::Aka) | (Method::Prime, Method::Prime) => true,
+        (Method::Aka, Method::Prime) | (Method::Prime, Method::Aka) => false,
+    }
+}
+
+fn same_challenge(a: &Inputs, b: &Inputs) -> bool
+    ensures { result ≡ same_challenge a.now b.now }
 {
     a.sub == b.sub
         && (a.rand.as_slice() == b.rand.as_slice()
             && (a.autn.as_slice() == b.autn.as_slice()
                 && a.identity.as_slice() == b.identity.as_slice()))
+}
+
+fn same_inputs(a: &Inputs, b: &Inputs) -> bool
+    ensures { result ≡ same_inputs a.now b.now }
+{
+    same_method(a.method, b.method)
+        && (a.name.as_slice() == b.name.as_slice() && same_challenge(a, b))
 }
 
 fn share_inputs(a: &Option<Inputs>, b: &Option<Inputs>) -> bool

@@ -1,4 +1,5 @@
-//! The records of a scenario's rounds, with what they are served with; and what a lawful transcript is.
+//! The records of a scenario's rounds, with what they are served with; what a lawful transcript is; and the network of a
+//! job's sessions.
 //!
 //! A transcript is a list of parts: the records of a round, or a restart. A round is lawful if its records
 //! are what its jobs ask for, and if the jobs' entries of each subscriber split a legal history of its
@@ -6,12 +7,19 @@
 //! leads (`specs/Transcript`). The centre's answers are free within that. No definition speaks of an order
 //! between the steps of different jobs.
 //!
+//! A [`World`] is a job's network with the devices of its subscribers: its sessions of EAP-AKA and EAP-AKA', and the packets
+//! that their ends sent (`specs/Net`). [`World::apply`] makes an [`Event`] happen and answers a [`Note`]
+//! (`specs/Happened`, `specs/Came`). The premise is that each right MAC that an end finds is of a packet that an end of the other
+//! role sent with the same inputs of its keys; a [`Breach`] is the first delivery that breaks it. Laws say that a server and
+//! a peer of one challenge then agree on the keys ([`each_honest_run_agrees`]), and that a plain session, whose packets reach
+//! the other end in their order, succeeds ([`each_plain_session_succeeds`]).
+//!
 //! Two laws are about a round that several workers serve, each without the others' lines (`specs/Pieces`).
 //! Put together, the workers' pieces are what the jobs give, and their entries split the same history. Two more
 //! say that a restart opens no subscriber below a released number, and that a USIM remembers what it accepted.
 //!
-//! The record of a released vector has its subscriber and its number. They determine the vector's bytes
-//! (`specs/Vectors`), so a transcript has no bytes of vectors. [`note`] and [`note_all`] keep a set of the numbers that
+//! The record of a line that releases a vector has its subscriber and its number, which determine the vector's bytes
+//! (`specs/Vectors`); that of an event has the vector itself. [`note`] and [`note_all`] keep a set of the numbers that
 //! lines release (`specs/Released`). They take memory, and leave the set as it was if memory runs out.
 //!
 //! What follows from the lines and the words of a round is made here too: the vectors of the full print
@@ -24,6 +32,7 @@ mod agreement;
 mod auts;
 mod bytes;
 mod closing;
+mod copying;
 mod counting;
 mod event;
 mod inputs;

@@ -1,15 +1,17 @@
 //! The network of a job's sessions: packets, sessions, and the first breach of the premise of equal keys.
 
 use auc_edge::Octets;
-use auc_hmac::KeySet;
+use auc_hmac::{KeySet, Method};
 use auc_lines::End;
 use auc_peer::Peer;
-use auc_server::Server;
+use auc_server::{Server, ServerOptions};
 
-/// What an end derives its keys from (RFC 4187 §7): the subscriber, with its secret; RAND and AUTN of the challenge; and
-/// the identity.
+/// What an end derives its keys from (RFC 4187 §7, RFC 9048 §3.3): the method and the network's name, which is empty for
+/// EAP-AKA; the subscriber, with its secret; RAND and AUTN of the challenge; and the identity.
 #[derive(Drop)]
 pub struct Inputs {
+    pub method: Method,
+    pub name: Octets,
     pub sub: u32,
     pub rand: [u8; 16],
     pub autn: [u8; 16],
@@ -28,11 +30,14 @@ pub struct SentPacket {
 /// A session.
 #[derive(Drop)]
 pub struct Session {
+    /// The number under which it was opened, by which events name it.
     pub number: u32,
     /// The subscriber at whose device it was opened.
     pub sub: u32,
     /// The place of this device.
     pub device: u32,
+    /// What its server starts with.
+    pub options: ServerOptions,
     /// The server, or `None` before it starts.
     pub server: Option<Server>,
     pub peer: Peer,
@@ -44,7 +49,10 @@ pub struct Session {
 /// same inputs of its keys.
 #[derive(Clone, Copy, Debug, PartialEq, Eq)]
 pub struct Breach {
+    /// The number of the session that the packet was delivered to.
     pub session: u32,
+    /// The end that received it.
     pub end: End,
+    /// The number of the packet, which counts the packets of the job from 1.
     pub packet: u32,
 }

@@ -7,19 +7,20 @@ ghost use Rattle.auc_server.specs.Steps.{IsHeld, IsServed, Steps as StepsServer}
 ghost use Rattle.auc_world.specs.Happened.{keys_won, sent_by};
 ghost use Rattle.auc_world.specs.Net.{inputs_of_peer, inputs_of_server};
 
-use crate::inputs::{peer_inputs, put_server_inputs};
+use crate::copying::{copy_if_any, copy_of};
+use crate::inputs::{network_of, peer_inputs, put_server_inputs};
 use crate::net::Inputs;
 use crate::posting::{copy_sent, put_sent};
 use auc_edge::{NoMemory, Octets, Room};
 use auc_hmac::KeySet;
-use auc_peer::{Device, Last, Peer, PeerWhy};
+use auc_peer::{Device, Last, Peer, PeerOptions, PeerWhy};
 use auc_server::{HomeRow, Server, ServerWhy, Setting};
 use auc_vector::{Centre, Outcome, Step, Turn};
 use std::alloc::Global;
 use std::sync::Wait;
 
-/// The greatest message that a server sends, the Challenge: 72 bytes.
-const MOST: usize = 72;
+/// The greatest message that a server sends, the Challenge with a name of 255 bytes: 336 bytes.
+const MOST: usize = 336;
 
 /// A turn of an end.
 #[derive(Drop)]
@@ -56,9 +57,10 @@ pub(crate) fn serve<C: Centre, R: Wait>(
     ensures centre { OnErr result (centre.new ≡ centre.old) }
 {
     let text = Room::new(alloc, server.identity().len().max(bytes.len()))?;
+    let name = network_of(alloc, server)?;
     let message = Room::new(alloc, MOST)?;
     let turn = server.on_bytes(rt, alloc, set, homes.as_mut_slice(), centre, bytes)?;
-    let inputs = put_server_inputs(text, server);
+    let inputs = put_server_inputs(text, name, server);
     let sent = put_sent(message, &turn.step);
     Ok(Taken { turn, inputs, sent })
 }
@@ -69,8 +71,19 @@ fn copy_last(alloc: Global, last: &Last) -> Result<Last, NoMemory>
 {
     Ok(Last {
         id: last.id,
-        request: Octets::copied_from(alloc, last.request.as_slice())?,
-        answer: Octets::copied_from(alloc, last.answer.as_slice())?,
+        request: copy_of(alloc, &last.request)?,
+        answer: copy_of(alloc, &last.answer)?,
+    })
+}
+
+/// A copy of a peer's options.
+fn copy_options(alloc: Global, options: &PeerOptions) -> Result<PeerOptions, NoMemory>
+    ensures { IfOk result (λ copy. copy ≡ options.now) }
+{
+    Ok(PeerOptions {
+        method: options.method,
+        name: copy_if_any(alloc, &options.name)?,
+        has_prime: options.has_prime,
     })
 }
 
@@ -82,15 +95,13 @@ fn copy(alloc: Global, peer: &Peer) -> Result<Peer, NoMemory>
         Some(last) => Some(copy_last(alloc, last)?),
         None => None,
     };
-    let identity = match &peer.identity {
-        Some(text) => Some(Octets::copied_from(alloc, text.as_slice())?),
-        None => None,
-    };
     Ok(Peer {
+        options: copy_options(alloc, &peer.options)?,
         state: peer.state,
         last,
-        identity,
+        identity: copy_if_any(alloc, &peer.identity)?,
         accepted: peer.accepted,
+        network: copy_of(alloc, &peer.network)?,
     })
 }
 

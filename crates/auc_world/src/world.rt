@@ -1,17 +1,18 @@
 //! A job's network, with the devices of its subscribers.
 
 ghost use Rattle.std.specs.Prelude.{◌≡◌, ◌≤◌, ◌<◌, ◌++◌, ℕ, [], Some, None, All, length, map, IfOk, IfErr, IfSome, OnErr, is_some, true, vec_capacity, vec_len};
-ghost use Rattle.auc_world.specs.Came.{came_in, came_opened, session_of};
+ghost use Rattle.auc_world.specs.Came.{came_in, came_opened, session_of, vector_sent};
 ghost use Rattle.auc_world.specs.Event.{asked_in};
-ghost use Rattle.auc_world.specs.Happened.{Delivery, at_session, delivery_at, opened};
+ghost use Rattle.auc_world.specs.Happened.{Delivery, at_session, delivery_at, new_session, opened};
 ghost use Rattle.auc_world.specs.InnerWorld.{Answers, IsReached, IsUnreached, Serves, came_of, net_of, released_for};
 ghost use Rattle.auc_world.specs.Net.{device_place, session_place};
 ghost use Rattle.auc_peer.specs.Subscription.{subscription_of};
 ghost use Rattle.auc_subs.specs.Subscriber.{AreSubscribers};
 ghost use Rattle.auc_world.specs.Sessions.{job_sessions};
-ghost use Rattle.auc_world.specs.World.{Applies, AreHomes, Challenges, IsKnownEvent, RememberPasts, usim_of};
+ghost use Rattle.auc_world.specs.World.{Applies, AreHomes, Challenges, IsKnownEvent, IsName, RememberPasts, usim_of};
 
 use crate::acting::{Came, Deed, act, note};
+use crate::copying::{copy_if_any, copy_of};
 use crate::event::{Event, Note, NoteStep, WorldRefusal};
 use crate::inputs::{judged, server_inputs};
 use crate::net::{Breach, SentPacket, Session};
@@ -21,12 +22,12 @@ use crate::record::JobSessions;
 use crate::turning::{Taken, answer, keys_won, serve};
 use crate::verdicts::job_verdicts;
 use auc_edge::NoMemory;
-use auc_lines::End;
-use auc_peer::{Device, Peer};
+use auc_lines::{End, SessionLine};
+use auc_peer::{Device, Peer, PeerOptions};
 use auc_released::Number;
-use auc_server::{HomeRow, Setting};
+use auc_server::{Challenged, HomeRow, ServerOptions, Setting};
 use auc_usim::Answer;
-use auc_vector::{Centre, NumberNote};
+use auc_vector::{Centre, NumberNote, Vector};
 use indexmap::IndexMap;
 use std::alloc::Global;
 use std::marker::Model;
@@ -146,13 +147,13 @@ impl World {
         alloc: Global,
         set: &Setting,
         centre: &mut C,
-        event: Event,
+        event: &Event,
     ) -> Result<Result<Note, WorldRefusal>, NoMemory>
-        requires known { IsKnownEvent (length set.now.rows) event }
+        requires known { IsKnownEvent (length set.now.rows) event.now }
         requires homes { AreHomes set.now.rows (C.subs centre.old) (C.top centre.old) self.old.net.homes }
 
         ensures applied { IfOk result (λ came. RememberPasts self.old.devices
-            → Applies C.goes C.kept C.top set.now self.old event centre.old self.new came centre.new) }
+            → Applies C.goes C.kept C.top set.now self.old event.now centre.old self.new came centre.new) }
         ensures asked { IfOk result (λ came. IfSome (asked_in came) (λ sub. sub < length set.now.rows)) }
         ensures homes { self.new.net.homes ≡ self.old.net.homes }
         ensures devices { self.new.net.devices ≡ self.old.net.devices }
@@ -163,8 +164,8 @@ impl World {
         ensures world { OnErr result (self.new ≡ self.old) }
         ensures centre { OnErr result (centre.new ≡ centre.old) }
     {
-        match event {
-            Event::Open { session, sub } => self.open(set, session, sub),
+        match *event {
+            Event::Open(ref opening) => self.open(alloc, set, opening),
             Event::Start(session) => self.act(alloc, session, Deed::Start),
             Event::Repeat(session) => self.act(alloc, session, Deed::Repeat),
             Event::GiveUp { session, end } => self.act(alloc, session, Deed::GiveUp(end)),
@@ -181,27 +182,26 @@ impl World {
     }
 
     /// Opens a session at a subscriber's device.
-    fn open(&mut self, set: &Setting, session: u32, sub: u32) -> Result<Came, NoMemory>
-        requires { sub < length set.now.rows }
-        ensures came { IfOk result (λ came. came ≡ came_opened (session_place self.old.net.sessions session) (device_place set.now.rows self.old.net.devices sub)) }
-        ensures opened { IfOk result (λ _. self.new ≡ record self.old { net = opened self.old.net session sub (session_place self.old.net.sessions session) (device_place set.now.rows self.old.net.devices sub) }) }
+    fn open(
+        &mut self,
+        alloc: Global,
+        set: &Setting,
+        opening: &SessionLine,
+    ) -> Result<Came, NoMemory>
+        requires known { opening.now.sub < length set.now.rows }
+        requires name { IsName opening.now.name }
+        ensures came { IfOk result (λ came. came ≡ came_opened (session_place self.old.net.sessions opening.now.session) (device_place set.now.rows self.old.net.devices opening.now.sub)) }
+        ensures opened { IfOk result (λ _. self.new ≡ record self.old { net = opened self.old.net opening.now (session_place self.old.net.sessions opening.now.session) (device_place set.now.rows self.old.net.devices opening.now.sub) }) }
         ensures kept { OnErr result (self.new ≡ self.old) }
     {
-        if self.sessions.get_index_of(&session).is_some() {
+        if self.sessions.get_index_of(&opening.session).is_some() {
             return Ok(Err(WorldRefusal::Started));
         }
-        let Some(device) = self.device_of(set, sub) else {
+        let Some(device) = self.device_of(set, opening.sub) else {
             return Ok(Err(WorldRefusal::NoSuchEnd));
         };
-        let opened = Session {
-            number: session,
-            sub,
-            device,
-            server: None,
-            peer: Peer::new(),
-            peer_keys: None,
-        };
-        self.sessions.insert(session, opened)?;
+        let opened = new_session(alloc, opening, device)?;
+        self.sessions.insert(opening.session, opened)?;
         Ok(Ok(note(NoteStep::Opened, None)))
     }
 
@@ -275,6 +275,7 @@ impl World {
         let homes = &mut self.homes;
         let Taken { turn, inputs, sent } = serve(rt, alloc, set, homes, centre, server, bytes)?;
         let asked = server.asked(set, self.homes.as_slice(), turn.notes);
+        let vector = vector_sent(turn.notes.number, server.challenged());
         let checked = turn.checked;
         self.broken = judged(
             &self.packets,
@@ -292,6 +293,7 @@ impl World {
             packet: post(&mut self.packets, End::Server, inputs, sent),
             asked,
             device: None,
+            vector,
         }))
     }
 
@@ -336,7 +338,43 @@ impl World {
             packet: post(&mut self.packets, End::Peer, inputs, sent),
             asked: None,
             device: Some(sub),
+            vector: None,
         }))
+    }
+}
+
+/// A session in which nothing has happened, at the device of a place, with copies of the names.
+fn new_session(alloc: Global, opening: &SessionLine, device: u32) -> Result<Session, NoMemory>
+    ensures { IfOk result (λ session. session ≡ new_session opening.now device) }
+{
+    let options = ServerOptions {
+        method: opening.method,
+        name: copy_of(alloc, &opening.name)?,
+        bidding: opening.bidding,
+    };
+    let own = PeerOptions {
+        method: opening.method,
+        name: copy_if_any(alloc, &opening.peer_name)?,
+        has_prime: opening.has_prime,
+    };
+    Ok(Session {
+        number: opening.session,
+        sub: opening.sub,
+        device,
+        options,
+        server: None,
+        peer: Peer::new(own, alloc),
+        peer_keys: None,
+    })
+}
+
+/// The vector that was released: that of the challenge that a server sent, if a number was drawn.
+fn vector_sent(drawn: Option<NumberNote>, challenged: Option<Challenged>) -> Option<Vector>
+    ensures { result ≡ vector_sent drawn challenged }
+{
+    match (drawn, challenged) {
+        (Some(NumberNote::Drew(_)), Some(sent)) => Some(sent.vector),
+        _ => None,
     }
 }
 

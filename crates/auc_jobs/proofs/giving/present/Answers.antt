@@ -1,5 +1,5 @@
 use Rattle.auc_jobs.specs.InnerUsims.{usim_of}
-use Rattle.auc_vector.specs.Random.{rand_of}
+use Rattle.auc_random.specs.Random.{rand_of}
 use Rattle.auc_jobs.proofs.UsimLemmas.{challenged, challenged_keys, never_wrong_of, challenged_secrets, presents_accepted, presents_failure}
 use Rattle.auc_jobs.proofs.giving.present.Goals as goal
 

@@ -2,7 +2,7 @@ use Rattle.std.proofs.Common.{◌≡◌, ◌+◌, ◌∙◌, ◌++◌, ℕ, List
 use Rattle.sha2.specs.Hashers.{Holds256}
 use Rattle.auc_load.specs.Summary.{subscriber_bytes, vector_bytes}
 use Rattle.auc_load.proofs.SummaryLemmas.{bytes_more, vector_as}
-use Rattle.auc_vector.specs.Random.{Stream}
+use Rattle.auc_random.specs.Random.{Stream}
 use Rattle.auc_vector.specs.Vector.{Source}
 use Rattle.auc_vector.specs.declared.parts.Vector.{Vector}
 use Rattle.auc_load.proofs.lines.feed_subscriber.Goals as goal

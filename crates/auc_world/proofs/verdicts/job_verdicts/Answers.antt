@@ -1,4 +1,4 @@
-use Rattle.std.proofs.Common.{◌∙◌, sym, ◌++◌, ap, List}
+use Rattle.std.proofs.Common.{sym}
 use Rattle.indexmap.specs.IndexMap.{values}
 use Rattle.auc_world.proofs.VerdictLemmas.{one_more}
 use Rattle.auc_world.proofs.verdicts.job_verdicts.Goals as goal

@@ -14,7 +14,7 @@ apply-requires-clause-homes g c =
 
 pub invariant_of-self : goal.invariant_of-self
 invariant_of-self g c =
-    rows_after g.C.Centre.goes g.C.Centre.kept g.C.Centre.top c.self.inside.set.now c.self.inside.world c.apply.new.self c.args.event c.self.inside.centre.now c.apply.new.centre
+    rows_after g.C.Centre.goes g.C.Centre.kept g.C.Centre.top c.self.inside.set.now c.self.inside.world c.apply.new.self c.args.event.now c.self.inside.centre.now c.apply.new.centre
     (g.C.Centre.subs c.self.inside.centre.now) (g.C.Centre.subs c.apply.new.centre) c.apply.result (record {
       rows = c.self.invariant;
       applied = c.apply.ensures.applied;
@@ -27,10 +27,10 @@ invariant_of-self g c =
 
 pub returns-clause-applied : goal.returns-clause-applied
 returns-clause-applied g c =
-    subst (λ (w : WorkerState g.row.C.Denot). IfOk c.apply.result (λ came. Applies g.C.Centre.goes g.C.Centre.kept g.C.Centre.top w.set w.world c.args.event w.centre c.apply.new.self came c.apply.new.centre)) c.self.view_is
+    subst (λ (w : WorkerState g.row.C.Denot). IfOk c.apply.result (λ came. Applies g.C.Centre.goes g.C.Centre.kept g.C.Centre.top w.set w.world c.args.event.now w.centre c.apply.new.self came c.apply.new.centre)) c.self.view_is
     (if_ok_map (λ (came : Came). RememberPasts c.self.inside.world.devices
-    → Applies g.C.Centre.goes g.C.Centre.kept g.C.Centre.top c.self.inside.set.now c.self.inside.world c.args.event c.self.inside.centre.now c.apply.new.self came c.apply.new.centre)
-    (λ (came : Came). Applies g.C.Centre.goes g.C.Centre.kept g.C.Centre.top c.self.inside.set.now c.self.inside.world c.args.event c.self.inside.centre.now c.apply.new.self came c.apply.new.centre)
+    → Applies g.C.Centre.goes g.C.Centre.kept g.C.Centre.top c.self.inside.set.now c.self.inside.world c.args.event.now c.self.inside.centre.now c.apply.new.self came c.apply.new.centre)
+    (λ (came : Came). Applies g.C.Centre.goes g.C.Centre.kept g.C.Centre.top c.self.inside.set.now c.self.inside.world c.args.event.now c.self.inside.centre.now c.apply.new.self came c.apply.new.centre)
     c.apply.result (λ came applies. applies (remember_pasts c.self.inside.world.devices)) c.apply.ensures.applied)
 
 pub returns-clause-rows : goal.returns-clause-rows
@@ -46,7 +46,7 @@ returns-clause-same g c = record {
     released = ap (λ (w : WorkerState g.row.C.Denot). w.released) c.self.view_is;
   };
   keyed = λ sub.
-      keys_kept g.C.Centre.goes g.C.Centre.kept g.C.Centre.top c.self.inside.set.now c.self.inside.world c.apply.new.self c.args.event c.self.inside.centre.now c.apply.new.centre
+      keys_kept g.C.Centre.goes g.C.Centre.kept g.C.Centre.top c.self.inside.set.now c.self.inside.world c.apply.new.self c.args.event.now c.self.inside.centre.now c.apply.new.centre
       (g.C.Centre.subs c.self.inside.centre.now) (g.C.Centre.subs c.apply.new.centre) c.apply.result (record {
         rows = c.self.invariant;
         applied = c.apply.ensures.applied;

@@ -24,10 +24,10 @@ returns-in-Give-clause-served g c =
     c.give.ensures.net serves))
 
 pub returns-in-Session-clause-served : goal.returns-in-Session-clause-served
-returns-in-Session-clause-served g c = rw c.in-Session.is c.happen_alone.ensures.happened
+returns-in-Session-clause-served g c = rw c.in-Session.is c.open.ensures.opened
 
 pub returns-in-Start-clause-served : goal.returns-in-Start-clause-served
-returns-in-Start-clause-served g c = rw c.in-Start.is c.happen_alone-in-Start.ensures.happened
+returns-in-Start-clause-served g c = rw c.in-Start.is c.happen_alone.ensures.happened
 
 pub returns-in-Deliver-clause-served : goal.returns-in-Deliver-clause-served
 returns-in-Deliver-clause-served g c = rw c.in-Deliver.is c.happen_alone-in-Deliver.ensures.happened

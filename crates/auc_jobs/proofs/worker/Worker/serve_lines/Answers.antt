@@ -1,5 +1,5 @@
-use Rattle.std.proofs.Common.{◌∙◌, refl, get_or, List}
-use Rattle.auc_lines.specs.declared.part.Line.TheVariants as line
+use Rattle.std.proofs.Common.{◌∙◌, ◌+◌, ◌∷◌, ap, drop, refl, sym, List}
+use Rattle.auc_lines.specs.declared.part.Line.{Line}
 use Rattle.auc_world.specs.Given.{Before, LineGives}
 use Rattle.auc_world.specs.Setting.{Setting}
 use Rattle.auc_world.specs.declared.record.LineRecord.{LineRecord}
@@ -25,7 +25,7 @@ loop-line-init g c = record {
 
 pub serve_line-requires-clause-own : goal.serve_line-requires-clause-own
 serve_line-requires-clause-own g c = λ sub gives.
-    c.loop-line.invariant.keyed sub ∙ c.requires.own sub (holds_in_drop sub c.loop-line.line-index c.args.job.now _ _ (drop_more _ _ _ c.loop-line-test.true) gives)
+    c.loop-line.invariant.keyed sub ∙ c.requires.own sub (holds_in_drop sub c.loop-line.line-index c.args.job.now _ _ (drop_more _ _ c.line-item.result c.loop-line-test.true ∙ ap (λ (l : Line). l ∷ drop (c.loop-line.line-index + 1) c.args.job.now) (sym c.line-item.is)) gives)
 
 pub loop-line-preserved : goal.loop-line-preserved
 loop-line-preserved g c = record {
@@ -42,9 +42,9 @@ loop-line-preserved g c = record {
       (g.C.Centre.kept c.loop-line.self.centre) (g.C.Centre.kept c.serve_line.new.self.centre) c.args.self.now.released (usim_of c.args.self.now.set.rows c.loop-line.self.world) (usim_of c.args.self.now.set.rows c.serve_line.new.self.world)
       c.args.self.now.world.net c.loop-line.self.world.net c.serve_line.new.self.world.net _ _ _ c.args.job.now c.loop-line.self.lines c.serve_line.new.self.lines
       (λ i es fs ws vs. g.met.C.Centre.joins c.args.self.now.centre c.loop-line.self.centre c.serve_line.new.self.centre i es fs ws vs)
-      (drop_more _ _ _ c.loop-line-test.true) (c.loop-line.invariant.serving early beside stands)
+      (drop_more _ _ c.line-item.result c.loop-line-test.true ∙ ap (λ (l : Line). l ∷ drop (c.loop-line.line-index + 1) c.args.job.now) (sym c.line-item.is)) (c.loop-line.invariant.serving early beside stands)
       (same_serves g.C.Centre.kept g.C.Centre.goes c.loop-line.self c.serve_line.new.self
-      (λ (s : Setting) (before : Before) (lines : List LineRecord). LineGives s before c.loop-line.self.world.net (get_or c.args.job.now c.loop-line.line-index (line.Draw 0 0)) lines c.serve_line.new.self.world.net) c.args.self.now.set c.args.self.now.released
+      (λ (s : Setting) (before : Before) (lines : List LineRecord). LineGives s before c.loop-line.self.world.net c.line-item.result lines c.serve_line.new.self.world.net) c.args.self.now.set c.args.self.now.released
       c.loop-line.invariant.set c.loop-line.invariant.released c.in_ok-serve_line.ensures.served early beside);
 }
 

@@ -1,13 +1,10 @@
-use Rattle.std.proofs.Common.{◌≡◌, ◌∙◌, ℕ, List, sym, ap, subst}
+use Rattle.std.proofs.Common.{◌∙◌, sym, ap, subst}
 use Rattle.std.specs.Prelude.{slice_set}
 use Rattle.indexmap.proofs.CallerLemmas.{keys-with_value_at}
 use Rattle.indexmap.specs.IndexMap.{get, keys, values, with_value_at}
 use Rattle.auc_world.proofs.WorldLemmas.{acted_came, acted_net, kept_session, of_all, on_error, place_by_number, refused_there, set_same, states, still_there, values_set}
-use Rattle.auc_world.specs.Came.{came_in, session_of}
-use Rattle.auc_world.specs.Happened.{at_session}
 use Rattle.auc_world.specs.InnerWorld.{came_of, is_key, net_of}
-use Rattle.auc_world.specs.Net.{Net}
-use Rattle.auc_world.specs.World.{HasHeld, WorldState}
+use Rattle.auc_world.specs.World.{HasHeld, IsName}
 use Rattle.auc_world.specs.declared.net.Session.{Session}
 use Rattle.auc_world.proofs.world.World.act.Goals as goal
 
@@ -30,7 +27,7 @@ invariant_of-self c =
     kept_session (keys inside.sessions) (get is_key inside.places) inside.packets.items (values inside.sessions) inside.released.items inside.homes.items inside.broken inside.devices.items c.self.invariant
     _ _ _ _ _ c.in-Some.place c.index_mut.result.now c.act.new.session
     (keys-with_value_at inside.sessions c.in-Some.place c.act.new.session) (values_set inside.sessions.entries c.in-Some.place c.act.new.session) c.index_mut.ensures.value
-    (ap (λ (s : Session). s.number) same)
+    (ap (λ (s : Session). s.number) same) (ap (λ (s : Session). s.options) same)
     (subst (λ (s : Session). HasHeld inside.homes.items s.server) (sym same) (of_all (λ (s : Session). HasHeld inside.homes.items s.server) (values inside.sessions) c.in-Some.place c.index_mut.result.now c.self.invariant.world.held c.index_mut.ensures.value))
 
 pub returns-in_err-came-clause-kept : goal.returns-in_err-came-clause-kept
@@ -48,7 +45,7 @@ invariant_of-self-2 c =
     kept_session (keys inside.sessions) (get is_key inside.places) inside.packets.items (values inside.sessions) inside.released.items inside.homes.items inside.broken inside.devices.items c.self.invariant
     _ _ _ _ _ c.in-Some.place c.index_mut.result.now c.act.new.session
     (keys-with_value_at inside.sessions c.in-Some.place c.act.new.session) (values_set inside.sessions.entries c.in-Some.place c.act.new.session) c.index_mut.ensures.value
-    acts.number
+    acts.number acts.options
     (acts.held inside.homes.items (of_all (λ (s : Session). HasHeld inside.homes.items s.server) (values inside.sessions) c.in-Some.place c.index_mut.result.now c.self.invariant.world.held c.index_mut.ensures.value))
 
 pub returns-clause-came : goal.returns-clause-came
@@ -65,3 +62,8 @@ returns-clause-acted c =
     c.in-Some.place c.index_mut.result.now c.act.new.session c.act.new.packets.items c.args.deed c.in_ok-came.came
     (sym (c.in-Some.ensures.index ∙ place_by_number (keys inside.sessions) (values inside.sessions) c.args.session c.self.invariant.numbered)) c.index_mut.ensures.value c.in_ok-came.ensures.acts
     (values (with_value_at inside.sessions c.in-Some.place c.act.new.session)) (values_set inside.sessions.entries c.in-Some.place c.act.new.session)
+
+pub act-requires : goal.act-requires
+act-requires c =
+    let inside = c.self.inside in
+    of_all (λ (s : Session). IsName s.options.name) (values inside.sessions) c.in-Some.place c.index_mut.result.now c.self.invariant.world.names c.index_mut.ensures.value

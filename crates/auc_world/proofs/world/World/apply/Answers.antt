@@ -1,10 +1,10 @@
 use Rattle.std.proofs.Common.{Err, ◌∙◌, ap, sym, subst}
 use Rattle.auc_world.proofs.ApplyLemmas.{answered_applies, both_ok, each_ok, give_up_applies, open_applies, repeat_applies, served_applies, start_applies, unreached_applies}
 use Rattle.auc_world.proofs.AskedLemmas.{acted_asks_nobody, asks_nobody, opened_asks_nobody}
-use Rattle.auc_world.specs.Came.{Came, session_of}
+use Rattle.auc_world.specs.Came.{session_of}
 use Rattle.auc_world.specs.Event.{asked_in}
 use Rattle.auc_world.specs.declared.acting.Deed.TheVariants as deed
-use Rattle.auc_world.specs.World.{Applies, RememberPasts}
+use Rattle.auc_world.specs.World.{Applies}
 use Rattle.auc_lines.specs.declared.part.End.{End}
 use Rattle.auc_world.specs.declared.event.Event.{Event}
 use Rattle.auc_world.specs.declared.event.Event.TheVariants as event
@@ -17,7 +17,7 @@ returns-in-Open-clause-applied g c =
     let centre = c.args.centre.now in
     both_ok c.open.result _ _ _
     (λ came is leads pasts. subst (λ (e : Event). Applies g.C.Centre.goes g.C.Centre.kept g.C.Centre.top c.args.set.now now e centre new came centre) (sym c.in-Open.is)
-    (open_applies g.C.Centre.goes g.C.Centre.kept g.C.Centre.top c.args.set.now now new centre centre g.met.C.Centre.stays c.in-Open.session c.in-Open.sub came is leads))
+    (open_applies g.C.Centre.goes g.C.Centre.kept g.C.Centre.top c.args.set.now now new centre centre g.met.C.Centre.stays c.in-Open.opening came is leads))
     c.open.ensures.came c.open.ensures.opened
 
 pub returns-in-Start-clause-applied : goal.returns-in-Start-clause-applied

@@ -1,5 +1,5 @@
-use Rattle.std.proofs.Common.{◌≡◌, ◌≤◌, ◌∙◌, List, length, map, Some, refl, sym, ap, subst}
-use Rattle.std.specs.Prelude.{slice_get, slice_set}
+use Rattle.std.proofs.Common.{◌≡◌, ◌≤◌, ◌∙◌, length, refl, sym, ap, subst}
+use Rattle.std.specs.Prelude.{slice_set}
 use Rattle.std.proofs.lemmas.Option.{slice_get_past, slice_get_read}
 use Rattle.indexmap.proofs.CallerLemmas.{keys-with_value_at}
 use Rattle.indexmap.specs.IndexMap.{get, keys, values, with_value_at}
@@ -19,7 +19,7 @@ invariant_of-self-in_default c =
     let inside = c.self.inside in
     let session = c.index_mut-session.result.now in
     kept_session (keys inside.sessions) (get is_key inside.places) inside.packets.items (values inside.sessions) inside.released.items inside.homes.items inside.broken inside.devices.items c.self.invariant
-    _ _ _ _ _ c.args.place session session (keys-with_value_at inside.sessions c.args.place session) (values_set inside.sessions.entries c.args.place session) c.index_mut-session.ensures.value refl
+    _ _ _ _ _ c.args.place session session (keys-with_value_at inside.sessions c.args.place session) (values_set inside.sessions.entries c.args.place session) c.index_mut-session.ensures.value refl refl
     (of_all (λ (s : Session). HasHeld inside.homes.items s.server) (values inside.sessions) c.args.place session c.self.invariant.world.held c.index_mut-session.ensures.value)
 
 pub returns-in_default-clause-answered : goal.returns-in_default-clause-answered
@@ -46,7 +46,7 @@ invariant_of-self-in_err-turn c =
     kept_device (keys (with_value_at inside.sessions c.args.place same)) (get is_key inside.places) c.make_place.new.packets.items (values (with_value_at inside.sessions c.args.place same))
     inside.released.items inside.homes.items inside.broken inside.devices.items
     (kept_session (keys inside.sessions) (get is_key inside.places) inside.packets.items (values inside.sessions) inside.released.items inside.homes.items inside.broken inside.devices.items c.self.invariant
-    _ _ _ _ _ c.args.place session same (keys-with_value_at inside.sessions c.args.place same) (values_set inside.sessions.entries c.args.place same) c.index_mut-session.ensures.value refl
+    _ _ _ _ _ c.args.place session same (keys-with_value_at inside.sessions c.args.place same) (values_set inside.sessions.entries c.args.place same) c.index_mut-session.ensures.value refl refl
     (of_all (λ (s : Session). HasHeld inside.homes.items s.server) (values inside.sessions) c.args.place session c.self.invariant.world.held c.index_mut-session.ensures.value))
     session.device device c.answer.new.device
     (slice_get_read inside.devices.items (length inside.devices.items) session.device device refl c.in-Some.ensures.item.3.0 c.in-Some.ensures.value) c.in_err-turn.ensures.subscription
@@ -74,7 +74,7 @@ invariant_of-self-2 c =
     kept_device (keys (with_value_at inside.sessions c.args.place new)) (get is_key inside.places) c.post.new.packets.items (values (with_value_at inside.sessions c.args.place new))
     inside.released.items inside.homes.items c.judged-self-inside.result inside.devices.items
     (kept_session (keys inside.sessions) (get is_key inside.places) inside.packets.items (values inside.sessions) inside.released.items inside.homes.items inside.broken inside.devices.items c.self.invariant
-    _ _ _ _ _ c.args.place session new (keys-with_value_at inside.sessions c.args.place new) (values_set inside.sessions.entries c.args.place new) c.index_mut-session.ensures.value refl
+    _ _ _ _ _ c.args.place session new (keys-with_value_at inside.sessions c.args.place new) (values_set inside.sessions.entries c.args.place new) c.index_mut-session.ensures.value refl refl
     (of_all (λ (s : Session). HasHeld inside.homes.items s.server) (values inside.sessions) c.args.place session c.self.invariant.world.held c.index_mut-session.ensures.value))
     session.device device c.answer.new.device
     (slice_get_read inside.devices.items (length inside.devices.items) session.device device refl c.in-Some.ensures.item.3.0 c.in-Some.ensures.value) c.in_ok-turn.ensures.subscription

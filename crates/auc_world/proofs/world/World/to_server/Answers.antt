@@ -1,14 +1,13 @@
 use Rattle.std.proofs.Common.{◌≡◌, ℕ, ◌<◌, ◌≤◌, ◌∙◌, List, length, Some, refl, sym, ap, subst}
-use Rattle.std.specs.Prelude.{IfSome, Option, slice_get, slice_set}
+use Rattle.std.specs.Prelude.{IfSome, Option, slice_set}
 use Rattle.auc_server.specs.Asked.{asked_after}
 use Rattle.auc_server.specs.declared.setting.HomeRow.{HomeRow}
 use Rattle.auc_world.proofs.AskedLemmas.{asked_listed}
 use Rattle.indexmap.proofs.CallerLemmas.{keys-with_value_at}
 use Rattle.indexmap.specs.IndexMap.{get, keys, values}
-use Rattle.auc_server.specs.Server.{ServerEnd}
-use Rattle.auc_server.specs.Steps.{IsHeld}
 use Rattle.auc_world.proofs.ServingLemmas.{has_packet, packet_read, serves, serves_nobody, serves_now}
 use Rattle.auc_world.proofs.WorldLemmas.{kept_homes, kept_session, of_all, on_error, same_session, served_states, served_there, set_same, values_set}
+use Rattle.auc_world.specs.Came.{vector_sent}
 use Rattle.auc_world.specs.InnerWorld.{is_key, state_of}
 use Rattle.auc_world.specs.World.{AreHomes, HasHeld, WorldState}
 use Rattle.auc_world.specs.declared.net.Session.{Session}
@@ -19,7 +18,7 @@ invariant_of-self-in_default g c =
     let inside = c.self.inside in
     let session = c.index_mut-session.result.now in
     kept_session (keys inside.sessions) (get is_key inside.places) inside.packets.items (values inside.sessions) inside.released.items inside.homes.items inside.broken inside.devices.items c.self.invariant
-    _ _ _ _ _ c.args.place session session (keys-with_value_at inside.sessions c.args.place session) (values_set inside.sessions.entries c.args.place session) c.index_mut-session.ensures.value refl
+    _ _ _ _ _ c.args.place session session (keys-with_value_at inside.sessions c.args.place session) (values_set inside.sessions.entries c.args.place session) c.index_mut-session.ensures.value refl refl
     (of_all (λ (s : Session). HasHeld inside.homes.items s.server) (values inside.sessions) c.args.place session c.self.invariant.world.held c.index_mut-session.ensures.value)
 
 pub returns-in_default-clause-served : goal.returns-in_default-clause-served
@@ -44,7 +43,7 @@ invariant_of-self-in_err-before g c =
     let session = c.index_mut-session.result.now in
     let same : Session = record session { server = Some c.in-Some.server } in
     kept_session (keys inside.sessions) (get is_key inside.places) inside.packets.items (values inside.sessions) inside.released.items inside.homes.items inside.broken inside.devices.items c.self.invariant
-    _ _ _ _ _ c.args.place session same (keys-with_value_at inside.sessions c.args.place same) (values_set inside.sessions.entries c.args.place same) c.index_mut-session.ensures.value refl
+    _ _ _ _ _ c.args.place session same (keys-with_value_at inside.sessions c.args.place same) (values_set inside.sessions.entries c.args.place same) c.index_mut-session.ensures.value refl refl
     (subst (HasHeld inside.homes.items) c.in-Some.is (of_all (λ (s : Session). HasHeld inside.homes.items s.server) (values inside.sessions) c.args.place session c.self.invariant.world.held c.index_mut-session.ensures.value))
 
 pub returns-in_err-before-clause-world : goal.returns-in_err-before-clause-world
@@ -73,7 +72,7 @@ invariant_of-self-in_err-turn g c =
     let same : Session = record session { server = Some c.serve.new.server } in
     kept_homes _ _ _ _ _ inside.homes.items _ _ _ c.in_err-turn.ensures.homes
     (kept_session (keys inside.sessions) (get is_key inside.places) inside.packets.items (values inside.sessions) inside.released.items inside.homes.items inside.broken inside.devices.items c.self.invariant
-    _ _ _ _ _ c.args.place session same (keys-with_value_at inside.sessions c.args.place same) (values_set inside.sessions.entries c.args.place same) c.index_mut-session.ensures.value refl
+    _ _ _ _ _ c.args.place session same (keys-with_value_at inside.sessions c.args.place same) (values_set inside.sessions.entries c.args.place same) c.index_mut-session.ensures.value refl refl
     c.in_err-turn.ensures.held)
 
 pub returns-in_err-turn-clause-world : goal.returns-in_err-turn-clause-world
@@ -94,7 +93,7 @@ invariant_of-self-2 g c =
     let new : Session = record session { server = Some c.serve.new.server } in
     kept_homes _ _ _ _ _ inside.homes.items _ _ _ c.in_ok-turn.ensures.homes
     (kept_session (keys inside.sessions) (get is_key inside.places) inside.packets.items (values inside.sessions) inside.released.items inside.homes.items inside.broken inside.devices.items c.self.invariant
-    _ _ _ _ _ c.args.place session new (keys-with_value_at inside.sessions c.args.place new) (values_set inside.sessions.entries c.args.place new) c.index_mut-session.ensures.value refl
+    _ _ _ _ _ c.args.place session new (keys-with_value_at inside.sessions c.args.place new) (values_set inside.sessions.entries c.args.place new) c.index_mut-session.ensures.value refl refl
     c.in_ok-turn.ensures.held)
 
 pub returns-clause-served : goal.returns-clause-served
@@ -113,7 +112,7 @@ returns-clause-served g c =
     c.judged-self-inside.result c.in_ok-turn.field-0.inputs c.in_ok-before.before c.in_ok-turn.field-0.sent c.asked-asked.result c.post.result
     c.in_ok-make_place.ensures.same (c.deref.ensures.value ∙ c.in_ok-make_place.ensures.same) c.in_ok-reserve.ensures.items (c.as_slice.ensures.value ∙ c.in_ok-turn.ensures.homes) c.in_ok-turn.ensures.homes
     c.in_ok-before.ensures c.in_ok-turn.ensures.inputs c.in_ok-turn.ensures.sent c.post.ensures.posted c.post.ensures.number c.asked-asked.ensures c.release.ensures c.judged-self-inside.ensures
-    (values_set inside.sessions.entries c.args.place new))
+    (values_set inside.sessions.entries c.args.place new) c.vector_sent-vector.result (c.vector_sent-vector.ensures ∙ ap (vector_sent c.in_ok-turn.field-0.turn.notes.number) c.challenged.ensures))
 
 pub returns-clause-asked : goal.returns-clause-asked
 returns-clause-asked g c =

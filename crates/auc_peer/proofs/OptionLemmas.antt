@@ -1,0 +1,78 @@
+-- No turn changes a peer's options.
+use Rattle.std.proofs.Common.{◌≡◌, ℕ, Bool, true, false, cond, not, List, [], Option, Some, None, refl}
+use Rattle.auc_hmac.specs.declared.keys.KeySet.{KeySet}
+use Rattle.auc_packet.specs.Received.{Seen, is_sealed}
+use Rattle.auc_peer.specs.Asking.{answer_noted}
+use Rattle.auc_peer.specs.Attributes.{checkcode, differs}
+use Rattle.auc_peer.specs.Subscription.{Subscription}
+use Rattle.auc_peer.specs.Table.{accepted, accepting, again, by_answer, challenged, client, gave_up, genuine, keys_at, opened, peer_does, succeeded}
+use Rattle.auc_peer.specs.declared.peer.Challenge.{Challenge}
+use Rattle.auc_peer.specs.declared.peer.Last.{Last}
+use Rattle.auc_peer.specs.declared.peer.Peer.{Peer}
+use Rattle.auc_peer.specs.declared.peer.PeerState.{PeerState}
+use Rattle.auc_peer.specs.declared.peer.PeerState.TheVariants as state
+use Rattle.auc_peer.specs.declared.rows.Row.{Row}
+use Rattle.auc_peer.specs.declared.rows.Row.TheVariants as row
+use Rattle.auc_peer.specs.declared.why.PeerWhy.{PeerWhy}
+use Rattle.auc_peer.specs.declared.why.PeerWhy.TheVariants as why
+use Rattle.auc_usim.specs.declared.answer.Answer.{Answer}
+use Rattle.auc_usim.specs.declared.answer.Answer.TheVariants as answer
+use Rattle.auc_vector.specs.declared.notes.UsimNote.{UsimNote}
+use Rattle.auc_vector.specs.declared.notes.UsimNote.TheVariants as note
+use Rattle.auc_vector.specs.declared.turn.Turn.{Turn}
+
+-- what holds of two turns holds of the one of them that a test picks
+pub on_cond : (P : Peer × Turn PeerWhy → Type 0) (b : Bool) (x y : Peer × Turn PeerWhy) → P x → P y → P (cond b x y)
+on_cond P true x y f g = f
+on_cond P false x y f g = g
+
+abbrev Same : Peer → Peer × Turn PeerWhy → Type 0
+Same p t = t.0.options ≡ p.options
+
+opened_options : (p : Peer) (seen : Seen) (res sqn : List ℕ) (k : KeySet) (readable : Bool) → Same p (opened p seen res sqn k readable)
+opened_options p seen res sqn k true = refl
+opened_options p seen res sqn k false = refl
+
+accepted_options : (p : Peer) (seen : Seen) (c : Challenge) (res sqn : List ℕ) (k : KeySet) (readable : Bool) → Same p (accepted p seen c res sqn k readable)
+accepted_options p seen c res sqn k readable =
+    on_cond (Same p) (not (is_sealed p.options.method k.k_aut [] seen)) (client p seen why.WrongMac (Some (note.Accepted sqn)) false) (genuine (accepting p seen c) seen res sqn k readable) refl
+    (on_cond (Same p) (differs (checkcode seen)) (client (accepting p seen c) seen why.WrongCheckcode (Some (note.Accepted sqn)) true) (opened (accepting p seen c) seen res sqn k readable) refl
+    (opened_options (accepting p seen c) seen res sqn k readable))
+
+answer_options : (p : Peer) (seen : Seen) (c : Challenge) (a : Answer) (readable : Bool) → Same p (by_answer p seen c a readable)
+answer_options p seen c answer.WrongMac readable = refl
+answer_options p seen c (answer.SyncFailure auts sqn) readable = refl
+answer_options p seen c (answer.Accepted res ck ik ak amf sqn) readable = accepted_options p seen c res sqn (keys_at p seen c ik ck) readable
+
+challenged_options : (s : Subscription) (p : Peer) (seen : Seen) (c : Challenge) (n : Option UsimNote) (readable : Bool) → Same p (challenged s p seen c n readable)
+challenged_options s p seen c None readable = refl
+challenged_options s p seen c (Some n) readable = answer_options p seen c (answer_noted s.secret c n) readable
+
+again_options : (p : Peer) (last : Option Last) → Same p (again p last)
+again_options p None = refl
+again_options p (Some last) = refl
+
+succeeded_options : (p : Peer) (s : PeerState) → Same p (succeeded p s)
+succeeded_options p (state.Answered keys) = refl
+succeeded_options p state.Waiting = refl
+succeeded_options p (state.Refusing cause) = refl
+succeeded_options p state.Ended = refl
+
+-- each row
+pub row_options : (s : Subscription) (p : Peer) (seen : Seen) (r : Row) (n : Option UsimNote) (readable : Bool) → Same p (peer_does s p seen r n readable)
+row_options s p seen (row.Ignore cause) n readable = refl
+row_options s p seen row.Again n readable = again_options p p.last
+row_options s p seen row.First n readable = refl
+row_options s p seen (row.Client cause) n readable = refl
+row_options s p seen (row.Reject cause) n readable = refl
+row_options s p seen (row.Notified code) n readable = refl
+row_options s p seen (row.Challenged c) n readable = challenged_options s p seen c n readable
+row_options s p seen row.Success n readable = succeeded_options p p.state
+row_options s p seen (row.Failure cause) n readable = refl
+
+-- a peer that gives up
+pub gave_options : (p : Peer) (s : PeerState) → (gave_up p s).0.options ≡ p.options
+gave_options p state.Ended = refl
+gave_options p state.Waiting = refl
+gave_options p (state.Answered keys) = refl
+gave_options p (state.Refusing cause) = refl

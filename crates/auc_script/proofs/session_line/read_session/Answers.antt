@@ -1,0 +1,19 @@
+use Rattle.std.proofs.Common.{rules, ◌<◌, length}
+use Rattle.auc_script.proofs.NameLemmas.{names_from}
+use Rattle.auc_script.specs.SessionLine.{SessionFields}
+use Rattle.auc_script.proofs.session_line.read_session.Goals as goal
+
+pub returns-clause-line : goal.returns-clause-line
+returns-clause-line c = λ short.
+    let fields : SessionFields = record {
+      session = c.in_ok-session.session.now;
+      imsi = c.in_ok-session.imsi.now;
+      method = c.in_ok-session.method.now;
+      sname = c.in_ok-session.sname.now;
+      pname = c.in_ok-session.pname.now;
+      options = c.in_ok-session.options.now;
+      identity = c.in_ok-session.identity.now;
+    } in
+    let names = names_from c.args.fields.now fields c.in_ok-method.method c.in_ok-read_name.field-0 c.in_ok-read_peer_name.field-0 c.in_ok-session.ensures c.in_ok-read_name.ensures c.in_ok-read_peer_name.ensures short in
+    let known : c.in_ok-sub.sub < length c.args.subs.now = search rules in
+    (known, names.0, c.in_ok-session-2.ensures.within, names.1)
