@@ -4,9 +4,9 @@
     tools/eap_rows.py stdin|stdout
 
 It has Milenage (TS 35.206), the USIM's array (TS 33.102 Annex C), the messages, keys and both state machines of EAP-AKA
-(RFC 4187) and EAP-AKA' (RFC 9048) with permanent identities, and shares nothing with the crates. The rows go through each state of a server and
-of a peer: first, in one session, each message that is ignored there; then each other message in a session of its own.
-AES and ChaCha20 are those of Python's `cryptography`; hashes are Python's own.
+(RFC 4187) and EAP-AKA' (RFC 9048) with permanent identities and pseudonyms, and shares nothing with the crates. The rows go
+through each state of a server and of a peer: first, in one session, each message that is ignored there; then each other
+message in a session of its own. AES and ChaCha20 are those of Python's `cryptography`; hashes are Python's own.
 """
 import hashlib
 import hmac
@@ -25,8 +25,8 @@ IDENTITIES = {23: b"0001010000000001", 50: b"6001010000000001"}
 
 # ---- Milenage and the USIM
 
-def aes(block):
-    encryptor = Cipher(algorithms.AES(K), modes.ECB()).encryptor()
+def aes(block, key=K):
+    encryptor = Cipher(algorithms.AES(key), modes.ECB()).encryptor()
     return encryptor.update(block) + encryptor.finalize()
 
 
@@ -56,11 +56,21 @@ class Functions:
         return out[:8], out[8:]
 
 
-def rand_of(n):
-    """RAND of the first subscriber and number n: 16 bytes of ChaCha20's stream 0 from word 4 n on."""
-    counter, word = divmod(4 * n, 16)
-    cipher = Cipher(algorithms.ChaCha20(RANDOM_KEY, struct.pack("<QQ", counter, 0)), mode=None).encryptor()
+def sixteen_of(stream, word):
+    """16 bytes of ChaCha20's stream from a word on."""
+    block, word = divmod(word, 16)
+    cipher = Cipher(algorithms.ChaCha20(RANDOM_KEY, struct.pack("<QQ", block, stream)), mode=None).encryptor()
     return cipher.update(bytes(64))[4 * word:4 * word + 16]
+
+
+def rand_of(n):
+    """RAND of the first subscriber and number n: the stream 0 from word 4 n on."""
+    return sixteen_of(0, 4 * n)
+
+
+def iv_of(session, index):
+    """The sixteen bytes of an index of a session."""
+    return sixteen_of(2**32 + session, 4 * index)
 
 
 def sqn_of(n):
@@ -154,11 +164,36 @@ class Keys:
             stream = aka_stream(identity, f.ck, f.ik)
         else:
             stream = prime_stream(identity, name, autn, f.ck, f.ik)
-        self.aut = stream[16:32] if kind == 23 else stream[16:48]
+        self.encr, self.aut = stream[:16], stream[16:32] if kind == 23 else stream[16:48]
         self.words = [stream[:16], stream[16:48], stream[48:80], stream[80:144], stream[144:208]]
 
     def text(self):
         return "keys " + " ".join(word.hex() for word in self.words)
+
+
+# ---- names
+
+NAMES_KEY = sixteen_of(2**40, 0)
+LAST_ORDINAL = 2**48 - 1
+
+
+def name_of(kind, ordinal, subscriber=0, digits=b"27", of=1):
+    """The pseudonym of a subscriber's ordinal, by the method's type. Names of re-authentications have other digits and 2."""
+    block = bytes([of, kind]) + subscriber.to_bytes(4) + ordinal.to_bytes(6) + bytes(4)
+    return digits[kind == 50:][:1] + aes(block, NAMES_KEY).hex().encode()
+
+
+def is_name(kind, text):
+    """Whether a text before its realm is a pseudonym of the first subscriber."""
+    name = text.partition(b"@")[0]
+    try:
+        hidden = bytes.fromhex(name[1:].decode("ascii"))
+    except ValueError:
+        return False
+    if len(hidden) != 16:
+        return False
+    block = Cipher(algorithms.AES(NAMES_KEY), modes.ECB()).decryptor().update(hidden)
+    return name == name_of(kind, int.from_bytes(block[6:12])) and block[2:6] == bytes(4)
 
 
 # ---- packets
@@ -206,8 +241,32 @@ def sealed(kind, key, code, identifier, subtype, attrs):
     return front[:-16] + mac(kind, key, front)
 
 
+def hidden(key, iv, data):
+    """AT_IV and AT_ENCR_DATA of some bytes, which AT_PADDING fills up to whole blocks."""
+    fill = -len(data) % 16
+    data += attr(6, bytes(fill - 2)) if fill else b""
+    encryptor = Cipher(algorithms.AES(key), modes.CBC(iv)).encryptor()
+    return sixteen(129, iv) + attr(130, b"\0\0" + encryptor.update(data))
+
+
+def checkcode(kind, packets):
+    """AT_CHECKCODE over the packets of AKA-Identity rounds."""
+    data = b"".join(packets)
+    return attr(134, b"\0\0" + (hashlib.new("sha1" if kind == 23 else "sha256", data).digest() if data else b""))
+
+
 class Fault(Exception):
     pass
+
+
+def shown(key, attrs):
+    """The encrypted attributes of a message, none if it has none."""
+    if 130 not in attrs:
+        return {}
+    data = attrs[130][2:]
+    if 129 not in attrs or not data or len(data) % 16:
+        raise Fault
+    return read_attrs(Cipher(algorithms.AES(key), modes.CBC(attrs[129][2:])).decryptor().update(data))
 
 
 def read_attrs(data):
@@ -281,11 +340,19 @@ def is_sealed(kind, key, data):
 
 # ---- the server
 
+class Home:
+    """What passes from session to session of a server: the last number and the last ordinal of its one subscriber."""
+
+    def __init__(self, word, is_held):
+        self.word, self.is_held, self.ordinal, self.sessions = word, is_held, 0, 0
+
+
 class Server:
-    def __init__(self, word, is_held, kind=23, name=b"", bidding=False):
-        self.word, self.is_held = word, is_held
-        self.kind, self.name, self.bidding = kind, name, bidding
-        self.state, self.identifier, self.synced = "identity", 1, False
+    def __init__(self, home, kind=23, name=b"", bidding=False, gives=False, asks_any=False):
+        home.sessions += 1
+        self.home, self.session, self.next_iv = home, home.sessions, 0
+        self.kind, self.name, self.bidding, self.gives, self.asks_any = kind, name, bidding, gives, asks_any
+        self.state, self.identifier, self.synced, self.packets = "identity", 1, False, []
         self.last = packet(REQUEST, 1, b"\x01")
         self.answer = f"sent {self.last.hex()}"
 
@@ -293,6 +360,41 @@ class Server:
         self.identifier += 1
         self.state, self.last = state, make(self.identifier)
         return f"sent {self.last.hex()}"
+
+    def count(self, data):
+        if data not in self.packets:
+            self.packets.append(data)
+
+    def ask(self, kind):
+        state = {13: "any", 17: "full", 10: "permanent"}[kind]
+        answer = self.send(state, lambda it: message(self.kind, REQUEST, it, 5, attr(kind, b"\0\0")))
+        self.count(self.last)
+        return answer
+
+    def is_permanent(self):
+        return self.home.is_held and self.identity.partition(b"@")[0] == IDENTITIES[self.kind]
+
+    def is_known(self):
+        return self.is_permanent() or self.home.is_held and is_name(self.kind, self.identity)
+
+    def by_identity(self):
+        """What follows an identity, by the state in which it came."""
+        if self.state == "identity" and self.asks_any:
+            return self.ask(13)
+        if self.state == "permanent":
+            return self.challenge() if self.is_permanent() else self.notify("unknownidentity")
+        if self.is_known():
+            return self.challenge()
+        return self.ask(10 if self.state == "full" else 17)
+
+    def next_name(self):
+        """AT_IV and AT_ENCR_DATA with the next pseudonym."""
+        if not self.gives or self.home.ordinal == LAST_ORDINAL:
+            return b""
+        self.home.ordinal += 1
+        iv = iv_of(self.session, self.next_iv)
+        self.next_iv += 2
+        return hidden(self.keys.encr, iv, text_attr(132, name_of(self.kind, self.home.ordinal)))
 
     def notify(self, why):
         self.why = why
@@ -303,10 +405,10 @@ class Server:
         return f"ended {text} {packet(code, self.identifier, b'').hex()}"
 
     def challenge(self):
-        if self.word >= MAX_SEQ:
-            return f"exhausted {self.word} {self.notify(f'exhausted {self.word}')}"
-        self.word += 1
-        self.n, self.rand = self.word, rand_of(self.word)
+        if self.home.word >= MAX_SEQ:
+            return f"exhausted {self.home.word} {self.notify(f'exhausted {self.home.word}')}"
+        self.home.word += 1
+        self.n, self.rand = self.home.word, rand_of(self.home.word)
         self.f, autn = Functions(self.rand), autn_of(self.n, self.rand)
         self.keys = Keys(self.kind, self.name, self.identity, autn, self.f)
         attrs = sixteen(1, self.rand) + sixteen(2, autn)
@@ -314,7 +416,7 @@ class Server:
             attrs += text_attr(23, self.name) + KDF
         elif self.bidding:
             attrs += attr(136, b"\x80\0")
-        attrs += EMPTY_CHECKCODE
+        attrs += self.next_name() + checkcode(self.kind, self.packets)
         return f"drew {self.n} " + self.send("challenge", lambda it: self.sealed(REQUEST, it, 1, attrs))
 
     def sealed(self, code, identifier, subtype, attrs):
@@ -333,8 +435,7 @@ class Server:
             return "ignored othertype"
         if self.state == "identity":
             self.identity = head.data[5:]
-            known = self.is_held and self.identity.partition(b"@")[0] == IDENTITIES[self.kind]
-            return self.challenge() if known else self.notify("unknownidentity")
+            return self.by_identity()
         try:
             subtype, attrs = read_message(head)
         except Fault:
@@ -344,19 +445,26 @@ class Server:
     def message(self, name, attrs, data):
         if self.state == "notifying":
             return self.end(4, f"failure {self.why}") if name == "notification" else "ignored unexpected"
-        rows = {"challenge": ({3, 11}, self.judge), "sync": ({4}, self.sync), "reject": (set(), self.reject),
-                "client": ({22}, self.client)}
+        rows = {"identity": ({14}, self.identify), "client": ({22}, self.client)}
+        if self.state == "challenge":
+            rows = {"challenge": ({3, 11}, self.judge), "sync": ({4}, self.sync), "reject": (set(), self.reject),
+                    "client": ({22}, self.client)}
         if name not in rows:
             return "ignored unexpected"
         needed, row = rows[name]
         return row(attrs, data) if needed <= set(attrs) else "ignored missing"
+
+    def identify(self, attrs, data):
+        self.identity = attrs[14]
+        self.count(data)
+        return self.by_identity()
 
     def judge(self, attrs, data):
         if not is_sealed(self.kind, self.keys.aut, data):
             return self.notify("wrongmac")
         if attrs[3] != self.f.res:
             return self.notify("wrongres")
-        if len(attrs.get(134, b"\0\0")) > 2:
+        if 134 in attrs and attr(134, b"\0\0" + attrs[134][2:]) != checkcode(self.kind, self.packets):
             return self.notify("wrongcheckcode")
         return self.end(3, "success") + " " + self.keys.text()
 
@@ -374,9 +482,9 @@ class Server:
         sqn = xor(auts[:6], self.f.ak_star)
         if self.f.f1(sqn, b"\0\0")[1] != auts[6:]:
             return f"badauts {self.notify('badauts')}"
-        seq, seen = int.from_bytes(sqn) >> 5, self.word
+        seq, seen = int.from_bytes(sqn) >> 5, self.home.word
         if seen < seq:
-            self.word = seq
+            self.home.word = seq
             return f"moved {seen} {seq} {self.challenge()}"
         if seen + 1 - seq > REACH:
             return f"beyond {seen} {seq} {self.notify(f'beyond {seen} {seq}')}"
@@ -394,12 +502,30 @@ class Server:
 
 # ---- the peer
 
+class Device:
+    """What passes from session to session of a peer: the USIM, and the pseudonym of each method's type."""
+
+    def __init__(self, opening):
+        self.usim, self.names = Usim(opening), {}
+
+
 class Peer:
-    def __init__(self, opening, kind=23, name=None, has_prime=False):
-        self.kind, self.name, self.has_prime = kind, name, has_prime
-        self.usim, self.state, self.identifier = Usim(opening), "waiting", None
-        self.asked = self.answered = None
-        self.sent_identity = b""
+    def __init__(self, device, kind=23, name=None, has_prime=False, first=None, realm=b""):
+        self.kind, self.name, self.has_prime, self.first, self.realm = kind, name, has_prime, first, realm
+        self.device, self.state, self.identifier = device, "waiting", None
+        self.asked = self.answered = self.next_name = None
+        self.sent_identity, self.packets = b"", []
+
+    def permanent(self):
+        return IDENTITIES[self.kind] + self.realm
+
+    def held(self):
+        return self.device.names.get(self.kind, IDENTITIES[self.kind]) + self.realm
+
+    def first_identity(self):
+        if self.first is None:
+            return self.held()
+        return self.permanent() if self.first == b"permanent" else self.first[1:]
 
     def send(self, head, data, answer, state="waiting"):
         self.state, self.identifier, self.asked, self.answered = state, head.identifier, data, answer
@@ -442,6 +568,8 @@ class Peer:
             if self.state != "answered":
                 return "ignored unexpected"
             self.state = "ended"
+            if self.next_name:
+                self.device.names[self.kind] = self.next_name
             return "ended success " + self.keys.text()
         why = self.why if self.state == "refusing" else "failurereceived"
         self.state = "ended"
@@ -449,7 +577,7 @@ class Peer:
 
     def waiting(self, head, data):
         if head.kind == 1:
-            self.sent_identity = IDENTITIES[self.kind]
+            self.sent_identity = self.first_identity()
             return self.send(head, data, packet(RESPONSE, head.identifier, b"\x01" + self.sent_identity))
         try:
             subtype, attrs = read_message(head)
@@ -461,7 +589,21 @@ class Peer:
             return self.challenge(head, data, attrs)
         if subtype == 12:
             return self.notification(head, data, attrs)
-        return "ignored unexpected" if subtype == 5 else "ignored nocontext"
+        return self.identify(head, data, attrs) if subtype == 5 else "ignored nocontext"
+
+    def count(self, data):
+        if data not in self.packets:
+            self.packets.append(data)
+
+    def identify(self, head, data, attrs):
+        asked = {10, 13, 17} & set(attrs)
+        if len(asked) != 1:
+            return self.client(head, data, "missing")
+        self.sent_identity = self.permanent() if asked == {10} else self.held()
+        answer = self.message(head, 5, text_attr(14, self.sent_identity))
+        self.count(head.data)
+        self.count(answer)
+        return self.send(head, data, answer)
 
     def notified(self, head, data):
         try:
@@ -484,7 +626,7 @@ class Peer:
             return self.client(head, data, "missing")
         if refused := self.refuses(attrs):
             return self.reject(head, data, refused)
-        note, f, auts = self.usim.challenge(attrs[1][2:], attrs[2][2:])
+        note, f, auts = self.device.usim.challenge(attrs[1][2:], attrs[2][2:])
         if auts:
             answer = attr(4, auts) + (KDF if self.kind == 50 else b"")
             return f"{note} {self.send(head, data, self.message(head, 4, answer))}"
@@ -507,11 +649,15 @@ class Peer:
         self.keys = Keys(self.kind, attrs.get(23, b""), self.sent_identity, attrs[2][2:], f)
         if not is_sealed(self.kind, self.keys.aut, head.data):
             return self.client(head, data, "wrongmac")
-        if len(attrs.get(134, b"\0\0")) > 2:
+        code = checkcode(self.kind, self.packets)
+        if 134 in attrs and attr(134, b"\0\0" + attrs[134][2:]) != code:
             return self.client(head, data, "wrongcheckcode")
-        if 130 in attrs:
+        try:
+            name = shown(self.keys.encr, attrs).get(132, b"").partition(b"@")[0]
+        except Fault:
             return self.client(head, data, "undecryptable")
-        answer = res_attr(f.res) + (attr(134, b"\0\0") if 134 in attrs else b"")
+        self.next_name = name if len(name) == 33 else None
+        answer = res_attr(f.res) + (code if 134 in attrs else b"")
         answer = sealed(self.kind, self.keys.aut, RESPONSE, head.identifier, 1, answer)
         return self.send(head, data, answer, "answered")
 
@@ -528,7 +674,18 @@ class Session:
     """An end and the lines that were said to it, with its answers."""
 
     def __init__(self, line, end):
-        self.end, self.rows = end, [(line, end.answer if hasattr(end, "answer") else "peer")]
+        self.rows = []
+        self.begin(line, end)
+
+    def begin(self, line, end):
+        self.end = end
+        self.rows.append((line, end.answer if hasattr(end, "answer") else "peer"))
+
+    def next(self, options):
+        """The next session of the same server, or at the same device."""
+        last = self.end
+        end = Server(last.home, **options[1]) if isinstance(last, Server) else Peer(last.device, **options[1])
+        self.begin(f"next{options[0]}", end)
 
     def say(self, line):
         word, _, rest = line.partition(" ")
@@ -547,24 +704,34 @@ class Session:
 NAME = b"WLAN"
 BIDDING = " bidding", {"bidding": True}
 HAS_PRIME = " hasprime", {"has_prime": True}
+GIVES = " pseudonym", {"gives": True}
+ASKS_ANY = " any", {"asks_any": True}
+PERMANENT = " permanent", {"first": b"permanent"}
+SOMEBODY = " =somebody@home", {"first": b"=somebody@home"}
 PRIME = " prime WLAN", {"kind": 50, "name": NAME}
 ANY_NAME = " prime *", {"kind": 50}
 LONG = " prime " + "n" * 255, {"kind": 50, "name": b"n" * 255}
 PLAIN = "", {}
 
 
-def server(word=0, held="held", *before, options=PLAIN):
-    session = Session(f"server {word} {held}{options[0]}", Server(word, held == "held", **options[1]))
+def both(*options):
+    """Several options together; that of the method comes last."""
+    return "".join(text for text, _ in options), {key: value for _, made in options for key, value in made.items()}
+
+
+def told(session, before):
+    """A session after messages, and after the next sessions' options."""
     for make in before:
-        session.bytes(make(session.end))
+        session.next(make) if isinstance(make, tuple) else session.bytes(make(session.end))
     return session
+
+
+def server(word=0, held="held", *before, options=PLAIN):
+    return told(Session(f"server {word} {held}{options[0]}", Server(Home(word, held == "held"), **options[1])), before)
 
 
 def peer(opening=0, *before, options=PLAIN):
-    session = Session(f"peer {opening}{options[0]}", Peer(opening, **options[1]))
-    for make in before:
-        session.bytes(make(session.end))
-    return session
+    return told(Session(f"peer {opening}{options[0]}", Peer(Device(opening), **options[1])), before)
 
 
 def through(title, make_session, messages, more=()):
@@ -617,7 +784,17 @@ def right_response(end, res=None, more=b"", key=None, add=0):
 
 
 def identity(text):
-    return lambda end: packet(RESPONSE, end.identifier, b"\x01" + text)
+    """An identity in answer to EAP's own Identity request, or in an AKA-Identity response if another request was sent."""
+    def make(end):
+        chosen = text(end.kind) if callable(text) else text
+        if end.state == "identity":
+            return packet(RESPONSE, end.identifier, b"\x01" + chosen)
+        return message(end.kind, RESPONSE, end.identifier, 5, text_attr(14, chosen))
+    return make
+
+
+def own_checkcode(end):
+    return checkcode(end.kind, end.packets)
 
 
 def permanent(more=b"", other=False, size=16):
@@ -645,7 +822,44 @@ NO_PACKETS = [
     ("a Length above the bytes", lambda end: packet(RESPONSE, end.identifier or 1, b"\x01")[:-1]),
     ("a message of six bytes", lambda end: b"\x02" + bytes([end.identifier or 1]) + b"\0\x06\x17\x01"),
 ]
-TO_SERVER = NO_PACKETS + [
+IDENTIFYING = [
+    ("no AT_IDENTITY", response(5)),
+    ("AT_IDENTITY and another attribute", response(5, text_attr(14, IDENTITIES[23]) + MAC)),
+    ("the permanent identity", permanent()),
+    ("the permanent identity with a realm", permanent(b"@home@there")),
+    ("the empty identity", identity(b"")),
+    ("the identity of the other method", permanent(other=True)),
+    ("an identity of one digit less", permanent(size=15)),
+    ("the identity of another subscriber", identity(b"0001010000000009")),
+    ("a pseudonym", identity(lambda kind: name_of(kind, 1))),
+    ("a pseudonym with a realm", identity(lambda kind: name_of(kind, 7) + b"@home@there")),
+    ("a pseudonym that wasn't given", identity(lambda kind: name_of(kind, 0))),
+    ("the last pseudonym", identity(lambda kind: name_of(kind, LAST_ORDINAL))),
+    ("a pseudonym of the other method", identity(lambda kind: name_of(73 - kind, 1))),
+    ("a pseudonym with the other method's digit", identity(lambda kind: name_of(kind, 1, digits=b"72"))),
+    ("a pseudonym in upper case", identity(lambda kind: name_of(kind, 1).upper())),
+    ("a pseudonym of one digit less", identity(lambda kind: name_of(kind, 1)[:32])),
+    ("a pseudonym of one digit more", identity(lambda kind: name_of(kind, 1) + b"0")),
+    ("a pseudonym of another subscriber", identity(lambda kind: name_of(kind, 1, subscriber=1))),
+    ("digits that hide no name", identity(b"2" + b"00" * 16)),
+    ("a name of a re-authentication", identity(lambda kind: name_of(kind, 1, digits=b"48", of=2))),
+]
+ANSWERING = [
+    ("the right answer", right_response),
+    ("the right answer, an empty checkcode, an unknown attribute and bytes past Length",
+     lambda end: right_response(end, more=UNKNOWN + EMPTY_CHECKCODE + UNKNOWN) + b"past"),
+    ("a wrong AT_MAC", lambda end: right_response(end, key=b"k" * len(key_of(end)))),
+    ("a wrong AT_RES", lambda end: right_response(end, res=b"r" * 8)),
+    ("the first half of AT_RES", lambda end: right_response(end, res=res_of(end)[:4])),
+    ("both wrong", lambda end: right_response(end, res=b"r" * 8, key=b"k" * len(key_of(end)))),
+    ("a checkcode", lambda end: right_response(end, more=CHECKCODE)),
+    ("a checkcode and a wrong AT_RES", lambda end: right_response(end, res=b"r" * 8, more=CHECKCODE)),
+    ("the right checkcode", lambda end: right_response(end, more=own_checkcode(end))),
+    ("an empty checkcode", lambda end: right_response(end, more=EMPTY_CHECKCODE)),
+    ("the checkcode of the last packet alone",
+     lambda end: right_response(end, more=checkcode(end.kind, end.packets[-1:]))),
+]
+TO_SERVER = NO_PACKETS + IDENTIFYING + ANSWERING + [
     ("a request", lambda end: packet(REQUEST, end.identifier, b"\x01")),
     ("a Success", lambda end: packet(3, end.identifier, b"")),
     ("another Identifier", lambda end: right_response(end, add=1)),
@@ -665,12 +879,6 @@ TO_SERVER = NO_PACKETS + [
     ("no AT_MAC", lambda end: message(end.kind, RESPONSE, end.identifier, 1, res_attr(res_of(end)))),
     ("no AT_AUTS", response(4)),
     ("no AT_CLIENT_ERROR_CODE", response(14)),
-    ("the permanent identity", permanent()),
-    ("the permanent identity with a realm", permanent(b"@home@there")),
-    ("the empty identity", identity(b"")),
-    ("the identity of the other method", permanent(other=True)),
-    ("an identity of one digit less", permanent(size=15)),
-    ("the identity of another subscriber", identity(b"0001010000000009")),
     ("a Notification", response(12)),
     ("an Authentication-Reject", response(2)),
     ("a Client-Error", response(14, attr(22, b"\x01\x02"))),
@@ -678,26 +886,18 @@ TO_SERVER = NO_PACKETS + [
     ("an AUTS at the number", sync(1)),
     ("an AUTS with a wrong MAC-S", sync(500, True)),
     ("an AUTS with AT_KDF", sync(500, more=KDF)),
-    ("the right answer", right_response),
-    ("the right answer, an empty checkcode, an unknown attribute and bytes past Length",
-     lambda end: right_response(end, more=UNKNOWN + EMPTY_CHECKCODE + UNKNOWN) + b"past"),
-    ("a wrong AT_MAC", lambda end: right_response(end, key=b"k" * len(key_of(end)))),
-    ("a wrong AT_RES", lambda end: right_response(end, res=b"r" * 8)),
-    ("the first half of AT_RES", lambda end: right_response(end, res=res_of(end)[:4])),
-    ("both wrong", lambda end: right_response(end, res=b"r" * 8, key=b"k" * len(key_of(end)))),
-    ("a checkcode", lambda end: right_response(end, more=CHECKCODE)),
-    ("a checkcode and a wrong AT_RES", lambda end: right_response(end, res=b"r" * 8, more=CHECKCODE)),
 ]
 
 
 def server_rows():
     known, unknown, error = permanent(), identity(b"somebody"), response(2)
+    refused = unknown, unknown, unknown
     ends = ["repeat", "giveup", "repeat", "giveup"]
     yield from through("server, awaiting the identity", server, TO_SERVER, ends)
     yield from through("server, the subscriber isn't held", lambda: server(0, "none"), [("its identity", known)])
     yield from through("server, awaiting the challenge", lambda: server(0, "held", known), TO_SERVER, ends)
     yield from through("server, challenged again", lambda: server(0, "held", known, sync(500)), TO_SERVER, ends)
-    yield from through("server, notifying", lambda: server(0, "held", unknown), TO_SERVER, ends)
+    yield from through("server, notifying", lambda: server(0, "held", *refused), TO_SERVER, ends)
     yield from through("server, ended", lambda: server(0, "held", known, error), TO_SERVER, ends)
     yield from through("server, the last number", lambda: server(MAX_SEQ - 1), [("its identity", known)])
     yield from through("server, no number left", lambda: server(MAX_SEQ), [("its identity", known)])
@@ -712,9 +912,36 @@ def server_rows():
                        TO_SERVER, ends)
     yield from through("server of EAP-AKA', challenged again", lambda: server(0, "held", known, sync(500), options=PRIME),
                        TO_SERVER, ends)
-    yield from through("server of EAP-AKA', notifying", lambda: server(0, "held", unknown, options=PRIME), TO_SERVER, ends)
+    yield from through("server of EAP-AKA', notifying", lambda: server(0, "held", *refused, options=PRIME), TO_SERVER, ends)
     yield from through("server of EAP-AKA' with a long name", lambda: server(0, "held", known, options=LONG),
                        [("the right answer", right_response)])
+    for title, options in ("server", PLAIN), ("server of EAP-AKA'", PRIME):
+        any_first = both(ASKS_ANY, options)
+        messages = TO_SERVER if options is PLAIN else IDENTIFYING
+        yield from through(f"{title}, awaiting any identity", lambda: server(0, "held", known, options=any_first),
+                           messages, ends)
+        yield from through(f"{title}, awaiting an identity for full authentication",
+                           lambda: server(0, "held", unknown, options=options), messages, ends)
+        yield from through(f"{title}, awaiting the permanent identity",
+                           lambda: server(0, "held", unknown, unknown, options=options), messages, ends)
+        yield from through(f"{title}, which gives pseudonyms, awaiting the challenge after three identities", lambda: server(
+            0, "held", known, unknown, unknown, known, options=both(GIVES, any_first)), ANSWERING)
+        yield from through(f"{title}, which gives pseudonyms, challenged again",
+                           lambda: server(0, "held", known, sync(500), options=both(GIVES, options)),
+                           [("the right answer", right_response)])
+        yield from through(f"{title}, the third session", lambda: server(
+            0, "held", known, right_response, both(GIVES, options), known, both(GIVES, any_first), known, known,
+            options=both(GIVES, options)), [("the right answer", right_response)])
+        yield from through(f"{title}, the subscriber isn't held", lambda: server(0, "none", unknown, options=any_first),
+                           [("its pseudonym", identity(lambda kind: name_of(kind, 1)))])
+    yield from through("server that bids and gives pseudonyms",
+                       lambda: server(0, "held", known, options=both(GIVES, BIDDING)),
+                       [("the right answer", right_response)])
+    yield from through("server that gives pseudonyms, with a long name",
+                       lambda: server(0, "held", known, options=both(GIVES, ASKS_ANY, LONG)),
+                       [("its identity", known)])
+    yield from through("server that gives pseudonyms, no number left",
+                       lambda: server(MAX_SEQ, "held", options=GIVES), [("its identity", known)])
 
 
 # Messages for a peer. The challenge is that of number `n`, for the identity last sent.
@@ -728,15 +955,23 @@ def network(kdf=KDF, name=NAME):
     return (b"" if name is None else text_attr(23, name)) + kdf
 
 
-def challenge(n=1, more=EMPTY_CHECKCODE, key=None, autn=None, identity=None, kdf=KDF, name=NAME):
-    """A challenge. One of EAP-AKA' also has the attributes of a network."""
+def challenge(n=1, more=None, key=None, autn=None, identity=None, kdf=KDF, name=NAME, inner=None):
+    """A challenge, with the right checkcode if no other attributes are given. What is encrypted comes before them. One of
+    EAP-AKA' also has the attributes of a network."""
     def make(end):
         rand = rand_of(n)
         proof = autn_of(n, rand) if autn is None else autn
-        right = Keys(end.kind, name or b"", end.sent_identity if identity is None else identity, proof, Functions(rand)).aut
-        attrs = sixteen(1, rand) + sixteen(2, proof) + (network(kdf, name) if end.kind == 50 else b"") + more
-        return sealed(end.kind, right if key is None else key * len(right), REQUEST, next_id(end), 1, attrs)
+        right = Keys(end.kind, name or b"", end.sent_identity if identity is None else identity, proof, Functions(rand))
+        attrs = sixteen(1, rand) + sixteen(2, proof) + (network(kdf, name) if end.kind == 50 else b"")
+        attrs += b"" if inner is None else hidden(right.encr, IV, inner)
+        attrs += own_checkcode(end) if more is None else more
+        return sealed(end.kind, right.aut if key is None else key * len(right.aut), REQUEST, next_id(end), 1, attrs)
     return make
+
+
+def gives(text, *rest, **options):
+    """A challenge that gives a pseudonym of this text, with further encrypted attributes."""
+    return challenge(inner=text_attr(132, text) + b"".join(rest), **options)
 
 
 def request(subtype, attrs=b"", kind=lambda end: end.kind):
@@ -755,8 +990,52 @@ def again(end):
     return end.asked or b""
 
 
+def asks(*kinds, more=b""):
+    """An AKA-Identity request."""
+    return request(5, b"".join(attr(kind, b"\0\0") for kind in kinds) + more)
+
+
+IV = bytes(range(0x80, 0x90))
+FRESH = b"2" + b"0123456789abcdef" * 2
+LATER = b"7" + b"fedcba9876543210" * 2
 ASK = lambda end: packet(REQUEST, next_id(end), b"\x01")
 RAND_AND_AUTN = sixteen(1, rand_of(1)) + sixteen(2, autn_of(1, rand_of(1)))
+CHALLENGING = [
+    ("the right challenge", challenge()),
+    ("the right challenge, no checkcode, an unknown attribute, bytes past Length",
+     lambda end: challenge(more=UNKNOWN)(end) + b"past"),
+    ("a challenge under another identity", challenge(identity=b"0001010000000009")),
+    ("a wrong AT_MAC", challenge(key=b"k")),
+    ("a wrong MAC in AUTN", challenge(autn=autn_of(1, rand_of(1))[:-1] + b"\0")),
+    ("AUTN of another number", challenge(autn=autn_of(2, rand_of(2)))),
+    ("an SQN that is too far", challenge(REACH + 1)),
+    ("the farthest SQN", challenge(REACH)),
+    ("a checkcode", challenge(more=CHECKCODE)),
+    ("an empty checkcode", challenge(more=EMPTY_CHECKCODE)),
+    ("the checkcode of the last packet alone", lambda end: challenge(more=checkcode(end.kind, end.packets[-1:]))(end)),
+    ("a pseudonym", gives(FRESH)),
+    ("a pseudonym and no checkcode", gives(FRESH, more=b"")),
+    ("a pseudonym and a wrong checkcode", gives(FRESH, more=CHECKCODE)),
+    ("a pseudonym with a realm", gives(FRESH + b"@home@there")),
+    ("a pseudonym of one digit less", gives(FRESH[:32])),
+    ("a pseudonym of one digit more", gives(FRESH + b"0")),
+    ("an empty pseudonym", gives(b"")),
+    ("a pseudonym of other bytes", gives(b"\0\xff" + b"p" * 31)),
+    ("a name of a re-authentication", challenge(inner=text_attr(133, FRESH))),
+    ("a pseudonym, a name of a re-authentication and an unknown attribute",
+     gives(FRESH, text_attr(133, LATER), UNKNOWN, attr(6, bytes(2)))),
+    ("a pseudonym twice", gives(FRESH, text_attr(132, LATER))),
+    ("a pseudonym, and AT_PADDING with a byte that isn't zero", gives(FRESH, attr(6, b"\0" * 5 + b"\1"))),
+    ("a pseudonym, and an attribute past the end", gives(FRESH, b"\x84\x09\0\x21")),
+    ("encrypted attributes, a pseudonym of 33 bytes that isn't encrypted", challenge(more=text_attr(132, FRESH))),
+    ("AT_IV alone", challenge(more=sixteen(129, IV))),
+    ("encrypted attributes of no block", challenge(more=sixteen(129, IV) + attr(130, b"\0\0"))),
+    ("encrypted attributes of 20 bytes", challenge(more=sixteen(129, IV) + attr(130, b"\0\0" + bytes(20)))),
+    ("encrypted attributes without AT_IV", challenge(more=attr(130, b"\0\0" + bytes(16)))),
+    ("encrypted attributes that are none", challenge(more=sixteen(129, bytes(16)) + attr(130, b"\0\0" + bytes(16)))),
+    ("AT_BIDDING with D clear", challenge(more=attr(136, b"\x7f\xff"))),
+    ("AT_BIDDING with D set", challenge(more=attr(136, b"\x80\0") + EMPTY_CHECKCODE)),
+]
 TO_PEER = NO_PACKETS + [
     ("a response", lambda end: packet(RESPONSE, next_id(end), b"\x01")),
     ("a Success", plain(3)),
@@ -776,7 +1055,16 @@ TO_PEER = NO_PACKETS + [
     ("attribute 127", request(1, attr(127, b"\0\0"))),
     ("AT_RAND twice", request(1, sixteen(1, bytes(16)) * 2)),
     ("an attribute of another message", request(1, RAND_AND_AUTN + attr(4, bytes(14)) + MAC)),
-    ("subtype Identity", request(5, attr(10, b"\0\0"))),
+    ("a request for the permanent identity", asks(10)),
+    ("a request for any identity", asks(13)),
+    ("a request for an identity for full authentication and an unknown attribute", asks(17, more=UNKNOWN)),
+    ("a request for any identity and for the permanent one", asks(13, 10)),
+    ("a request for any identity and for one for full authentication", asks(13, 17)),
+    ("a request for three identities", asks(10, 13, 17)),
+    ("a request for no identity", asks()),
+    ("a request for an identity, and a checkcode", asks(more=CHECKCODE)),
+    ("a request for an identity with AT_MAC", asks(13, more=MAC)),
+    ("a request for an identity twice", asks(13, 13)),
     ("subtype Reauthentication", request(13, MAC)),
     ("no AT_RAND", request(1, sixteen(2, bytes(16)) + MAC)),
     ("no AT_AUTN", request(1, sixteen(1, bytes(16)) + MAC)),
@@ -787,21 +1075,7 @@ TO_PEER = NO_PACKETS + [
     ("a Notification after the challenge", notification(1026)),
     ("a Notification without a code", request(12)),
     ("a Notification with a foreign attribute", notification(16384, attr(22, b"\0\0"))),
-    ("the right challenge", challenge()),
-    ("the right challenge, no checkcode, an unknown attribute, bytes past Length",
-     lambda end: challenge(more=UNKNOWN)(end) + b"past"),
-    ("a challenge under another identity", challenge(identity=b"0001010000000009")),
-    ("a wrong AT_MAC", challenge(key=b"k")),
-    ("a wrong MAC in AUTN", challenge(autn=autn_of(1, rand_of(1))[:-1] + b"\0")),
-    ("AUTN of another number", challenge(autn=autn_of(2, rand_of(2)))),
-    ("an SQN that is too far", challenge(REACH + 1)),
-    ("the farthest SQN", challenge(REACH)),
-    ("a checkcode", challenge(more=CHECKCODE)),
-    ("encrypted attributes without AT_IV", challenge(more=attr(130, b"\0\0" + bytes(16)))),
-    ("encrypted attributes that are none", challenge(more=sixteen(129, bytes(16)) + attr(130, b"\0\0" + bytes(16)))),
-    ("AT_BIDDING with D clear", challenge(more=attr(136, b"\x7f\xff"))),
-    ("AT_BIDDING with D set", challenge(more=attr(136, b"\x80\0") + EMPTY_CHECKCODE)),
-]
+] + CHALLENGING
 
 # Challenges of EAP-AKA' that differ in what is tested before the USIM is asked.
 NO_SEPARATION = autn_of(1, rand_of(1), b"\x7f\xff")
@@ -850,6 +1124,38 @@ def peer_rows():
                        TO_PEER + [("the number after its greatest", challenge(501))], ends)
     yield from through("peer of EAP-AKA', answered", lambda: peer(0, ASK, challenge(), options=PRIME), TO_PEER, ends)
     yield from through("peer of EAP-AKA', refusing", lambda: peer(0, ASK, request(9), options=PRIME), TO_PEER, ends)
+    identities = [("an Identity request", ASK)] + [(f"a request {it}", asks(it)) for it in (10, 13, 17)]
+    challenges = [("a challenge", challenge(2)), ("a challenge with a pseudonym", gives(LATER, n=2))]
+    early = lambda end: message(end.kind, REQUEST, 2, 5, attr(13, b"\0\0"))
+    for title, method in ("peer", PLAIN), ("peer of EAP-AKA'", PRIME):
+        yield from through(f"{title}, asked for three identities",
+                           lambda: peer(0, ASK, asks(13), asks(17), asks(10), options=method), CHALLENGING, ends)
+        yield from through(f"{title}, asked for any identity alone", lambda: peer(0, asks(13), options=method),
+                           [("the last request again", again), ("an Identity request", ASK), ("the right challenge", challenge())])
+        yield from through(f"{title}, a request again after a synchronisation failure",
+                           lambda: peer(500, ASK, asks(13), challenge(), early, options=method),
+                           [("the number after its greatest", challenge(501))])
+        for first, option in ("held", PLAIN), ("permanent", PERMANENT), ("a text", SOMEBODY):
+            told_first = both(option, method)
+            yield from through(f"{title}, whose first identity is {first}", lambda: peer(0, options=told_first),
+                               identities)
+            yield from through(f"{title}, whose first identity is {first}, with a pseudonym",
+                               lambda: peer(0, ASK, gives(FRESH), plain(3), told_first, options=method), identities)
+            yield from through(f"{title}, whose first identity is {first}, asked with a pseudonym",
+                               lambda: peer(0, ASK, gives(FRESH), plain(3), told_first, ASK, options=method), challenges)
+        given = ASK, gives(FRESH)
+        adopted = *given, plain(3), method
+        yield from through(f"{title}, the next pseudonym", lambda: peer(
+            0, *adopted, asks(17), gives(LATER, n=2), plain(3), method, options=method), identities)
+        for name, end in ("no Success", ()), ("a Failure", (plain(4),)), ("a Success of another request", (plain(3, 1),)):
+            yield from through(f"{title}, a pseudonym was given and {name} came",
+                               lambda: peer(0, *given, *end, method, options=method), identities)
+        yield from through(f"{title}, the Challenge after a pseudonym gives none",
+                           lambda: peer(0, *adopted, ASK, challenge(2), plain(3), method, options=method), identities)
+    yield from through("peer of EAP-AKA' with a pseudonym of EAP-AKA",
+                       lambda: peer(0, ASK, gives(FRESH), plain(3), PRIME), identities)
+    yield from through("peer with pseudonyms of both methods", lambda: peer(
+        0, ASK, gives(FRESH), plain(3), PRIME, ASK, gives(LATER, n=2), plain(3), PLAIN), identities)
 
 
 def main():

@@ -8,6 +8,7 @@ import unittest
 from importlib.machinery import SourceFileLoader
 from importlib.util import module_from_spec, spec_from_loader
 from pathlib import Path
+from unittest import mock
 from xml.etree import ElementTree
 
 import transcript
@@ -15,6 +16,7 @@ import transcript
 TOOLS = Path(__file__).resolve().parent
 EXAMPLES = TOOLS.parent / "examples"
 FULL = EXAMPLES / "session-full-print.expected"
+PSEUDONYMS = EXAMPLES / "pseudonyms-full-print.expected"
 
 
 def loaded(name):
@@ -155,6 +157,45 @@ class Names(unittest.TestCase):
         self.assertEqual(words[-2:], ["ended failure rejected", "ended failure downgrade"])
 
 
+class Identities(unittest.TestCase):
+    def packets(self):
+        return [packet for session in transcript.sessions_in(PSEUDONYMS.read_text()) for packet in session.packets]
+
+    def comments(self):
+        frames = pcap.frames_of(transcript.sessions_in(PSEUDONYMS.read_text()))
+        return [it for frame in frames for it in frame.comments if it.startswith("AT_NEXT_PSEUDONYM ")]
+
+    def test_message_is_marked_by_what_it_says_of_identities(self):
+        marks = [(packet.number, transcript.marks_of(packet)) for packet in self.packets()]
+        self.assertEqual([it for it in marks if it[1]], [
+            (2, ["permanent"]), (3, ["AT_ENCR_DATA"]),
+            (7, ["pseudonym"]), (8, ["AT_ANY_ID_REQ"]), (9, ["pseudonym"]), (10, ["AT_ENCR_DATA"]),
+            (14, ["permanent"]), (15, ["AT_ENCR_DATA"]),
+            (19, ["pseudonym"]), (20, ["AT_ANY_ID_REQ"]), (21, ["pseudonym"]),
+        ])
+
+    @unittest.skipIf(transcript.Cipher is None, "Python's cryptography is missing")
+    def test_pseudonym_that_a_challenge_gives_is_the_next_one_that_is_sent(self):
+        packets = self.packets()
+        given = {it.number: transcript.pseudonym_in(it) for it in packets}
+        told = {it.number: transcript.identity_in(it) for it in packets}
+        for challenge, answers in ((3, (7, 9)), (15, (19, 21))):
+            for answer in answers:
+                self.assertEqual(told[answer], given[challenge].encode() + b"@example.org", answer)
+
+    @unittest.skipIf(transcript.Cipher is None, "Python's cryptography is missing")
+    def test_capture_tells_each_pseudonym_that_is_given(self):
+        self.assertEqual([len(it.split(" ")[1]) for it in self.comments()], [33, 33, 33])
+
+    def test_pseudonym_is_told_only_with_its_key(self):
+        challenge = self.packets()[2]
+        for key in (None, bytes(16)):
+            challenge.session.k_encr = key
+            self.assertEqual((transcript.pseudonym_in(challenge), transcript.marks_of(challenge)), (None, ["AT_ENCR_DATA"]))
+        with mock.patch.object(transcript, "Cipher", None):
+            self.assertEqual(self.comments(), [])
+
+
 class Inputs(unittest.TestCase):
     def test_text_that_is_no_transcript_is_refused_with_its_reason(self):
         begun = "round 1\njob 1\nsession 1 open\n"
@@ -172,6 +213,7 @@ class Inputs(unittest.TestCase):
             (begun + "start 1 sent 1\ndeliver 1 peer 1 drew\n", "line 5: 'deliver 1 peer 1 drew' ends after its notes"),
             (begun + "start x sent 1\n", "line 4: 'x' isn't a number"),
             (begun + "start 1 sent 1\npacket 2 0101000501\n", "line 5: the bytes aren't those of the packet"),
+            (begun + "keys 00 00 00 00 00\n", "line 4: the keys are of no end"),
         ]
         for text, reason in cases:
             with self.assertRaises(transcript.Unreadable, msg=text) as refused:

@@ -7,11 +7,16 @@ import re
 import sys
 from dataclasses import dataclass, field
 
+try:
+    from cryptography.hazmat.primitives.ciphers import Cipher, algorithms, modes
+except ImportError:
+    Cipher = None
+
 # How many words follow the first one of a note, and the ends that they come from.
 CENTRE_NOTES = {"moved": 2, "inrange": 2, "beyond": 2, "drew": 1, "exhausted": 1, "withheld": 2}
 OWN_NOTES = {"badauts": 0, "accepted": 1, "sync": 1, "wrongmac": 0}
 # The first words of the lines that tell nothing of a session's packets.
-OTHER_LINES = {"restart", "vector", "bytes", "withheld", "exhausted", "sync", "give", "closed", "keys"}
+OTHER_LINES = {"restart", "vector", "bytes", "withheld", "exhausted", "sync", "give", "closed"}
 # Of an event's line, the words before its notes.
 EVENTS = {"start": 2, "repeat": 2, "giveup": 3, "deliver": 4}
 REFUSALS = {"nosuchpacket", "nosuchend", "started"}
@@ -22,6 +27,11 @@ SUBTYPES = {1: "Challenge", 2: "Authentication-Reject", 4: "Synchronization-Fail
 IDENTITY = 1
 # The methods by the types of their packets.
 METHODS = {23: "AKA", 50: "AKA'"}
+# Attributes by their types (RFC 4187 §10).
+ASKED = {10: "AT_PERMANENT_ID_REQ", 13: "AT_ANY_ID_REQ", 17: "AT_FULLAUTH_ID_REQ"}
+AT_IDENTITY, AT_IV, AT_ENCR_DATA, AT_NEXT_PSEUDONYM = 14, 129, 130, 132
+# What an identity is, by the form of its username (RFC 4187 §4.1.1.6 and §4.1.1.7, RFC 9048 §5.1).
+FORMS = {"permanent": rb"[06][0-9]{6,15}", "pseudonym": rb"[27][0-9a-f]{32}"}
 
 
 class Unreadable(Exception):
@@ -62,6 +72,8 @@ class Session:
     events: list = field(default_factory=list)
     packets: list = field(default_factory=list)
     verdict: str = ""
+    # The key of what the server's last challenge has encrypted, if the server succeeded in a full print.
+    k_encr: bytes | None = None
 
 
 @dataclass
@@ -82,6 +94,61 @@ def name_of(data):
     if data[4] in METHODS and len(data) > 5 and data[5] in SUBTYPES:
         return f"{code}/{METHODS[data[4]]}-{SUBTYPES[data[5]]}"
     return f"{code}/Identity" if data[4] == IDENTITY else f"{code}/type {data[4]}"
+
+
+def attributes_in(data):
+    """The values of attributes by their types; none if they don't fill the bytes."""
+    found = {}
+    while data:
+        size = 4 * data[1] if len(data) > 1 else 0
+        if not 0 < size <= len(data):
+            return {}
+        found[data[0]], data = data[2:size], data[size:]
+    return found
+
+
+def attributes_of(packet):
+    """Those of a message of a method."""
+    data = packet.data or b""
+    return attributes_in(data[8:]) if len(data) > 8 and data[4] in METHODS else {}
+
+
+def text_in(value):
+    """The text in the value of an attribute: its length in two bytes stands before it."""
+    return value[2:2 + int.from_bytes(value[:2], "big")]
+
+
+def identity_in(packet):
+    """The identity that a response tells; nothing if it tells none."""
+    data = packet.data or b""
+    if name_of(data) == "Response/Identity":
+        return data[5:]
+    value = attributes_of(packet).get(AT_IDENTITY)
+    return None if value is None else text_in(value)
+
+
+def decrypted(key, iv, data):
+    """What AT_ENCR_DATA was before it was encrypted (RFC 4187 §10.12)."""
+    decryptor = Cipher(algorithms.AES(key), modes.CBC(iv)).decryptor()
+    return decryptor.update(data) + decryptor.finalize()
+
+
+def pseudonym_in(packet):
+    """The pseudonym that a challenge gives, if its session's keys are known and there is Python's `cryptography`."""
+    found, key = attributes_of(packet), packet.session.k_encr
+    if Cipher is None or key is None or len(found.get(AT_IV, b"")) != 18 or len(found.get(AT_ENCR_DATA, b"")) % 16 != 2:
+        return None
+    value = attributes_in(decrypted(key, found[AT_IV][2:], found[AT_ENCR_DATA][2:])).get(AT_NEXT_PSEUDONYM)
+    return None if value is None else text_in(value).decode(errors="replace")
+
+
+def marks_of(packet):
+    """What a message asks for, which kind of identity it tells, and that it has encrypted something; each if it is so."""
+    found, identity = attributes_of(packet), identity_in(packet)
+    marks = [name for kind, name in ASKED.items() if kind in found]
+    if identity is not None:
+        marks += [kind for kind, form in FORMS.items() if re.fullmatch(form, identity.partition(b"@")[0])]
+    return marks + (["AT_ENCR_DATA"] if AT_ENCR_DATA in found else [])
 
 
 class Reader:
@@ -109,6 +176,8 @@ class Reader:
             self.open_or_judge(words)
         elif word == "packet" and len(words) == 3:
             self.bytes_of_packet(words)
+        elif word == "keys" and len(words) == 6:
+            self.keys(words)
         elif word in EVENTS and len(words) > EVENTS[word]:
             self.read_event(line, text, words)
         elif word not in OTHER_LINES and words[:2] not in (["premise", "held"], ["premise", "broken"]):
@@ -137,6 +206,12 @@ class Reader:
         if not packet or packet.number != self.number(words[1]) or not re.fullmatch(r"([0-9a-f]{2}){4,}", words[2]):
             raise Unreadable("the bytes aren't those of the packet that was sent before")
         packet.data = bytes.fromhex(words[2])
+
+    def keys(self, words):
+        if not self.event or not re.fullmatch(r"[0-9a-f]{32}", words[1]):
+            raise Unreadable("the keys are of no end")
+        if self.event.end == "server":
+            self.event.session.k_encr = bytes.fromhex(words[1])
 
     def read_event(self, line, text, words):
         word, session = words[0], self.session(words[1])

@@ -1,5 +1,6 @@
 pub mod Table
 pub mod Item
+pub mod First
 pub mod Spelling
 pub mod Conditions
 pub mod Fault

@@ -17,6 +17,7 @@ use Rattle.auc_subs.specs.declared.row.Row.{Row}
 use Rattle.auc_usim.specs.Usim.{Memory}
 use Rattle.auc_cards.specs.Known.{IsKnownLine}
 use Rattle.auc_cards.specs.Devices.{devices_of, device_of, home_of, usim_among, usim_in}
+use Rattle.auc_cards.specs.Stores.{Kept, put_back}
 use Rattle.auc_cards.specs.Usims.{put_at, ArePut}
 
 -- ---- whose they are
@@ -91,7 +92,7 @@ drop_past (y ∷ xs) zero there = absurd (cc)
 drop_past (y ∷ xs) (suc k) there = drop_past xs k there
 
 -- what a place of a list has
-some_at : {X : Type 0} (xs : List X) (i : ℕ) → i < length xs → (x : X) × (slice_get xs i ≡ Some x)
+pub some_at : {X : Type 0} (xs : List X) (i : ℕ) → i < length xs → (x : X) × (slice_get xs i ≡ Some x)
 some_at [] i lt = absurd (omega arith)
 some_at (x ∷ xs) zero lt = (x, refl)
 some_at (x ∷ xs) (suc i) lt = some_at xs i (omega arith)
@@ -221,19 +222,49 @@ pub holds_held : (sub : ℕ) (job : List Line) → list_any (λ s. s == sub) (he
 holds_held sub job = held_in sub [] job
 
 -- a subscriber's device is found by its place
-pub devices_found : (set : Setting) (usims : List Memory) (subs : List ℕ) (sub : ℕ) → length usims ≡ length set.rows → All (λ s. s < length set.rows) subs
-    → usim_in (devices_of set usims subs) sub ≡ (if list_any (λ s. s == sub) subs then slice_get usims sub else None)
-devices_found set usims [] sub size known = refl
-devices_found set usims (s ∷ subs) sub size known =
+pub devices_found : (set : Setting) (usims : List Memory) (kept : List Kept) (subs : List ℕ) (sub : ℕ) → length usims ≡ length set.rows → All (λ s. s < length set.rows) subs
+    → usim_in (devices_of set usims kept subs) sub ≡ (if list_any (λ s. s == sub) subs then slice_get usims sub else None)
+devices_found set usims kept [] sub size known = refl
+devices_found set usims kept (s ∷ subs) sub size known =
     let inside = All-head (λ (n : ℕ). n < length set.rows) s subs known in
     let row = some_at set.rows s inside in
     let usim = some_at usims s (omega (arith, inside, size)) in
-    by row.0 usim.0 row.1 usim.1 (devices_found set usims subs sub size (All-tail (λ (n : ℕ). n < length set.rows) s subs known)) (eqb_tells s sub)
+    by row.0 usim.0 row.1 usim.1 (devices_found set usims kept subs sub size (All-tail (λ (n : ℕ). n < length set.rows) s subs known)) (eqb_tells s sub)
   where
     by : (row : Row) (usim : Memory) → slice_get set.rows s ≡ Some row → slice_get usims s ≡ Some usim
-        → usim_in (devices_of set usims subs) sub ≡ (if list_any (λ n. n == sub) subs then slice_get usims sub else None)
+        → usim_in (devices_of set usims kept subs) sub ≡ (if list_any (λ n. n == sub) subs then slice_get usims sub else None)
         → ((eqb s sub ≡ true) × (s ≡ sub)) ⊎ ((eqb s sub ≡ false) × (s ≢ sub))
-        → usim_among (home_of s ∷ map home_of subs) (device_of set usims s ++ flat_map (device_of set usims) subs) sub
+        → usim_among (home_of kept s ∷ map (home_of kept) subs) (device_of set usims kept s ++ flat_map (device_of set usims kept) subs) sub
         ≡ (if eqb s sub || list_any (λ n. n == sub) subs then slice_get usims sub else None)
     by row usim at there rest (inl (e, same)) = rw (at, there, e) (sym there ∙ ap (slice_get usims) same)
     by row usim at there rest (inr (e, other)) = rw (at, there, e) rest
+
+-- ---- what homes and devices keep is put back
+
+pub nothing_back : (old : List Kept) (homes : List HomeRow) (devices : List Device) (n : ℕ) → n ≡ length homes → old ≡ put_back old (drop n homes) (drop n devices)
+nothing_back old homes devices n is =
+    sym (ap (λ (hs : List HomeRow). put_back old hs (drop n devices)) (ap (λ (m : ℕ). drop m homes) is ∙ drop_all (length homes) homes (omega arith)))
+
+pub some_back : (old mid new : List Kept) (homes : List HomeRow) (devices : List Device) (left k : ℕ) (home : HomeRow) (device : Device) → left ≡ suc k
+    → slice_get homes k ≡ Some home → slice_get devices k ≡ Some device → new ≡ slice_set mid home.sub (home.ordinals, device.store)
+    → mid ≡ put_back old (drop left homes) (drop left devices) → new ≡ put_back old (drop k homes) (drop k devices)
+some_back old mid new homes devices left k home device next at there is put =
+    is ∙ ap (λ (m : List Kept). slice_set m home.sub (home.ordinals, device.store)) (put ∙ ap (λ (n : ℕ). put_back old (drop n homes) (drop n devices)) next)
+    ∙ sym (ap (λ (hs : List HomeRow). put_back old hs (drop k devices)) (drop_from homes k home at)
+    ∙ ap (λ (ds : List Device). put_back old (home ∷ drop (suc k) homes) ds) (drop_from devices k device there))
+
+none_back : (old : List Kept) (homes : List HomeRow) → put_back old homes [] ≡ old
+none_back old [] = refl
+none_back old (home ∷ homes) = refl
+
+gone : {X : Type 0} (xs : List X) (k : ℕ) → slice_get xs k ≡ None → slice_get xs (suc k) ≡ None
+gone [] k none = refl
+gone (x ∷ xs) zero none = absurd (cc)
+gone (x ∷ xs) (suc k) none = gone xs k none
+
+pub same_back : (old mid : List Kept) (homes : List HomeRow) (devices : List Device) (left k : ℕ) → left ≡ suc k → slice_get devices k ≡ None
+    → mid ≡ put_back old (drop left homes) (drop left devices) → mid ≡ put_back old (drop k homes) (drop k devices)
+same_back old mid homes devices left k next none put =
+    put ∙ ap (λ (n : ℕ). put_back old (drop n homes) (drop n devices)) next
+    ∙ ap (λ (ds : List Device). put_back old (drop (suc k) homes) ds) (drop_past devices (suc k) (gone devices k none)) ∙ none_back old (drop (suc k) homes)
+    ∙ sym (ap (λ (ds : List Device). put_back old (drop k homes) ds) (drop_past devices k none) ∙ none_back old (drop k homes))

@@ -1,10 +1,13 @@
--- For the USIMs of the rows: each is opened at its row.
-use Rattle.std.proofs.Common.{◌≡◌, ℕ, zero, suc, ◌⊎◌, List, [], ◌∷◌, ◌++◌, length, refl, sym, ◌∙◌, subst, arith, inl, inr}
+-- For the USIMs of the rows, each of which is opened at its row, and for what is kept beside them.
+use Rattle.std.proofs.Common.{◌≡◌, ℕ, zero, suc, ◌+◌, ◌<◌, ◌⊎◌, List, [], ◌∷◌, ◌++◌, length, map, take, get_or, refl, sym, ◌∙◌, ap, subst, arith, inl, inr}
 use Rattle.std.specs.Prelude.{Some, slice_get}
+use Rattle.std.proofs.lemmas.List.{map-append, take_more}
 use Rattle.auc_sqn.specs.Past.{Remembers, opening_past}
 use Rattle.auc_subs.specs.declared.row.Row.{Row}
 use Rattle.auc_usim.specs.Usim.{Memory}
+use Rattle.auc_cards.specs.Stores.{Kept, fresh_kept}
 use Rattle.auc_cards.specs.Usims.{AreFresh, AreOfRows}
+use Rattle.auc_cards.proofs.DeviceLemmas.{some_at}
 
 -- ---- a list with one more element
 
@@ -48,3 +51,13 @@ opened_rows rows usims size are = record { sizes = size; secrets = λ sub row us
 
 pub opened_behind : (rows : List Row) (usims : List Memory) → AreOpened rows usims → AreFresh rows usims
 opened_behind rows usims are sub row usim at there = (are.opened sub row usim at there).1
+
+-- ---- what is kept of the rows before the first round
+
+-- nothing was given to one more
+pub fresh_more : (rows : List Row) (n : ℕ) (old new : List Kept) (one : Kept) → n < length rows → old ≡ map (λ row. fresh_kept) (take n rows) → one ≡ fresh_kept
+    → new ≡ old ++ one ∷ [] → new ≡ map (λ row. fresh_kept) (take (n + 1) rows)
+fresh_more rows n old new one inside was fresh is =
+    let (row, there) = some_at rows n inside in
+    is ∙ ap (λ (k : Kept). old ++ k ∷ []) fresh ∙ ap (λ (ks : List Kept). ks ++ fresh_kept ∷ []) was
+    ∙ sym (ap (map (λ (r : Row). fresh_kept)) (take_more rows n row inside) ∙ map-append (λ (r : Row). fresh_kept) (take n rows) (get_or rows n row ∷ []))

@@ -7,12 +7,10 @@ use Rattle.auc_peer.specs.declared.device.Device.{Device}
 use Rattle.auc_server.specs.Setting.{Setting}
 use Rattle.auc_server.specs.declared.setting.HomeRow.{HomeRow}
 use Rattle.auc_subs.specs.declared.row.Row.{Row}
+use Rattle.auc_reauth.specs.Device.{Keeps}
 use Rattle.auc_usim.specs.Usim.{Memory}
-
--- devices, and whose they are in the same order
-pub record OwnDevices : Type 0 where
-  pub homes : List HomeRow
-  pub devices : List Device
+pub use Rattle.auc_cards.specs.Own.{OwnDevices}
+use Rattle.auc_cards.specs.Stores.{Kept, kept_of}
 
 -- what a subscriber's USIM keeps, if its device is among them
 abbrev pub usim_among : List HomeRow → List Device → ℕ → Option Memory
@@ -29,21 +27,21 @@ has_usim usims sub = is_some (usims sub)
 
 -- ---- the devices with which a job begins
 
-abbrev pub home_of : ℕ → HomeRow
-home_of sub = record { sub = sub }
+abbrev pub home_of : List Kept → ℕ → HomeRow
+home_of kept sub = record { sub = sub; ordinals = (kept_of kept sub).0 }
 
--- a subscriber's device, with its row's identity, the realm of the home network, and its USIM as it stands
-abbrev pub device_with : Setting → Option Row → Option Memory → List Device
-device_with set None usim = []
-device_with set (Some row) None = []
-device_with set (Some row) (Some usim) = record { imsi = row.imsi; usim = usim; realm = set.realm } ∷ []
+-- a subscriber's device, with its row's identity, the realm of the home network, its USIM as it stands, and what it keeps
+abbrev pub device_with : Setting → Option Row → Option Memory → Keeps → List Device
+device_with set None usim keeps = []
+device_with set (Some row) None keeps = []
+device_with set (Some row) (Some usim) keeps = record { imsi = row.imsi; usim = usim; store = keeps; realm = set.realm } ∷ []
 
-abbrev pub device_of : Setting → List Memory → ℕ → List Device
-device_of set usims sub = device_with set (slice_get set.rows sub) (slice_get usims sub)
+abbrev pub device_of : Setting → List Memory → List Kept → ℕ → List Device
+device_of set usims kept sub = device_with set (slice_get set.rows sub) (slice_get usims sub) (kept_of kept sub).1
 
-abbrev pub devices_of : Setting → List Memory → List ℕ → OwnDevices
-devices_of set usims subs = record { homes = map home_of subs; devices = flat_map (device_of set usims) subs }
+abbrev pub devices_of : Setting → List Memory → List Kept → List ℕ → OwnDevices
+devices_of set usims kept subs = record { homes = map (home_of kept) subs; devices = flat_map (device_of set usims kept) subs }
 
 -- those of the subscribers whose USIMs a job holds
-abbrev pub job_devices : Setting → List Memory → List Line → OwnDevices
-job_devices set usims job = devices_of set usims (held_subs job)
+abbrev pub job_devices : Setting → List Memory → List Kept → List Line → OwnDevices
+job_devices set usims kept job = devices_of set usims kept (held_subs job)

@@ -2,16 +2,16 @@
 use Rattle.std.specs.Prelude.{ℕ, ◌≤◌, ◌<◌, List, length, All}
 use Rattle.auc_lines.specs.declared.part.Line.{Line}
 use Rattle.auc_lines.specs.declared.part.Line.TheVariants as line
-use Rattle.auc_lines.specs.Part.{IsBit}
+use Rattle.auc_lines.specs.Part.{IsBit, IsShortIdentity}
 use Rattle.auc_sqn.specs.Number.{max_seq}
 
--- the subscriber of a line is one of so many, its numbers are within their ranges, and a network's name isn't too long. An
+-- the subscriber of a line is one of so many, its numbers are within their ranges, and names and identities aren't too long. An
 -- event of a session that isn't open is refused when it is served
 abbrev pub IsKnownLine : ℕ → Line → Type 0
 IsKnownLine subs (line.Draw sub count) = sub < subs
 IsKnownLine subs (line.Sync sub seq bit count) = (sub < subs) × (seq ≤ max_seq) × IsBit bit
 IsKnownLine subs (line.Give sub n) = (sub < subs) × (1 ≤ n) × (n ≤ max_seq)
-IsKnownLine subs (line.Session opening) = (opening.sub < subs) × (length opening.name ≤ 255)
+IsKnownLine subs (line.Session opening) = (opening.sub < subs) × (length opening.name ≤ 255) × IsShortIdentity opening.identity
 IsKnownLine subs (line.Start session) = Unit {0}
 IsKnownLine subs (line.Deliver session end packet) = Unit {0}
 IsKnownLine subs (line.Repeat session) = Unit {0}

@@ -1,3 +1,5 @@
+pub mod Own
+pub mod Stores
 pub mod Devices
 pub mod Usims
 pub mod Known

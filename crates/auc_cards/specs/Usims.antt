@@ -3,7 +3,8 @@ use Rattle.std.specs.Prelude.{◌≡◌, ℕ, ◌<◌, List, [], ◌∷◌, leng
 use Rattle.auc_sqn.specs.Past.{Remembers, opening_past}
 use Rattle.auc_subs.specs.declared.row.Row.{Row}
 use Rattle.auc_usim.specs.Usim.{Memory}
-use Rattle.auc_cards.specs.Devices.{OwnDevices, usim_in}
+use Rattle.auc_cards.specs.Devices.{usim_in}
+use Rattle.auc_cards.specs.Own.{OwnDevices}
 
 -- each USIM has the secret of its subscriber's row
 abbrev pub HaveSecrets : List Row → (ℕ → Option Memory) → Type 0

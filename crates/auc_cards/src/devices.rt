@@ -2,9 +2,10 @@
 
 ghost use Rattle.std.specs.Prelude.{◌≡◌, ◌<◌, ◌++◌, [], ◌∷◌, length, IfOk, OnOk};
 ghost use Rattle.auc_lines.specs.Part.{held_by, held_subs, with_held};
-ghost use Rattle.auc_cards.specs.Devices.{OwnDevices, device_of, home_of, job_devices};
+ghost use Rattle.auc_cards.specs.Devices.{device_of, home_of, job_devices};
 ghost use Rattle.auc_cards.specs.Known.{AreKnown};
 
+use crate::stores::Stores;
 use crate::usims::Usims;
 use auc_edge::{NoMemory, Octets};
 use auc_lines::Line;
@@ -23,7 +24,7 @@ pub struct JobDevices {
 }
 
 impl Model for JobDevices {
-    ghost use Rattle.auc_cards.specs.Devices.{OwnDevices};
+    ghost use Rattle.auc_cards.specs.Own.{OwnDevices};
 
     ghost Value = { OwnDevices };
 
@@ -38,41 +39,53 @@ impl JobDevices {
         JobDevices { homes, devices }
     }
 
-    /// The devices with which a job begins: their USIMs are copies.
+    /// The devices with which a job begins: their USIMs and what they keep are copies.
     pub fn of_job(
         alloc: Global,
         set: &Setting,
         usims: &Usims,
+        stores: &Stores,
         job: &[Line],
     ) -> Result<JobDevices, NoMemory>
         requires usims { length usims.now ≡ length set.now.rows }
+        requires stores { length stores.now ≡ length set.now.rows }
         requires known { AreKnown (length set.now.rows) job.now }
-        ensures { IfOk result (λ own. own ≡ job_devices set.now usims.now job.now) }
+        ensures { IfOk result (λ own. own ≡ job_devices set.now usims.now stores.now job.now) }
     {
         let subs = held(alloc, job)?;
         let mut own = JobDevices::new(Vec::new(alloc), Vec::new(alloc));
         for sub in subs.as_slice() {
-            own.add(alloc, set, usims, *sub)?;
+            own.add(alloc, set, usims, stores, *sub)?;
         }
         Ok(own)
     }
 
-    /// Adds the device of a subscriber, with a copy of its USIM.
-    fn add(&mut self, alloc: Global, set: &Setting, usims: &Usims, sub: u32) -> Result<(), NoMemory>
+    /// Adds the device of a subscriber, with a copy of its USIM and of what it keeps.
+    fn add(
+        &mut self,
+        alloc: Global,
+        set: &Setting,
+        usims: &Usims,
+        stores: &Stores,
+        sub: u32,
+    ) -> Result<(), NoMemory>
         requires usims { length usims.now ≡ length set.now.rows }
+        requires stores { length stores.now ≡ length set.now.rows }
         requires known { sub < length set.now.rows }
         ensures { OnOk result (self.new ≡ record {
-          homes = self.old.homes ++ home_of sub ∷ [];
-          devices = self.old.devices ++ device_of set.now usims.now sub;
+          homes = self.old.homes ++ home_of stores.now sub ∷ [];
+          devices = self.old.devices ++ device_of set.now usims.now stores.now sub;
         }) }
     {
         let row = set.subs.row(sub);
+        let (ordinals, store) = stores.of(sub);
         let device = Device {
             imsi: row.imsi,
             usim: usims.of(sub),
+            store,
             realm: Octets::copied_from(alloc, set.realm)?,
         };
-        self.homes.push(HomeRow { sub })?;
+        self.homes.push(HomeRow { sub, ordinals })?;
         self.devices.push(device)?;
         Ok(())
     }

@@ -6,10 +6,20 @@
 //! | `# TEXT` | nothing; the line is printed |
 //! | `server WORD held`, `server WORD none` | a server begins. The subscriber's last number is WORD, and it is held or not |
 //! | `peer WORD` | a peer begins, whose USIM counts the numbers up to WORD as accepted |
-//! | `server WORD held prime NAME`, `peer WORD prime NAME` | the same for EAP-AKA', with the network's name; `*` is none |
-//! | `server WORD held bidding`, `peer WORD hasprime` | the same for EAP-AKA: the server bids, the peer has EAP-AKA' |
+//! | `next` | the next session of the server, or of the peer at its device |
 //! | `bytes HEX` | the end receives these bytes |
 //! | `repeat`, `giveup` | the server repeats its last request; the end gives up |
+//!
+//! After the words of the first three lines stand options, in any order but for the last:
+//!
+//! | Option | What it says |
+//! |---|---|
+//! | `pseudonym` | the server gives pseudonyms |
+//! | `any` | the server asks for any identity first |
+//! | `bidding` | the server of EAP-AKA bids for EAP-AKA' |
+//! | `hasprime` | the device of the peer has EAP-AKA' |
+//! | `permanent`, `=TEXT` | the peer's first identity is the permanent one, or a text; else it is the one that the device holds |
+//! | `prime NAME` | the method is EAP-AKA', with the network's name; `*` is none |
 //!
 //! The answers have the words of the program's transcripts: notes, then the step with the bytes that are sent. `stdin` and
 //! `stdout` are what `tools/eap_rows.py` makes by an implementation of its own: each kind of message in each state of both

@@ -7,6 +7,7 @@ use crate::text::{peer_step, peer_turn};
 use auc_edge::{Imsi, Octets};
 use auc_milenage::Secret;
 use auc_peer::{Device, Peer, PeerOptions};
+use auc_reauth::DeviceStore;
 use auc_usim::Usim;
 use std::alloc::{AllocError, Global};
 
@@ -15,6 +16,7 @@ use std::alloc::{AllocError, Global};
 pub struct PeerEnd {
     peer: Peer,
     device: Device,
+    sessions: u32,
     ghost realm: { length device.realm ≤ 255 },
 }
 
@@ -28,8 +30,25 @@ impl PeerEnd {
         let realm = Octets::new(alloc);
         Some(PeerEnd {
             peer: Peer::new(options, alloc),
-            device: Device { imsi, usim, realm },
+            device: Device {
+                imsi,
+                usim,
+                store: DeviceStore::new(),
+                realm,
+            },
+            sessions: 1,
         })
+    }
+
+    /// The number of the device's next session.
+    pub fn next_session(&self) -> u32 {
+        self.sessions.wrapping_add(1)
+    }
+
+    /// The device's next session begins.
+    pub fn next(&mut self, alloc: Global, options: PeerOptions) {
+        self.sessions = options.session;
+        self.peer = Peer::new(options, alloc);
     }
 
     /// What is printed of received bytes.

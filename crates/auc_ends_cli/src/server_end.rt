@@ -4,6 +4,7 @@ ghost use Rattle.std.specs.Prelude.{◌≡◌, ◌≤◌, ◌<◌, ℕ, length};
 ghost use Rattle.auc_sqn.specs.Number.{max_seq};
 
 use crate::text::{server_step, server_turn};
+use auc_ident::{Names, Ordinals};
 use auc_random::Rands;
 use auc_server::{HomeRow, Server, ServerOptions, Setting};
 use auc_subs::Subscribers;
@@ -21,9 +22,11 @@ const SUBSCRIBER: &[u8] =
 pub struct ServerEnd<C: Centre> {
     subs: Subscribers,
     rands: Rands,
+    names: Names,
     homes: Vec<HomeRow>,
     centre: C,
     server: Server,
+    sessions: u32,
 }
 
 impl<C: Centre> Model for ServerEnd<C> {
@@ -54,7 +57,10 @@ impl<C: Centre + Drop> ServerEnd<C> {
             return Err(AllocError);
         }
         if is_held && 0 < subs.len() {
-            homes.push(HomeRow { sub: 0 })?;
+            homes.push(HomeRow {
+                sub: 0,
+                ordinals: Ordinals::at(0),
+            })?;
         }
         let Ok((server, first)) = Server::start(options, alloc) else {
             return Err(AllocError);
@@ -62,12 +68,32 @@ impl<C: Centre + Drop> ServerEnd<C> {
         let end = ServerEnd {
             subs,
             rands: Rands::new(random_key()),
+            names: Names::new(random_key()),
             homes,
             centre,
             server,
+            sessions: 1,
         };
-        let first = hex::encode(alloc, first.as_slice())?;
-        Ok((end, format!(in alloc; "sent {first}")?))
+        let text = first_request(alloc, first.as_slice())?;
+        Ok((end, text))
+    }
+
+    /// The number of the next session.
+    pub fn next_session(&self) -> u32 {
+        self.sessions.wrapping_add(1)
+    }
+
+    /// What is printed of the next session's first request.
+    pub fn next(&mut self, alloc: Global, options: ServerOptions) -> Result<String, AllocError>
+        requires { length options.name ≤ 255 }
+    {
+        let session = options.session;
+        let Ok((server, first)) = Server::start(options, alloc) else {
+            return Err(AllocError);
+        };
+        self.sessions = session;
+        self.server = server;
+        first_request(alloc, first.as_slice())
     }
 
     /// What is printed of received bytes.
@@ -80,6 +106,7 @@ impl<C: Centre + Drop> ServerEnd<C> {
         let set = Setting {
             subs: &self.subs,
             rands: &self.rands,
+            names: &self.names,
             realm: &[],
         };
         let homes = self.homes.as_mut_slice();
@@ -105,6 +132,11 @@ impl<C: Centre + Drop> ServerEnd<C> {
         let step = self.server.give_up(alloc);
         server_step(alloc, &step)
     }
+}
+
+fn first_request(alloc: Global, bytes: &[u8]) -> Result<String, AllocError> {
+    let bytes = hex::encode(alloc, bytes)?;
+    format!(in alloc; "sent {bytes}")
 }
 
 /// The key 00 01 .. 1f of the random bytes.

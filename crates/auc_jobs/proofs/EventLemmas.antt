@@ -17,6 +17,7 @@ use Rattle.auc_peer.specs.Turn.{asked}
 use Rattle.auc_server.specs.Rows.{server_row, text_in}
 use Rattle.auc_server.specs.Server.{ServerEnd}
 use Rattle.auc_server.specs.Steps.{AsksAsNeeded, asking, challenges_again}
+use Rattle.auc_server.specs.Table.{packets_after}
 use Rattle.auc_server.specs.declared.options.ServerOptions.{ServerOptions}
 use Rattle.auc_server.specs.declared.rows.Row.{Row}
 use Rattle.auc_server.specs.declared.rows.Row.TheVariants as row
@@ -34,7 +35,7 @@ use Rattle.auc_world.specs.Event.{asked_in, device_in, number_for, number_in, re
 use Rattle.auc_world.specs.Given.{Before, CentreAnswers, EventGives, IsCentreAsked, IsNumberAnswer, NumberFollows, PlainGives, RelayGives, behind, packet_of, resync_note}
 use Rattle.auc_world.specs.Happened.{Delivery, Told, delivery_at, delivery_of, peer_turn}
 use Rattle.auc_world.specs.Lines.{held_by}
-use Rattle.auc_world.specs.Net.{Net, device_place, other, packet_at, session_place}
+use Rattle.auc_world.specs.Net.{Net, device_place, keeps_at, other, packet_at, session_place}
 use Rattle.auc_world.specs.Setting.{Setting}
 use Rattle.auc_world.specs.declared.event.Event.{Event}
 use Rattle.auc_world.specs.declared.event.Event.TheVariants as event
@@ -61,7 +62,7 @@ pub record Agrees (set : Setting) (w : Net) (told : Told) (c : Came) (a : Option
   pub silent : a ≡ None → number_in c ≡ None
   pub reaches : device_in c ≡ presented_sub p
   pub needs : Needs → (request : Asking) → a ≡ Some request → (r : Row) × (asking r ≡ Some request) × AsksAsNeeded r told.notes
-  pub turn : TellsNotes told c → (q : Presented) → p ≡ Some q → told.notes.usim ≡ (peer_turn q.device q.delivery.session told).1.notes.usim
+  pub turn : TellsNotes told c → (q : Presented) → p ≡ Some q → told.notes.usim ≡ (peer_turn q.device (keeps_at w q.delivery.session.device) q.delivery.session told).1.notes.usim
   pub hands : (q : Presented) → p ≡ Some q → q.challenge ≡ asked (peer_row q.delivery.session.peer told.seen)
 
 no_request : (request : Asking) → ◌≡◌ {A = Option Asking} None (Some request) → ⊥
@@ -93,7 +94,7 @@ at_server : (set : Setting) (w : Net) (told : Told) (o : Option ServerEnd) (d : 
 at_server set w told None d Needs is from = quiet set w told (came_at_server set w told None) Needs refl refl refl
 at_server set w told (Some s) d Needs is from = record {
   asks = refl;
-  silent = λ e. server_silent set s (text_in told.seen.reading) (server_row set w.homes s told.seen) told.notes e;
+  silent = λ e. server_silent set w.homes s (text_in told.seen.reading) (packets_after s told.seen (server_row set w.homes s told.seen)) (server_row set w.homes s told.seen) told.notes e;
   reaches = refl;
   needs = λ n request e. (server_row set w.homes s told.seen, e, needed (d.session.server) is (from n));
   turn = λ tells q e. absurd (no_presented q e);
@@ -113,10 +114,10 @@ at_peer : (set : Setting) (w : Net) (told : Told) (d : Delivery) (o : Option Sub
 at_peer set w told d None Needs = quiet set w told (came_at_peer w d told None) Needs refl refl refl
 at_peer set w told d (Some device) Needs = record {
   asks = refl;
-  silent = λ e. peer_silent device d.session.peer told.seen (peer_row d.session.peer told.seen) told.notes.usim told.readable;
+  silent = λ e. peer_silent device (keeps_at w d.session.device) d.session.peer told.seen (peer_row d.session.peer told.seen) told.notes.usim told.inner;
   reaches = refl;
   needs = λ n request e. absurd (no_request request e);
-  turn = λ tells q e. subst (λ (r : Presented). told.notes.usim ≡ (peer_turn r.device r.delivery.session told).1.notes.usim) (one (presented device) q e) (ap (λ (n : Notes). n.usim) tells);
+  turn = λ tells q e. subst (λ (r : Presented). told.notes.usim ≡ (peer_turn r.device (keeps_at w r.delivery.session.device) r.delivery.session told).1.notes.usim) (one (presented device) q e) (ap (λ (n : Notes). n.usim) tells);
   hands = λ q e. subst (λ (r : Presented). r.challenge ≡ asked (peer_row r.delivery.session.peer told.seen)) (one (presented device) q e) refl;
 }
   where
@@ -244,6 +245,7 @@ centre_answers (row.Resynchronise sub seq) request kept notes e needs report num
     one : (a b : Asking) → Some a ≡ Some b → a ≡ b
     one a b e = cc
 centre_answers (row.Ignore cause) request kept notes e needs report number = absurd (no_request request e)
+centre_answers (row.Ask kind) request kept notes e needs report number = absurd (no_request request e)
 centre_answers row.UnknownIdentity request kept notes e needs report number = absurd (no_request request e)
 centre_answers row.WrongMac request kept notes e needs report number = absurd (no_request request e)
 centre_answers row.WrongRes request kept notes e needs report number = absurd (no_request request e)

@@ -10,14 +10,17 @@ use Rattle.auc_peer.specs.Asking.{answer_noted, note_of}
 use Rattle.auc_peer.specs.Attributes.{checkcode, differs}
 use Rattle.auc_peer.specs.Rows.{peer_row}
 use Rattle.auc_peer.specs.Subscription.{Subscription}
-use Rattle.auc_peer.specs.Table.{accepted as accepted_turn, accepting, by_answer, client, genuine, keys_at, opened, peer_does}
+use Rattle.auc_peer.specs.Table.{accepted as accepted_turn, accepting, by_answer, client, genuine, keys_at, opened, own_code, peer_does}
 use Rattle.auc_peer.specs.Turn.{Asked as AsksDevice, asked}
+use Rattle.auc_peer.specs.declared.decrypted.Decrypted.{Decrypted}
+use Rattle.auc_peer.specs.declared.decrypted.Decrypted.TheVariants as decrypted
 use Rattle.auc_peer.specs.declared.peer.Challenge.{Challenge}
 use Rattle.auc_peer.specs.declared.peer.Peer.{Peer}
 use Rattle.auc_peer.specs.declared.rows.Row.{Row as PeerRow}
 use Rattle.auc_peer.specs.declared.rows.Row.TheVariants as row
 use Rattle.auc_peer.specs.declared.why.PeerWhy.{PeerWhy}
 use Rattle.auc_peer.specs.declared.why.PeerWhy.TheVariants as why
+use Rattle.auc_reauth.specs.Device.{Keeps}
 use Rattle.auc_sqn.specs.Number.{ind_of, seq_of}
 use Rattle.auc_sqn.specs.Past.{Past, Remembers, opening_past}
 use Rattle.auc_subs.specs.Subscriber.{AreSubscribers}
@@ -34,7 +37,7 @@ use Rattle.auc_world.specs.Event.{device_in, sqn_accepted, usim_in}
 use Rattle.auc_world.specs.Given.{AsksUsim, Before, UsimNotes, past_before, past_of}
 use Rattle.auc_world.specs.Happened.{Told, peer_turn}
 use Rattle.auc_world.specs.Lines.{accepted, accepted_by}
-use Rattle.auc_world.specs.Net.{device_place}
+use Rattle.auc_world.specs.Net.{device_place, keeps_at}
 use Rattle.auc_world.specs.Setting.{Setting}
 use Rattle.auc_world.specs.World.{IsHanded, WorldState, memory_of, usim_at, usim_of}
 use Rattle.auc_world.specs.declared.event.EventRecord.{EventRecord}
@@ -51,21 +54,21 @@ if_note true x y n first second = first
 if_note false x y n first second = second
 
 -- the turn tells the answer's note
-noted_is : (p : Peer) (seen : Seen) (c : Challenge) (a : Answer) (readable : Bool) → (by_answer p seen c a readable).1.notes.usim ≡ Some (note_of a)
-noted_is p seen c answer.WrongMac readable = refl
-noted_is p seen c (answer.SyncFailure auts sqn) readable = refl
-noted_is p seen c (answer.Accepted res ck ik ak amf sqn) readable = with_keys (keys_at p seen c ik ck)
+noted_is : (p : Peer) (seen : Seen) (c : Challenge) (a : Answer) (inner : Decrypted) → (by_answer p seen c a inner).1.notes.usim ≡ Some (note_of a)
+noted_is p seen c answer.WrongMac inner = refl
+noted_is p seen c (answer.SyncFailure auts sqn) inner = refl
+noted_is p seen c (answer.Accepted res ck ik ak amf sqn) inner = with_keys (keys_at p seen c ik ck)
   where
-    opened_note : (q : Peer) (keys : KeySet) (b : Bool) → (opened q seen res sqn keys b).1.notes.usim ≡ Some (note.Accepted sqn)
-    opened_note q keys true = refl
-    opened_note q keys false = refl
+    opened_note : (q : Peer) (keys : KeySet) (d : Decrypted) → (opened q seen res sqn keys d).1.notes.usim ≡ Some (note.Accepted sqn)
+    opened_note q keys decrypted.Unreadable = refl
+    opened_note q keys (decrypted.Attributes next) = refl
 
-    with_keys : (keys : KeySet) → (accepted_turn p seen c res sqn keys readable).1.notes.usim ≡ Some (note.Accepted sqn)
+    with_keys : (keys : KeySet) → (accepted_turn p seen c res sqn keys inner).1.notes.usim ≡ Some (note.Accepted sqn)
     with_keys keys =
-        if_note (not (is_sealed p.options.method keys.k_aut [] seen)) (client p seen why.WrongMac (Some (note.Accepted sqn)) false) (genuine (accepting p seen c) seen res sqn keys readable)
+        if_note (not (is_sealed p.options.method keys.k_aut [] seen)) (client p seen why.WrongMac (Some (note.Accepted sqn)) false) (genuine (accepting p seen c) seen res sqn keys inner)
         (Some (note.Accepted sqn)) refl
-        (if_note (differs (checkcode seen)) (client (accepting p seen c) seen why.WrongCheckcode (Some (note.Accepted sqn)) true) (opened (accepting p seen c) seen res sqn keys readable)
-        (Some (note.Accepted sqn)) refl (opened_note (accepting p seen c) keys readable))
+        (if_note (differs (own_code (accepting p seen c)) (checkcode seen)) (client (accepting p seen c) seen why.WrongCheckcode (Some (note.Accepted sqn)) true) (opened (accepting p seen c) seen res sqn keys inner)
+        (Some (note.Accepted sqn)) refl (opened_note (accepting p seen c) keys inner))
 
 -- the row of a challenge that is handed to the USIM
 challenged_row : (r : PeerRow) (c : Challenge) → asked r ≡ Some c → r ≡ row.Challenged c
@@ -76,23 +79,24 @@ challenged_row (row.Challenged d) c e = ap row.Challenged (one d c e)
 challenged_row (row.Ignore cause) c e = absurd (cc)
 challenged_row row.Again c e = absurd (cc)
 challenged_row row.First c e = absurd (cc)
+challenged_row (row.Identity kind) c e = absurd (cc)
 challenged_row (row.Client cause) c e = absurd (cc)
 challenged_row (row.Reject cause) c e = absurd (cc)
 challenged_row (row.Notified code) c e = absurd (cc)
 challenged_row row.Success c e = absurd (cc)
 challenged_row (row.Failure cause) c e = absurd (cc)
 
-turn_note : (s : Subscription) (p : Peer) (seen : Seen) (r : PeerRow) (c : Challenge) (n : UsimNote) (readable : Bool) → r ≡ row.Challenged c
-    → (peer_does s p seen r (Some n) readable).1.notes.usim ≡ Some (note_of (answer_noted s.secret c n))
-turn_note s p seen r c n readable is =
-    ap (λ (x : PeerRow). (peer_does s p seen x (Some n) readable).1.notes.usim) is ∙ noted_is p seen c (answer_noted s.secret c n) readable
+turn_note : (s : Subscription) (keeps : Keeps) (p : Peer) (seen : Seen) (r : PeerRow) (c : Challenge) (n : UsimNote) (inner : Decrypted) → r ≡ row.Challenged c
+    → (peer_does s keeps p seen r (Some n) inner).1.notes.usim ≡ Some (note_of (answer_noted s.secret c n))
+turn_note s keeps p seen r c n inner is =
+    ap (λ (x : PeerRow). (peer_does s keeps p seen x (Some n) inner).1.notes.usim) is ∙ noted_is p seen c (answer_noted s.secret c n) inner
 
 -- so the told note is the one of its answer
-told_note : (told : Told) (p : Presented) (c : Challenge) (n : UsimNote) → told.notes.usim ≡ Some n → p.challenge ≡ Some c → p.challenge ≡ asked (peer_row p.delivery.session.peer told.seen)
-    → told.notes.usim ≡ (peer_turn p.device p.delivery.session told).1.notes.usim → told.notes.usim ≡ Some (note_of (answer_noted p.device.secret c n))
-told_note told p c n is handed row_is turn =
-    turn ∙ ap (λ (o : Option UsimNote). (peer_does p.device p.delivery.session.peer told.seen (peer_row p.delivery.session.peer told.seen) o told.readable).1.notes.usim) is
-    ∙ turn_note p.device p.delivery.session.peer told.seen (peer_row p.delivery.session.peer told.seen) c n told.readable
+told_note : (told : Told) (keeps : Keeps) (p : Presented) (c : Challenge) (n : UsimNote) → told.notes.usim ≡ Some n → p.challenge ≡ Some c → p.challenge ≡ asked (peer_row p.delivery.session.peer told.seen)
+    → told.notes.usim ≡ (peer_turn p.device keeps p.delivery.session told).1.notes.usim → told.notes.usim ≡ Some (note_of (answer_noted p.device.secret c n))
+told_note told keeps p c n is handed row_is turn =
+    turn ∙ ap (λ (o : Option UsimNote). (peer_does p.device keeps p.delivery.session.peer told.seen (peer_row p.delivery.session.peer told.seen) o told.inner).1.notes.usim) is
+    ∙ turn_note p.device keeps p.delivery.session.peer told.seen (peer_row p.delivery.session.peer told.seen) c n told.inner
     (challenged_row (peer_row p.delivery.session.peer told.seen) c (sym row_is ∙ handed))
 
 -- the past after an answer, by its note
@@ -111,7 +115,7 @@ pub record Hands (rows : List Row) (w new : WorldState) (told : Told) (c : Came)
   pub handed : IsHanded p told w.devices new.devices
   pub reaches : device_in c ≡ Some p.delivery.session.sub
   pub usim : usim_in c ≡ told.notes.usim
-  pub turn : told.notes.usim ≡ (peer_turn p.device p.delivery.session told).1.notes.usim
+  pub turn : told.notes.usim ≡ (peer_turn p.device (keeps_at w.net p.delivery.session.device) p.delivery.session told).1.notes.usim
   pub hands : p.challenge ≡ asked (peer_row p.delivery.session.peer told.seen)
 
 module _ (rows : List Row) (w new : WorldState) (told : Told) (c : Came) (p : Presented) (h : Hands rows w new told c p) where
@@ -144,7 +148,7 @@ module _ (rows : List Row) (w new : WorldState) (told : Told) (c : Came) (p : Pr
   remembers (Some challenge) None row lines handed is asks past = absurd asks
   remembers (Some challenge) (Some n) row lines handed is asks past =
       subst (λ (x : Past). Remembers h.handed.after.usim.array x)
-      (sym (ap (λ (o : Option UsimNote). past_of row.usim (accepted p.delivery.session.sub lines ++ sqn_accepted o)) (told_note told p challenge n is handed h.hands h.turn)
+      (sym (ap (λ (o : Option UsimNote). past_of row.usim (accepted p.delivery.session.sub lines ++ sqn_accepted o)) (told_note told (keeps_at w.net p.delivery.session.device) p challenge n is handed h.hands h.turn)
       ∙ past_noted row.usim (accepted p.delivery.session.sub lines) (answer_noted p.device.secret challenge n)))
       (asks (past_of row.usim (accepted p.delivery.session.sub lines)) past).1
 
@@ -194,5 +198,5 @@ module _ (rows : List Row) (w new : WorldState) (told : Told) (c : Came) (p : Pr
         row = row;
         there = ap (λ (rs : List Row). slice_get rs p.delivery.session.sub) is ∙ there;
         answers = notes (past_before before row p.delivery.session.sub) p.challenge told.notes.usim h.handed.asked past;
-        readable = h.handed.readable (past_before before row p.delivery.session.sub) past;
+        decrypts = h.handed.decrypts (past_before before row p.delivery.session.sub) past;
       }

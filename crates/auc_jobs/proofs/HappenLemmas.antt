@@ -23,7 +23,7 @@ use Rattle.auc_world.specs.Lines.{accepted, accepted_by, held_by}
 use Rattle.auc_world.specs.Net.{Net, device_place}
 use Rattle.auc_world.specs.Released.{Released}
 use Rattle.auc_world.specs.Setting.{Setting}
-use Rattle.auc_world.specs.World.{AreHanded, AreHomes, Applies, RememberPasts, WorldState, usim_at, usim_of}
+use Rattle.auc_world.specs.World.{AreHanded, AreHomes, AreOfSame, Applies, RememberPasts, WorldState, usim_at, usim_of}
 use Rattle.auc_world.specs.declared.event.Event.{Event}
 use Rattle.auc_world.specs.declared.event.Event.TheVariants as event
 use Rattle.auc_world.specs.declared.record.LineRecord.{LineRecord}
@@ -35,6 +35,7 @@ use Rattle.auc_jobs.specs.Usims.{AreBehind, HaveSecrets}
 use Rattle.auc_jobs.proofs.EventLemmas.{Agrees, agrees, centre_answers, presented_sub, says_event, usim_told}
 use Rattle.auc_jobs.proofs.HandLemmas.{Hands, hands_asked, hands_behind, hands_changes}
 use Rattle.auc_jobs.proofs.JobLemmas.{behind_quiet}
+use Rattle.auc_jobs.proofs.PlaceLemmas.{same_known}
 use Rattle.auc_jobs.proofs.UsimLemmas.{changed_keys, changed_secrets, some_past}
 
 -- the homes are subscribers of the centre
@@ -196,7 +197,7 @@ module _ {S : Type 0} (goes : S → ℕ → List Entry → List (ℕ × Stop) �
     pub rows : AreForRows set.rows subs (top old) w
     pub applied : IfOk result (λ c. RememberPasts w.devices → Applies goes kept top set w e old new c next)
     pub failed : OnErr result (new ≡ w)
-    pub homes : new.net.homes ≡ w.net.homes
+    pub homes : AreOfSame w.net.homes new.net.homes
     pub devices : new.net.devices ≡ w.net.devices
     pub same_subs : next_subs ≡ subs
     pub same_top : (i : ℕ) → top next i ≡ top old i
@@ -211,7 +212,7 @@ module _ {S : Type 0} (goes : S → ℕ → List Entry → List (ℕ × Stop) �
     is_centre = record { size = a.same_subs ∙ a.rows.is_centre.size; greatest = λ sub. a.same_top sub ∙ a.rows.is_centre.greatest sub };
     subscribers = a.rows.subscribers;
     secrets = secrets;
-    homes = subst (λ (hs : List HomeRow). All (λ (h : HomeRow). h.sub < length set.rows) hs) (sym a.homes) a.rows.homes;
+    homes = same_known (length set.rows) w.net.homes new.net.homes a.homes a.rows.homes;
     placed = placed;
   }
 

@@ -19,13 +19,12 @@ use Rattle.auc_subs.specs.declared.row.Row.{Row}
 use Rattle.auc_world.specs.declared.record.LineRecord.{LineRecord}
 use Rattle.auc_world.specs.Limits.{Raises, least_step}
 use Rattle.auc_world.specs.Lines.{all_lines, withheld_of}
-use Rattle.auc_world.specs.Round.{IsLawfulRound}
 use Rattle.auc_world.specs.Setting.{Setting}
 use Rattle.auc_world.specs.Transcript.{reopened}
 use Rattle.auc_jobs.specs.declared.round.Ran.{Ran}
 use Rattle.auc_jobs.specs.declared.workers.RoundPieces.{RoundPieces}
 use Rattle.auc_jobs.specs.InnerKeeping.{CanKeep, StaysNear}
-use Rattle.auc_jobs.specs.InnerRound.{GoesByLimits}
+use Rattle.auc_jobs.specs.InnerRound.{GoesByLimits, LeadsOn}
 use Rattle.auc_jobs.specs.Round.{IsJournalOf, Serves}
 use Rattle.auc_jobs.specs.State.{Standing, StandsAt}
 
@@ -88,21 +87,25 @@ limit_of_row rows journal sub row is there = ap (λ imsis. slice_index (map (λ 
 
 -- a round whose pieces go by the limits is served
 pub served_round : {D : Type 0} (seen : D → Option (List ℕ)) (may_leave : D → List ℕ → Type 0) (set : Setting) (state next : Standing) (jobs : List (List Line)) (journal after : JournalState D)
-    (done : RoundPieces) (result : Result Ran NoMemory) → IfOk result (λ ran. (early : List LineRecord) → StandsAt set early state → IsLawfulRound set done.stop early state.words jobs ran.round done.words)
+    (done : RoundPieces) (result : Result Ran NoMemory) → IfOk result (λ ran. (early : List LineRecord) → StandsAt set early state → LeadsOn set done.stop early state jobs ran.round done.words next)
     → OnOk result (next.words ≡ reopened done.words) → IfOk result (λ ran. (ran.round.jobs ≡ done.jobs.records) × (ran.vectors ≡ done.jobs.vectors) × (ran.stop ≡ done.stop))
     → after.imsis ≡ map (λ row. row.imsi) set.rows → GoesByLimits set done.stop done.jobs.records (limits_of journal) done.words (limits_of after) → StaysNear seen may_leave journal done.words after
     → IfOk result (λ ran. (early : List LineRecord) → StandsAt set early state → Serves seen may_leave set early state jobs ran.round ran.stop journal next after)
-served_round seen may_leave set state next jobs journal after done (Ok ran) lawful opens parts subscribers limits near = λ early stands. record {
-  words = done.words;
-  lawful = subst (λ (stop : Option Stop). IsLawfulRound set stop early state.words jobs ran.round done.words) (sym parts.2) (lawful early stands);
-  opens = opens;
-  limits = subst (λ (records : List (List LineRecord)). Raises set.rows (all_lines records) (limits_of journal) done.words (limits_of after)) (sym parts.0) limits.raises;
-  withheld = λ sub row there.
-      subst (λ (records : List (List LineRecord)). All (λ n. reserved_in after.limits row.imsi < n) (withheld_of sub (all_lines records))) (sym parts.0)
-      (subst (λ (limit : ℕ). All (λ n. limit < n) (withheld_of sub (all_lines done.jobs.records))) (limit_of_row set.rows after sub row subscribers there)
-      (limits.above sub (slice_get_within set.rows sub row there)));
-  durable = near;
-}
+served_round seen may_leave set state next jobs journal after done (Ok ran) lawful opens parts subscribers limits near = λ early stands.
+    let leads : LeadsOn set ran.stop early state jobs ran.round done.words next =
+    subst (λ (stop : Option Stop). LeadsOn set stop early state jobs ran.round done.words next) (sym parts.2) (lawful early stands) in
+    record {
+      words = done.words;
+      lawful = leads.lawful;
+      opens = opens;
+      keeps = leads.keeps;
+      limits = subst (λ (records : List (List LineRecord)). Raises set.rows (all_lines records) (limits_of journal) done.words (limits_of after)) (sym parts.0) limits.raises;
+      withheld = λ sub row there.
+          subst (λ (records : List (List LineRecord)). All (λ n. reserved_in after.limits row.imsi < n) (withheld_of sub (all_lines records))) (sym parts.0)
+          (subst (λ (limit : ℕ). All (λ n. limit < n) (withheld_of sub (all_lines done.jobs.records))) (limit_of_row set.rows after sub row subscribers there)
+          (limits.above sub (slice_get_within set.rows sub row there)));
+      durable = near;
+    }
 served_round seen may_leave set state next jobs journal after done (Err e) lawful opens parts subscribers limits near = tt
 
 -- what holds where a result is Ok holds of what it has

@@ -1,23 +1,24 @@
 -- For a job's devices: at which place each subscriber's is.
-use Rattle.std.proofs.Common.{◌≡◌, ◌≢◌, ℕ, zero, suc, ◌+◌, ◌<◌, ◌⊎◌, eqb, Bool, true, false, cond, List, [], ◌∷◌, ◌++◌, All, length, get_or, refl, sym, ◌∙◌, ap, arith, inl, inr, eq-eqb}
+use Rattle.std.proofs.Common.{◌≡◌, ◌≢◌, ℕ, zero, suc, ◌+◌, ◌<◌, ◌⊎◌, eqb, Bool, true, false, cond, List, [], ◌∷◌, ◌++◌, All, length, get_or, refl, sym, ◌∙◌, ap, subst, arith, inl, inr, eq-eqb}
 use Rattle.std.specs.Prelude.{◌==◌, nat_lt, not, Option, Some, None, flat_map, map, position, slice_get, if◌then◌else◌}
 use Rattle.std.specs.List.{position_or_len}
 use Rattle.std.proofs.lemmas.Bool.{and_from, and_parts, eqb-true, false_from_ne_true}
 use Rattle.std.proofs.lemmas.Bool.Decides.{eqb_tells, nat_tests}
-use Rattle.std.proofs.lemmas.List.Elements.{All-head, All-tail}
+use Rattle.std.proofs.lemmas.List.Elements.{All-cons, All-head, All-tail}
 use Rattle.std.proofs.lemmas.List.Quantifiers.{position-Some}
 use Rattle.std.proofs.lemmas.Option.{get_or_from_slice_get, slice_get_within}
 use Rattle.auc_cards.specs.Devices.{usim_among}
 use Rattle.auc_edge.specs.Identity.{Identity}
 use Rattle.auc_peer.specs.Subscription.{Subscription}
 use Rattle.auc_peer.specs.declared.device.Device.{Device}
+use Rattle.auc_server.specs.declared.setting.HomeRow.{HomeRow}
 use Rattle.auc_subs.specs.Subscriber.{AreSubscribers, same_identity}
 use Rattle.auc_subs.specs.declared.row.Row.{Row}
 use Rattle.auc_usim.specs.Usim.{Memory}
 use Rattle.auc_world.specs.Net.{device_place, place_with}
 use Rattle.auc_world.specs.Setting.{Setting}
-use Rattle.auc_world.specs.Start.{home_of, subscription_at, subscription_by}
-use Rattle.auc_world.specs.World.{WorldState, memory_of, usim_at, usim_of}
+use Rattle.auc_world.specs.Start.{Kept, home_of, subscription_at, subscription_by}
+use Rattle.auc_world.specs.World.{AreOfSame, WorldState, memory_of, usim_at, usim_of}
 use Rattle.auc_jobs.proofs.LineLemmas.{some_at}
 
 -- ---- identities
@@ -122,24 +123,24 @@ no_usim None = refl
 no_usim (Some place) = refl
 
 -- the USIM of a subscriber's device is found by its home
-found_usim : (set : Setting) (subs : List ℕ) (devices : List Device) (sub : ℕ) (row : Row) → AreSubscribers set.rows → slice_get set.rows sub ≡ Some row → All (λ s. s < length set.rows) subs
-    → usim_at devices (place_with (flat_map (subscription_at set) subs) (Some row)) ≡ usim_among (map home_of subs) devices sub
-found_usim set [] [] sub row are at known = refl
-found_usim set [] (d ∷ devices) sub row are at known = refl
-found_usim set (s ∷ subs) [] sub row are at known = no_usim (place_with (flat_map (subscription_at set) (s ∷ subs)) (Some row))
-found_usim set (s ∷ subs) (d ∷ devices) sub row are at known =
+found_usim : (set : Setting) (stores : List Kept) (subs : List ℕ) (devices : List Device) (sub : ℕ) (row : Row) → AreSubscribers set.rows → slice_get set.rows sub ≡ Some row → All (λ s. s < length set.rows) subs
+    → usim_at devices (place_with (flat_map (subscription_at set) subs) (Some row)) ≡ usim_among (map (home_of stores) subs) devices sub
+found_usim set stores [] [] sub row are at known = refl
+found_usim set stores [] (d ∷ devices) sub row are at known = refl
+found_usim set stores (s ∷ subs) [] sub row are at known = no_usim (place_with (flat_map (subscription_at set) (s ∷ subs)) (Some row))
+found_usim set stores (s ∷ subs) (d ∷ devices) sub row are at known =
     let (first, here) = some_at set.rows s (All-head (λ (n : ℕ). n < length set.rows) s subs known) in
     let more = flat_map (subscription_at set) subs in
     ap (λ (o : Option Row). usim_at (d ∷ devices) (place_with (subscription_by set o ++ more) (Some row))) here
     ∙ first_usim devices d (λ (x : Subscription). same_identity x.imsi row.imsi) (record { imsi = first.imsi; realm = set.realm; secret = first.secret }) more
     ∙ ap (λ (b : Bool). if b then Some d.usim else usim_at devices (place_with more (Some row))) (identity_test set.rows s sub first row are here at)
-    ∙ ap (λ (o : Option Memory). if eqb s sub then Some d.usim else o) (found_usim set subs devices sub row are at (All-tail (λ (n : ℕ). n < length set.rows) s subs known))
+    ∙ ap (λ (o : Option Memory). if eqb s sub then Some d.usim else o) (found_usim set stores subs devices sub row are at (All-tail (λ (n : ℕ). n < length set.rows) s subs known))
 
 -- a subscriber without a row has no home
-no_home : (set : Setting) (subs : List ℕ) (devices : List Device) (sub : ℕ) → slice_get set.rows sub ≡ None → All (λ s. s < length set.rows) subs → usim_among (map home_of subs) devices sub ≡ None
-no_home set [] devices sub none known = refl
-no_home set (s ∷ subs) [] sub none known = refl
-no_home set (s ∷ subs) (d ∷ devices) sub none known = by (eqb_tells s sub) (no_home set subs devices sub none (All-tail (λ (n : ℕ). n < length set.rows) s subs known))
+no_home : (set : Setting) (stores : List Kept) (subs : List ℕ) (devices : List Device) (sub : ℕ) → slice_get set.rows sub ≡ None → All (λ s. s < length set.rows) subs → usim_among (map (home_of stores) subs) devices sub ≡ None
+no_home set stores [] devices sub none known = refl
+no_home set stores (s ∷ subs) [] sub none known = refl
+no_home set stores (s ∷ subs) (d ∷ devices) sub none known = by (eqb_tells s sub) (no_home set stores subs devices sub none (All-tail (λ (n : ℕ). n < length set.rows) s subs known))
   where
     there : (x : Row) → slice_get set.rows s ≡ Some x → s ≡ sub → ⊥
     there x at same = nothing x (sym (sym at ∙ ap (slice_get set.rows) same ∙ none))
@@ -147,15 +148,40 @@ no_home set (s ∷ subs) (d ∷ devices) sub none known = by (eqb_tells s sub) (
         nothing : (y : Row) → ◌≡◌ {A = Option Row} None (Some y) → ⊥
         nothing y e = cc
 
-    by : ((eqb s sub ≡ true) × (s ≡ sub)) ⊎ ((eqb s sub ≡ false) × (s ≢ sub)) → usim_among (map home_of subs) devices sub ≡ None
-        → (if eqb s sub then Some d.usim else usim_among (map home_of subs) devices sub) ≡ None
+    by : ((eqb s sub ≡ true) × (s ≡ sub)) ⊎ ((eqb s sub ≡ false) × (s ≢ sub)) → usim_among (map (home_of stores) subs) devices sub ≡ None
+        → (if eqb s sub then Some d.usim else usim_among (map (home_of stores) subs) devices sub) ≡ None
     by (inl (e, same)) rest = let (x, at) = some_at set.rows s (All-head (λ (n : ℕ). n < length set.rows) s subs known) in absurd (there x at same)
     by (inr (e, other)) rest = rw e rest
 
-pub usim_found : (set : Setting) (subs : List ℕ) (w : WorldState) (sub : ℕ) → AreSubscribers set.rows → w.net.devices ≡ flat_map (subscription_at set) subs → All (λ s. s < length set.rows) subs
-    → usim_of set.rows w sub ≡ usim_among (map home_of subs) w.devices sub
-usim_found set subs w sub are same known = ap (λ (ds : List Subscription). usim_at w.devices (device_place set.rows ds sub)) same ∙ by (slice_get set.rows sub) refl
+pub usim_found : (set : Setting) (stores : List Kept) (subs : List ℕ) (w : WorldState) (sub : ℕ) → AreSubscribers set.rows → w.net.devices ≡ flat_map (subscription_at set) subs → All (λ s. s < length set.rows) subs
+    → usim_of set.rows w sub ≡ usim_among (map (home_of stores) subs) w.devices sub
+usim_found set stores subs w sub are same known = ap (λ (ds : List Subscription). usim_at w.devices (device_place set.rows ds sub)) same ∙ by (slice_get set.rows sub) refl
   where
-    by : (o : Option Row) → slice_get set.rows sub ≡ o → usim_at w.devices (place_with (flat_map (subscription_at set) subs) o) ≡ usim_among (map home_of subs) w.devices sub
-    by None at = sym (no_home set subs w.devices sub at known)
-    by (Some row) at = found_usim set subs w.devices sub row are at known
+    by : (o : Option Row) → slice_get set.rows sub ≡ o → usim_at w.devices (place_with (flat_map (subscription_at set) subs) o) ≡ usim_among (map (home_of stores) subs) w.devices sub
+    by None at = sym (no_home set stores subs w.devices sub at known)
+    by (Some row) at = found_usim set stores subs w.devices sub row are at known
+
+-- ---- homes of the same subscribers
+
+-- their USIMs are found alike
+pub same_usims : (old new : List HomeRow) (devices : List Device) (sub : ℕ) → AreOfSame old new → usim_among new devices sub ≡ usim_among old devices sub
+same_usims [] [] devices sub same = refl
+same_usims [] (home ∷ new) devices sub same = let no : ⊥ = cc in absurd no
+same_usims (home ∷ old) [] devices sub same = let no : ⊥ = cc in absurd no
+same_usims (home ∷ old) (other ∷ new) [] sub same = refl
+same_usims (home ∷ old) (other ∷ new) (device ∷ devices) sub same =
+    let first : other.sub ≡ home.sub = cc in
+    let rest : AreOfSame old new = cc in
+    ap (λ (n : ℕ). if n == sub then Some device.usim else usim_among new devices sub) first
+    ∙ ap (λ (o : Option Memory). if home.sub == sub then Some device.usim else o) (same_usims old new devices sub rest)
+
+-- and they are known alike
+pub same_known : (count : ℕ) (old new : List HomeRow) → AreOfSame old new → All (λ home. home.sub < count) old → All (λ home. home.sub < count) new
+same_known count [] [] same known = known
+same_known count [] (home ∷ new) same known = let no : ⊥ = cc in absurd no
+same_known count (home ∷ old) [] same known = let no : ⊥ = cc in absurd no
+same_known count (home ∷ old) (other ∷ new) same known =
+    let first : other.sub ≡ home.sub = cc in
+    let rest : AreOfSame old new = cc in
+    All-cons (λ (h : HomeRow). h.sub < count) other new (subst (λ (n : ℕ). n < count) (sym first) (All-head (λ (h : HomeRow). h.sub < count) home old known))
+    (same_known count old new rest (All-tail (λ (h : HomeRow). h.sub < count) home old known))

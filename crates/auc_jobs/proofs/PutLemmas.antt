@@ -1,22 +1,29 @@
--- For the USIMs after a round: its jobs' own ones were put back.
-use Rattle.std.proofs.Common.{◌≡◌, ℕ, ◌<◌, ◌⊎◌, Bool, true, false, List, [], ◌∷◌, ◌++◌, AllPairs, length, refl, sym, ◌∙◌, ap, subst, append-nil, append_assoc, inl, inr}
-use Rattle.std.specs.Prelude.{All, Option, Some, None, is_some, slice_get}
+-- For what stands after a round: its jobs' own USIMs, and what their homes and devices keep, were put back.
+use Rattle.std.proofs.Common.{◌≡◌, ℕ, ◌<◌, ◌⊎◌, Bool, true, false, List, [], ◌∷◌, ◌++◌, AllPairs, fold, length, map, refl, sym, ◌∙◌, ap, subst, append-nil, append_assoc, inl, inr}
+use Rattle.std.specs.Prelude.{All, Option, Some, None, is_some, slice_get, slice_set}
 use Rattle.std.proofs.lemmas.Bool.{false≢true}
+use Rattle.std.proofs.lemmas.List.{length-set}
 use Rattle.std.proofs.lemmas.Option.{slice_get_within}
+use Rattle.auc_cards.specs.Stores.{put_back as put_devices, put_own}
 use Rattle.auc_history.proofs.Facts.{AllPairs-tail}
 use Rattle.std.proofs.lemmas.List.Elements.{All-head}
 use Rattle.auc_lines.specs.declared.part.Line.{Line}
 use Rattle.auc_lines.specs.Part.{AreApart, holds}
+use Rattle.auc_peer.specs.declared.device.Device.{Device}
+use Rattle.auc_reauth.specs.Device.{Keeps}
+use Rattle.auc_server.specs.declared.setting.HomeRow.{HomeRow}
 use Rattle.auc_sqn.specs.Past.{Remembers}
 use Rattle.auc_subs.specs.declared.row.Row.{Row}
 use Rattle.auc_usim.specs.Usim.{Memory}
 use Rattle.auc_world.specs.declared.record.LineRecord.{LineRecord}
 use Rattle.auc_world.specs.Given.{past_of}
 use Rattle.auc_world.specs.Lines.{accepted, all_lines}
+use Rattle.auc_world.specs.Net.{Net}
 use Rattle.auc_world.specs.Pieces.{IsQuiet}
+use Rattle.auc_world.specs.Start.{Kept, kept_by_jobs, kept_with, put_back}
 use Rattle.auc_world.proofs.Facts.{accepted-append}
 use Rattle.auc_jobs.specs.Usims.{AreOfRows, AreBehind}
-use Rattle.auc_jobs.specs.InnerRound.{IsSettled, AreSettled}
+use Rattle.auc_jobs.specs.InnerRound.{IsSettled, AreSettled, left_in, left_on}
 use Rattle.auc_jobs.specs.InnerUsims.{OwnDevices, usim_in, put_at, ArePut, ArePutBack}
 use Rattle.auc_jobs.proofs.PieceLemmas.{quiet_rest}
 
@@ -86,3 +93,34 @@ placed_jobs rows early front old new (job ∷ jobs) (lines ∷ records) (usims �
     subst (λ (ls : List LineRecord). ArePlaced rows (early ++ ls) new) (append_assoc front lines (all_lines records))
     (placed_jobs rows early (front ++ lines) mid new jobs records own (AllPairs-tail AreApart job jobs apart) (quiet_rest front lines job jobs quiet apart here.quiet) rest more
     (placed_job rows early front lines old mid job (usim_in usims) (All-head (IsQuiet front) job jobs quiet) here put placed))
+
+-- ---- what homes and devices keep
+
+-- it is put back alike by the devices and by what they keep
+same_back : (stores : List Kept) (homes : List HomeRow) (devices : List Device) → put_devices stores homes devices ≡ put_back stores homes (map (λ (device : Device). device.store) devices)
+same_back stores [] devices = refl
+same_back stores (home ∷ homes) [] = refl
+same_back stores (home ∷ homes) (device ∷ devices) = ap (λ (ks : List Kept). slice_set ks home.sub (home.ordinals, device.store)) (same_back stores homes devices)
+
+put_alike : (stores : List Kept) (own : OwnDevices) (net : Net) → left_on own ≡ left_in net → put_own stores own ≡ kept_with stores net
+put_alike stores own net left = same_back stores own.homes own.devices ∙ ap (λ (l : List HomeRow × List Keeps). put_back stores l.0 l.1) left
+
+-- of all jobs of a round
+pub put_all_alike : (stores : List Kept) (own : List OwnDevices) (nets : List Net) → map left_on own ≡ map left_in nets → fold put_own stores own ≡ kept_by_jobs stores nets
+put_all_alike stores [] [] left = refl
+put_all_alike stores [] (net ∷ nets) left = let no : ⊥ = cc in absurd no
+put_all_alike stores (first ∷ own) [] left = let no : ⊥ = cc in absurd no
+put_all_alike stores (first ∷ own) (net ∷ nets) left =
+    let here : left_on first ≡ left_in net = cc in
+    let rest : map left_on own ≡ map left_in nets = cc in
+    put_all_alike (put_own stores first) own nets rest ∙ ap (λ (ks : List Kept). kept_by_jobs ks nets) (put_alike stores first net here)
+
+-- and is of as many subscribers as before
+length-put_back : (stores : List Kept) (homes : List HomeRow) (devices : List Device) → length (put_devices stores homes devices) ≡ length stores
+length-put_back stores [] devices = refl
+length-put_back stores (home ∷ homes) [] = refl
+length-put_back stores (home ∷ homes) (device ∷ devices) = length-set (put_devices stores homes devices) home.sub (home.ordinals, device.store) ∙ length-put_back stores homes devices
+
+pub length-put_all : (stores : List Kept) (own : List OwnDevices) → length (fold put_own stores own) ≡ length stores
+length-put_all stores [] = refl
+length-put_all stores (first ∷ own) = length-put_all (put_own stores first) own ∙ length-put_back stores first.homes first.devices

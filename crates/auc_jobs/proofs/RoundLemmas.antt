@@ -22,6 +22,7 @@ use Rattle.auc_world.specs.Event.{number_for, number_passed, number_released, nu
 use Rattle.auc_world.specs.Entries.{is_reported, entries_of_line, entries_of_lines, entries_of_jobs, entries_of_number, entries_of_resync, entries_of_verdict}
 use Rattle.auc_world.specs.Given.{JobsGive}
 use Rattle.auc_world.specs.Setting.{Setting}
+use Rattle.auc_world.specs.Start.{Kept}
 use Rattle.auc_world.proofs.Facts.{jobs_give_after_all_lines, pieces_split_the_round}
 use Rattle.auc_world.specs.Net.{Net}
 use Rattle.auc_world.specs.Pieces.{Piece, PiecesGive}
@@ -39,10 +40,10 @@ use Rattle.auc_world.specs.declared.record.SyncVerdict.TheVariants as verdict
 use Rattle.auc_world.specs.declared.counting.Count.{Count}
 use Rattle.auc_world.specs.Counts.{passed, passed_by, passed_in, capped, counted_in, AreCounted, counted_closing, counted_closings}
 use Rattle.auc_jobs.specs.Usims.{AreBehind}
-use Rattle.auc_jobs.specs.InnerRound.{ArePieces, AreServed, IsAdvanced}
+use Rattle.auc_jobs.specs.InnerRound.{ArePieces, AreServed, IsAdvanced, LeadsOn}
 use Rattle.auc_jobs.specs.InnerUsims.{OwnDevices}
 use Rattle.auc_jobs.specs.State.{Standing, StandsAt}
-use Rattle.auc_jobs.proofs.PutLemmas.{ArePlaced, placed_jobs}
+use Rattle.auc_jobs.proofs.PutLemmas.{ArePlaced, length-put_all, placed_jobs, put_all_alike}
 use Rattle.auc_jobs.proofs.LineLemmas.{entries_of_lines-append}
 
 -- the entries of all jobs are those of all lines
@@ -231,21 +232,21 @@ below_at (word ∷ words) zero bound within = within 0 0 (omega arith)
 below_at (word ∷ words) (suc sub) bound within = below_at words sub bound (λ k d lt. within (suc k) d (omega arith))
 
 -- the pieces of a round split each subscriber's history by its jobs
-pub pieces_make : (set : Setting) (early : List LineRecord) (openings words : List ℕ) (jobs : List (List Line)) (records : List (List LineRecord)) (sessions : List JobSessions) (sub : ℕ)
-    → ArePieces set early openings jobs records sessions words → All (λ word. word ≤ max_seq + 64) words → sub < length openings → Makes sub (slice_index openings sub) (slice_index words sub) records
-pieces_make set early openings words jobs records sessions sub p bound known = record {
+pub pieces_make : (set : Setting) (early : List LineRecord) (stores : List Kept) (openings words : List ℕ) (jobs : List (List Line)) (records : List (List LineRecord)) (own : List OwnDevices) (sessions : List JobSessions) (sub : ℕ)
+    → ArePieces set early stores openings jobs records own sessions words → All (λ word. word ≤ max_seq + 64) words → sub < length openings → Makes sub (slice_index openings sub) (slice_index words sub) records
+pieces_make set early stores openings words jobs records own sessions sub p bound known = record {
   split = subst (λ (rs : List (List LineRecord)). Splits max_seq (slice_index openings sub) (slice_index words sub) (entries_of_jobs sub [] rs)) (sym p.lines)
       (pieces_split_the_round max_seq (slice_index openings sub) (slice_index words sub) sub p.pieces (p.reports sub) (p.split sub known));
   bound = below_at words sub (max_seq + 64) bound;
 }
 
 -- no closing is below the opening and what was passed over
-pub closes_above : (set : Setting) (early : List LineRecord) (openings words : List ℕ) (jobs : List (List Line)) (records : List (List LineRecord)) (sessions : List JobSessions) (counts : List Count) (k : ℕ) (count : Count)
-    → length counts ≡ length openings → ArePieces set early openings jobs records sessions words → All (λ word. word ≤ max_seq + 64) words → AreCounted (all_lines records) counts → slice_get counts k ≡ Some count
+pub closes_above : (set : Setting) (early : List LineRecord) (stores : List Kept) (openings words : List ℕ) (jobs : List (List Line)) (records : List (List LineRecord)) (own : List OwnDevices) (sessions : List JobSessions) (counts : List Count) (k : ℕ) (count : Count)
+    → length counts ≡ length openings → ArePieces set early stores openings jobs records own sessions words → All (λ word. word ≤ max_seq + 64) words → AreCounted (all_lines records) counts → slice_get counts k ≡ Some count
     → slice_index openings k + count.skipped ≤ slice_index words k
-closes_above set early openings words jobs records sessions counts k count sizes p bound counted there =
+closes_above set early stores openings words jobs records own sessions counts k count sizes p bound counted there =
     let within : k < length counts = slice_get_within counts k count there in
-    let c = counts_made k (slice_index openings k) (slice_index words k) records (pieces_make set early openings words jobs records sessions k p bound (omega (arith, within, sizes))) in
+    let c = counts_made k (slice_index openings k) (slice_index words k) records (pieces_make set early stores openings words jobs records own sessions k p bound (omega (arith, within, sizes))) in
     let is : count ≡ counted_in k (all_lines records) = some_is count (counted_in k (all_lines records)) (sym there ∙ counted.each k within) in
     let whole = c.whole in let skips = c.skips in let same = ap (λ (n : Count). n.skipped) is in
     omega (arith, whole, skips, same)
@@ -254,22 +255,22 @@ closes_above set early openings words jobs records sessions counts k count sizes
     some_is a b e = cc
 
 -- the round is lawful
-pub lawful_round : (set : Setting) (stop : Option Stop) (early : List LineRecord) (openings words : List ℕ) (jobs : List (List Line)) (records : List (List LineRecord)) (sessions : List JobSessions) (counts : List Count)
-    (number : ℕ) (closings : List Closing) (verdicts : List SessionVerdict) (kept : Premise) → AllPairs AreApart jobs → ArePieces set early openings jobs records sessions words → All (λ word. word ≤ max_seq + 64) words
+lawful_round : (set : Setting) (stop : Option Stop) (early : List LineRecord) (stores : List Kept) (openings words : List ℕ) (jobs : List (List Line)) (records : List (List LineRecord)) (own : List OwnDevices) (sessions : List JobSessions) (counts : List Count)
+    (number : ℕ) (closings : List Closing) (verdicts : List SessionVerdict) (kept : Premise) → AllPairs AreApart jobs → ArePieces set early stores openings jobs records own sessions words → All (λ word. word ≤ max_seq + 64) words
     → length words ≡ length openings → length counts ≡ length openings → AreCounted (all_lines records) counts → closings ≡ counted_closings 0 openings words counts → Withholds stop (all_lines records)
     → AreVerdicts sessions verdicts → kept ≡ premise_from 1 sessions
-    → IsLawfulRound set stop early openings jobs (record { number = number; jobs = records; closings = closings; sessions = verdicts; premise = kept }) words
-lawful_round set stop early openings words jobs records sessions counts number closings verdicts kept apart p bound size sizes counted is withholds agree holds = record {
+    → IsLawfulRound set stop early stores openings jobs (record { number = number; jobs = records; closings = closings; sessions = verdicts; premise = kept }) words
+lawful_round set stop early stores openings words jobs records own sessions counts number closings verdicts kept apart p bound size sizes counted is withholds agree holds = record {
   nets = p.nets;
   sizes = size;
   fits = λ sub inside. let below = below_at words sub (max_seq + 64) bound in omega (arith, below);
-  given = subst (λ (rs : List (List LineRecord)). JobsGive set early [] jobs rs p.nets) (sym p.lines) (jobs_give_after_all_lines set early jobs p.pieces p.nets apart p.give);
-  split = λ sub inside. (pieces_make set early openings words jobs records sessions sub p bound inside).split;
+  given = subst (λ (rs : List (List LineRecord)). JobsGive set early stores [] jobs rs p.nets) (sym p.lines) (jobs_give_after_all_lines set early stores jobs p.pieces p.nets apart p.give);
+  split = λ sub inside. (pieces_make set early stores openings words jobs records own sessions sub p bound inside).split;
   closings = is ∙ sym (closings_counted 0 openings words counts records sizes (λ k count inside there.
       let here : k ≡ 0 + k = omega arith in
       let same : counted_in k (all_lines records) ≡ count = some_is (counted_in k (all_lines records)) count (sym (counted.each k (omega arith)) ∙ there) in
       subst (λ (s : ℕ). closing_of s (get_or openings k 0) (get_or words k 0) records ≡ counted_closing s (get_or openings k 0) (get_or words k 0) count) here
-      (closing_counted k (slice_index openings k) (slice_index words k) records (pieces_make set early openings words jobs records sessions k p bound inside)
+      (closing_counted k (slice_index openings k) (slice_index words k) records (pieces_make set early stores openings words jobs records own sessions k p bound inside)
       ∙ ap (counted_closing k (slice_index openings k) (slice_index words k)) same)));
   withheld = withholds;
   sessions = subst (λ (ss : List JobSessions). AreVerdicts ss verdicts) p.ends agree;
@@ -279,18 +280,30 @@ lawful_round set stop early openings words jobs records sessions counts number c
     some_is : (a b : Count) → Some a ≡ Some b → a ≡ b
     some_is a b e = cc
 
+-- and homes and devices keep what the networks of its jobs leave
+pub leads_on : (set : Setting) (stop : Option Stop) (early : List LineRecord) (state new : Standing) (words : List ℕ) (jobs : List (List Line)) (records : List (List LineRecord)) (own : List OwnDevices) (sessions : List JobSessions) (counts : List Count)
+    (number : ℕ) (closings : List Closing) (verdicts : List SessionVerdict) (kept : Premise) → AllPairs AreApart jobs → ArePieces set early state.kept state.words jobs records own sessions words → All (λ word. word ≤ max_seq + 64) words
+    → length words ≡ length state.words → length counts ≡ length state.words → AreCounted (all_lines records) counts → closings ≡ counted_closings 0 state.words words counts → Withholds stop (all_lines records)
+    → AreVerdicts sessions verdicts → kept ≡ premise_from 1 sessions → IsAdvanced state records own words new
+    → LeadsOn set stop early state jobs (record { number = number; jobs = records; closings = closings; sessions = verdicts; premise = kept }) words new
+unfolding lawful_round
+leads_on set stop early state new words jobs records own sessions counts number closings verdicts kept apart p bound size sizes counted is withholds agree holds advanced = record {
+  lawful = lawful_round set stop early state.kept state.words words jobs records own sessions counts number closings verdicts kept apart p bound size sizes counted is withholds agree holds;
+  keeps = advanced.keeps ∙ put_all_alike state.kept own p.nets p.left;
+}
+
 -- each job has a network
-as_many_nets : (set : Setting) (early : List LineRecord) (jobs : List (List Line)) (pieces : List Piece) (nets : List Net) → PiecesGive set early jobs pieces nets → length nets ≡ length jobs
-as_many_nets set early [] pieces nets (none, is) = ap (λ (ns : List Net). length ns) is
-as_many_nets set early (job ∷ jobs) [] nets give = absurd give
-as_many_nets set early (job ∷ jobs) (piece ∷ pieces) [] give = absurd give
-as_many_nets set early (job ∷ jobs) (piece ∷ pieces) (net ∷ nets) (quiet, gives, more) = ap suc (as_many_nets set early jobs pieces nets more)
+as_many_nets : (set : Setting) (early : List LineRecord) (stores : List Kept) (jobs : List (List Line)) (pieces : List Piece) (nets : List Net) → PiecesGive set early stores jobs pieces nets → length nets ≡ length jobs
+as_many_nets set early stores [] pieces nets (none, is) = ap (λ (ns : List Net). length ns) is
+as_many_nets set early stores (job ∷ jobs) [] nets give = absurd give
+as_many_nets set early stores (job ∷ jobs) (piece ∷ pieces) [] give = absurd give
+as_many_nets set early stores (job ∷ jobs) (piece ∷ pieces) (net ∷ nets) (quiet, gives, more) = ap suc (as_many_nets set early stores jobs pieces nets more)
 
 -- what the sessions came to is told of each job
-pub as_many_sessions : (set : Setting) (early : List LineRecord) (openings words : List ℕ) (jobs : List (List Line)) (records : List (List LineRecord)) (sessions : List JobSessions)
-    → ArePieces set early openings jobs records sessions words → length sessions ≡ length jobs
-as_many_sessions set early openings words jobs records sessions p =
-    ap (λ (ss : List JobSessions). length ss) p.ends ∙ length-map p.nets job_sessions ∙ as_many_nets set early jobs p.pieces p.nets p.give
+pub as_many_sessions : (set : Setting) (early : List LineRecord) (stores : List Kept) (openings words : List ℕ) (jobs : List (List Line)) (records : List (List LineRecord)) (own : List OwnDevices) (sessions : List JobSessions)
+    → ArePieces set early stores openings jobs records own sessions words → length sessions ≡ length jobs
+as_many_sessions set early stores openings words jobs records own sessions p =
+    ap (λ (ss : List JobSessions). length ss) p.ends ∙ length-map p.nets job_sessions ∙ as_many_nets set early stores jobs p.pieces p.nets p.give
 
 -- the state after the round, by equal parts
 pub advanced_as : (a b : Standing) (records others : List (List LineRecord)) (own same : List OwnDevices) (words ends : List ℕ) (new : Standing) → a ≡ b → records ≡ others
@@ -302,13 +315,14 @@ advanced_as a b records others own same words ends new p q r s is =
 
 -- it is the next round's
 pub stands_after : (set : Setting) (early : List LineRecord) (state new : Standing) (jobs : List (List Line)) (records : List (List LineRecord)) (own : List OwnDevices) (sessions : List JobSessions) (words : List ℕ)
-    → AllPairs AreApart jobs → StandsAt set early state → AreServed set early state.words jobs records own sessions words → IsAdvanced state records own words new
+    → AllPairs AreApart jobs → StandsAt set early state → AreServed set early state.kept state.words jobs records own sessions words → IsAdvanced state records own words new
     → StandsAt set (early ++ all_lines records) new
 stands_after set early state new jobs records own sessions words apart stands served advanced = record {
   subscribers = record {
     size = ap (λ (ws : List ℕ). length ws) advanced.opened ∙ length-map words (λ (word : ℕ). min word max_seq) ∙ served.size ∙ stands.subscribers.size;
     numbers = advanced.within;
     secrets = placed.of_rows;
+    kept = ap (λ (ks : List Kept). length ks) advanced.keeps ∙ length-put_all state.kept own ∙ stands.subscribers.kept;
   };
   pasts = placed.behind;
   earlier = advanced.noted early stands.earlier;

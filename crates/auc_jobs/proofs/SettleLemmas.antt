@@ -25,16 +25,16 @@ use Rattle.auc_world.specs.Came.{Came}
 use Rattle.auc_world.specs.Event.{asked_in, number_in, number_with}
 use Rattle.auc_world.specs.Net.{Net}
 use Rattle.auc_world.specs.Sessions.{job_sessions}
-use Rattle.auc_world.specs.Start.{start_of}
+use Rattle.auc_world.specs.Start.{Kept, start_of}
 use Rattle.auc_world.specs.declared.event.Event.{Event}
 use Rattle.auc_world.specs.declared.event.Event.TheVariants as event
 use Rattle.auc_world.specs.declared.record.JobSessions.{JobSessions}
 use Rattle.auc_world.specs.Vectors.{IsReleasableLine, IsReleasableNumber}
 use Rattle.auc_jobs.specs.Serving.{IsKnownLine}
 use Rattle.auc_jobs.specs.Usims.{HaveSecrets, AreOfRows}
-use Rattle.auc_jobs.specs.InnerRound.{JobBegins, ServesJob}
+use Rattle.auc_jobs.specs.InnerRound.{JobBegins, ServesJob, left_in, left_on}
 use Rattle.auc_jobs.specs.InnerServing.{before_at, Stands, ServesLines}
-use Rattle.auc_jobs.specs.InnerUsims.{has_usim, AreCopies}
+use Rattle.auc_jobs.specs.InnerUsims.{OwnDevices, has_usim, usim_in, AreCopies}
 use Rattle.auc_jobs.proofs.EventLemmas.{IsOwnEvent, IsOwnNumber, event_lines, plain_lines}
 use Rattle.auc_jobs.proofs.CopyLemmas.{copies_found, copies_keyed}
 
@@ -76,15 +76,16 @@ given_there : (job : List Line) (own : ℕ → Option Memory) (sub : ℕ) (usim 
 given_there job own sub usim keyed there = sym keyed ∙ rw there refl
 
 -- the job's lines and its own USIMs
-pub job_settles : (goes : ℕ → List Entry → List (ℕ × Stop) → Type 0) (set : Setting) (early beside : List LineRecord) (old kept : ℕ → Option ℕ) (released : Released) (usims : List Memory)
-    (job : List Line) (lines : List LineRecord) (copies own : ℕ → Option Memory) → length usims ≡ length set.rows → All (IsKnownLine (length set.rows)) job → AreCopies usims job copies
-    → ((sub : ℕ) → has_usim own sub ≡ has_usim copies sub) → HaveSecrets set.rows own → JobBegins set.rows early beside old released usims job
-    → (net : Net) (sessions : JobSessions) → sessions ≡ job_sessions net
-    → ServesLines goes set early beside kept released own (start_of set job) job lines net → ServesJob goes set early beside kept job lines own sessions
-job_settles goes set early beside old kept released usims job lines copies own size known are same secrets begins net sessions ends s = record {
+pub job_settles : (goes : ℕ → List Entry → List (ℕ × Stop) → Type 0) (set : Setting) (early beside : List LineRecord) (old kept : ℕ → Option ℕ) (released : Released) (usims : List Memory) (stores : List Kept)
+    (job : List Line) (lines : List LineRecord) (copies : ℕ → Option Memory) (own : OwnDevices) → length usims ≡ length set.rows → All (IsKnownLine (length set.rows)) job → AreCopies usims job copies
+    → ((sub : ℕ) → has_usim (usim_in own) sub ≡ has_usim copies sub) → HaveSecrets set.rows (usim_in own) → JobBegins set.rows early beside old released usims job
+    → (net : Net) (sessions : JobSessions) → sessions ≡ job_sessions net → left_on own ≡ left_in net
+    → ServesLines goes set early beside kept released (usim_in own) (start_of set stores job) job lines net → ServesJob goes set early beside kept stores job lines own sessions
+job_settles goes set early beside old kept released usims stores job lines copies own size known are same secrets begins net sessions ends left s = record {
   net = net;
   given = s.given;
   ends = ends;
+  left = left;
   made = s.made;
   told = s.stands.told;
   settled = record {
@@ -92,12 +93,12 @@ job_settles goes set early beside old kept released usims job lines copies own s
     secrets = secrets;
     behind = λ sub row usim at there.
         subst (λ (sqns : List (List ℕ)). Remembers usim.array (past_of row.usim sqns))
-        (quiet_beside sub early beside lines (begins.quiet sub (given_there job own sub usim (keyed sub) there))) (s.stands.pasts sub row usim at there);
-    quiet = λ sub other. job_quiet set (before_at early beside []) job sub lines net s.given other;
+        (quiet_beside sub early beside lines (begins.quiet sub (given_there job (usim_in own) sub usim (keyed sub) there))) (s.stands.pasts sub row usim at there);
+    quiet = λ sub other. job_quiet set (before_at early beside []) stores job sub lines net s.given other;
   };
 }
   where
-    keyed : (sub : ℕ) → has_usim own sub ≡ holds sub job
+    keyed : (sub : ℕ) → has_usim (usim_in own) sub ≡ holds sub job
     keyed sub = same sub ∙ copies_keyed (length set.rows) usims job copies sub size known are
 
 -- ---- the vectors that a job's lines release

@@ -1,5 +1,5 @@
 -- For a job that a worker serves at a centre: from what the workers share to the worker, and back.
-use Rattle.std.proofs.Common.{◌≡◌, ℕ, ◌<◌, List, [], length, get_or, Some, slice_get, refl, sym, ap, ◌∙◌, subst}
+use Rattle.std.proofs.Common.{◌≡◌, ℕ, ◌<◌, List, [], length, map, get_or, Some, slice_get, refl, sym, ap, ◌∙◌, subst}
 use Rattle.std.specs.Prelude.{Option, Result, Ok, Err, IfOk, if◌then◌else◌}
 use Rattle.std.proofs.lemmas.Option.{slice_get_read}
 use Rattle.auc_edge.specs.declared.no_memory.NoMemory.{NoMemory}
@@ -20,7 +20,6 @@ use Rattle.auc_world.specs.World.{WorldState, usim_of}
 use Rattle.auc_jobs.specs.InnerWorker.{WorkerState}
 use Rattle.auc_jobs.proofs.WorkerLemmas.{Does, Ends, does_job}
 use Rattle.auc_world.specs.Sessions.{job_sessions}
-use Rattle.auc_jobs.specs.InnerUsims.{usim_in}
 
 -- the job of a place
 pub job_at : (inside shared : Shared) (job : ℕ) (item asked : List Line) → inside ≡ shared → job < length shared.jobs → item ≡ get_or inside.jobs job item → asked ≡ get_or inside.jobs job item
@@ -41,15 +40,15 @@ job_begins_at inside shared early beside kept now job set released asked is same
 -- and is served
 module _ {C : Type 0} (kept : C → ℕ → Option ℕ) (goes : C → ℕ → List Entry → List (ℕ × Stop) → C → Type 0) where
   served_inside : (inside : Shared) (worker after : WorkerState C) (name next : ℕ) (job : ℕ) (asked : List Line) (served : ServedJob) → worker.set ≡ inside.set → worker.released ≡ inside.released
-      → slice_get inside.jobs job ≡ Some asked → Does kept goes name next worker after inside.usims asked → Ends worker after served.devices → served.lines ≡ after.lines
+      → slice_get inside.jobs job ≡ Some asked → Does kept goes name next worker after inside.usims inside.stores asked → Ends worker after served.devices → served.lines ≡ after.lines
       → served.sessions ≡ job_sessions after.world.net → served.vectors ≡ (if inside.full then vectors_in inside.set served.lines else [])
       → ServesAt (λ i es ws. goes worker.centre i es ws after.centre) (kept worker.centre) (kept after.centre) inside job served
   served_inside inside worker after name next job asked served same_set same_released there does ends lines sessions vectors = record {
     asked = asked;
     there = there;
     serves = λ early beside begins.
-        subst (λ (s : Setting). ServesJob (λ i es ws. goes worker.centre i es ws after.centre) s early beside (kept after.centre) asked served.lines (usim_in served.devices) served.sessions) same_set
-        (does_job kept goes name next worker after inside.usims asked served.devices served.lines served.sessions does ends lines sessions early beside
+        subst (λ (s : Setting). ServesJob (λ i es ws. goes worker.centre i es ws after.centre) s early beside (kept after.centre) inside.stores asked served.lines served.devices served.sessions) same_set
+        (does_job kept goes name next worker after inside.usims inside.stores asked served.devices served.lines served.sessions does ends lines sessions early beside
         (subst (λ (s : Setting). JobBegins s.rows early beside (kept worker.centre) worker.released inside.usims asked) (sym same_set)
         (subst (λ (rs : Released). JobBegins inside.set.rows early beside (kept worker.centre) rs inside.usims asked) (sym same_released) begins)));
     vectors = vectors;
@@ -57,7 +56,7 @@ module _ {C : Type 0} (kept : C → ℕ → Option ℕ) (goes : C → ℕ → Li
 
   pub served_at : (inside shared : Shared) (worker after : WorkerState C) (name next : ℕ) (first last : C) (job : ℕ) (asked : List Line) (served : ServedJob) → inside ≡ shared
       → worker.set ≡ inside.set → worker.released ≡ inside.released → worker.centre ≡ first → after.centre ≡ last → slice_get inside.jobs job ≡ Some asked
-      → Does kept goes name next worker after inside.usims asked → Ends worker after served.devices → served.lines ≡ after.lines → served.sessions ≡ job_sessions after.world.net
+      → Does kept goes name next worker after inside.usims inside.stores asked → Ends worker after served.devices → served.lines ≡ after.lines → served.sessions ≡ job_sessions after.world.net
       → served.vectors ≡ (if inside.full then vectors_in inside.set served.lines else []) → ServesAt (λ i es ws. goes first i es ws last) (kept first) (kept last) shared job served
   served_at inside shared worker after name next first last job asked served is same_set same_released begun ended there does ends lines sessions vectors =
       subst (λ (s : Shared). ServesAt (λ i es ws. goes first i es ws last) (kept first) (kept last) s job served) is
@@ -67,17 +66,19 @@ module _ {C : Type 0} (kept : C → ℕ → Option ℕ) (goes : C → ℕ → Li
 
   pub served_result : (inside shared : Shared) (worker after : WorkerState C) (name next : ℕ) (first last : C) (job : ℕ) (asked : List Line) (lines : List LineRecord) (world : WorldState)
       (result : Result ServedJob NoMemory) → inside ≡ shared → worker.set ≡ inside.set → worker.released ≡ inside.released → worker.centre ≡ first → after.centre ≡ last
-      → slice_get inside.jobs job ≡ Some asked → Does kept goes name next worker after inside.usims asked → lines ≡ after.lines → world ≡ after.world
+      → slice_get inside.jobs job ≡ Some asked → Does kept goes name next worker after inside.usims inside.stores asked → lines ≡ after.lines → world ≡ after.world
       → HaveSecrets after.set.rows (usim_of after.set.rows world) → IfOk result (λ s. s.lines ≡ lines) → IfOk result (λ s. s.devices.homes ≡ world.net.homes)
-      → IfOk result (λ s. s.devices.devices ≡ world.devices) → IfOk result (λ s. s.sessions ≡ job_sessions world.net)
+      → IfOk result (λ s. s.devices.devices ≡ world.devices) → IfOk result (λ s. map (λ device. device.store) s.devices.devices ≡ world.net.stores)
+      → IfOk result (λ s. s.sessions ≡ job_sessions world.net)
       → IfOk result (λ s. s.vectors ≡ (if inside.full then vectors_in inside.set lines else []))
       → IfOk result (λ s. ServesAt (λ i es ws. goes first i es ws last) (kept first) (kept last) shared job s)
-  served_result inside shared worker after name next first last job asked lines world (Err why) is same_set same_released begun ended there does own moved secrets a b c d e = tt
-  served_result inside shared worker after name next first last job asked lines world (Ok s) is same_set same_released begun ended there does own moved secrets a b c d e =
+  served_result inside shared worker after name next first last job asked lines world (Err why) is same_set same_released begun ended there does own moved secrets a b c stores d e = tt
+  served_result inside shared worker after name next first last job asked lines world (Ok s) is same_set same_released begun ended there does own moved secrets a b c stores d e =
       served_at inside shared worker after name next first last job asked s is same_set same_released begun ended there does
       (record {
         homes = b ∙ ap (λ (w : WorldState). w.net.homes) moved;
         devices = c ∙ ap (λ (w : WorldState). w.devices) moved;
+        stores = stores ∙ ap (λ (w : WorldState). w.net.stores) moved;
         secrets = subst (λ (w : WorldState). HaveSecrets after.set.rows (usim_of after.set.rows w)) moved secrets;
       })
       (a ∙ own) (d ∙ ap (λ (w : WorldState). job_sessions w.net) moved)

@@ -6,7 +6,9 @@ use Rattle.auc_packet.specs.Received.{Seen, is_sealed}
 use Rattle.auc_peer.specs.Asking.{answer_noted}
 use Rattle.auc_peer.specs.Attributes.{checkcode, differs}
 use Rattle.auc_peer.specs.Subscription.{Subscription}
-use Rattle.auc_peer.specs.Table.{accepted, accepting, again, by_answer, client, genuine, keys_at, opened, peer_does, succeeded as peer_succeeded}
+use Rattle.auc_peer.specs.Table.{accepted, accepting, again, by_answer, client, genuine, keys_at, opened, own_code, peer_does, succeeded as peer_succeeded}
+use Rattle.auc_peer.specs.declared.decrypted.Decrypted.{Decrypted}
+use Rattle.auc_peer.specs.declared.decrypted.Decrypted.TheVariants as decrypted
 use Rattle.auc_peer.specs.declared.peer.Challenge.{Challenge}
 use Rattle.auc_peer.specs.declared.peer.Last.{Last}
 use Rattle.auc_peer.specs.declared.peer.Peer.{Peer}
@@ -16,6 +18,7 @@ use Rattle.auc_peer.specs.declared.rows.Row.{Row as PeerRow}
 use Rattle.auc_peer.specs.declared.rows.Row.TheVariants as peer_row
 use Rattle.auc_peer.specs.declared.why.PeerWhy.{PeerWhy}
 use Rattle.auc_peer.specs.declared.why.PeerWhy.TheVariants as why
+use Rattle.auc_reauth.specs.Device.{Keeps}
 use Rattle.auc_server.specs.Server.{ServerEnd}
 use Rattle.auc_server.specs.Setting.{Setting}
 use Rattle.auc_server.specs.Steps.{asking}
@@ -23,6 +26,7 @@ use Rattle.auc_server.specs.Table.{server_does, succeeded}
 use Rattle.auc_server.specs.declared.rows.Row.{Row}
 use Rattle.auc_server.specs.declared.rows.Row.TheVariants as row
 use Rattle.auc_server.specs.declared.server.Challenged.{Challenged}
+use Rattle.auc_server.specs.declared.setting.HomeRow.{HomeRow}
 use Rattle.auc_usim.specs.declared.answer.Answer.{Answer}
 use Rattle.auc_usim.specs.declared.answer.Answer.TheVariants as answer
 use Rattle.auc_vector.specs.Notes.{Asking}
@@ -35,63 +39,65 @@ no_asking : (a : Asking) → ◌≡◌ {A = Option Asking} (Some a) None → ⊥
 no_asking a e = cc
 
 -- a server's turn
-pub server_silent : (set : Setting) (s : ServerEnd) (text : List ℕ) (r : Row) (notes : Notes) → asking r ≡ None → (server_does set s text r notes).1.notes.number ≡ None
-server_silent set s text (row.Challenge sub) notes e = absurd (no_asking (record { sub = sub; reported = None }) e)
-server_silent set s text (row.Resynchronise sub seq) notes e = absurd (no_asking (record { sub = sub; reported = Some seq }) e)
-server_silent set s text (row.Ignore cause) notes e = refl
-server_silent set s text row.UnknownIdentity notes e = refl
-server_silent set s text row.WrongMac notes e = refl
-server_silent set s text row.WrongRes notes e = refl
-server_silent set s text row.WrongCheckcode notes e = refl
-server_silent set s text row.Success notes e = by s.challenged
+pub server_silent : (set : Setting) (homes : List HomeRow) (s : ServerEnd) (text : List ℕ) (packets : List (List ℕ)) (r : Row) (notes : Notes) → asking r ≡ None → (server_does set homes s text packets r notes).1.notes.number ≡ None
+server_silent set homes s text packets (row.Challenge sub) notes e = absurd (no_asking (record { sub = sub; reported = None }) e)
+server_silent set homes s text packets (row.Resynchronise sub seq) notes e = absurd (no_asking (record { sub = sub; reported = Some seq }) e)
+server_silent set homes s text packets (row.Ignore cause) notes e = refl
+server_silent set homes s text packets (row.Ask kind) notes e = refl
+server_silent set homes s text packets row.UnknownIdentity notes e = refl
+server_silent set homes s text packets row.WrongMac notes e = refl
+server_silent set homes s text packets row.WrongRes notes e = refl
+server_silent set homes s text packets row.WrongCheckcode notes e = refl
+server_silent set homes s text packets row.Success notes e = by s.challenged
   where
     by : (o : Option Challenged) → (succeeded s o).1.notes.number ≡ None
     by None = refl
     by (Some sent) = refl
-server_silent set s text row.SecondSync notes e = refl
-server_silent set s text row.BadAuts notes e = refl
-server_silent set s text row.Rejected notes e = refl
-server_silent set s text (row.ClientError code) notes e = refl
-server_silent set s text (row.Notified cause) notes e = refl
+server_silent set homes s text packets row.SecondSync notes e = refl
+server_silent set homes s text packets row.BadAuts notes e = refl
+server_silent set homes s text packets row.Rejected notes e = refl
+server_silent set homes s text packets (row.ClientError code) notes e = refl
+server_silent set homes s text packets (row.Notified cause) notes e = refl
 
 -- a peer's turn
 if_silent : (b : Bool) (x y : Peer × Turn PeerWhy) → x.1.notes.number ≡ None → y.1.notes.number ≡ None → (if b then x else y).1.notes.number ≡ None
 if_silent true x y first second = first
 if_silent false x y first second = second
 
-answer_silent : (p : Peer) (seen : Seen) (c : Challenge) (a : Answer) (readable : Bool) → (by_answer p seen c a readable).1.notes.number ≡ None
-answer_silent p seen c answer.WrongMac readable = refl
-answer_silent p seen c (answer.SyncFailure auts sqn) readable = refl
-answer_silent p seen c (answer.Accepted res ck ik ak amf sqn) readable = with_keys (keys_at p seen c ik ck)
+answer_silent : (p : Peer) (seen : Seen) (c : Challenge) (a : Answer) (inner : Decrypted) → (by_answer p seen c a inner).1.notes.number ≡ None
+answer_silent p seen c answer.WrongMac inner = refl
+answer_silent p seen c (answer.SyncFailure auts sqn) inner = refl
+answer_silent p seen c (answer.Accepted res ck ik ak amf sqn) inner = with_keys (keys_at p seen c ik ck)
   where
-    opened_silent : (q : Peer) (keys : KeySet) (b : Bool) → (opened q seen res sqn keys b).1.notes.number ≡ None
-    opened_silent q keys true = refl
-    opened_silent q keys false = refl
+    opened_silent : (q : Peer) (keys : KeySet) (d : Decrypted) → (opened q seen res sqn keys d).1.notes.number ≡ None
+    opened_silent q keys decrypted.Unreadable = refl
+    opened_silent q keys (decrypted.Attributes next) = refl
 
-    with_keys : (keys : KeySet) → (accepted p seen c res sqn keys readable).1.notes.number ≡ None
+    with_keys : (keys : KeySet) → (accepted p seen c res sqn keys inner).1.notes.number ≡ None
     with_keys keys =
-        if_silent (not (is_sealed p.options.method keys.k_aut [] seen)) (client p seen why.WrongMac (Some (note.Accepted sqn)) false) (genuine (accepting p seen c) seen res sqn keys readable) refl
-        (if_silent (differs (checkcode seen)) (client (accepting p seen c) seen why.WrongCheckcode (Some (note.Accepted sqn)) true) (opened (accepting p seen c) seen res sqn keys readable)
-        refl (opened_silent (accepting p seen c) keys readable))
+        if_silent (not (is_sealed p.options.method keys.k_aut [] seen)) (client p seen why.WrongMac (Some (note.Accepted sqn)) false) (genuine (accepting p seen c) seen res sqn keys inner) refl
+        (if_silent (differs (own_code (accepting p seen c)) (checkcode seen)) (client (accepting p seen c) seen why.WrongCheckcode (Some (note.Accepted sqn)) true) (opened (accepting p seen c) seen res sqn keys inner)
+        refl (opened_silent (accepting p seen c) keys inner))
 
-pub peer_silent : (s : Subscription) (p : Peer) (seen : Seen) (r : PeerRow) (n : Option UsimNote) (readable : Bool) → (peer_does s p seen r n readable).1.notes.number ≡ None
-peer_silent s p seen (peer_row.Ignore cause) n readable = refl
-peer_silent s p seen peer_row.Again n readable = by p.last
+pub peer_silent : (s : Subscription) (keeps : Keeps) (p : Peer) (seen : Seen) (r : PeerRow) (n : Option UsimNote) (inner : Decrypted) → (peer_does s keeps p seen r n inner).1.notes.number ≡ None
+peer_silent s keeps p seen (peer_row.Ignore cause) n inner = refl
+peer_silent s keeps p seen peer_row.Again n inner = by p.last
   where
     by : (o : Option Last) → (again p o).1.notes.number ≡ None
     by None = refl
     by (Some last) = refl
-peer_silent s p seen peer_row.First n readable = refl
-peer_silent s p seen (peer_row.Client cause) n readable = refl
-peer_silent s p seen (peer_row.Reject cause) n readable = refl
-peer_silent s p seen (peer_row.Notified code) n readable = refl
-peer_silent s p seen (peer_row.Challenged c) None readable = refl
-peer_silent s p seen (peer_row.Challenged c) (Some n) readable = answer_silent p seen c (answer_noted s.secret c n) readable
-peer_silent s p seen peer_row.Success n readable = by p.state
+peer_silent s keeps p seen peer_row.First n inner = refl
+peer_silent s keeps p seen (peer_row.Identity asked) n inner = refl
+peer_silent s keeps p seen (peer_row.Client cause) n inner = refl
+peer_silent s keeps p seen (peer_row.Reject cause) n inner = refl
+peer_silent s keeps p seen (peer_row.Notified code) n inner = refl
+peer_silent s keeps p seen (peer_row.Challenged c) None inner = refl
+peer_silent s keeps p seen (peer_row.Challenged c) (Some n) inner = answer_silent p seen c (answer_noted s.secret c n) inner
+peer_silent s keeps p seen peer_row.Success n inner = by p.state
   where
     by : (at' : PeerState) → (peer_succeeded p at').1.notes.number ≡ None
     by state.Waiting = refl
     by (state.Answered keys) = refl
     by (state.Refusing cause) = refl
     by state.Ended = refl
-peer_silent s p seen (peer_row.Failure cause) n readable = refl
+peer_silent s keeps p seen (peer_row.Failure cause) n inner = refl

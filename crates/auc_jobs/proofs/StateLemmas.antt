@@ -10,6 +10,7 @@ use Rattle.auc_sqn.specs.Number.{max_seq}
 use Rattle.auc_subs.specs.declared.row.Row.{Row}
 use Rattle.auc_subs.specs.Subscriber.{AreSubscribers, IsRow}
 use Rattle.auc_world.specs.Setting.{Setting}
+use Rattle.auc_world.specs.Start.{Kept, fresh_kept}
 use Rattle.auc_world.specs.declared.record.LineRecord.{LineRecord}
 use Rattle.auc_jobs.specs.Usims.{AreOfRows, AreBehind}
 use Rattle.auc_jobs.specs.InnerSharing.{Shared, Begins, IsServable}
@@ -35,20 +36,25 @@ words_within rows words sub subscribers is all =
 
 -- the state before the first round
 pub stands_first : (rows : List Row) (set : Setting) (state : Standing) → set.rows ≡ rows → state.words ≡ map (λ row. row.seq) rows
-    → All (λ word. word ≤ max_seq) state.words → AreOfRows rows state.usims → AreBehind rows [] (slice_get state.usims) → state.released ≡ [] → StandsAt set [] state
-stands_first rows set state is words within of_rows behind none = record {
-  subscribers = record { size = ap (λ (ws : List ℕ). length ws) words ∙ length-map rows (λ (row : Row). row.seq) ∙ ap (λ (rs : List Row). length rs) (sym is); numbers = within; secrets = rw is of_rows };
+    → All (λ word. word ≤ max_seq) state.words → AreOfRows rows state.usims → state.kept ≡ map (λ row. fresh_kept) rows → AreBehind rows [] (slice_get state.usims) → state.released ≡ [] → StandsAt set [] state
+stands_first rows set state is words within of_rows fresh behind none = record {
+  subscribers = record {
+    size = ap (λ (ws : List ℕ). length ws) words ∙ length-map rows (λ (row : Row). row.seq) ∙ ap (λ (rs : List Row). length rs) (sym is);
+    numbers = within;
+    secrets = rw is of_rows;
+    kept = ap (λ (ks : List Kept). length ks) fresh ∙ length-map rows (λ (row : Row). fresh_kept) ∙ ap (λ (rs : List Row). length rs) (sym is);
+  };
   pasts = rw is behind;
   earlier = λ sub n. rw none refl;
 }
 
 -- at other words it still stands after the same lines
 pub stands_opened : (inside old : Standing) (words : List ℕ) → inside ≡ old → length words ≡ length old.words → All (λ word. word ≤ max_seq) words
-    → (set : Setting) (early : List LineRecord) → StandsAt set early old → StandsAt set early (record { words = words; usims = inside.usims; released = inside.released })
+    → (set : Setting) (early : List LineRecord) → StandsAt set early old → StandsAt set early (record { words = words; usims = inside.usims; kept = inside.kept; released = inside.released })
 stands_opened inside old words same size within set early stands =
     let s : StandsAt set early inside = subst (StandsAt set early) (sym same) stands in
     record {
-      subscribers = record { size = size ∙ stands.subscribers.size; numbers = within; secrets = s.subscribers.secrets };
+      subscribers = record { size = size ∙ stands.subscribers.size; numbers = within; secrets = s.subscribers.secrets; kept = s.subscribers.kept };
       pasts = s.pasts;
       earlier = s.earlier;
     }
@@ -57,7 +63,7 @@ stands_opened inside old words same size within set early stands =
 
 -- what its workers share
 abbrev pub beginning : Setting → Standing → List (List Line) → Bool → Shared
-beginning set state jobs full = record { set = set; released = state.released; usims = state.usims; jobs = jobs; full = full }
+beginning set state jobs full = record { set = set; released = state.released; usims = state.usims; stores = state.kept; jobs = jobs; full = full }
 
 -- its jobs can be served
 pub servable : (set : Setting) (state : Standing) (jobs : List (List Line)) (full : Bool) (shared : Shared) → shared ≡ beginning set state jobs full
@@ -65,6 +71,7 @@ pub servable : (set : Setting) (state : Standing) (jobs : List (List Line)) (ful
 servable set state jobs full shared is (early, stands) known few apart subscribers realm =
     subst IsServable (sym is) (record {
       rows = stands.subscribers.secrets;
+      stores = stands.subscribers.kept;
       subscribers = subscribers;
       realm = realm;
       few = few;

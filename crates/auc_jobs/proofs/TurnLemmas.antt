@@ -26,7 +26,6 @@ use Rattle.auc_jobs.specs.InnerClaims.{Turn, turns, lines_done, entries_of_turn,
 use Rattle.auc_jobs.specs.InnerRound.{ServesJob}
 use Rattle.auc_jobs.specs.InnerServing.{before_at, IsTold, AreTold}
 use Rattle.auc_jobs.specs.InnerSharing.{Shared, Begins, IsServable, BeginsAt, ServesAt}
-use Rattle.auc_jobs.specs.InnerUsims.{usim_in}
 use Rattle.auc_jobs.specs.Serving.{AreAllKnown, AreKnown}
 use Rattle.auc_jobs.proofs.LineLemmas.{all_at}
 use Rattle.auc_jobs.proofs.PieceLemmas.{not_given}
@@ -113,7 +112,7 @@ quiet_turns shared early earlier (c ∷ done) job sub asked apart within at give
     let t : Turn = record { earlier = earlier; claimed = c } in
     let here = All-head (IsGiven shared early) t (turns (earlier ++ c.served.lines) done) given in
     accepted-append sub c.served.lines (lines_done done)
-    ∙ ap (λ (ns : List (List ℕ)). ns ++ accepted sub (lines_done done)) (job_quiet shared.set (before_at early earlier []) here.asked sub c.served.lines here.net here.given
+    ∙ ap (λ (ns : List (List ℕ)). ns ++ accepted sub (lines_done done)) (job_quiet shared.set (before_at early earlier []) shared.stores here.asked sub c.served.lines here.net here.given
     (not_given sub here.asked asked (apart_at shared.jobs c.job job here.asked asked apart (All-head (λ b. b.job < job) c done below) within here.there at) gives))
     ∙ quiet_turns shared early (earlier ++ c.served.lines) done job sub asked apart within at gives (All-tail (λ b. b.job < job) c done below)
     (All-tail (IsGiven shared early) t (turns (earlier ++ c.served.lines) done) given)
@@ -160,7 +159,7 @@ pub record Serves (shared : Shared) (old mid new : PassValue) (done : List Claim
 
 -- the job that was served in it
 turn_served : (shared : Shared) (early : List LineRecord) (old mid new : PassValue) (done : List ClaimedJob) (c : ClaimedJob) → (s : Serves shared old mid new done c) → IsBetween shared early old done
-    → ServesJob (λ i es ws. Adds mid i es ws new) shared.set early (lines_done done) (kept_of new.deeds) s.serves.asked c.served.lines (usim_in c.served.devices) c.served.sessions
+    → ServesJob (λ i es ws. Adds mid i es ws new) shared.set early (lines_done done) (kept_of new.deeds) shared.stores s.serves.asked c.served.lines c.served.devices c.served.sessions
 turn_served shared early old mid new done c s between =
     s.serves.serves early (lines_done done) ((claimed_begins shared early old mid done c.job s.apart s.claim between).begins s.serves.asked s.serves.there)
 
@@ -179,11 +178,11 @@ between_more shared early old mid new done c s between = record {
     ordered = λ sub. subst (λ (ts : List Turn). All (λ t. IsInOrder (entries_of_turn sub t)) ts) (sym pushed)
         (All-push (λ (t : Turn). IsInOrder (entries_of_turn sub t)) (turns [] done) turn (was.ordered sub) (served.made sub).ordered);
     given = subst (λ (ts : List Turn). All (IsGiven shared early) ts) (sym pushed)
-        (All-push (IsGiven shared early) (turns [] done) turn was.given (record { asked = s.serves.asked; there = s.serves.there; net = served.net; given = served.given; ends = served.ends }));
+        (All-push (IsGiven shared early) (turns [] done) turn was.given (record { asked = s.serves.asked; there = s.serves.there; net = served.net; given = served.given; ends = served.ends; left = served.left }));
     released = λ sub. All-push (λ (b : ClaimedJob). All (Contains (released_of sub new.deeds)) (numbers_of sub b.served.lines)) done c
         (jobs_grown (released_by sub) (λ (b : ClaimedJob). numbers_of sub b.served.lines) old.deeds more new.deeds done grows (was.released sub))
         (job_released (length shared.set.rows) sub (lines_done done) c.served.lines (released_of sub new.deeds)
-        (job_own shared.set (before_at early (lines_done done) []) (start_of shared.set s.serves.asked) served.net s.serves.asked c.served.lines (all_at (AreKnown (length shared.set.rows)) shared.jobs c.job s.serves.asked s.known s.serves.there) served.given)
+        (job_own shared.set (before_at early (lines_done done) []) (start_of shared.set shared.stores s.serves.asked) served.net s.serves.asked c.served.lines (all_at (AreKnown (length shared.set.rows)) shared.jobs c.job s.serves.asked s.known s.serves.there) served.given)
         (served.made sub).ordered (served.made sub).told);
     withheld = λ sub. All-push (λ (b : ClaimedJob). All (Contains (pass_held sub new.deeds)) (held_of sub b.served.lines)) done c
         (jobs_grown (pass_held_by sub) (λ (b : ClaimedJob). held_of sub b.served.lines) old.deeds more new.deeds done grows (was.withheld sub))
@@ -201,7 +200,7 @@ between_more shared early old mid new done c s between = record {
     was : HasServed shared early old done
     was = between.served
 
-    served : ServesJob (λ i es ws. Adds mid i es ws new) shared.set early (lines_done done) (kept_of new.deeds) s.serves.asked c.served.lines (usim_in c.served.devices) c.served.sessions
+    served : ServesJob (λ i es ws. Adds mid i es ws new) shared.set early (lines_done done) (kept_of new.deeds) shared.stores s.serves.asked c.served.lines c.served.devices c.served.sessions
     served = turn_served shared early old mid new done c s between
 
     more : List Deed

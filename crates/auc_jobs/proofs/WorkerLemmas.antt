@@ -12,6 +12,7 @@ use Rattle.auc_lines.specs.Part.{held_subs, holds}
 use Rattle.auc_milenage.specs.declared.secret.Secret.{Secret}
 use Rattle.auc_peer.specs.Subscription.{Subscription, subscription_of}
 use Rattle.auc_peer.specs.declared.device.Device.{Device}
+use Rattle.auc_reauth.specs.Device.{Keeps}
 use Rattle.auc_server.specs.declared.setting.HomeRow.{HomeRow}
 use Rattle.auc_subs.specs.Subscriber.{AreSubscribers}
 use Rattle.auc_subs.specs.declared.row.Row.{Row}
@@ -21,7 +22,7 @@ use Rattle.auc_world.specs.Net.{Net, device_place}
 use Rattle.auc_world.specs.Released.{Released}
 use Rattle.auc_world.specs.Sessions.{job_sessions}
 use Rattle.auc_world.specs.Setting.{Setting}
-use Rattle.auc_world.specs.Start.{home_of, start_of, subscription_at}
+use Rattle.auc_world.specs.Start.{Kept, home_of, keeps_of, kept_of, start_of, subscription_at}
 use Rattle.auc_world.specs.Vectors.{IsReleasableLine}
 use Rattle.auc_world.specs.World.{WorldState, usim_of}
 use Rattle.auc_world.specs.declared.record.JobSessions.{JobSessions}
@@ -35,82 +36,113 @@ use Rattle.auc_jobs.specs.Usims.{HaveSecrets, AreOfRows}
 use Rattle.auc_jobs.proofs.CopyLemmas.{copies_keyed}
 use Rattle.auc_jobs.proofs.JobLemmas.{serves_adds, serves_as, ServingLines, job_none}
 use Rattle.auc_jobs.proofs.LineLemmas.{some_at}
-use Rattle.auc_jobs.proofs.PlaceLemmas.{usim_found}
+use Rattle.auc_jobs.proofs.PlaceLemmas.{same_usims, usim_found}
 use Rattle.auc_jobs.proofs.SettleLemmas.{begins_stands, copies_secrets, job_releasable, job_settles}
 
 -- ---- the network with which a job begins
 
 -- its USIMs are copies
-pub starts_copies : (set : Setting) (usims : List Memory) (job : List Line) (sub : ℕ) → AreSubscribers set.rows → length usims ≡ length set.rows → All (IsKnownLine (length set.rows)) job
-    → usim_of set.rows (start_world set usims job) sub ≡ (if holds sub job then slice_get usims sub else None)
-starts_copies set usims job sub are size known =
-    usim_found set (held_subs job) (start_world set usims job) sub are refl (helds_known (length set.rows) job known)
-    ∙ devices_found set usims (held_subs job) sub size (helds_known (length set.rows) job known)
+pub starts_copies : (set : Setting) (usims : List Memory) (stores : List Kept) (job : List Line) (sub : ℕ) → AreSubscribers set.rows → length usims ≡ length set.rows → All (IsKnownLine (length set.rows)) job
+    → usim_of set.rows (start_world set usims stores job) sub ≡ (if holds sub job then slice_get usims sub else None)
+starts_copies set usims stores job sub are size known =
+    usim_found set stores (held_subs job) (start_world set usims stores job) sub are refl (helds_known (length set.rows) job known)
+    ∙ devices_found set usims stores (held_subs job) sub size (helds_known (length set.rows) job known)
     ∙ ap (λ b. if b then slice_get usims sub else None) (holds_held sub job)
 
 -- their realms aren't too long
-pub realms_fit : (set : Setting) (usims : List Memory) (subs : List ℕ) → length set.realm ≤ 255 → All (λ (d : Device). length d.realm ≤ 255) (flat_map (device_of set usims) subs)
-realms_fit set usims [] short = All-nil (λ (d : Device). length d.realm ≤ 255)
-realms_fit set usims (s ∷ subs) short =
-    All-append (λ (d : Device). length d.realm ≤ 255) (device_of set usims s) (flat_map (device_of set usims) subs) (by (slice_get set.rows s) (slice_get usims s)) (realms_fit set usims subs short)
+pub realms_fit : (set : Setting) (usims : List Memory) (stores : List Kept) (subs : List ℕ) → length set.realm ≤ 255 → All (λ (d : Device). length d.realm ≤ 255) (flat_map (device_of set usims stores) subs)
+realms_fit set usims stores [] short = All-nil (λ (d : Device). length d.realm ≤ 255)
+realms_fit set usims stores (s ∷ subs) short =
+    All-append (λ (d : Device). length d.realm ≤ 255) (device_of set usims stores s) (flat_map (device_of set usims stores) subs) (by (slice_get set.rows s) (slice_get usims s) (kept_of stores s).1) (realms_fit set usims stores subs short)
   where
-    by : (row : Option Row) (usim : Option Memory) → All (λ (d : Device). length d.realm ≤ 255) (device_with set row usim)
-    by None usim = All-nil (λ (d : Device). length d.realm ≤ 255)
-    by (Some row) None = All-nil (λ (d : Device). length d.realm ≤ 255)
-    by (Some row) (Some usim) = All-cons (λ (d : Device). length d.realm ≤ 255) (record { imsi = row.imsi; usim = usim; realm = set.realm }) [] short (All-nil (λ (d : Device). length d.realm ≤ 255))
+    by : (row : Option Row) (usim : Option Memory) (keeps : Keeps) → All (λ (d : Device). length d.realm ≤ 255) (device_with set row usim keeps)
+    by None usim keeps = All-nil (λ (d : Device). length d.realm ≤ 255)
+    by (Some row) None keeps = All-nil (λ (d : Device). length d.realm ≤ 255)
+    by (Some row) (Some usim) keeps = All-cons (λ (d : Device). length d.realm ≤ 255) (record { imsi = row.imsi; usim = usim; store = keeps; realm = set.realm }) [] short (All-nil (λ (d : Device). length d.realm ≤ 255))
 
 -- their subscriptions are those of the rows
-subscriptions : (set : Setting) (usims : List Memory) (subs : List ℕ) → AreOfRows set.rows usims → All (λ s. s < length set.rows) subs
-    → map subscription_of (flat_map (device_of set usims) subs) ≡ flat_map (subscription_at set) subs
-subscriptions set usims [] are known = refl
-subscriptions set usims (s ∷ subs) are known =
+subscriptions : (set : Setting) (usims : List Memory) (stores : List Kept) (subs : List ℕ) → AreOfRows set.rows usims → All (λ s. s < length set.rows) subs
+    → map subscription_of (flat_map (device_of set usims stores) subs) ≡ flat_map (subscription_at set) subs
+subscriptions set usims stores [] are known = refl
+subscriptions set usims stores (s ∷ subs) are known =
     let inside = All-head (λ (k : ℕ). k < length set.rows) s subs known in
     let size = are.sizes in
     let (row, at) = some_at set.rows s inside in
     let (usim, there) = some_at usims s (omega (arith, inside, size)) in
-    map-append subscription_of (device_of set usims s) (flat_map (device_of set usims) subs)
-    ∙ ap (λ (ds : List Subscription). ds ++ map subscription_of (flat_map (device_of set usims) subs)) (one row usim at there)
-    ∙ ap (λ (ds : List Subscription). subscription_at set s ++ ds) (subscriptions set usims subs are (All-tail (λ (k : ℕ). k < length set.rows) s subs known))
+    map-append subscription_of (device_of set usims stores s) (flat_map (device_of set usims stores) subs)
+    ∙ ap (λ (ds : List Subscription). ds ++ map subscription_of (flat_map (device_of set usims stores) subs)) (one row usim at there)
+    ∙ ap (λ (ds : List Subscription). subscription_at set s ++ ds) (subscriptions set usims stores subs are (All-tail (λ (k : ℕ). k < length set.rows) s subs known))
   where
-    one : (row : Row) (usim : Memory) → slice_get set.rows s ≡ Some row → slice_get usims s ≡ Some usim → map subscription_of (device_of set usims s) ≡ subscription_at set s
+    one : (row : Row) (usim : Memory) → slice_get set.rows s ≡ Some row → slice_get usims s ≡ Some usim → map subscription_of (device_of set usims stores s) ≡ subscription_at set s
     one row usim at there = rw (at, there) (ap (λ (k : Secret). record { imsi = row.imsi; realm = set.realm; secret = k } ∷ []) (are.secrets s row usim at there))
 
-pub starts : (set : Setting) (usims : List Memory) (job : List Line) (w : WorldState) → AreOfRows set.rows usims → All (IsKnownLine (length set.rows)) job
-    → w ≡ record {
+-- and they keep what was kept of the subscribers
+keeping : (set : Setting) (usims : List Memory) (stores : List Kept) (subs : List ℕ) → length usims ≡ length set.rows → All (λ s. s < length set.rows) subs
+    → map (λ (d : Device). d.store) (flat_map (device_of set usims stores) subs) ≡ flat_map (keeps_of set stores) subs
+keeping set usims stores [] size known = refl
+keeping set usims stores (s ∷ subs) size known =
+    let inside = All-head (λ (k : ℕ). k < length set.rows) s subs known in
+    let (row, at) = some_at set.rows s inside in
+    let (usim, there) = some_at usims s (omega (arith, inside, size)) in
+    map-append (λ (d : Device). d.store) (device_of set usims stores s) (flat_map (device_of set usims stores) subs)
+    ∙ ap (λ (ks : List Keeps). ks ++ map (λ (d : Device). d.store) (flat_map (device_of set usims stores) subs)) (one row usim at there)
+    ∙ ap (λ (ks : List Keeps). keeps_of set stores s ++ ks) (keeping set usims stores subs size (All-tail (λ (k : ℕ). k < length set.rows) s subs known))
+  where
+    one : (row : Row) (usim : Memory) → slice_get set.rows s ≡ Some row → slice_get usims s ≡ Some usim → map (λ (d : Device). d.store) (device_of set usims stores s) ≡ keeps_of set stores s
+    one row usim at there = rw (at, there) refl
+
+-- a network of some homes and devices in which nothing has happened, with the devices
+abbrev pub new_world : List HomeRow → List Device → WorldState
+new_world homes devices = record {
+  net = record {
+    packets = [];
+    sessions = [];
+    released = [];
+    homes = homes;
+    devices = map subscription_of devices;
+    stores = map (λ (device : Device). device.store) devices;
+    broken = None;
+  };
+  devices = devices;
+}
+
+pub starts : (set : Setting) (usims : List Memory) (stores : List Kept) (job : List Line) (w : WorldState) → AreOfRows set.rows usims → All (IsKnownLine (length set.rows)) job
+    → w ≡ new_world (job_devices set usims stores job).homes (job_devices set usims stores job).devices → w ≡ start_world set usims stores job
+starts set usims stores job w are known is =
+    is ∙ ap (λ (kept : List Subscription × List Keeps). record {
       net = record {
         packets = [];
         sessions = [];
         released = [];
-        homes = (job_devices set usims job).homes;
-        devices = map subscription_of (job_devices set usims job).devices;
+        homes = map (home_of stores) (held_subs job);
+        devices = kept.0;
+        stores = kept.1;
         broken = None;
       };
-      devices = (job_devices set usims job).devices;
-    }
-    → w ≡ start_world set usims job
-starts set usims job w are known is =
-    is ∙ ap (λ (ds : List Subscription). record {
-      net = record { packets = []; sessions = []; released = []; homes = map home_of (held_subs job); devices = ds; broken = None };
-      devices = (job_devices set usims job).devices;
-    }) (subscriptions set usims (held_subs job) are (helds_known (length set.rows) job known))
+      devices = (job_devices set usims stores job).devices;
+    }) (pair_is (subscriptions set usims stores (held_subs job) are (helds_known (length set.rows) job known))
+    (keeping set usims stores (held_subs job) are.sizes (helds_known (length set.rows) job known)))
+  where
+    pair_is : {ds es : List Subscription} {ks ls : List Keeps} → ds ≡ es → ks ≡ ls → ◌≡◌ {A = List Subscription × List Keeps} (ds, ks) (es, ls)
+    pair_is e f = cc
 
 -- it is one of the rows
-pub starts_for_rows : (set : Setting) (usims : List Memory) (job : List Line) (subs : ℕ) (top : ℕ → ℕ) → AreSubscribers set.rows → AreOfRows set.rows usims → All (IsKnownLine (length set.rows)) job
-    → IsCentreOf (length set.rows) subs top → AreForRows set.rows subs top (start_world set usims job)
-starts_for_rows set usims job subs top are of_rows known centre = record {
+pub starts_for_rows : (set : Setting) (usims : List Memory) (stores : List Kept) (job : List Line) (subs : ℕ) (top : ℕ → ℕ) → AreSubscribers set.rows → AreOfRows set.rows usims → All (IsKnownLine (length set.rows)) job
+    → IsCentreOf (length set.rows) subs top → AreForRows set.rows subs top (start_world set usims stores job)
+starts_for_rows set usims stores job subs top are of_rows known centre = record {
   is_centre = centre;
   subscribers = are;
-  secrets = copies_secrets set.rows usims job (usim_of set.rows (start_world set usims job)) of_rows (λ sub. starts_copies set usims job sub are of_rows.sizes known);
-  homes = All-map (λ (home : HomeRow). home.sub < length set.rows) home_of (held_subs job) (helds_known (length set.rows) job known);
+  secrets = copies_secrets set.rows usims job (usim_of set.rows (start_world set usims stores job)) of_rows (λ sub. starts_copies set usims stores job sub are of_rows.sizes known);
+  homes = All-map (λ (home : HomeRow). home.sub < length set.rows) (home_of stores) (held_subs job) (helds_known (length set.rows) job known);
   placed = All-nil (λ s. device_place set.rows (flat_map (subscription_at set) (held_subs job)) s.sub ≡ Some s.device);
 }
 
 -- it holds the USIMs that the job holds
-pub does_hold : (set : Setting) (usims : List Memory) (job : List Line) (world : WorldState) → AreOfRows set.rows usims → AreSubscribers set.rows → All (IsKnownLine (length set.rows)) job
-    → world ≡ start_world set usims job → (sub : ℕ) → holds sub job ≡ true → has_usim (usim_of set.rows world) sub ≡ true
-does_hold set usims job world rows are known begins sub held =
+pub does_hold : (set : Setting) (usims : List Memory) (stores : List Kept) (job : List Line) (world : WorldState) → AreOfRows set.rows usims → AreSubscribers set.rows → All (IsKnownLine (length set.rows)) job
+    → world ≡ start_world set usims stores job → (sub : ℕ) → holds sub job ≡ true → has_usim (usim_of set.rows world) sub ≡ true
+does_hold set usims stores job world rows are known begins sub held =
     copies_keyed (length set.rows) usims job (usim_of set.rows world) sub rows.sizes known
-    (λ i. ap (λ (w : WorldState). usim_of set.rows w i) begins ∙ starts_copies set usims job i are rows.sizes known) ∙ held
+    (λ i. ap (λ (w : WorldState). usim_of set.rows w i) begins ∙ starts_copies set usims stores job i are rows.sizes known) ∙ held
 
 module _ {C : Type 0} where
   -- lines that were drawn add what a worker's request gives, if the network stays
@@ -167,68 +199,71 @@ module _ {C : Type 0} where
       (subst (λ (own : List LineRecord). Stands w.set.rows (before_at early beside own) (kept w.centre) w.released (usim_of w.set.rows w.world)) none stands))
 
   -- what a worker did for a job: it began with the job's network, and served the lines
-  pub record Does (kept : C → ℕ → Option ℕ) (goes : C → ℕ → List Entry → List (ℕ × Stop) → C → Type 0) (name next : ℕ) (old after : WorkerState C) (usims : List Memory) (job : List Line) : Type 0 where
+  pub record Does (kept : C → ℕ → Option ℕ) (goes : C → ℕ → List Entry → List (ℕ × Stop) → C → Type 0) (name next : ℕ) (old after : WorkerState C) (usims : List Memory) (stores : List Kept) (job : List Line) : Type 0 where
     pub rows : AreOfRows old.set.rows usims
     pub subscribers : AreSubscribers old.set.rows
     pub known : All (IsKnownLine (length old.set.rows)) job
     pub none : old.lines ≡ []
-    pub begins : old.world ≡ start_world old.set usims job
+    pub begins : old.world ≡ start_world old.set usims stores job
     pub serves : WorkerServesLines kept goes old after job
     pub goes_on : GoesOnWith name next old after
 
   -- the USIMs with which it began
-  does_copies : (kept : C → ℕ → Option ℕ) (goes : C → ℕ → List Entry → List (ℕ × Stop) → C → Type 0) (name next : ℕ) (old after : WorkerState C) (usims : List Memory) (job : List Line)
-      → Does kept goes name next old after usims job → AreCopies usims job (usim_of old.set.rows old.world)
-  does_copies kept goes name next old after usims job d sub =
-      ap (λ (w : WorldState). usim_of old.set.rows w sub) d.begins ∙ starts_copies old.set usims job sub d.subscribers d.rows.sizes d.known
+  does_copies : (kept : C → ℕ → Option ℕ) (goes : C → ℕ → List Entry → List (ℕ × Stop) → C → Type 0) (name next : ℕ) (old after : WorkerState C) (usims : List Memory) (stores : List Kept) (job : List Line)
+      → Does kept goes name next old after usims stores job → AreCopies usims job (usim_of old.set.rows old.world)
+  does_copies kept goes name next old after usims stores job d sub =
+      ap (λ (w : WorldState). usim_of old.set.rows w sub) d.begins ∙ starts_copies old.set usims stores job sub d.subscribers d.rows.sizes d.known
 
   -- the lines that it served
-  does_lines : (kept : C → ℕ → Option ℕ) (goes : C → ℕ → List Entry → List (ℕ × Stop) → C → Type 0) (name next : ℕ) (old after : WorkerState C) (usims : List Memory) (job : List Line)
-      (early beside : List LineRecord) → Does kept goes name next old after usims job → JobBegins old.set.rows early beside (kept old.centre) old.released usims job
-      → ServesLines (λ i es ws. goes old.centre i es ws after.centre) old.set early beside (kept after.centre) old.released (usim_of old.set.rows after.world) (start_of old.set job) job after.lines after.world.net
-  does_lines kept goes name next old after usims job early beside d begins =
+  does_lines : (kept : C → ℕ → Option ℕ) (goes : C → ℕ → List Entry → List (ℕ × Stop) → C → Type 0) (name next : ℕ) (old after : WorkerState C) (usims : List Memory) (stores : List Kept) (job : List Line)
+      (early beside : List LineRecord) → Does kept goes name next old after usims stores job → JobBegins old.set.rows early beside (kept old.centre) old.released usims job
+      → ServesLines (λ i es ws. goes old.centre i es ws after.centre) old.set early beside (kept after.centre) old.released (usim_of old.set.rows after.world) (start_of old.set stores job) job after.lines after.world.net
+  does_lines kept goes name next old after usims stores job early beside d begins =
       subst (λ (n : Net). ServesLines (λ i es ws. goes old.centre i es ws after.centre) old.set early beside (kept after.centre) old.released (usim_of old.set.rows after.world) n job after.lines after.world.net)
       (ap (λ (w : WorldState). w.net) d.begins)
       (d.serves early beside
       (subst (λ (lines : List LineRecord). Stands old.set.rows (before_at early beside lines) (kept old.centre) old.released (usim_of old.set.rows old.world)) (sym d.none)
-      (begins_stands old.set.rows early beside (kept old.centre) old.released usims job (usim_of old.set.rows old.world) (does_copies kept goes name next old after usims job d) begins)))
+      (begins_stands old.set.rows early beside (kept old.centre) old.released usims job (usim_of old.set.rows old.world) (does_copies kept goes name next old after usims stores job d) begins)))
 
   -- they release vectors that can be made
-  pub does_releasable : (kept : C → ℕ → Option ℕ) (goes : C → ℕ → List Entry → List (ℕ × Stop) → C → Type 0) (name next : ℕ) (old after : WorkerState C) (usims : List Memory) (job : List Line)
-      (set : Setting) (lines : List LineRecord) → set ≡ old.set → lines ≡ after.lines → Does kept goes name next old after usims job
+  pub does_releasable : (kept : C → ℕ → Option ℕ) (goes : C → ℕ → List Entry → List (ℕ × Stop) → C → Type 0) (name next : ℕ) (old after : WorkerState C) (usims : List Memory) (stores : List Kept) (job : List Line)
+      (set : Setting) (lines : List LineRecord) → set ≡ old.set → lines ≡ after.lines → Does kept goes name next old after usims stores job
       → (early : List LineRecord) × (beside : List LineRecord) × JobBegins old.set.rows early beside (kept old.centre) old.released usims job → All (IsReleasableLine set) lines
-  does_releasable kept goes name next old after usims job set lines same is d (early, beside, begins) =
-      let s = does_lines kept goes name next old after usims job early beside d begins in
+  does_releasable kept goes name next old after usims stores job set lines same is d (early, beside, begins) =
+      let s = does_lines kept goes name next old after usims stores job early beside d begins in
       subst (λ (ls : List LineRecord). All (IsReleasableLine set) ls) (sym is)
-      (subst (λ (x : Setting). All (IsReleasableLine x) after.lines) (sym same) (job_releasable old.set (before_at early beside []) (start_of old.set job) after.world.net job after.lines s.given))
+      (subst (λ (x : Setting). All (IsReleasableLine x) after.lines) (sym same) (job_releasable old.set (before_at early beside []) (start_of old.set stores job) after.world.net job after.lines s.given))
 
   -- its own USIMs after the job, among its devices
   pub record Ends (old after : WorkerState C) (own : OwnDevices) : Type 0 where
     pub homes : own.homes ≡ after.world.net.homes
     pub devices : own.devices ≡ after.world.devices
+    pub stores : map (λ device. device.store) own.devices ≡ after.world.net.stores
     pub secrets : HaveSecrets after.set.rows (usim_of after.set.rows after.world)
 
-  ends_same : (kept : C → ℕ → Option ℕ) (goes : C → ℕ → List Entry → List (ℕ × Stop) → C → Type 0) (name next : ℕ) (old after : WorkerState C) (usims : List Memory) (job : List Line) (own : OwnDevices)
-      → Does kept goes name next old after usims job → Ends old after own → (sub : ℕ) → usim_of old.set.rows after.world sub ≡ usim_in own sub
-  ends_same kept goes name next old after usims job own d e sub =
-      usim_found old.set (held_subs job) after.world sub d.subscribers (d.goes_on.devices ∙ ap (λ (w : WorldState). w.net.devices) d.begins) (helds_known (length old.set.rows) job d.known)
-      ∙ ap (λ (hs : List HomeRow). usim_among hs after.world.devices sub) (sym (e.homes ∙ d.goes_on.homes ∙ ap (λ (w : WorldState). w.net.homes) d.begins))
+  ends_same : (kept : C → ℕ → Option ℕ) (goes : C → ℕ → List Entry → List (ℕ × Stop) → C → Type 0) (name next : ℕ) (old after : WorkerState C) (usims : List Memory) (stores : List Kept) (job : List Line) (own : OwnDevices)
+      → Does kept goes name next old after usims stores job → Ends old after own → (sub : ℕ) → usim_of old.set.rows after.world sub ≡ usim_in own sub
+  ends_same kept goes name next old after usims stores job own d e sub =
+      usim_found old.set stores (held_subs job) after.world sub d.subscribers (d.goes_on.devices ∙ ap (λ (w : WorldState). w.net.devices) d.begins) (helds_known (length old.set.rows) job d.known)
+      ∙ ap (λ (hs : List HomeRow). usim_among hs after.world.devices sub) (sym (ap (λ (w : WorldState). w.net.homes) d.begins))
+      ∙ sym (same_usims old.world.net.homes after.world.net.homes after.world.devices sub d.goes_on.homes)
+      ∙ ap (λ (hs : List HomeRow). usim_among hs after.world.devices sub) (sym e.homes)
       ∙ ap (λ (ds : List Device). usim_among own.homes ds sub) (sym e.devices)
 
   -- the job is served
-  pub does_job : (kept : C → ℕ → Option ℕ) (goes : C → ℕ → List Entry → List (ℕ × Stop) → C → Type 0) (name next : ℕ) (old after : WorkerState C) (usims : List Memory) (job : List Line) (own : OwnDevices)
-      (lines : List LineRecord) (sessions : JobSessions) → Does kept goes name next old after usims job → Ends old after own → lines ≡ after.lines → sessions ≡ job_sessions after.world.net
+  pub does_job : (kept : C → ℕ → Option ℕ) (goes : C → ℕ → List Entry → List (ℕ × Stop) → C → Type 0) (name next : ℕ) (old after : WorkerState C) (usims : List Memory) (stores : List Kept) (job : List Line) (own : OwnDevices)
+      (lines : List LineRecord) (sessions : JobSessions) → Does kept goes name next old after usims stores job → Ends old after own → lines ≡ after.lines → sessions ≡ job_sessions after.world.net
       → (early beside : List LineRecord) → JobBegins old.set.rows early beside (kept old.centre) old.released usims job
-      → ServesJob (λ i es ws. goes old.centre i es ws after.centre) old.set early beside (kept after.centre) job lines (usim_in own) sessions
-  does_job kept goes name next old after usims job own lines sessions d e lines_are ends early beside begins =
-      let s = does_lines kept goes name next old after usims job early beside d begins in
-      let same : (sub : ℕ) → usim_of old.set.rows after.world sub ≡ usim_in own sub = ends_same kept goes name next old after usims job own d e in
+      → ServesJob (λ i es ws. goes old.centre i es ws after.centre) old.set early beside (kept after.centre) stores job lines own sessions
+  does_job kept goes name next old after usims stores job own lines sessions d e lines_are ends early beside begins =
+      let s = does_lines kept goes name next old after usims stores job early beside d begins in
+      let same : (sub : ℕ) → usim_of old.set.rows after.world sub ≡ usim_in own sub = ends_same kept goes name next old after usims stores job own d e in
       let secrets : HaveSecrets old.set.rows (usim_of old.set.rows after.world) =
       subst (λ (x : Setting). HaveSecrets x.rows (usim_of x.rows after.world)) d.goes_on.worker.set e.secrets in
       let keyed : (sub : ℕ) → has_usim (usim_in own) sub ≡ has_usim (usim_of old.set.rows old.world) sub =
       λ sub. ap (λ (m : Option Memory). has_usim (λ (k : ℕ). m) sub) (sym (same sub))
       ∙ ap (λ (x : Setting). has_usim (usim_of x.rows after.world) sub) (sym d.goes_on.worker.set) ∙ d.goes_on.keyed sub in
-      job_settles (λ i es ws. goes old.centre i es ws after.centre) old.set early beside (kept old.centre) (kept after.centre) old.released usims job lines (usim_of old.set.rows old.world) (usim_in own)
-      d.rows.sizes d.known (does_copies kept goes name next old after usims job d) keyed (λ sub row usim at there. secrets sub row usim at (same sub ∙ there)) begins after.world.net sessions ends
-      (subst (λ (ls : List LineRecord). ServesLines (λ i es ws. goes old.centre i es ws after.centre) old.set early beside (kept after.centre) old.released (usim_in own) (start_of old.set job) job ls after.world.net) (sym lines_are)
+      job_settles (λ i es ws. goes old.centre i es ws after.centre) old.set early beside (kept old.centre) (kept after.centre) old.released usims stores job lines (usim_of old.set.rows old.world) own
+      d.rows.sizes d.known (does_copies kept goes name next old after usims stores job d) keyed (λ sub row usim at there. secrets sub row usim at (same sub ∙ there)) begins after.world.net sessions ends (ap (λ (hs : List HomeRow). (hs, map (λ (d : Device). d.store) own.devices)) e.homes ∙ ap (λ (ks : List Keeps). (after.world.net.homes, ks)) e.stores)
+      (subst (λ (ls : List LineRecord). ServesLines (λ i es ws. goes old.centre i es ws after.centre) old.set early beside (kept after.centre) old.released (usim_in own) (start_of old.set stores job) job ls after.world.net) (sym lines_are)
       (record { given = s.given; made = s.made; stands = record { told = s.stands.told; earlier = s.stands.earlier; pasts = λ sub row usim at there. s.stands.pasts sub row usim at (same sub ∙ there) } }))

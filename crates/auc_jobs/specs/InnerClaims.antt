@@ -18,7 +18,7 @@ use Rattle.auc_world.specs.Vectors.{vectors_in}
 use Rattle.auc_jobs.specs.declared.claiming.ClaimedJob.{ClaimedJob}
 use Rattle.auc_jobs.specs.declared.claiming.WorkerJobs.{WorkerJobs}
 use Rattle.auc_jobs.specs.declared.jobs.ServedJob.{ServedJob}
-use Rattle.auc_jobs.specs.InnerRound.{IsSettled}
+use Rattle.auc_jobs.specs.InnerRound.{IsSettled, left_in, left_on}
 use Rattle.auc_jobs.specs.InnerServing.{before_at, AreTold}
 use Rattle.auc_jobs.specs.InnerSharing.{Shared, Begins}
 use Rattle.auc_jobs.specs.InnerUsims.{usim_in}
@@ -43,13 +43,15 @@ lines_done done = flat_map (λ c. c.served.lines) done
 abbrev pub entries_of_turn : ℕ → Turn → List Entry
 entries_of_turn sub t = entries_of_lines sub t.earlier t.claimed.served.lines
 
--- a job's lines are what it gives after its worker's earlier ones, and its sessions came to what its network tells
+-- a job's lines are what it gives after its worker's earlier ones, its sessions came to what its network tells, and its homes
+-- and devices keep what its network has
 pub record IsGiven (shared : Shared) (early : List LineRecord) (t : Turn) : Type 0 where
   pub asked : List Line
   pub there : slice_get shared.jobs t.claimed.job ≡ Some asked
   pub net : Net
-  pub given : JobGives shared.set (before_at early t.earlier []) (start_of shared.set asked) asked t.claimed.served.lines net
+  pub given : JobGives shared.set (before_at early t.earlier []) (start_of shared.set shared.stores asked) asked t.claimed.served.lines net
   pub ends : t.claimed.served.sessions ≡ job_sessions net
+  pub left : left_on t.claimed.served.devices ≡ left_in net
 
 -- its USIMs after its lines have forgotten who served it
 pub record IsSettledAt (shared : Shared) (early : List LineRecord) (c : ClaimedJob) : Type 0 where

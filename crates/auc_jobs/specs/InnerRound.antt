@@ -1,11 +1,14 @@
 -- Inner facts: what only private contracts of this crate cite. Here: the jobs of a round, each served after its worker's
--- earlier lines and with its own USIMs, and what their pieces come to.
-use Rattle.std.specs.Prelude.{◌≡◌, ℕ, ◌≤◌, ◌<◌, false, List, [], ◌∷◌, ◌++◌, All, length, map, Option, slice_get, slice_index}
+-- earlier lines and with its own devices, and what their pieces come to.
+use Rattle.std.specs.Prelude.{◌≡◌, ℕ, ◌≤◌, ◌<◌, false, List, [], ◌∷◌, ◌++◌, All, fold, length, map, Option, slice_get, slice_index}
+use Rattle.auc_cards.specs.Stores.{put_own}
 use Rattle.auc_edge.specs.declared.stop.Stop.{Stop}
 use Rattle.auc_history.specs.declared.entry.Entry.{Entry}
 use Rattle.auc_history.specs.Split.{Splits}
 use Rattle.auc_lines.specs.declared.part.Line.{Line}
 use Rattle.auc_lines.specs.Part.{holds}
+use Rattle.auc_reauth.specs.Device.{Keeps}
+use Rattle.auc_server.specs.declared.setting.HomeRow.{HomeRow}
 use Rattle.auc_sqn.specs.Number.{max_seq}
 use Rattle.auc_subs.specs.declared.row.Row.{Row}
 use Rattle.auc_usim.specs.Usim.{Memory}
@@ -16,10 +19,11 @@ use Rattle.auc_world.specs.Limits.{Raises}
 use Rattle.auc_world.specs.Lines.{accepted, held_of, withheld_of, all_lines}
 use Rattle.auc_world.specs.Pieces.{Piece, lines_of_pieces, entries_of_pieces, ReportsAreEarlier, IsQuiet, PiecesGive}
 use Rattle.auc_world.specs.Net.{Net}
-use Rattle.auc_world.specs.Round.{Withholds}
+use Rattle.auc_world.specs.Round.{IsLawfulRound, Withholds}
 use Rattle.auc_world.specs.Sessions.{job_sessions}
-use Rattle.auc_world.specs.Start.{start_of}
+use Rattle.auc_world.specs.Start.{Kept, kept_by_jobs, start_of}
 use Rattle.auc_world.specs.declared.record.JobSessions.{JobSessions}
+use Rattle.auc_world.specs.declared.record.RoundRecord.{RoundRecord}
 use Rattle.auc_world.specs.Setting.{Setting}
 use Rattle.auc_world.specs.Transcript.{reopened}
 use Rattle.auc_world.specs.Released.{Released, AreReleased}
@@ -46,16 +50,24 @@ pub record IsSettled (rows : List Row) (early : List LineRecord) (job : List Lin
   pub behind : AreBehind rows (early ++ lines) own
   pub quiet : (sub : ℕ) → holds sub job ≡ false → accepted sub lines ≡ []
 
--- what a job gave, after earlier rounds and its worker's earlier lines: its lines, its own USIMs after them, and what its
+-- what homes and devices keep after a job, by its own devices and by its network
+abbrev pub left_on : OwnDevices → List HomeRow × List Keeps
+left_on own = (own.homes, map (λ device. device.store) own.devices)
+
+abbrev pub left_in : Net → List HomeRow × List Keeps
+left_in net = (net.homes, net.stores)
+
+-- what a job gave, after earlier rounds and its worker's earlier lines: its lines, its own devices after them, and what its
 -- sessions came to
-pub record ServesJob (goes : ℕ → List Entry → List (ℕ × Stop) → Type 0) (set : Setting) (early beside : List LineRecord) (kept : ℕ → Option ℕ)
-    (job : List Line) (lines : List LineRecord) (own : ℕ → Option Memory) (sessions : JobSessions) : Type 0 where
+pub record ServesJob (goes : ℕ → List Entry → List (ℕ × Stop) → Type 0) (set : Setting) (early beside : List LineRecord) (kept : ℕ → Option ℕ) (stores : List Kept)
+    (job : List Line) (lines : List LineRecord) (own : OwnDevices) (sessions : JobSessions) : Type 0 where
   pub net : Net
-  pub given : JobGives set (before_at early beside []) (start_of set job) job lines net
+  pub given : JobGives set (before_at early beside []) (start_of set stores job) job lines net
   pub ends : sessions ≡ job_sessions net
+  pub left : left_on own ≡ left_in net
   pub made : (sub : ℕ) → goes sub (entries_of_lines sub beside lines) (held_of sub lines)
   pub told : AreTold kept (beside ++ lines)
-  pub settled : IsSettled set.rows early job lines own
+  pub settled : IsSettled set.rows early job lines (usim_in own)
 
 -- ---- the jobs of a round
 
@@ -69,20 +81,21 @@ AreSettled rows early (job ∷ jobs) (lines ∷ records) (own ∷ usims) = IsSet
 -- ---- the pieces of a round
 
 -- the records of a round's jobs are pieces, each of some worker. They lead each subscriber from its opening to its word
-pub record ArePieces (set : Setting) (early : List LineRecord) (openings : List ℕ) (jobs : List (List Line)) (records : List (List LineRecord)) (sessions : List JobSessions) (words : List ℕ) : Type 0 where
+pub record ArePieces (set : Setting) (early : List LineRecord) (stores : List Kept) (openings : List ℕ) (jobs : List (List Line)) (records : List (List LineRecord)) (own : List OwnDevices) (sessions : List JobSessions) (words : List ℕ) : Type 0 where
   pub pieces : List Piece
   -- the networks of the jobs' sessions after the last lines
   pub nets : List Net
   pub lines : records ≡ lines_of_pieces pieces
-  pub give : PiecesGive set early jobs pieces nets
+  pub give : PiecesGive set early stores jobs pieces nets
   pub ends : sessions ≡ map job_sessions nets
+  pub left : map left_on own ≡ map left_in nets
   pub reports : (sub : ℕ) → ReportsAreEarlier sub [] pieces
   pub split : (sub : ℕ) → sub < length openings → Splits max_seq (slice_index openings sub) (slice_index words sub) (entries_of_pieces sub pieces)
 
--- a round's pieces, its jobs' USIMs, and what their sessions came to, after the words at which it opens
-pub record AreServed (set : Setting) (early : List LineRecord) (openings : List ℕ) (jobs : List (List Line)) (records : List (List LineRecord)) (usims : List OwnDevices) (sessions : List JobSessions) (words : List ℕ) : Type 0 where
-  pub pieces : ArePieces set early openings jobs records sessions words
-  pub settled : AreSettled set.rows early jobs records usims
+-- a round's pieces, its jobs' devices, and what their sessions came to, after the words at which it opens
+pub record AreServed (set : Setting) (early : List LineRecord) (stores : List Kept) (openings : List ℕ) (jobs : List (List Line)) (records : List (List LineRecord)) (own : List OwnDevices) (sessions : List JobSessions) (words : List ℕ) : Type 0 where
+  pub pieces : ArePieces set early stores openings jobs records own sessions words
+  pub settled : AreSettled set.rows early jobs records own
   pub size : length words ≡ length openings
 
 -- what a round releases and withholds goes by the limits: those before it, and those after it with the stop
@@ -92,9 +105,16 @@ pub record GoesByLimits (set : Setting) (stop : Option Stop) (records : List (Li
   -- each withheld number is above its subscriber's limit
   pub above : (sub : ℕ) → sub < length set.rows → All (λ n. slice_index next sub < n) (withheld_of sub (all_lines records))
 
--- the state after a round: where the round's words lead, with the jobs' USIMs put back and the released numbers noted
-pub record IsAdvanced (old : Standing) (records : List (List LineRecord)) (usims : List OwnDevices) (words : List ℕ) (new : Standing) : Type 0 where
+-- the state after a round: where the round's words lead, with the jobs' USIMs and what their homes and devices keep put back,
+-- and the released numbers noted
+pub record IsAdvanced (old : Standing) (records : List (List LineRecord)) (own : List OwnDevices) (words : List ℕ) (new : Standing) : Type 0 where
   pub opened : new.words ≡ reopened words
   pub within : All (λ word. word ≤ max_seq) new.words
-  pub put : ArePutBack old.usims usims new.usims
+  pub put : ArePutBack old.usims own new.usims
+  pub keeps : new.kept ≡ fold put_own old.kept own
   pub noted : (before : List LineRecord) → AreReleased old.released before → AreReleased new.released (before ++ all_lines records)
+
+-- a round from a state to the next one is lawful, and homes and devices keep what the networks of its jobs leave
+pub record LeadsOn (set : Setting) (stop : Option Stop) (early : List LineRecord) (state : Standing) (jobs : List (List Line)) (round : RoundRecord) (words : List ℕ) (next : Standing) : Type 0 where
+  pub lawful : IsLawfulRound set stop early state.kept state.words jobs round words
+  pub keeps : next.kept ≡ kept_by_jobs state.kept lawful.nets

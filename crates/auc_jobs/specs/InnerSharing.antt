@@ -11,20 +11,21 @@ use Rattle.auc_subs.specs.Subscriber.{AreSubscribers}
 use Rattle.auc_usim.specs.Usim.{Memory}
 use Rattle.auc_world.specs.declared.record.LineRecord.{LineRecord}
 use Rattle.auc_world.specs.Setting.{Setting}
+use Rattle.auc_world.specs.Start.{Kept}
 use Rattle.auc_world.specs.Vectors.{vectors_in}
 use Rattle.auc_jobs.specs.declared.jobs.ServedJob.{ServedJob}
 use Rattle.auc_world.specs.Released.{Released, AreReleased}
 use Rattle.auc_jobs.specs.Serving.{AreAllKnown}
 use Rattle.auc_jobs.specs.Usims.{AreOfRows, AreBehind}
 use Rattle.auc_jobs.specs.InnerRound.{JobBegins, ServesJob}
-use Rattle.auc_jobs.specs.InnerUsims.{usim_in}
 
 -- what the workers of a round share beside its book: the setting, the numbers that were released in earlier rounds, the
--- USIMs as these left them, the round's jobs, and whether the vectors are printed
+-- USIMs and what homes and devices keep as these left them, the round's jobs, and whether the vectors are printed
 pub record Shared : Type 0 where
   pub set : Setting
   pub released : Released
   pub usims : List Memory
+  pub stores : List Kept
   pub jobs : List (List Line)
   pub full : Bool
 
@@ -36,6 +37,7 @@ pub record Begins (shared : Shared) (early : List LineRecord) : Type 0 where
 -- the jobs can be served
 pub record IsServable (shared : Shared) : Type 0 where
   pub rows : AreOfRows shared.set.rows shared.usims
+  pub stores : length shared.stores ≡ length shared.set.rows
   pub subscribers : AreSubscribers shared.set.rows
   pub realm : length shared.set.realm ≤ 255
   pub few : length shared.jobs ≤ 200000
@@ -58,5 +60,5 @@ pub record ServesAt (goes : ℕ → List Entry → List (ℕ × Stop) → Type 0
   pub asked : List Line
   pub there : slice_get shared.jobs job ≡ Some asked
   pub serves : (early beside : List LineRecord) → JobBegins shared.set.rows early beside old shared.released shared.usims asked
-      → ServesJob goes shared.set early beside kept asked served.lines (usim_in served.devices) served.sessions
+      → ServesJob goes shared.set early beside kept shared.stores asked served.lines served.devices served.sessions
   pub vectors : served.vectors ≡ (if shared.full then vectors_in shared.set served.lines else [])

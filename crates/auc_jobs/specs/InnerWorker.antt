@@ -10,8 +10,8 @@ use Rattle.auc_cards.specs.Devices.{job_devices}
 use Rattle.auc_world.specs.Given.{Before}
 use Rattle.auc_world.specs.Net.{Net, device_place}
 use Rattle.auc_world.specs.Setting.{Setting}
-use Rattle.auc_world.specs.Start.{start_of}
-use Rattle.auc_world.specs.World.{WorldState}
+use Rattle.auc_world.specs.Start.{Kept, start_of}
+use Rattle.auc_world.specs.World.{AreOfSame, WorldState}
 use Rattle.auc_usim.specs.Usim.{Memory}
 use Rattle.auc_world.specs.declared.record.LineRecord.{LineRecord}
 use Rattle.auc_world.specs.Released.{Released}
@@ -47,8 +47,8 @@ pub record AreForRows (rows : List Row) (subs : ℕ) (top : ℕ → ℕ) (world 
   pub placed : AreAtDevices rows world.net
 
 -- the network with which a job begins, with the devices of its subscribers
-abbrev pub start_world : Setting → List Memory → List Line → WorldState
-start_world set usims job = record { net = start_of set job; devices = (job_devices set usims job).devices }
+abbrev pub start_world : Setting → List Memory → List Kept → List Line → WorldState
+start_world set usims stores job = record { net = start_of set stores job; devices = (job_devices set usims stores job).devices }
 
 module _ {C : Type 0} where
   -- a worker goes on with the same borrow of its centre and with the borrow that the centre holds, by their names, and
@@ -63,7 +63,7 @@ module _ {C : Type 0} where
   pub record GoesOnWith (old_name name : ℕ) (old new : WorkerState C) : Type 0 where
     pub worker : IsSameWorker old_name name old new
     pub keyed : (sub : ℕ) → has_usim (usim_of new.set.rows new.world) sub ≡ has_usim (usim_of old.set.rows old.world) sub
-    pub homes : new.world.net.homes ≡ old.world.net.homes
+    pub homes : AreOfSame old.world.net.homes new.world.net.homes
     pub devices : new.world.net.devices ≡ old.world.net.devices
 
   -- what stands after a worker's lines, with the lines of earlier rounds and of its earlier jobs before them

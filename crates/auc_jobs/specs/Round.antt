@@ -10,6 +10,7 @@ use Rattle.auc_world.specs.Limits.{Raises, least_step}
 use Rattle.auc_world.specs.Lines.{all_lines, withheld_of}
 use Rattle.auc_world.specs.Round.{IsLawfulRound}
 use Rattle.auc_world.specs.Setting.{Setting}
+use Rattle.auc_world.specs.Start.{kept_by_jobs}
 use Rattle.auc_world.specs.Transcript.{reopened}
 use Rattle.auc_world.specs.declared.record.LineRecord.{LineRecord}
 use Rattle.auc_world.specs.declared.record.RoundRecord.{RoundRecord}
@@ -25,8 +26,10 @@ pub record IsJournalOf {D : Type 0} (rows : List Row) (journal : JournalState D)
 pub record Serves {D : Type 0} (seen : D → Option (List ℕ)) (may_leave : D → List ℕ → Type 0) (set : Setting) (early : List LineRecord) (state : Standing) (jobs : List (List Line)) (round : RoundRecord) (stop : Option Stop) (journal : JournalState D) (next : Standing) (after : JournalState D) : Type 0 where
   -- the subscribers' words after it
   pub words : List ℕ
-  pub lawful : IsLawfulRound set stop early state.words jobs round words
+  pub lawful : IsLawfulRound set stop early state.kept state.words jobs round words
   pub opens : next.words ≡ reopened words
+  -- homes and devices keep what the networks of the jobs leave
+  pub keeps : next.kept ≡ kept_by_jobs state.kept lawful.nets
   -- each released number is within the limits of the journal
   pub limits : Raises set.rows (all_lines round.jobs) (limits_of journal) words (limits_of after)
   -- each withheld number is above what the journal reserves for its subscriber, by the identity

@@ -3,16 +3,18 @@ use Rattle.std.specs.Prelude.{◌≡◌, ℕ, ◌≤◌, List, All, length, slic
 use Rattle.auc_sqn.specs.Number.{max_seq}
 use Rattle.auc_subs.specs.declared.row.Row.{Row}
 use Rattle.auc_world.specs.Setting.{Setting}
+use Rattle.auc_world.specs.Start.{Kept}
 use Rattle.auc_usim.specs.Usim.{Memory}
 use Rattle.auc_world.specs.declared.record.LineRecord.{LineRecord}
 use Rattle.auc_world.specs.Released.{Released, AreReleased}
 use Rattle.auc_jobs.specs.Usims.{AreOfRows, AreBehind}
 
--- the words at which the next round opens the subscribers, the subscribers' USIMs, and the numbers whose
--- vectors were released
+-- the words at which the next round opens the subscribers, the subscribers' USIMs, what their homes and devices keep of their
+-- names, and the numbers whose vectors were released
 pub record Standing : Type 0 where
   pub words : List ℕ
   pub usims : List Memory
+  pub kept : List Kept
   pub released : Released
 
 -- a state is one of the subscribers of some rows
@@ -20,6 +22,7 @@ pub record IsStateOf (rows : List Row) (state : Standing) : Type 0 where
   pub size : length state.words ≡ length rows
   pub numbers : All (λ word. word ≤ max_seq) state.words
   pub secrets : AreOfRows rows state.usims
+  pub kept : length state.kept ≡ length rows
 
 -- a state is the one after the lines of all rounds so far
 pub record StandsAt (set : Setting) (early : List LineRecord) (state : Standing) : Type 0 where

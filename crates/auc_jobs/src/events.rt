@@ -2,6 +2,7 @@
 
 ghost use Rattle.std.specs.Prelude.{◌≡◌, ◌≤◌, ◌<◌, length, IfOk, IfSome, OnOk};
 ghost use Rattle.auc_world.specs.Event.{asked_in};
+ghost use Rattle.auc_lines.specs.Part.{IsShortIdentity};
 ghost use Rattle.auc_world.specs.declared.event.Event.TheVariants.{Open};
 ghost use Rattle.auc_world.specs.Given.{EventGives, PlainGives, packet_in};
 ghost use Rattle.auc_world.specs.Net.{other};
@@ -103,6 +104,7 @@ impl<C: Centre> Worker<'_, C> {
     ) -> Result<(), NoMemory>
         requires known { line.now.sub < length self.old.set.rows }
         requires name { length line.now.name ≤ 255 }
+        requires identity { IsShortIdentity line.now.identity }
 
         ensures opened { OnOk result (WorkerServes C.kept C.goes self.old self.new
             (λ before lines. EventGives self.old.set before self.old.world.net (Open line.now) lines self.new.world.net)) }

@@ -1,6 +1,6 @@
 //! Serving a job, and what the jobs of a round gave.
 
-ghost use Rattle.std.specs.Prelude.{◌≡◌, ◌≤◌, ◌++◌, ◌∷◌, [], true, All, ℕ, length, OnOk, IfOk, if◌then◌else◌};
+ghost use Rattle.std.specs.Prelude.{◌≡◌, ◌≤◌, ◌++◌, ◌∷◌, [], true, All, ℕ, length, map, OnOk, IfOk, if◌then◌else◌};
 ghost use Rattle.auc_lines.specs.Part.{holds, is_held_by};
 ghost use Rattle.auc_world.specs.Given.{LineGives};
 ghost use Rattle.auc_world.specs.Sessions.{job_sessions};
@@ -11,7 +11,7 @@ ghost use Rattle.auc_jobs.specs.InnerWorker.{GoesOnWith, WorkerServes, WorkerSer
 ghost use Rattle.auc_jobs.specs.Usims.{AreOfRows};
 
 use crate::worker::Worker;
-use auc_cards::{JobDevices, Usims};
+use auc_cards::{JobDevices, Stores, Usims};
 use auc_edge::{Items, NoMemory};
 use auc_lines::Line;
 use auc_vector::Centre;
@@ -135,19 +135,21 @@ impl<C: Centre> Worker<'_, C> {
     }
 }
 
-/// The network with which a job begins, with devices that have copies of the USIMs that it holds.
+/// The network with which a job begins: its homes, and devices with copies of the USIMs that it holds and of what these keep.
 pub(crate) fn job_world(
     alloc: Global,
     set: &Setting,
     usims: &Usims,
+    stores: &Stores,
     job: &[Line],
 ) -> Result<World, NoMemory>
     requires rows { AreOfRows set.now.rows usims.now }
+    requires stores { length stores.now ≡ length set.now.rows }
     requires known { AreKnown (length set.now.rows) job.now }
     requires realm { length set.now.realm ≤ 255 }
-    ensures { IfOk result (λ world. world ≡ start_world set.now usims.now job.now) }
+    ensures { IfOk result (λ world. world ≡ start_world set.now usims.now stores.now job.now) }
 {
-    let (homes, devices) = JobDevices::of_job(alloc, set, usims, job)?.into_parts();
+    let (homes, devices) = JobDevices::of_job(alloc, set, usims, stores, job)?.into_parts();
     World::new(alloc, homes, devices)
 }
 
@@ -163,6 +165,7 @@ pub(crate) fn served_job(
     ensures lines { IfOk result (λ served. served.lines ≡ lines) }
     ensures homes { IfOk result (λ served. served.devices.homes ≡ world.net.homes) }
     ensures devices { IfOk result (λ served. served.devices.devices ≡ world.devices) }
+    ensures stores { IfOk result (λ served. map (λ device. device.store) served.devices.devices ≡ world.net.stores) }
     ensures sessions { IfOk result (λ served. served.sessions ≡ job_sessions world.net) }
     ensures vectors { IfOk result (λ served. served.vectors ≡ (if full then vectors_in set.now lines else [])) }
 {

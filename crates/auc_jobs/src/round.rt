@@ -8,12 +8,12 @@ ghost use Rattle.auc_lines.specs.Part.{AreApart};
 ghost use Rattle.auc_sqn.specs.Number.{max_seq};
 ghost use Rattle.auc_subs.specs.Subscriber.{AreSubscribers};
 ghost use Rattle.auc_world.specs.Lines.{all_lines};
-ghost use Rattle.auc_world.specs.Round.{IsLawfulRound, Withholds};
+ghost use Rattle.auc_world.specs.Round.{Withholds};
 ghost use Rattle.auc_world.specs.Transcript.{reopened};
 ghost use Rattle.auc_world.specs.Vectors.{vectors_in};
 ghost use Rattle.auc_world.specs.declared.record.LineRecord.{LineRecord};
 ghost use Rattle.auc_jobs.specs.InnerKeeping.{StaysNear, TellsStop};
-ghost use Rattle.auc_jobs.specs.InnerRound.{AreServed, GoesByLimits};
+ghost use Rattle.auc_jobs.specs.InnerRound.{AreServed, GoesByLimits, LeadsOn};
 ghost use Rattle.auc_jobs.specs.Round.{IsJournalOf, LeavesMore, Serves};
 ghost use Rattle.auc_jobs.specs.Serving.{AreAllKnown};
 ghost use Rattle.auc_jobs.specs.State.{StandsAt};
@@ -56,10 +56,10 @@ pub struct Served<D: Disk + Drop> {
 }
 
 /// Serves a round of this number by 1 to 64 workers, each in a thread of its own: opens each subscriber at its word of the
-/// state, has the workers claim the jobs and serve them, each with its own copies of the USIMs that it holds, closes
-/// the subscribers, and puts the USIMs back. A number is released only if the journal has reserved it. If an append is
-/// refused, the round goes on within the limits. The gate is told before a job and after its last line, by its number
-/// from 1.
+/// state, has the workers claim the jobs and serve them, each with its own copies of the USIMs that it holds and of what their
+/// homes and devices keep, closes the subscribers, and puts the copies back. A number is released only if the journal has
+/// reserved it. If an append is refused, the round goes on within the limits. The gate is told before a job and after its last
+/// line, by its number from 1.
 pub fn serve<D: Disk + Drop + Send, G: Gate + Sync, R: Threads + Wait + Sync>(
     rt: &R,
     alloc: Global,
@@ -135,7 +135,8 @@ fn pieces<D: Disk + Drop + Send, G: Gate + Sync, R: Threads + Wait + Sync>(
     requires realm { length set.now.realm ≤ 255 }
     requires journal { IsJournalOf set.now.rows journal }
     ensures served { IfOk result.result (λ done. (early : List LineRecord) → StandsAt set.now early state.now
-        → AreServed set.now early state.now.words jobs.now done.jobs.records done.jobs.devices done.jobs.sessions done.words) }
+        → AreServed set.now early state.now.kept state.now.words jobs.now done.jobs.records done.jobs.devices
+        done.jobs.sessions done.words) }
     ensures limits { IfOk result.result (λ done. GoesByLimits set.now done.stop done.jobs.records
         (limits_of journal) done.words (limits_of result.journal)) }
     ensures vectors { IfOk result.result (λ done. done.jobs.vectors
@@ -151,6 +152,7 @@ fn pieces<D: Disk + Drop + Send, G: Gate + Sync, R: Threads + Wait + Sync>(
         set,
         released: &state.released,
         usims: &state.usims,
+        stores: &state.stores,
         jobs,
         full,
     };
@@ -178,11 +180,12 @@ fn finish(
     requires few { length jobs.now ≤ 200000 }
     requires apart { AllPairs AreApart jobs.now }
     requires served { (early : List LineRecord) → StandsAt set.now early state.old
-        → AreServed set.now early state.old.words jobs.now done.jobs.records done.jobs.devices done.jobs.sessions done.words }
+        → AreServed set.now early state.old.kept state.old.words jobs.now done.jobs.records done.jobs.devices
+        done.jobs.sessions done.words }
     requires withholds { Withholds done.stop (all_lines done.jobs.records) }
     requires bound { All (λ word. word ≤ max_seq + 64) done.words }
     ensures lawful { IfOk result (λ ran. (early : List LineRecord) → StandsAt set.now early state.old
-        → IsLawfulRound set.now done.stop early state.old.words jobs.now ran.round done.words) }
+        → LeadsOn set.now done.stop early state.old jobs.now ran.round done.words state.new) }
     ensures opens { OnOk result (state.new.words ≡ reopened done.words) }
     ensures next { IfOk result (λ ran. (early : List LineRecord)
         → StandsAt set.now early state.old

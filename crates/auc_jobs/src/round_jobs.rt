@@ -10,7 +10,7 @@ ghost use Rattle.auc_jobs.specs.InnerWorker.{IsCentreOf};
 
 use crate::jobs::{ServedJob, job_world, served_job};
 use crate::worker::Worker;
-use auc_cards::Usims;
+use auc_cards::{Stores, Usims};
 use auc_centre::{Desk, Kept, Naming};
 use auc_disk::Disk;
 use auc_draw::{Book, Pass};
@@ -31,6 +31,8 @@ pub(crate) struct RoundJobs<'a> {
     pub(crate) released: &'a Numbers,
     /// The USIMs as the earlier rounds left them.
     pub(crate) usims: &'a Usims,
+    /// What homes and devices keep of the subscribers' names, as the earlier rounds left it.
+    pub(crate) stores: &'a Stores,
     pub(crate) jobs: &'a [JobPart],
     /// Whether the vectors of the lines are printed.
     pub(crate) full: bool,
@@ -45,6 +47,7 @@ impl<'a> Model for RoundJobs<'a> {
       set = r.set.now;
       released = r.released.now;
       usims = r.usims.now;
+      stores = r.stores.now;
       jobs = r.jobs.now;
       full = r.full;
     } };
@@ -77,7 +80,7 @@ impl RoundJobs<'_> {
             (C.kept centre.old) (C.kept centre.new) self.now job served) }
     {
         let asked = self.jobs[job as usize].as_slice();
-        let world = job_world(alloc, self.set, self.usims, asked)?;
+        let world = job_world(alloc, self.set, self.usims, self.stores, asked)?;
         let mut worker = Worker::new(alloc, centre, self.set, self.released, world);
         let served = worker.serve_lines(rt, alloc, asked);
         let ended = worker.end(alloc);

@@ -3,11 +3,12 @@
 ghost use Rattle.std.specs.Prelude.{◌≡◌, ◌≤◌, [], List, All, length, map, IfOk, OnErr, OnOk};
 ghost use Rattle.auc_sqn.specs.Number.{max_seq};
 ghost use Rattle.auc_world.specs.Setting.{Setting};
+ghost use Rattle.auc_world.specs.Start.{fresh_kept};
 ghost use Rattle.auc_world.specs.declared.record.LineRecord.{LineRecord};
 ghost use Rattle.auc_jobs.specs.InnerRound.{IsAdvanced};
 ghost use Rattle.auc_jobs.specs.State.{StandsAt};
 
-use auc_cards::{JobDevices, Usims};
+use auc_cards::{JobDevices, Stores, Usims};
 use auc_edge::{Items, NoMemory};
 use auc_released::Numbers;
 use auc_subs::Subscribers;
@@ -15,12 +16,13 @@ use auc_world::{JobRecord, note_all, reopened};
 use std::alloc::Global;
 use std::marker::Model;
 
-/// What passes from round to round: where the next round opens each subscriber's numbers, the subscribers' USIMs, and
-/// the numbers whose vectors were released.
+/// What passes from round to round: where the next round opens each subscriber's numbers, the subscribers' USIMs, what their
+/// homes and devices keep of their names (RFC 4187 §4.1.1.7), and the numbers whose vectors were released.
 #[derive(Drop)]
 pub struct State {
     pub(crate) words: Items<u64>,
     pub(crate) usims: Usims,
+    pub(crate) stores: Stores,
     pub(crate) released: Numbers,
 }
 
@@ -29,23 +31,30 @@ impl Model for State {
 
     ghost Value = { Standing };
 
-    ghost view = { λ state. record { words = state.words; usims = state.usims; released = state.released } };
+    ghost view = { λ state. record {
+      words = state.words;
+      usims = state.usims;
+      kept = state.stores;
+      released = state.released;
+    } };
 }
 
 impl State {
-    /// The state before the first round: the numbers are those of the rows, and no vector is released.
+    /// The state before the first round: the numbers are those of the rows, no name was given, and no vector is released.
     pub fn new(alloc: Global, subs: &Subscribers) -> Result<State, NoMemory>
         ensures words { IfOk result (λ state. state.words ≡ map (λ row. row.seq) subs.now) }
+        ensures names { IfOk result (λ state. state.kept ≡ map (λ row. fresh_kept) subs.now) }
         ensures stands { IfOk result (λ state. (set : Setting) → set.rows ≡ subs.now → StandsAt set [] state) }
     {
         Ok(State {
             words: first_words(alloc, subs)?,
             usims: Usims::new(alloc, subs)?,
+            stores: Stores::new(alloc, subs)?,
             released: Numbers::new(alloc),
         })
     }
 
-    /// Opens the next round at other words, as a restart does. USIMs and released numbers stay.
+    /// Opens the next round at other words, as a restart does. All else stays.
     pub fn open_at(&mut self, words: Items<u64>)
         requires size { length words ≡ length self.old.words }
         requires numbers { All (λ word. word ≤ max_seq) words }
@@ -69,6 +78,7 @@ impl State {
         let openings = reopened(alloc, words)?;
         note_all(&mut self.released, records)?;
         self.usims.put_back(devices);
+        self.stores.put_back(devices);
         self.words = openings;
         Ok(())
     }

@@ -229,7 +229,8 @@ fn close(
     requires keeper { (keeper.id ≡ book.id) × (keeper.passes ≡ length all.items) }
     requires stop { stop ≡ keeper.stop }
     ensures served { IfOk result (λ done. (early : List LineRecord) → Begins round.now early
-        → AreServed round.now.set early book.openings round.now.jobs done.jobs.records done.jobs.devices done.jobs.sessions done.words) }
+        → AreServed round.now.set early round.now.stores book.openings round.now.jobs done.jobs.records done.jobs.devices
+        done.jobs.sessions done.words) }
     ensures limits { IfOk result (λ done.
         GoesByLimits round.now.set stop done.jobs.records book.limits done.words keeper.limits) }
     ensures looked { IfOk result (λ done. (i : ℕ) → i < length book.openings
@@ -266,7 +267,8 @@ pub(crate) fn serve_pieces<D: Disk + Drop + Send, G: Gate + Sync, R: Threads + W
     requires journal { IsJournalOf round.now.set.rows journal }
     requires workers { (1 ≤ workers) × (workers ≤ 64) }
     ensures served { IfOk result.result (λ done. (early : List LineRecord) → Begins round.now early
-        → AreServed round.now.set early openings.now round.now.jobs done.jobs.records done.jobs.devices done.jobs.sessions done.words) }
+        → AreServed round.now.set early round.now.stores openings.now round.now.jobs done.jobs.records done.jobs.devices
+        done.jobs.sessions done.words) }
     ensures limits { IfOk result.result (λ done. GoesByLimits round.now.set done.stop done.jobs.records
         (limits_of journal) done.words (limits_of result.journal)) }
     ensures vectors { IfOk result.result (λ done. done.jobs.vectors

@@ -1,6 +1,8 @@
 -- What the parts of a scenario ask for, and whose USIMs their jobs hold.
-use Rattle.std.specs.Prelude.{◌≡◌, ℕ, ◌==◌, ◌≤◌, Bool, true, false, List, [], ◌∷◌, ◌++◌, fold, sum_by, Option, Some, None, if◌then◌else◌}
+use Rattle.std.specs.Prelude.{◌≡◌, ℕ, ◌==◌, ◌≤◌, Bool, true, false, List, [], ◌∷◌, ◌++◌, length, fold, sum_by, Option, Some, None, if◌then◌else◌}
 use Rattle.std.specs.List.{list_any}
+use Rattle.auc_lines.specs.declared.part.Identity.{Identity}
+use Rattle.auc_lines.specs.declared.part.Identity.TheVariants.{Held, Permanent, Text}
 use Rattle.auc_lines.specs.declared.part.Line.{Line}
 use Rattle.auc_lines.specs.declared.part.Line.TheVariants.{Draw, Give, Sync, Session, Start, Deliver, Repeat, GiveUp, Plain}
 use Rattle.auc_lines.specs.declared.part.Part.{Part}
@@ -70,3 +72,9 @@ last_bit = 111
 abbrev pub IsBit : Option ℕ → Type 0
 IsBit None = Unit {0}
 IsBit (Some bit) = bit ≤ last_bit
+
+-- an identity whose text, if it is one, has at most 255 bytes
+abbrev pub IsShortIdentity : Identity → Type 0
+IsShortIdentity Held = Unit {0}
+IsShortIdentity Permanent = Unit {0}
+IsShortIdentity (Text text) = length text ≤ 255

@@ -12,6 +12,18 @@ pub enum End {
     Peer,
 }
 
+/// The identity that a session's peer gives first (RFC 3748 §5.1).
+#[derive(Drop)]
+pub enum Identity {
+    /// The one that the device holds: the pseudonym of the session's method if it has one, else the permanent identity
+    /// (RFC 4187 §4.1).
+    Held,
+    /// The permanent identity.
+    Permanent,
+    /// This text of 1 to 255 bytes.
+    Text(Octets),
+}
+
 /// How a session is opened, at the device of the subscriber at the place `sub`.
 #[derive(Drop)]
 pub struct SessionLine {
@@ -25,10 +37,16 @@ pub struct SessionLine {
     pub name: Octets,
     /// The name that the peer expects, if it compares names, 1 to 255 bytes. EAP-AKA has none.
     pub peer_name: Option<Octets>,
+    /// Whether the server offers pseudonyms (RFC 4187 §4.1.1.7).
+    pub pseudonym: bool,
     /// Whether the server of EAP-AKA tells that it would rather have used EAP-AKA' (RFC 9048 §4).
     pub bidding: bool,
+    /// Whether the server asks for any identity (RFC 4187 §10.3) before it looks at one.
+    pub any: bool,
     /// Whether the device has EAP-AKA'.
     pub has_prime: bool,
+    /// The identity that the peer gives first.
+    pub identity: Identity,
 }
 
 /// A line of a job, for the subscriber at the place `sub` or for the session of a number. A packet's number counts the

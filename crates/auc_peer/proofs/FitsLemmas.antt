@@ -8,7 +8,10 @@ use Rattle.auc_peer.specs.Laws.{Fits, keys_of_inputs, EachTurnFits}
 use Rattle.auc_peer.specs.Attributes.{checkcode, differs}
 use Rattle.auc_peer.specs.Subscription.{Subscription}
 use Rattle.auc_peer.specs.Rows.{peer_row}
-use Rattle.auc_peer.specs.Table.{accepted, accepting, again, challenged, client, genuine, network_in, opened, peer_does, succeeded, text_or_none}
+use Rattle.auc_peer.specs.Table.{accepted, accepting, again, challenged, client, genuine, network_in, opened, own_code, peer_does, succeeded, text_or_none}
+use Rattle.auc_peer.specs.declared.decrypted.Decrypted.{Decrypted}
+use Rattle.auc_peer.specs.declared.decrypted.Decrypted.TheVariants as decrypted
+use Rattle.auc_reauth.specs.Device.{Keeps}
 use Rattle.auc_peer.specs.declared.peer.Challenge.{Challenge}
 use Rattle.auc_peer.specs.declared.peer.Last.{Last}
 use Rattle.auc_peer.specs.declared.peer.Peer.{Peer}
@@ -37,29 +40,29 @@ same_keys : (k keys : KeySet) → state.Answered k ≡ state.Answered keys → k
 same_keys k keys e = cc
 
 -- a Challenge whose AT_MAC and AT_CHECKCODE were right
-opened_fits : (s : Subscription) (p : Peer) (seen : Seen) (c : Challenge) (res sqn : List ℕ) (readable : Bool)
-    → Fit s (opened (accepting p seen c) seen res sqn (keys_of_inputs s p.options.method (network_in p seen) c (text_or_none p.identity)) readable)
-opened_fits s p seen c res sqn true = λ keys e. record { challenge = c; was_accepted = refl; same = same_keys (keys_of_inputs s p.options.method (network_in p seen) c (text_or_none p.identity)) keys e }
-opened_fits s p seen c res sqn false = client_fits s (accepting p seen c) seen why.Undecryptable (Some (note.Accepted sqn)) true
+opened_fits : (s : Subscription) (p : Peer) (seen : Seen) (c : Challenge) (res sqn : List ℕ) (inner : Decrypted)
+    → Fit s (opened (accepting p seen c) seen res sqn (keys_of_inputs s p.options.method (network_in p seen) c (text_or_none p.identity)) inner)
+opened_fits s p seen c res sqn (decrypted.Attributes next) = λ keys e. record { challenge = c; was_accepted = refl; same = same_keys (keys_of_inputs s p.options.method (network_in p seen) c (text_or_none p.identity)) keys e }
+opened_fits s p seen c res sqn decrypted.Unreadable = client_fits s (accepting p seen c) seen why.Undecryptable (Some (note.Accepted sqn)) true
 
 -- a Challenge that the USIM accepted
-accepted_fits : (s : Subscription) (p : Peer) (seen : Seen) (c : Challenge) (res sqn : List ℕ) (readable : Bool)
-    → Fit s (accepted p seen c res sqn (keys_of_inputs s p.options.method (network_in p seen) c (text_or_none p.identity)) readable)
-accepted_fits s p seen c res sqn readable =
+accepted_fits : (s : Subscription) (p : Peer) (seen : Seen) (c : Challenge) (res sqn : List ℕ) (inner : Decrypted)
+    → Fit s (accepted p seen c res sqn (keys_of_inputs s p.options.method (network_in p seen) c (text_or_none p.identity)) inner)
+accepted_fits s p seen c res sqn inner =
     let k = keys_of_inputs s p.options.method (network_in p seen) c (text_or_none p.identity) in
-    on_cond (Fit s) (not (is_sealed p.options.method k.k_aut [] seen)) (client p seen why.WrongMac (Some (note.Accepted sqn)) false) (genuine (accepting p seen c) seen res sqn k readable)
+    on_cond (Fit s) (not (is_sealed p.options.method k.k_aut [] seen)) (client p seen why.WrongMac (Some (note.Accepted sqn)) false) (genuine (accepting p seen c) seen res sqn k inner)
     (client_fits s p seen why.WrongMac (Some (note.Accepted sqn)) false)
-    (on_cond (Fit s) (differs (checkcode seen)) (client (accepting p seen c) seen why.WrongCheckcode (Some (note.Accepted sqn)) true) (opened (accepting p seen c) seen res sqn k readable)
-    (client_fits s (accepting p seen c) seen why.WrongCheckcode (Some (note.Accepted sqn)) true) (opened_fits s p seen c res sqn readable))
+    (on_cond (Fit s) (differs (own_code p) (checkcode seen)) (client (accepting p seen c) seen why.WrongCheckcode (Some (note.Accepted sqn)) true) (opened (accepting p seen c) seen res sqn k inner)
+    (client_fits s (accepting p seen c) seen why.WrongCheckcode (Some (note.Accepted sqn)) true) (opened_fits s p seen c res sqn inner))
 
 -- a Challenge
-challenged_fits : (s : Subscription) (p : Peer) (seen : Seen) (c : Challenge) (n : Option UsimNote) (readable : Bool) → Fits s p → Fit s (challenged s p seen c n readable)
+challenged_fits : (s : Subscription) (p : Peer) (seen : Seen) (c : Challenge) (n : Option UsimNote) (inner : Decrypted) → Fits s p → Fit s (challenged s p seen c n inner)
 unfolding acceptance
-challenged_fits s p seen c None readable f = f
-challenged_fits s p seen c (Some note.WrongMac) readable f = λ keys e. absurd cc
-challenged_fits s p seen c (Some (note.Sync sqn)) readable f = λ keys e. absurd cc
-challenged_fits s p seen c (Some (note.Accepted sqn)) readable f =
-    accepted_fits s p seen c (f2 s.secret.k s.secret.opc c.rand) (sqn_in s.secret c.rand c.autn) readable
+challenged_fits s p seen c None inner f = f
+challenged_fits s p seen c (Some note.WrongMac) inner f = λ keys e. absurd cc
+challenged_fits s p seen c (Some (note.Sync sqn)) inner f = λ keys e. absurd cc
+challenged_fits s p seen c (Some (note.Accepted sqn)) inner f =
+    accepted_fits s p seen c (f2 s.secret.k s.secret.opc c.rand) (sqn_in s.secret c.rand c.autn) inner
 
 -- a repetition
 again_fits : (s : Subscription) (p : Peer) (last : Option Last) → Fits s p → Fit s (again p last)
@@ -74,17 +77,18 @@ succeeded_fits s p (state.Refusing cause) f = f
 succeeded_fits s p state.Ended f = f
 
 -- each row
-row_fits : (s : Subscription) (p : Peer) (seen : Seen) (r : Row) (n : Option UsimNote) (readable : Bool) → Fits s p → Fit s (peer_does s p seen r n readable)
-row_fits s p seen (row.Ignore cause) n readable f = f
-row_fits s p seen row.Again n readable f = again_fits s p p.last f
-row_fits s p seen row.First n readable f = λ keys e. absurd cc
-row_fits s p seen (row.Client cause) n readable f = client_fits s p seen cause None false
-row_fits s p seen (row.Reject cause) n readable f = λ keys e. absurd (refused keys cause e)
-row_fits s p seen (row.Notified code) n readable f = λ keys e. absurd cc
-row_fits s p seen (row.Challenged c) n readable f = challenged_fits s p seen c n readable f
-row_fits s p seen row.Success n readable f = succeeded_fits s p p.state f
-row_fits s p seen (row.Failure cause) n readable f = λ keys e. absurd cc
+row_fits : (s : Subscription) (keeps : Keeps) (p : Peer) (seen : Seen) (r : Row) (n : Option UsimNote) (inner : Decrypted) → Fits s p → Fit s (peer_does s keeps p seen r n inner)
+row_fits s keeps p seen (row.Ignore cause) n inner f = f
+row_fits s keeps p seen row.Again n inner f = again_fits s p p.last f
+row_fits s keeps p seen row.First n inner f = λ keys e. absurd cc
+row_fits s keeps p seen (row.Identity asked) n inner f = λ keys e. absurd cc
+row_fits s keeps p seen (row.Client cause) n inner f = client_fits s p seen cause None false
+row_fits s keeps p seen (row.Reject cause) n inner f = λ keys e. absurd (refused keys cause e)
+row_fits s keeps p seen (row.Notified code) n inner f = λ keys e. absurd cc
+row_fits s keeps p seen (row.Challenged c) n inner f = challenged_fits s p seen c n inner f
+row_fits s keeps p seen row.Success n inner f = succeeded_fits s p p.state f
+row_fits s keeps p seen (row.Failure cause) n inner f = λ keys e. absurd cc
 
 -- each turn
 pub each_turn_fits : EachTurnFits
-each_turn_fits s p seen n readable f = row_fits s p seen (peer_row p seen) n readable f
+each_turn_fits s keeps p seen n inner f = row_fits s keeps p seen (peer_row p seen) n inner f

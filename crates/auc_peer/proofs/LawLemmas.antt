@@ -7,8 +7,11 @@ use Rattle.auc_peer.specs.Attributes.{checkcode, differs}
 use Rattle.auc_peer.specs.Subscription.{Subscription}
 use Rattle.auc_peer.specs.Laws.{Input, Bytes, GiveUp, after, Came, SuccessNeedsARightMac}
 use Rattle.auc_peer.specs.Rows.{peer_row}
-use Rattle.auc_peer.specs.Table.{accepted, accepting, again, by_answer, challenged, client, gave_up, genuine, keys_at, opened, peer_does, succeeded}
-use Rattle.auc_peer.specs.declared.options.PeerOptions.{PeerOptions}
+use Rattle.auc_peer.specs.Table.{accepted, accepting, again, by_answer, challenged, client, gave_up, genuine, keys_at, opened, own_code, peer_does, succeeded}
+use Rattle.auc_peer.specs.Told.{Told}
+use Rattle.auc_peer.specs.declared.decrypted.Decrypted.{Decrypted}
+use Rattle.auc_peer.specs.declared.decrypted.Decrypted.TheVariants as decrypted
+use Rattle.auc_reauth.specs.Device.{Keeps}
 use Rattle.auc_peer.specs.declared.peer.Challenge.{Challenge}
 use Rattle.auc_peer.specs.declared.peer.Last.{Last}
 use Rattle.auc_peer.specs.declared.peer.Peer.{Peer}
@@ -46,38 +49,38 @@ refusing : (keys : KeySet) (w : PeerWhy) → state.Refusing w ≡ state.Answered
 refusing keys w e = cc
 
 -- the keys that a turn ends with are those that it was given
-opened_keys : (p : Peer) (seen : Seen) (res sqn : List ℕ) (k keys : KeySet) (readable : Bool) → IsAnswered keys (opened p seen res sqn k readable) → k ≡ keys
-opened_keys p seen res sqn k keys true e = cc
-opened_keys p seen res sqn k keys false e = absurd cc
+opened_keys : (p : Peer) (seen : Seen) (res sqn : List ℕ) (k keys : KeySet) (inner : Decrypted) → IsAnswered keys (opened p seen res sqn k inner) → k ≡ keys
+opened_keys p seen res sqn k keys (decrypted.Attributes next) e = cc
+opened_keys p seen res sqn k keys decrypted.Unreadable e = absurd cc
 
-genuine_keys : (p : Peer) (seen : Seen) (res sqn : List ℕ) (k keys : KeySet) (readable : Bool) → IsAnswered keys (genuine p seen res sqn k readable) → k ≡ keys
-genuine_keys p seen res sqn k keys readable e =
-    elim (pick (IsAnswered keys) (differs (checkcode seen)) (client p seen why.WrongCheckcode (Some (note.Accepted sqn)) true) (opened p seen res sqn k readable) e) [
+genuine_keys : (p : Peer) (seen : Seen) (res sqn : List ℕ) (k keys : KeySet) (inner : Decrypted) → IsAnswered keys (genuine p seen res sqn k inner) → k ≡ keys
+genuine_keys p seen res sqn k keys inner e =
+    elim (pick (IsAnswered keys) (differs (own_code p) (checkcode seen)) (client p seen why.WrongCheckcode (Some (note.Accepted sqn)) true) (opened p seen res sqn k inner) e) [
       | inl h ↦ absurd (refusing keys why.WrongCheckcode h.1)
-      | inr h ↦ opened_keys p seen res sqn k keys readable h.1
+      | inr h ↦ opened_keys p seen res sqn k keys inner h.1
     ]
 
 -- a Challenge that was answered had a right AT_MAC
-accepted_right : (p : Peer) (seen : Seen) (c : Challenge) (res sqn : List ℕ) (k keys : KeySet) (readable : Bool) → IsAnswered keys (accepted p seen c res sqn k readable) → is_sealed p.options.method keys.k_aut [] seen ≡ true
-accepted_right p seen c res sqn k keys readable e =
-    elim (pick (IsAnswered keys) (not (is_sealed p.options.method k.k_aut [] seen)) (client p seen why.WrongMac (Some (note.Accepted sqn)) false) (genuine (accepting p seen c) seen res sqn k readable) e) [
+accepted_right : (p : Peer) (seen : Seen) (c : Challenge) (res sqn : List ℕ) (k keys : KeySet) (inner : Decrypted) → IsAnswered keys (accepted p seen c res sqn k inner) → is_sealed p.options.method keys.k_aut [] seen ≡ true
+accepted_right p seen c res sqn k keys inner e =
+    elim (pick (IsAnswered keys) (not (is_sealed p.options.method k.k_aut [] seen)) (client p seen why.WrongMac (Some (note.Accepted sqn)) false) (genuine (accepting p seen c) seen res sqn k inner) e) [
       | inl h ↦ absurd (refusing keys why.WrongMac h.1)
       | inr h ↦
-          subst (λ (x : KeySet). is_sealed p.options.method x.k_aut [] seen ≡ true) (genuine_keys (accepting p seen c) seen res sqn k keys readable h.1)
+          subst (λ (x : KeySet). is_sealed p.options.method x.k_aut [] seen ≡ true) (genuine_keys (accepting p seen c) seen res sqn k keys inner h.1)
           (true_if (is_sealed p.options.method k.k_aut [] seen) h.0)
     ]
 
-answer_right : (p : Peer) (seen : Seen) (c : Challenge) (a : Answer) (keys : KeySet) (readable : Bool) → IsAnswered keys (by_answer p seen c a readable) → is_sealed p.options.method keys.k_aut [] seen ≡ true
-answer_right p seen c answer.WrongMac keys readable e = absurd cc
-answer_right p seen c (answer.SyncFailure auts sqn) keys readable e = absurd cc
-answer_right p seen c (answer.Accepted res ck ik ak amf sqn) keys readable e = accepted_right p seen c res sqn (keys_at p seen c ik ck) keys readable e
+answer_right : (p : Peer) (seen : Seen) (c : Challenge) (a : Answer) (keys : KeySet) (inner : Decrypted) → IsAnswered keys (by_answer p seen c a inner) → is_sealed p.options.method keys.k_aut [] seen ≡ true
+answer_right p seen c answer.WrongMac keys inner e = absurd cc
+answer_right p seen c (answer.SyncFailure auts sqn) keys inner e = absurd cc
+answer_right p seen c (answer.Accepted res ck ik ak amf sqn) keys inner e = accepted_right p seen c res sqn (keys_at p seen c ik ck) keys inner e
 
 abbrev Right : KeySet → Peer → Seen → Type 0
 Right keys p seen = (p.state ≡ state.Answered keys) ⊎ (is_sealed p.options.method keys.k_aut [] seen ≡ true)
 
-challenged_right : (s : Subscription) (p : Peer) (seen : Seen) (c : Challenge) (n : Option UsimNote) (keys : KeySet) (readable : Bool) → IsAnswered keys (challenged s p seen c n readable) → Right keys p seen
-challenged_right s p seen c None keys readable e = inl e
-challenged_right s p seen c (Some n) keys readable e = inr (answer_right p seen c (answer_noted s.secret c n) keys readable e)
+challenged_right : (s : Subscription) (p : Peer) (seen : Seen) (c : Challenge) (n : Option UsimNote) (keys : KeySet) (inner : Decrypted) → IsAnswered keys (challenged s p seen c n inner) → Right keys p seen
+challenged_right s p seen c None keys inner e = inl e
+challenged_right s p seen c (Some n) keys inner e = inr (answer_right p seen c (answer_noted s.secret c n) keys inner e)
 
 again_right : (p : Peer) (seen : Seen) (last : Option Last) (keys : KeySet) → IsAnswered keys (again p last) → Right keys p seen
 again_right p seen None keys e = inl e
@@ -90,16 +93,17 @@ succeeded_right p seen (state.Refusing cause) keys e = inl e
 succeeded_right p seen state.Ended keys e = inl e
 
 -- a turn that ends in Answered began there, or had a right AT_MAC
-row_right : (s : Subscription) (p : Peer) (seen : Seen) (r : Row) (n : Option UsimNote) (readable : Bool) (keys : KeySet) → IsAnswered keys (peer_does s p seen r n readable) → Right keys p seen
-row_right s p seen (row.Ignore cause) n readable keys e = inl e
-row_right s p seen row.Again n readable keys e = again_right p seen p.last keys e
-row_right s p seen row.First n readable keys e = absurd cc
-row_right s p seen (row.Client cause) n readable keys e = absurd cc
-row_right s p seen (row.Reject cause) n readable keys e = absurd cc
-row_right s p seen (row.Notified code) n readable keys e = absurd cc
-row_right s p seen (row.Challenged c) n readable keys e = challenged_right s p seen c n keys readable e
-row_right s p seen row.Success n readable keys e = succeeded_right p seen p.state keys e
-row_right s p seen (row.Failure cause) n readable keys e = absurd cc
+row_right : (s : Subscription) (keeps : Keeps) (p : Peer) (seen : Seen) (r : Row) (n : Option UsimNote) (inner : Decrypted) (keys : KeySet) → IsAnswered keys (peer_does s keeps p seen r n inner) → Right keys p seen
+row_right s keeps p seen (row.Ignore cause) n inner keys e = inl e
+row_right s keeps p seen row.Again n inner keys e = again_right p seen p.last keys e
+row_right s keeps p seen row.First n inner keys e = absurd cc
+row_right s keeps p seen (row.Identity asked) n inner keys e = absurd cc
+row_right s keeps p seen (row.Client cause) n inner keys e = absurd cc
+row_right s keeps p seen (row.Reject cause) n inner keys e = absurd cc
+row_right s keeps p seen (row.Notified code) n inner keys e = absurd cc
+row_right s keeps p seen (row.Challenged c) n inner keys e = challenged_right s p seen c n keys inner e
+row_right s keeps p seen row.Success n inner keys e = succeeded_right p seen p.state keys e
+row_right s keeps p seen (row.Failure cause) n inner keys e = absurd cc
 
 -- ---- a turn that ends in Success
 
@@ -107,9 +111,9 @@ abbrev IsSuccess : KeySet → List ℕ → Peer × Turn PeerWhy → Type 0
 IsSuccess keys bytes t = t.1.step ≡ step.Ended (outcome.Success keys) bytes
 
 -- no answer ends a session in Success
-opened_none : (p : Peer) (seen : Seen) (res sqn bytes : List ℕ) (k keys : KeySet) (readable : Bool) → IsSuccess keys bytes (opened p seen res sqn k readable) → ⊥
-opened_none p seen res sqn bytes k keys true e = cc
-opened_none p seen res sqn bytes k keys false e = cc
+opened_none : (p : Peer) (seen : Seen) (res sqn bytes : List ℕ) (k keys : KeySet) (inner : Decrypted) → IsSuccess keys bytes (opened p seen res sqn k inner) → ⊥
+opened_none p seen res sqn bytes k keys (decrypted.Attributes next) e = cc
+opened_none p seen res sqn bytes k keys decrypted.Unreadable e = cc
 
 picked_none : (keys : KeySet) (bytes : List ℕ) (b : Bool) (x y : Peer × Turn PeerWhy) → (IsSuccess keys bytes x → ⊥) → (IsSuccess keys bytes y → ⊥) → IsSuccess keys bytes (cond b x y) → ⊥
 picked_none keys bytes true x y f g e = f e
@@ -118,15 +122,15 @@ picked_none keys bytes false x y f g e = g e
 sent_none : (keys : KeySet) (bytes sent : List ℕ) → ◌≡◌ {A = Step PeerWhy} (step.Sent sent) (step.Ended (outcome.Success keys) bytes) → ⊥
 sent_none keys bytes sent e = cc
 
-answer_none : (p : Peer) (seen : Seen) (c : Challenge) (a : Answer) (keys : KeySet) (bytes : List ℕ) (readable : Bool) → IsSuccess keys bytes (by_answer p seen c a readable) → ⊥
-answer_none p seen c answer.WrongMac keys bytes readable e = cc
-answer_none p seen c (answer.SyncFailure auts sqn) keys bytes readable e = cc
-answer_none p seen c (answer.Accepted res ck ik ak amf sqn) keys bytes readable e =
+answer_none : (p : Peer) (seen : Seen) (c : Challenge) (a : Answer) (keys : KeySet) (bytes : List ℕ) (inner : Decrypted) → IsSuccess keys bytes (by_answer p seen c a inner) → ⊥
+answer_none p seen c answer.WrongMac keys bytes inner e = cc
+answer_none p seen c (answer.SyncFailure auts sqn) keys bytes inner e = cc
+answer_none p seen c (answer.Accepted res ck ik ak amf sqn) keys bytes inner e =
     let k = keys_at p seen c ik ck in
-    picked_none keys bytes (not (is_sealed p.options.method k.k_aut [] seen)) (client p seen why.WrongMac (Some (note.Accepted sqn)) false) (genuine (accepting p seen c) seen res sqn k readable)
+    picked_none keys bytes (not (is_sealed p.options.method k.k_aut [] seen)) (client p seen why.WrongMac (Some (note.Accepted sqn)) false) (genuine (accepting p seen c) seen res sqn k inner)
     (sent_none keys bytes _)
-    (picked_none keys bytes (differs (checkcode seen)) (client (accepting p seen c) seen why.WrongCheckcode (Some (note.Accepted sqn)) true) (opened (accepting p seen c) seen res sqn k readable)
-    (sent_none keys bytes _) (opened_none (accepting p seen c) seen res sqn bytes k keys readable)) e
+    (picked_none keys bytes (differs (own_code p) (checkcode seen)) (client (accepting p seen c) seen why.WrongCheckcode (Some (note.Accepted sqn)) true) (opened (accepting p seen c) seen res sqn k inner)
+    (sent_none keys bytes _) (opened_none (accepting p seen c) seen res sqn bytes k keys inner)) e
 
 success_in : (p : Peer) (s : PeerState) (keys : KeySet) (bytes : List ℕ) → IsSuccess keys bytes (succeeded p s) → s ≡ state.Answered keys
 success_in p (state.Answered k) keys bytes e = cc
@@ -138,21 +142,22 @@ pub again_none : (p : Peer) (last : Option Last) (keys : KeySet) (bytes : List �
 again_none p None keys bytes e = cc
 again_none p (Some last) keys bytes e = cc
 
-pub challenged_none : (s : Subscription) (p : Peer) (seen : Seen) (c : Challenge) (n : Option UsimNote) (keys : KeySet) (bytes : List ℕ) (readable : Bool) → IsSuccess keys bytes (challenged s p seen c n readable) → ⊥
-challenged_none s p seen c None keys bytes readable e = cc
-challenged_none s p seen c (Some n) keys bytes readable e = answer_none p seen c (answer_noted s.secret c n) keys bytes readable e
+pub challenged_none : (s : Subscription) (p : Peer) (seen : Seen) (c : Challenge) (n : Option UsimNote) (keys : KeySet) (bytes : List ℕ) (inner : Decrypted) → IsSuccess keys bytes (challenged s p seen c n inner) → ⊥
+challenged_none s p seen c None keys bytes inner e = cc
+challenged_none s p seen c (Some n) keys bytes inner e = answer_none p seen c (answer_noted s.secret c n) keys bytes inner e
 
 -- a turn that ends in Success began in Answered
-pub row_success : (s : Subscription) (p : Peer) (seen : Seen) (r : Row) (n : Option UsimNote) (readable : Bool) (keys : KeySet) (bytes : List ℕ) → IsSuccess keys bytes (peer_does s p seen r n readable) → p.state ≡ state.Answered keys
-row_success s p seen (row.Ignore cause) n readable keys bytes e = absurd cc
-row_success s p seen row.Again n readable keys bytes e = absurd (again_none p p.last keys bytes e)
-row_success s p seen row.First n readable keys bytes e = absurd cc
-row_success s p seen (row.Client cause) n readable keys bytes e = absurd cc
-row_success s p seen (row.Reject cause) n readable keys bytes e = absurd cc
-row_success s p seen (row.Notified code) n readable keys bytes e = absurd cc
-row_success s p seen (row.Challenged c) n readable keys bytes e = absurd (challenged_none s p seen c n keys bytes readable e)
-row_success s p seen row.Success n readable keys bytes e = success_in p p.state keys bytes e
-row_success s p seen (row.Failure cause) n readable keys bytes e = absurd cc
+pub row_success : (s : Subscription) (keeps : Keeps) (p : Peer) (seen : Seen) (r : Row) (n : Option UsimNote) (inner : Decrypted) (keys : KeySet) (bytes : List ℕ) → IsSuccess keys bytes (peer_does s keeps p seen r n inner) → p.state ≡ state.Answered keys
+row_success s keeps p seen (row.Ignore cause) n inner keys bytes e = absurd cc
+row_success s keeps p seen row.Again n inner keys bytes e = absurd (again_none p p.last keys bytes e)
+row_success s keeps p seen row.First n inner keys bytes e = absurd cc
+row_success s keeps p seen (row.Identity asked) n inner keys bytes e = absurd cc
+row_success s keeps p seen (row.Client cause) n inner keys bytes e = absurd cc
+row_success s keeps p seen (row.Reject cause) n inner keys bytes e = absurd cc
+row_success s keeps p seen (row.Notified code) n inner keys bytes e = absurd cc
+row_success s keeps p seen (row.Challenged c) n inner keys bytes e = absurd (challenged_none s p seen c n keys bytes inner e)
+row_success s keeps p seen row.Success n inner keys bytes e = success_in p p.state keys bytes e
+row_success s keeps p seen (row.Failure cause) n inner keys bytes e = absurd cc
 
 -- ---- over all inputs
 
@@ -163,23 +168,23 @@ gave_none p (state.Answered k) keys f e = cc
 gave_none p (state.Refusing cause) keys f e = cc
 
 -- a peer after some inputs has the options that it began with
-after_options : (o : PeerOptions) (before : List Input) → (after o before).options ≡ o
+after_options : (o : Told) (before : List Input) → (after o before).options ≡ o
 after_options o [] = refl
-after_options o (Bytes s seen n readable ∷ before) =
-    row_options s (after o before) seen (peer_row (after o before) seen) n readable ∙ after_options o before
+after_options o (Bytes s keeps seen n inner ∷ before) =
+    row_options s keeps (after o before) seen (peer_row (after o before) seen) n inner ∙ after_options o before
 after_options o (GiveUp ∷ before) = gave_options (after o before) (after o before).state ∙ after_options o before
 
 -- a peer in Answered has received a right AT_MAC
-came : (o : PeerOptions) (keys : KeySet) (before : List Input) → (after o before).state ≡ state.Answered keys → Came o.method keys before
+came : (o : Told) (keys : KeySet) (before : List Input) → (after o before).state ≡ state.Answered keys → Came o.method keys before
 came o keys [] e = absurd cc
-came o keys (Bytes s seen n readable ∷ before) e =
-    elim (row_right s (after o before) seen (peer_row (after o before) seen) n readable keys e) [
+came o keys (Bytes s keeps seen n inner ∷ before) e =
+    elim (row_right s keeps (after o before) seen (peer_row (after o before) seen) n inner keys e) [
       | inl h ↦ inr (came o keys before h)
-      | inr h ↦ inl (subst (λ (x : PeerOptions). is_sealed x.method keys.k_aut [] seen ≡ true) (after_options o before) h)
+      | inr h ↦ inl (subst (λ (x : Told). is_sealed x.method keys.k_aut [] seen ≡ true) (after_options o before) h)
     ]
 came o keys (GiveUp ∷ before) e = absurd (gave_none (after o before) (after o before).state keys refl e)
 
 -- Success needs a right AT_MAC
 pub success_needs : SuccessNeedsARightMac
-success_needs o before s seen n readable keys bytes e =
-    came o keys before (row_success s (after o before) seen (peer_row (after o before) seen) n readable keys bytes e)
+success_needs o before s keeps seen n inner keys bytes e =
+    came o keys before (row_success s keeps (after o before) seen (peer_row (after o before) seen) n inner keys bytes e)

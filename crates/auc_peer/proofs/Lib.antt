@@ -8,3 +8,5 @@ mod MoveLemmas
 mod NameLemmas
 mod NetworkLemmas
 mod TurnLemmas
+mod AdoptLemmas
+mod StepLemmas

@@ -11,12 +11,16 @@ use Rattle.auc_packet.specs.declared.packet.Packet.TheVariants as packet
 use Rattle.auc_packet.specs.declared.received.Reading.{Reading}
 use Rattle.auc_packet.specs.declared.received.Reading.TheVariants as reading
 use Rattle.auc_packet.specs.declared.subtype.Subtype.TheVariants as subtype
+use Rattle.auc_request.specs.Request.{first_code}
 use Rattle.auc_peer.specs.Asking.{answer_noted}
-use Rattle.auc_peer.specs.Attributes.{checkcode, differs, first_code}
+use Rattle.auc_peer.specs.Attributes.{checkcode, differs}
 use Rattle.auc_peer.specs.Laws.{EachTurnMoves}
 use Rattle.auc_peer.specs.Rows.{is_last, late, notified_or, of_kind, on_failure, on_success, peer_row, repeats, requested, row_headed, row_in}
 use Rattle.auc_peer.specs.Subscription.{Subscription}
-use Rattle.auc_peer.specs.Table.{accepted, accepting, again, by_answer, challenged, client, genuine, keys_at, opened, peer_does, succeeded}
+use Rattle.auc_peer.specs.Table.{accepted, accepting, again, by_answer, challenged, client, genuine, keys_at, opened, own_code, peer_does, succeeded}
+use Rattle.auc_peer.specs.declared.decrypted.Decrypted.{Decrypted}
+use Rattle.auc_peer.specs.declared.decrypted.Decrypted.TheVariants as decrypted
+use Rattle.auc_reauth.specs.Device.{Keeps}
 use Rattle.auc_peer.specs.declared.peer.Challenge.{Challenge}
 use Rattle.auc_peer.specs.declared.peer.Last.{Last}
 use Rattle.auc_peer.specs.declared.peer.Peer.{Peer}
@@ -39,9 +43,10 @@ use Rattle.auc_peer.proofs.OptionLemmas.{on_cond, row_options}
 
 -- ---- which rows are a waiting peer's
 
--- a first identity is sent, and a challenge taken, by a waiting peer
+-- an identity is sent, and a challenge taken, by a waiting peer
 abbrev Waits : Peer → Row → Type 0
 Waits p row.First = p.state ≡ state.Waiting
+Waits p (row.Identity asked) = p.state ≡ state.Waiting
 Waits p (row.Challenged c) = p.state ≡ state.Waiting
 Waits p other = Unit {0}
 
@@ -51,6 +56,7 @@ picked P false x y f g = g
 
 any_waits : (p : Peer) (r : Row) → p.state ≡ state.Waiting → Waits p r
 any_waits p row.First e = e
+any_waits p (row.Identity asked) e = e
 any_waits p (row.Challenged c) e = e
 any_waits p (row.Ignore cause) e = tt
 any_waits p row.Again e = tt
@@ -117,29 +123,30 @@ in_waits p (state.Refusing cause) last seen e = headed_waits p (state.Refusing c
 
 -- ---- what a turn keeps
 
-abbrev Keeps : Peer → Peer × Turn PeerWhy → Type 0
-Keeps p t = (p.state ≡ state.Waiting) ⊎ ((t.0.accepted ≡ p.accepted) × (t.0.identity ≡ p.identity))
+abbrev Stays : Peer → Peer × Turn PeerWhy → Type 0
+Stays p t = (p.state ≡ state.Waiting) ⊎ ((t.0.accepted ≡ p.accepted) × (t.0.identity ≡ p.identity))
 
-again_keeps : (p : Peer) (last : Option Last) → Keeps p (again p last)
+again_keeps : (p : Peer) (last : Option Last) → Stays p (again p last)
 again_keeps p None = inr (refl, refl)
 again_keeps p (Some last) = inr (refl, refl)
 
-succeeded_keeps : (p : Peer) (s : PeerState) → Keeps p (succeeded p s)
+succeeded_keeps : (p : Peer) (s : PeerState) → Stays p (succeeded p s)
 succeeded_keeps p (state.Answered keys) = inr (refl, refl)
 succeeded_keeps p state.Waiting = inr (refl, refl)
 succeeded_keeps p (state.Refusing cause) = inr (refl, refl)
 succeeded_keeps p state.Ended = inr (refl, refl)
 
-row_keeps : (s : Subscription) (p : Peer) (seen : Seen) (r : Row) (n : Option UsimNote) (readable : Bool) → Waits p r → Keeps p (peer_does s p seen r n readable)
-row_keeps s p seen (row.Ignore cause) n readable w = inr (refl, refl)
-row_keeps s p seen row.Again n readable w = again_keeps p p.last
-row_keeps s p seen row.First n readable w = inl w
-row_keeps s p seen (row.Client cause) n readable w = inr (refl, refl)
-row_keeps s p seen (row.Reject cause) n readable w = inr (refl, refl)
-row_keeps s p seen (row.Notified code) n readable w = inr (refl, refl)
-row_keeps s p seen (row.Challenged c) n readable w = inl w
-row_keeps s p seen row.Success n readable w = succeeded_keeps p p.state
-row_keeps s p seen (row.Failure cause) n readable w = inr (refl, refl)
+row_keeps : (s : Subscription) (keeps : Keeps) (p : Peer) (seen : Seen) (r : Row) (n : Option UsimNote) (inner : Decrypted) → Waits p r → Stays p (peer_does s keeps p seen r n inner)
+row_keeps s keeps p seen (row.Ignore cause) n inner w = inr (refl, refl)
+row_keeps s keeps p seen row.Again n inner w = again_keeps p p.last
+row_keeps s keeps p seen row.First n inner w = inl w
+row_keeps s keeps p seen (row.Identity asked) n inner w = inl w
+row_keeps s keeps p seen (row.Client cause) n inner w = inr (refl, refl)
+row_keeps s keeps p seen (row.Reject cause) n inner w = inr (refl, refl)
+row_keeps s keeps p seen (row.Notified code) n inner w = inr (refl, refl)
+row_keeps s keeps p seen (row.Challenged c) n inner w = inl w
+row_keeps s keeps p seen row.Success n inner w = succeeded_keeps p p.state
+row_keeps s keeps p seen (row.Failure cause) n inner w = inr (refl, refl)
 
 -- the name of the network stays, unless a waiting peer takes a challenge
 abbrev KeepsNetwork : Peer → Peer × Turn PeerWhy → Type 0
@@ -155,16 +162,17 @@ succeeded_network p state.Waiting = inr refl
 succeeded_network p (state.Refusing cause) = inr refl
 succeeded_network p state.Ended = inr refl
 
-row_network : (s : Subscription) (p : Peer) (seen : Seen) (r : Row) (n : Option UsimNote) (readable : Bool) → Waits p r → KeepsNetwork p (peer_does s p seen r n readable)
-row_network s p seen (row.Ignore cause) n readable w = inr refl
-row_network s p seen row.Again n readable w = again_network p p.last
-row_network s p seen row.First n readable w = inr refl
-row_network s p seen (row.Client cause) n readable w = inr refl
-row_network s p seen (row.Reject cause) n readable w = inr refl
-row_network s p seen (row.Notified code) n readable w = inr refl
-row_network s p seen (row.Challenged c) n readable w = inl w
-row_network s p seen row.Success n readable w = succeeded_network p p.state
-row_network s p seen (row.Failure cause) n readable w = inr refl
+row_network : (s : Subscription) (keeps : Keeps) (p : Peer) (seen : Seen) (r : Row) (n : Option UsimNote) (inner : Decrypted) → Waits p r → KeepsNetwork p (peer_does s keeps p seen r n inner)
+row_network s keeps p seen (row.Ignore cause) n inner w = inr refl
+row_network s keeps p seen row.Again n inner w = again_network p p.last
+row_network s keeps p seen row.First n inner w = inr refl
+row_network s keeps p seen (row.Identity asked) n inner w = inr refl
+row_network s keeps p seen (row.Client cause) n inner w = inr refl
+row_network s keeps p seen (row.Reject cause) n inner w = inr refl
+row_network s keeps p seen (row.Notified code) n inner w = inr refl
+row_network s keeps p seen (row.Challenged c) n inner w = inl w
+row_network s keeps p seen row.Success n inner w = succeeded_network p p.state
+row_network s keeps p seen (row.Failure cause) n inner w = inr refl
 
 -- ---- keys come with a right AT_MAC
 
@@ -177,29 +185,29 @@ refused keys w e = cc
 client_checks : (p : Peer) (seen : Seen) (w : PeerWhy) (n : Option UsimNote) (checked : Bool) (keys : KeySet) → Checks keys (client p seen w n checked)
 client_checks p seen w n checked keys = λ e. absurd (refused keys w e)
 
-opened_checks : (p : Peer) (seen : Seen) (res sqn : List ℕ) (k : KeySet) (readable : Bool) (keys : KeySet) → Checks keys (opened p seen res sqn k readable)
-opened_checks p seen res sqn k true keys = λ e. refl
-opened_checks p seen res sqn k false keys = client_checks p seen why.Undecryptable (Some (note.Accepted sqn)) true keys
+opened_checks : (p : Peer) (seen : Seen) (res sqn : List ℕ) (k : KeySet) (inner : Decrypted) (keys : KeySet) → Checks keys (opened p seen res sqn k inner)
+opened_checks p seen res sqn k (decrypted.Attributes next) keys = λ e. refl
+opened_checks p seen res sqn k decrypted.Unreadable keys = client_checks p seen why.Undecryptable (Some (note.Accepted sqn)) true keys
 
-accepted_checks : (p : Peer) (seen : Seen) (c : Challenge) (res sqn : List ℕ) (k : KeySet) (readable : Bool) (keys : KeySet) → Checks keys (accepted p seen c res sqn k readable)
-accepted_checks p seen c res sqn k readable keys =
-    on_cond (Checks keys) (not (is_sealed p.options.method k.k_aut [] seen)) (client p seen why.WrongMac (Some (note.Accepted sqn)) false) (genuine (accepting p seen c) seen res sqn k readable)
+accepted_checks : (p : Peer) (seen : Seen) (c : Challenge) (res sqn : List ℕ) (k : KeySet) (inner : Decrypted) (keys : KeySet) → Checks keys (accepted p seen c res sqn k inner)
+accepted_checks p seen c res sqn k inner keys =
+    on_cond (Checks keys) (not (is_sealed p.options.method k.k_aut [] seen)) (client p seen why.WrongMac (Some (note.Accepted sqn)) false) (genuine (accepting p seen c) seen res sqn k inner)
     (client_checks p seen why.WrongMac (Some (note.Accepted sqn)) false keys)
-    (on_cond (Checks keys) (differs (checkcode seen)) (client (accepting p seen c) seen why.WrongCheckcode (Some (note.Accepted sqn)) true) (opened (accepting p seen c) seen res sqn k readable)
-    (client_checks (accepting p seen c) seen why.WrongCheckcode (Some (note.Accepted sqn)) true keys) (opened_checks (accepting p seen c) seen res sqn k readable keys))
+    (on_cond (Checks keys) (differs (own_code p) (checkcode seen)) (client (accepting p seen c) seen why.WrongCheckcode (Some (note.Accepted sqn)) true) (opened (accepting p seen c) seen res sqn k inner)
+    (client_checks (accepting p seen c) seen why.WrongCheckcode (Some (note.Accepted sqn)) true keys) (opened_checks (accepting p seen c) seen res sqn k inner keys))
 
-answer_checks : (p : Peer) (seen : Seen) (c : Challenge) (a : Answer) (readable : Bool) (keys : KeySet) → Checks keys (by_answer p seen c a readable)
-answer_checks p seen c answer.WrongMac readable keys = λ e. absurd cc
-answer_checks p seen c (answer.SyncFailure auts sqn) readable keys = λ e. absurd cc
-answer_checks p seen c (answer.Accepted res ck ik ak amf sqn) readable keys = accepted_checks p seen c res sqn (keys_at p seen c ik ck) readable keys
+answer_checks : (p : Peer) (seen : Seen) (c : Challenge) (a : Answer) (inner : Decrypted) (keys : KeySet) → Checks keys (by_answer p seen c a inner)
+answer_checks p seen c answer.WrongMac inner keys = λ e. absurd cc
+answer_checks p seen c (answer.SyncFailure auts sqn) inner keys = λ e. absurd cc
+answer_checks p seen c (answer.Accepted res ck ik ak amf sqn) inner keys = accepted_checks p seen c res sqn (keys_at p seen c ik ck) inner keys
 
 abbrev Right : KeySet → Peer → Peer × Turn PeerWhy → Type 0
 Right keys p t = (p.state ≡ state.Answered keys) ⊎ (t.1.checked ≡ true)
 
-challenged_checks : (s : Subscription) (p : Peer) (seen : Seen) (c : Challenge) (n : Option UsimNote) (readable : Bool) (keys : KeySet)
-    → (challenged s p seen c n readable).0.state ≡ state.Answered keys → Right keys p (challenged s p seen c n readable)
-challenged_checks s p seen c None readable keys e = inl e
-challenged_checks s p seen c (Some n) readable keys e = inr (answer_checks p seen c (answer_noted s.secret c n) readable keys e)
+challenged_checks : (s : Subscription) (p : Peer) (seen : Seen) (c : Challenge) (n : Option UsimNote) (inner : Decrypted) (keys : KeySet)
+    → (challenged s p seen c n inner).0.state ≡ state.Answered keys → Right keys p (challenged s p seen c n inner)
+challenged_checks s p seen c None inner keys e = inl e
+challenged_checks s p seen c (Some n) inner keys e = inr (answer_checks p seen c (answer_noted s.secret c n) inner keys e)
 
 again_checks : (p : Peer) (last : Option Last) (keys : KeySet) → (again p last).0.state ≡ state.Answered keys → Right keys p (again p last)
 again_checks p None keys e = inl e
@@ -211,17 +219,18 @@ succeeded_checks p state.Waiting keys e = inl e
 succeeded_checks p (state.Refusing cause) keys e = inl e
 succeeded_checks p state.Ended keys e = inl e
 
-row_checks : (s : Subscription) (p : Peer) (seen : Seen) (r : Row) (n : Option UsimNote) (readable : Bool) (keys : KeySet)
-    → (peer_does s p seen r n readable).0.state ≡ state.Answered keys → Right keys p (peer_does s p seen r n readable)
-row_checks s p seen (row.Ignore cause) n readable keys e = inl e
-row_checks s p seen row.Again n readable keys e = again_checks p p.last keys e
-row_checks s p seen row.First n readable keys e = absurd cc
-row_checks s p seen (row.Client cause) n readable keys e = absurd cc
-row_checks s p seen (row.Reject cause) n readable keys e = absurd (refused keys cause e)
-row_checks s p seen (row.Notified code) n readable keys e = absurd cc
-row_checks s p seen (row.Challenged c) n readable keys e = challenged_checks s p seen c n readable keys e
-row_checks s p seen row.Success n readable keys e = succeeded_checks p p.state keys e
-row_checks s p seen (row.Failure cause) n readable keys e = absurd cc
+row_checks : (s : Subscription) (keeps : Keeps) (p : Peer) (seen : Seen) (r : Row) (n : Option UsimNote) (inner : Decrypted) (keys : KeySet)
+    → (peer_does s keeps p seen r n inner).0.state ≡ state.Answered keys → Right keys p (peer_does s keeps p seen r n inner)
+row_checks s keeps p seen (row.Ignore cause) n inner keys e = inl e
+row_checks s keeps p seen row.Again n inner keys e = again_checks p p.last keys e
+row_checks s keeps p seen row.First n inner keys e = absurd cc
+row_checks s keeps p seen (row.Identity asked) n inner keys e = absurd cc
+row_checks s keeps p seen (row.Client cause) n inner keys e = absurd cc
+row_checks s keeps p seen (row.Reject cause) n inner keys e = absurd (refused keys cause e)
+row_checks s keeps p seen (row.Notified code) n inner keys e = absurd cc
+row_checks s keeps p seen (row.Challenged c) n inner keys e = challenged_checks s p seen c n inner keys e
+row_checks s keeps p seen row.Success n inner keys e = succeeded_checks p p.state keys e
+row_checks s keeps p seen (row.Failure cause) n inner keys e = absurd cc
 
 -- ---- the end of a session
 
@@ -234,28 +243,29 @@ succeeded_ends p state.Waiting keys bytes e = absurd cc
 succeeded_ends p (state.Refusing cause) keys bytes e = absurd cc
 succeeded_ends p state.Ended keys bytes e = absurd cc
 
-row_ends : (s : Subscription) (p : Peer) (seen : Seen) (r : Row) (n : Option UsimNote) (readable : Bool) (keys : KeySet) (bytes : List ℕ)
-    → Succeeds keys bytes (peer_does s p seen r n readable) → (peer_does s p seen r n readable).0.state ≡ state.Ended
-row_ends s p seen (row.Ignore cause) n readable keys bytes e = absurd cc
-row_ends s p seen row.Again n readable keys bytes e = absurd (again_none p p.last keys bytes e)
-row_ends s p seen row.First n readable keys bytes e = absurd cc
-row_ends s p seen (row.Client cause) n readable keys bytes e = absurd cc
-row_ends s p seen (row.Reject cause) n readable keys bytes e = absurd cc
-row_ends s p seen (row.Notified code) n readable keys bytes e = absurd cc
-row_ends s p seen (row.Challenged c) n readable keys bytes e = absurd (challenged_none s p seen c n keys bytes readable e)
-row_ends s p seen row.Success n readable keys bytes e = succeeded_ends p p.state keys bytes e
-row_ends s p seen (row.Failure cause) n readable keys bytes e = refl
+row_ends : (s : Subscription) (keeps : Keeps) (p : Peer) (seen : Seen) (r : Row) (n : Option UsimNote) (inner : Decrypted) (keys : KeySet) (bytes : List ℕ)
+    → Succeeds keys bytes (peer_does s keeps p seen r n inner) → (peer_does s keeps p seen r n inner).0.state ≡ state.Ended
+row_ends s keeps p seen (row.Ignore cause) n inner keys bytes e = absurd cc
+row_ends s keeps p seen row.Again n inner keys bytes e = absurd (again_none p p.last keys bytes e)
+row_ends s keeps p seen row.First n inner keys bytes e = absurd cc
+row_ends s keeps p seen (row.Identity asked) n inner keys bytes e = absurd cc
+row_ends s keeps p seen (row.Client cause) n inner keys bytes e = absurd cc
+row_ends s keeps p seen (row.Reject cause) n inner keys bytes e = absurd cc
+row_ends s keeps p seen (row.Notified code) n inner keys bytes e = absurd cc
+row_ends s keeps p seen (row.Challenged c) n inner keys bytes e = absurd (challenged_none s p seen c n keys bytes inner e)
+row_ends s keeps p seen row.Success n inner keys bytes e = succeeded_ends p p.state keys bytes e
+row_ends s keeps p seen (row.Failure cause) n inner keys bytes e = refl
 
 -- each turn
 pub each_turn_moves : EachTurnMoves
-each_turn_moves s p seen n readable = record {
-  options = row_options s p seen (peer_row p seen) n readable;
-  network = row_network s p seen (peer_row p seen) n readable (in_waits p p.state p.last seen refl);
-  keeps = row_keeps s p seen (peer_row p seen) n readable (in_waits p p.state p.last seen refl);
-  keys = λ keys e. row_checks s p seen (peer_row p seen) n readable keys e;
+each_turn_moves s keeps p seen n inner = record {
+  options = row_options s keeps p seen (peer_row p seen) n inner;
+  network = row_network s keeps p seen (peer_row p seen) n inner (in_waits p p.state p.last seen refl);
+  keeps = row_keeps s keeps p seen (peer_row p seen) n inner (in_waits p p.state p.last seen refl);
+  keys = λ keys e. row_checks s keeps p seen (peer_row p seen) n inner keys e;
   success = λ keys bytes e. (
-    row_success s p seen (peer_row p seen) n readable keys bytes e,
-    row_ends s p seen (peer_row p seen) n readable keys bytes e,
+    row_success s keeps p seen (peer_row p seen) n inner keys bytes e,
+    row_ends s keeps p seen (peer_row p seen) n inner keys bytes e,
   );
-  ended = λ e. ap (λ (st : PeerState). (peer_does s p seen (row_in p.options st p.last seen) n readable).0.state) e ∙ e;
+  ended = λ e. ap (λ (st : PeerState). (peer_does s keeps p seen (row_in p.options st p.last seen) n inner).0.state) e ∙ e;
 }

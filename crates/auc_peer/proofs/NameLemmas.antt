@@ -17,13 +17,17 @@ use Rattle.auc_packet.specs.declared.received.Reading.{Reading}
 use Rattle.auc_packet.specs.declared.received.Reading.TheVariants as reading
 use Rattle.auc_packet.specs.declared.subtype.Subtype.{Subtype}
 use Rattle.auc_packet.specs.declared.subtype.Subtype.TheVariants as subtype
+use Rattle.auc_request.specs.Request.{autn_of, bids, first_code, first_kdf, first_value, has_bytes, is_known_kdf, is_right_name, is_separated, name_in, rand_of, request_in}
 use Rattle.auc_peer.specs.Asking.{answer_noted}
-use Rattle.auc_peer.specs.Attributes.{attrs_in, autn_of, bids, checkcode, differs, first_code, first_kdf, has_bytes, name_in, rand_of}
+use Rattle.auc_peer.specs.Attributes.{attrs_in, checkcode, differs}
 use Rattle.auc_peer.specs.Laws.{EachTurnIsNamed, Named}
-use Rattle.auc_peer.specs.Rows.{challenge_of, is_known_kdf, is_last, is_response, is_right_name, is_separated, late, method_row, notified_or, of_kind, on_failure, on_sound, on_success, peer_row, repeats, requested, row_headed, row_in, waiting}
+use Rattle.auc_peer.specs.Rows.{challenge_of, is_last, is_response, late, method_row, notified_or, of_kind, on_failure, on_sound, on_success, peer_row, repeats, requested, row_headed, row_in, waiting}
 use Rattle.auc_peer.specs.Subscription.{Subscription}
-use Rattle.auc_peer.specs.Table.{accepted, accepting, again, by_answer, challenged, client, genuine, keys_at, network_of, opened, peer_does, succeeded}
-use Rattle.auc_peer.specs.declared.options.PeerOptions.{PeerOptions}
+use Rattle.auc_peer.specs.Table.{accepted, accepting, again, by_answer, challenged, client, genuine, keys_at, network_of, opened, own_code, peer_does, succeeded}
+use Rattle.auc_peer.specs.Told.{Told}
+use Rattle.auc_peer.specs.declared.decrypted.Decrypted.{Decrypted}
+use Rattle.auc_peer.specs.declared.decrypted.Decrypted.TheVariants as decrypted
+use Rattle.auc_reauth.specs.Device.{Keeps}
 use Rattle.auc_peer.specs.declared.peer.Challenge.{Challenge}
 use Rattle.auc_peer.specs.declared.peer.Last.{Last}
 use Rattle.auc_peer.specs.declared.peer.Peer.{Peer}
@@ -33,7 +37,6 @@ use Rattle.auc_peer.specs.declared.rows.Row.{Row}
 use Rattle.auc_peer.specs.declared.rows.Row.TheVariants as row
 use Rattle.auc_peer.specs.declared.why.PeerWhy.{PeerWhy}
 use Rattle.auc_peer.specs.declared.why.PeerWhy.TheVariants as why
-use Rattle.auc_seal.specs.Encrypted.{first_value}
 use Rattle.auc_usim.specs.declared.answer.Answer.{Answer}
 use Rattle.auc_usim.specs.declared.answer.Answer.TheVariants as answer
 use Rattle.auc_vector.specs.declared.notes.UsimNote.{UsimNote}
@@ -45,7 +48,7 @@ use Rattle.auc_peer.proofs.OptionLemmas.{on_cond}
 -- ---- which challenges are taken
 
 -- a challenge that is taken is of the network that a peer of EAP-AKA' means
-abbrev Tests : PeerOptions → List Attr → Row → Type 0
+abbrev Tests : Told → List Attr → Row → Type 0
 Tests o list (row.Challenged c) = (name : List ℕ) → o.method ≡ method.Prime → o.name ≡ Some name → network_of o.method list ≡ name
 Tests o list other = Unit {0}
 
@@ -61,7 +64,7 @@ true_if false e = absurd cc
 right_is : (own name : List ℕ) → is_right_name (Some own) name ≡ true → name ≡ own
 right_is own name e = (bytes_eq-Decides name own).0 (and_parts (has_bytes name) (bytes_eq name own) e).1
 
-right_name : (o : PeerOptions) (list : List Attr) (own : List ℕ) → o.method ≡ method.Prime → o.name ≡ Some own → is_right_name o.name (name_in list) ≡ true → network_of o.method list ≡ own
+right_name : (o : Told) (list : List Attr) (own : List ℕ) → o.method ≡ method.Prime → o.name ≡ Some own → is_right_name o.name (name_in list) ≡ true → network_of o.method list ≡ own
 right_name o list own m n e =
     ap (λ (x : Method). network_of x list) m
     ∙ right_is own (name_in list) (ap (λ (x : Option (List ℕ)). is_right_name x (name_in list)) (sym n) ∙ e)
@@ -69,7 +72,7 @@ right_name o list own m n e =
 not_prime : ◌≡◌ {A = Method} method.Aka method.Prime → ⊥
 not_prime e = cc
 
-method_tests : (o : PeerOptions) (m : Method) (list : List Attr) (c : Challenge) → o.method ≡ m → Tests o list (method_row m o list c)
+method_tests : (o : Told) (m : Method) (list : List Attr) (c : Challenge) → o.method ≡ m → Tests o list (method_row m o list c)
 method_tests o method.Aka list c e =
     picked (Tests o list) (o.has_prime && bids list) (row.Reject why.Downgrade) (row.Challenged c) tt
     (λ g name m n. absurd (not_prime (sym e ∙ m)))
@@ -81,18 +84,18 @@ method_tests o method.Prime list c e =
     (λ g. picked (Tests o list) (not (is_separated c.autn)) (row.Reject why.NoSeparation) (row.Challenged c) tt
     (λ h name m n. right_name o list name m n (true_if (is_right_name o.name (name_in list)) g))))
 
-challenge_tests : (o : PeerOptions) (list : List Attr) (rand autn : Option (List ℕ)) → Tests o list (challenge_of o list rand autn)
+challenge_tests : (o : Told) (list : List Attr) (rand autn : Option (List ℕ)) → Tests o list (challenge_of o list rand autn)
 challenge_tests o list (Some rand) (Some autn) = method_tests o o.method list (record { rand = rand; autn = autn }) refl
 challenge_tests o list (Some rand) None = tt
 challenge_tests o list None (Some autn) = tt
 challenge_tests o list None None = tt
 
 -- a code's row takes no challenge
-code_tests : (o : PeerOptions) (list : List Attr) (other : Row) (code : Option ℕ) → Tests o list other → Tests o list (notified_or other code)
+code_tests : (o : Told) (list : List Attr) (other : Row) (code : Option ℕ) → Tests o list other → Tests o list (notified_or other code)
 code_tests o list other None t = t
 code_tests o list other (Some code) t = picked (Tests o list) (nat_le 16384 code && nat_lt code 32768) (row.Notified code) (row.Ignore reason.Unexpected) tt (λ e. tt)
 
-sound_tests : (o : PeerOptions) (s : Subtype) (list : List Attr) → Tests o list (on_sound o s list)
+sound_tests : (o : Told) (s : Subtype) (list : List Attr) → Tests o list (on_sound o s list)
 sound_tests o subtype.Challenge list =
     picked (Tests o list) (is_missing subtype.Challenge true list) (row.Client why.Missing) (challenge_of o list (first_value rand_of list) (first_value autn_of list)) tt
     (λ e. challenge_tests o list (first_value rand_of list) (first_value autn_of list))
@@ -100,10 +103,11 @@ sound_tests o subtype.Reauthentication list = tt
 sound_tests o subtype.Notification list = code_tests o list (row.Client why.Missing) (first_code list) tt
 sound_tests o subtype.AuthenticationReject list = tt
 sound_tests o subtype.SynchronizationFailure list = tt
-sound_tests o subtype.Identity list = tt
+sound_tests o subtype.Identity list =
+    picked (Tests o list) (is_missing subtype.Identity true list) (row.Client why.Missing) (row.Identity (request_in list)) tt (λ e. tt)
 sound_tests o subtype.ClientError list = tt
 
-waiting_tests : (o : PeerOptions) (r : Reading) → Tests o (attrs_in r) (waiting o r)
+waiting_tests : (o : Told) (r : Reading) → Tests o (attrs_in r) (waiting o r)
 waiting_tests o (reading.Fault fault) = tt
 waiting_tests o (reading.Read (packet.Identity request id text)) = tt
 waiting_tests o (reading.Read (packet.Success id)) = tt
@@ -111,7 +115,7 @@ waiting_tests o (reading.Read (packet.Failure id)) = tt
 waiting_tests o (reading.Read (packet.Aka request id m s list)) =
     picked (Tests o list) (is_response s || is_malformed s true o.method list) (row.Client why.Malformed) (on_sound o s list) tt (λ e. sound_tests o s list)
 
-late_tests : (o : PeerOptions) (own : Method) (list : List Attr) (r : Reading) → Tests o list (late own r)
+late_tests : (o : Told) (own : Method) (list : List Attr) (r : Reading) → Tests o list (late own r)
 late_tests o own list (reading.Read (packet.Aka request id m subtype.Notification attrs)) =
     picked (Tests o list) (is_malformed subtype.Notification true own attrs) (row.Ignore reason.Unexpected) (notified_or (row.Ignore reason.Unexpected) (first_code attrs)) tt
     (λ e. code_tests o list (row.Ignore reason.Unexpected) (first_code attrs) tt)
@@ -126,25 +130,25 @@ late_tests o own list (reading.Read (packet.Success id)) = tt
 late_tests o own list (reading.Read (packet.Failure id)) = tt
 late_tests o own list (reading.Fault fault) = tt
 
-requested_tests : (o : PeerOptions) (s : PeerState) (r : Reading) → Tests o (attrs_in r) (requested o s r)
+requested_tests : (o : Told) (s : PeerState) (r : Reading) → Tests o (attrs_in r) (requested o s r)
 requested_tests o state.Waiting r = waiting_tests o r
 requested_tests o (state.Answered keys) r = late_tests o o.method (attrs_in r) r
 requested_tests o (state.Refusing cause) r = tt
 requested_tests o state.Ended r = tt
 
-success_tests : (o : PeerOptions) (list : List Attr) (s : PeerState) → Tests o list (on_success s)
+success_tests : (o : Told) (list : List Attr) (s : PeerState) → Tests o list (on_success s)
 success_tests o list (state.Answered keys) = tt
 success_tests o list state.Waiting = tt
 success_tests o list (state.Refusing cause) = tt
 success_tests o list state.Ended = tt
 
-failure_tests : (o : PeerOptions) (list : List Attr) (s : PeerState) → Tests o list (on_failure s)
+failure_tests : (o : Told) (list : List Attr) (s : PeerState) → Tests o list (on_failure s)
 failure_tests o list (state.Answered keys) = tt
 failure_tests o list state.Waiting = tt
 failure_tests o list (state.Refusing cause) = tt
 failure_tests o list state.Ended = tt
 
-kind_tests : (o : PeerOptions) (s : PeerState) (last : Option Last) (seen : Seen) (head : Head) (kind : Option ℕ) → Tests o (attrs_in seen.reading) (of_kind o s last seen head kind)
+kind_tests : (o : Told) (s : PeerState) (last : Option Last) (seen : Seen) (head : Head) (kind : Option ℕ) → Tests o (attrs_in seen.reading) (of_kind o s last seen head kind)
 kind_tests o s last seen head None =
     picked (Tests o (attrs_in seen.reading)) (not (is_last last head.id)) (row.Ignore reason.Unexpected) (cond (head.code == 3) (on_success s) (on_failure s)) tt
     (λ e. picked (Tests o (attrs_in seen.reading)) (head.code == 3) (on_success s) (on_failure s) (success_tests o (attrs_in seen.reading) s) (λ f. failure_tests o (attrs_in seen.reading) s))
@@ -152,13 +156,13 @@ kind_tests o s last seen head (Some kind) =
     picked (Tests o (attrs_in seen.reading)) (not (kind == 1 || kind == method_type o.method)) (row.Ignore reason.OtherType) (requested o s seen.reading) tt
     (λ e. requested_tests o s seen.reading)
 
-headed_tests : (o : PeerOptions) (s : PeerState) (last : Option Last) (seen : Seen) (head : Option Head) → Tests o (attrs_in seen.reading) (row_headed o s last seen head)
+headed_tests : (o : Told) (s : PeerState) (last : Option Last) (seen : Seen) (head : Option Head) → Tests o (attrs_in seen.reading) (row_headed o s last seen head)
 headed_tests o s last seen None = tt
 headed_tests o s last seen (Some head) =
     picked (Tests o (attrs_in seen.reading)) (head.code == 2) (row.Ignore reason.NotForMe) (cond (repeats last seen.bytes) row.Again (of_kind o s last seen head head.kind)) tt
     (λ e. picked (Tests o (attrs_in seen.reading)) (repeats last seen.bytes) row.Again (of_kind o s last seen head head.kind) tt (λ f. kind_tests o s last seen head head.kind))
 
-in_tests : (o : PeerOptions) (s : PeerState) (last : Option Last) (seen : Seen) → Tests o (attrs_in seen.reading) (row_in o s last seen)
+in_tests : (o : Told) (s : PeerState) (last : Option Last) (seen : Seen) → Tests o (attrs_in seen.reading) (row_in o s last seen)
 in_tests o state.Ended last seen = tt
 in_tests o state.Waiting last seen = headed_tests o state.Waiting last seen (head_at seen.bytes)
 in_tests o (state.Answered keys) last seen = headed_tests o (state.Answered keys) last seen (head_at seen.bytes)
@@ -169,24 +173,24 @@ in_tests o (state.Refusing cause) last seen = headed_tests o (state.Refusing cau
 abbrev IsNamed : Peer × Turn PeerWhy → Type 0
 IsNamed t = Named t.0
 
-opened_named : (p : Peer) (seen : Seen) (res sqn : List ℕ) (k : KeySet) (readable : Bool) → Named p → IsNamed (opened p seen res sqn k readable)
-opened_named p seen res sqn k true f = f
-opened_named p seen res sqn k false f = f
+opened_named : (p : Peer) (seen : Seen) (res sqn : List ℕ) (k : KeySet) (inner : Decrypted) → Named p → IsNamed (opened p seen res sqn k inner)
+opened_named p seen res sqn k (decrypted.Attributes next) f = f
+opened_named p seen res sqn k decrypted.Unreadable f = f
 
-accepted_named : (p : Peer) (seen : Seen) (c : Challenge) (res sqn : List ℕ) (k : KeySet) (readable : Bool) → Named p → Named (accepting p seen c) → IsNamed (accepted p seen c res sqn k readable)
-accepted_named p seen c res sqn k readable f g =
-    on_cond IsNamed (not (is_sealed p.options.method k.k_aut [] seen)) (client p seen why.WrongMac (Some (note.Accepted sqn)) false) (genuine (accepting p seen c) seen res sqn k readable) f
-    (on_cond IsNamed (differs (checkcode seen)) (client (accepting p seen c) seen why.WrongCheckcode (Some (note.Accepted sqn)) true) (opened (accepting p seen c) seen res sqn k readable) g
-    (opened_named (accepting p seen c) seen res sqn k readable g))
+accepted_named : (p : Peer) (seen : Seen) (c : Challenge) (res sqn : List ℕ) (k : KeySet) (inner : Decrypted) → Named p → Named (accepting p seen c) → IsNamed (accepted p seen c res sqn k inner)
+accepted_named p seen c res sqn k inner f g =
+    on_cond IsNamed (not (is_sealed p.options.method k.k_aut [] seen)) (client p seen why.WrongMac (Some (note.Accepted sqn)) false) (genuine (accepting p seen c) seen res sqn k inner) f
+    (on_cond IsNamed (differs (own_code p) (checkcode seen)) (client (accepting p seen c) seen why.WrongCheckcode (Some (note.Accepted sqn)) true) (opened (accepting p seen c) seen res sqn k inner) g
+    (opened_named (accepting p seen c) seen res sqn k inner g))
 
-answer_named : (p : Peer) (seen : Seen) (c : Challenge) (a : Answer) (readable : Bool) → Named p → Named (accepting p seen c) → IsNamed (by_answer p seen c a readable)
-answer_named p seen c answer.WrongMac readable f g = f
-answer_named p seen c (answer.SyncFailure auts sqn) readable f g = f
-answer_named p seen c (answer.Accepted res ck ik ak amf sqn) readable f g = accepted_named p seen c res sqn (keys_at p seen c ik ck) readable f g
+answer_named : (p : Peer) (seen : Seen) (c : Challenge) (a : Answer) (inner : Decrypted) → Named p → Named (accepting p seen c) → IsNamed (by_answer p seen c a inner)
+answer_named p seen c answer.WrongMac inner f g = f
+answer_named p seen c (answer.SyncFailure auts sqn) inner f g = f
+answer_named p seen c (answer.Accepted res ck ik ak amf sqn) inner f g = accepted_named p seen c res sqn (keys_at p seen c ik ck) inner f g
 
-challenged_named : (s : Subscription) (p : Peer) (seen : Seen) (c : Challenge) (n : Option UsimNote) (readable : Bool) → Named p → Named (accepting p seen c) → IsNamed (challenged s p seen c n readable)
-challenged_named s p seen c None readable f g = f
-challenged_named s p seen c (Some n) readable f g = answer_named p seen c (answer_noted s.secret c n) readable f g
+challenged_named : (s : Subscription) (p : Peer) (seen : Seen) (c : Challenge) (n : Option UsimNote) (inner : Decrypted) → Named p → Named (accepting p seen c) → IsNamed (challenged s p seen c n inner)
+challenged_named s p seen c None inner f g = f
+challenged_named s p seen c (Some n) inner f g = answer_named p seen c (answer_noted s.secret c n) inner f g
 
 again_named : (p : Peer) (last : Option Last) → Named p → IsNamed (again p last)
 again_named p None f = f
@@ -198,17 +202,18 @@ succeeded_named p state.Waiting f = f
 succeeded_named p (state.Refusing cause) f = f
 succeeded_named p state.Ended f = f
 
-row_named : (s : Subscription) (p : Peer) (seen : Seen) (r : Row) (n : Option UsimNote) (readable : Bool) → Tests p.options (attrs_in seen.reading) r → Named p → IsNamed (peer_does s p seen r n readable)
-row_named s p seen (row.Ignore cause) n readable t f = f
-row_named s p seen row.Again n readable t f = again_named p p.last f
-row_named s p seen row.First n readable t f = f
-row_named s p seen (row.Client cause) n readable t f = f
-row_named s p seen (row.Reject cause) n readable t f = f
-row_named s p seen (row.Notified code) n readable t f = f
-row_named s p seen (row.Challenged c) n readable t f = challenged_named s p seen c n readable f (λ d name m own e. t name m own)
-row_named s p seen row.Success n readable t f = succeeded_named p p.state f
-row_named s p seen (row.Failure cause) n readable t f = f
+row_named : (s : Subscription) (keeps : Keeps) (p : Peer) (seen : Seen) (r : Row) (n : Option UsimNote) (inner : Decrypted) → Tests p.options (attrs_in seen.reading) r → Named p → IsNamed (peer_does s keeps p seen r n inner)
+row_named s keeps p seen (row.Ignore cause) n inner t f = f
+row_named s keeps p seen row.Again n inner t f = again_named p p.last f
+row_named s keeps p seen row.First n inner t f = f
+row_named s keeps p seen (row.Identity asked) n inner t f = f
+row_named s keeps p seen (row.Client cause) n inner t f = f
+row_named s keeps p seen (row.Reject cause) n inner t f = f
+row_named s keeps p seen (row.Notified code) n inner t f = f
+row_named s keeps p seen (row.Challenged c) n inner t f = challenged_named s p seen c n inner f (λ d name m own e. t name m own)
+row_named s keeps p seen row.Success n inner t f = succeeded_named p p.state f
+row_named s keeps p seen (row.Failure cause) n inner t f = f
 
 -- each turn
 pub each_turn_is_named : EachTurnIsNamed
-each_turn_is_named s p seen n readable f = row_named s p seen (peer_row p seen) n readable (in_tests p.options p.state p.last seen) f
+each_turn_is_named s keeps p seen n inner f = row_named s keeps p seen (peer_row p seen) n inner (in_tests p.options p.state p.last seen) f

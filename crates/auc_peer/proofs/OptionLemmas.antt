@@ -5,7 +5,10 @@ use Rattle.auc_packet.specs.Received.{Seen, is_sealed}
 use Rattle.auc_peer.specs.Asking.{answer_noted}
 use Rattle.auc_peer.specs.Attributes.{checkcode, differs}
 use Rattle.auc_peer.specs.Subscription.{Subscription}
-use Rattle.auc_peer.specs.Table.{accepted, accepting, again, by_answer, challenged, client, gave_up, genuine, keys_at, opened, peer_does, succeeded}
+use Rattle.auc_peer.specs.Table.{accepted, accepting, again, by_answer, challenged, client, gave_up, genuine, keys_at, opened, own_code, peer_does, succeeded}
+use Rattle.auc_peer.specs.declared.decrypted.Decrypted.{Decrypted}
+use Rattle.auc_peer.specs.declared.decrypted.Decrypted.TheVariants as decrypted
+use Rattle.auc_reauth.specs.Device.{Keeps}
 use Rattle.auc_peer.specs.declared.peer.Challenge.{Challenge}
 use Rattle.auc_peer.specs.declared.peer.Last.{Last}
 use Rattle.auc_peer.specs.declared.peer.Peer.{Peer}
@@ -29,24 +32,24 @@ on_cond P false x y f g = g
 abbrev Same : Peer → Peer × Turn PeerWhy → Type 0
 Same p t = t.0.options ≡ p.options
 
-opened_options : (p : Peer) (seen : Seen) (res sqn : List ℕ) (k : KeySet) (readable : Bool) → Same p (opened p seen res sqn k readable)
-opened_options p seen res sqn k true = refl
-opened_options p seen res sqn k false = refl
+opened_options : (p : Peer) (seen : Seen) (res sqn : List ℕ) (k : KeySet) (inner : Decrypted) → Same p (opened p seen res sqn k inner)
+opened_options p seen res sqn k (decrypted.Attributes next) = refl
+opened_options p seen res sqn k decrypted.Unreadable = refl
 
-accepted_options : (p : Peer) (seen : Seen) (c : Challenge) (res sqn : List ℕ) (k : KeySet) (readable : Bool) → Same p (accepted p seen c res sqn k readable)
-accepted_options p seen c res sqn k readable =
-    on_cond (Same p) (not (is_sealed p.options.method k.k_aut [] seen)) (client p seen why.WrongMac (Some (note.Accepted sqn)) false) (genuine (accepting p seen c) seen res sqn k readable) refl
-    (on_cond (Same p) (differs (checkcode seen)) (client (accepting p seen c) seen why.WrongCheckcode (Some (note.Accepted sqn)) true) (opened (accepting p seen c) seen res sqn k readable) refl
-    (opened_options (accepting p seen c) seen res sqn k readable))
+accepted_options : (p : Peer) (seen : Seen) (c : Challenge) (res sqn : List ℕ) (k : KeySet) (inner : Decrypted) → Same p (accepted p seen c res sqn k inner)
+accepted_options p seen c res sqn k inner =
+    on_cond (Same p) (not (is_sealed p.options.method k.k_aut [] seen)) (client p seen why.WrongMac (Some (note.Accepted sqn)) false) (genuine (accepting p seen c) seen res sqn k inner) refl
+    (on_cond (Same p) (differs (own_code p) (checkcode seen)) (client (accepting p seen c) seen why.WrongCheckcode (Some (note.Accepted sqn)) true) (opened (accepting p seen c) seen res sqn k inner) refl
+    (opened_options (accepting p seen c) seen res sqn k inner))
 
-answer_options : (p : Peer) (seen : Seen) (c : Challenge) (a : Answer) (readable : Bool) → Same p (by_answer p seen c a readable)
-answer_options p seen c answer.WrongMac readable = refl
-answer_options p seen c (answer.SyncFailure auts sqn) readable = refl
-answer_options p seen c (answer.Accepted res ck ik ak amf sqn) readable = accepted_options p seen c res sqn (keys_at p seen c ik ck) readable
+answer_options : (p : Peer) (seen : Seen) (c : Challenge) (a : Answer) (inner : Decrypted) → Same p (by_answer p seen c a inner)
+answer_options p seen c answer.WrongMac inner = refl
+answer_options p seen c (answer.SyncFailure auts sqn) inner = refl
+answer_options p seen c (answer.Accepted res ck ik ak amf sqn) inner = accepted_options p seen c res sqn (keys_at p seen c ik ck) inner
 
-challenged_options : (s : Subscription) (p : Peer) (seen : Seen) (c : Challenge) (n : Option UsimNote) (readable : Bool) → Same p (challenged s p seen c n readable)
-challenged_options s p seen c None readable = refl
-challenged_options s p seen c (Some n) readable = answer_options p seen c (answer_noted s.secret c n) readable
+challenged_options : (s : Subscription) (p : Peer) (seen : Seen) (c : Challenge) (n : Option UsimNote) (inner : Decrypted) → Same p (challenged s p seen c n inner)
+challenged_options s p seen c None inner = refl
+challenged_options s p seen c (Some n) inner = answer_options p seen c (answer_noted s.secret c n) inner
 
 again_options : (p : Peer) (last : Option Last) → Same p (again p last)
 again_options p None = refl
@@ -59,16 +62,17 @@ succeeded_options p (state.Refusing cause) = refl
 succeeded_options p state.Ended = refl
 
 -- each row
-pub row_options : (s : Subscription) (p : Peer) (seen : Seen) (r : Row) (n : Option UsimNote) (readable : Bool) → Same p (peer_does s p seen r n readable)
-row_options s p seen (row.Ignore cause) n readable = refl
-row_options s p seen row.Again n readable = again_options p p.last
-row_options s p seen row.First n readable = refl
-row_options s p seen (row.Client cause) n readable = refl
-row_options s p seen (row.Reject cause) n readable = refl
-row_options s p seen (row.Notified code) n readable = refl
-row_options s p seen (row.Challenged c) n readable = challenged_options s p seen c n readable
-row_options s p seen row.Success n readable = succeeded_options p p.state
-row_options s p seen (row.Failure cause) n readable = refl
+pub row_options : (s : Subscription) (keeps : Keeps) (p : Peer) (seen : Seen) (r : Row) (n : Option UsimNote) (inner : Decrypted) → Same p (peer_does s keeps p seen r n inner)
+row_options s keeps p seen (row.Ignore cause) n inner = refl
+row_options s keeps p seen row.Again n inner = again_options p p.last
+row_options s keeps p seen row.First n inner = refl
+row_options s keeps p seen (row.Identity asked) n inner = refl
+row_options s keeps p seen (row.Client cause) n inner = refl
+row_options s keeps p seen (row.Reject cause) n inner = refl
+row_options s keeps p seen (row.Notified code) n inner = refl
+row_options s keeps p seen (row.Challenged c) n inner = challenged_options s p seen c n inner
+row_options s keeps p seen row.Success n inner = succeeded_options p p.state
+row_options s keeps p seen (row.Failure cause) n inner = refl
 
 -- a peer that gives up
 pub gave_options : (p : Peer) (s : PeerState) → (gave_up p s).0.options ≡ p.options

@@ -1,14 +1,22 @@
 -- For turns: equal peers at equal bytes, whose USIM answered alike, take one turn.
 use Rattle.std.proofs.Common.{◌≡◌, ℕ, Bool, true, false, cond, not, List, [], Option, Some, None, Result, Ok, Err, refl, sym, ap, ◌∙◌, subst}
 use Rattle.auc_attr.specs.declared.attr.Attr.{Attr}
+use Rattle.auc_attr.specs.declared.refusal.AttrRefusal.{AttrRefusal}
+use Rattle.auc_attr.specs.Item.{Item}
+use Rattle.auc_attr.specs.Laws.{OneWalk}
+use Rattle.auc_attr.specs.Value.{IsValueIn, value_of}
 use Rattle.auc_packet.specs.Received.{Seen, OneReceived, is_sealed}
+use Rattle.auc_request.specs.Request.{Gives, pseudonym_in}
 use Rattle.auc_peer.specs.Asking.{answer_noted}
 use Rattle.auc_peer.specs.Attributes.{attrs_in, checkcode, differs}
 use Rattle.auc_peer.specs.Laws.{EqualTurnsAreOne}
+use Rattle.auc_peer.specs.declared.decrypted.Decrypted.{Decrypted}
+use Rattle.auc_peer.specs.declared.decrypted.Decrypted.TheVariants as decrypted
+use Rattle.auc_reauth.specs.Device.{Keeps}
 use Rattle.auc_peer.specs.Rows.{peer_row}
 use Rattle.auc_peer.specs.Subscription.{Subscription}
-use Rattle.auc_peer.specs.Table.{accepting, by_answer, client, keys_at, opened, peer_does, peer_step}
-use Rattle.auc_peer.specs.Turn.{IsReadable, Decryption, Decrypts, asked, decryption_by, decryption_noted, was_readable}
+use Rattle.auc_peer.specs.Table.{accepting, by_answer, client, kept_by, keys_at, opened, own_code, peer_does, peer_step}
+use Rattle.auc_peer.specs.Turn.{Decryption, Decrypts, IsInner, asked, decryption_by, decryption_noted, told}
 use Rattle.auc_peer.specs.declared.peer.Challenge.{Challenge}
 use Rattle.auc_peer.specs.declared.peer.Peer.{Peer}
 use Rattle.auc_peer.specs.declared.rows.Row.{Row}
@@ -26,62 +34,80 @@ use Rattle.auc_vector.specs.declared.turn.Turn.{Turn}
 ok_or_err : (bytes : List ℕ) (refused : SealRefusal) → ◌≡◌ {A = Result (List ℕ) SealRefusal} (Ok bytes) (Err refused) → ⊥
 ok_or_err bytes refused e = cc
 
--- whether a list is readable has one answer
-readable_once : OneOpening → (k_encr : List ℕ) (list : List Attr) (b d : Bool) → IsReadable k_encr list b → IsReadable k_encr list d → b ≡ d
-readable_once one k_encr list true true p q = refl
-readable_once one k_encr list false false p q = refl
-readable_once one k_encr list true false p q = absurd (ok_or_err p.0 q.0 (one k_encr list (Ok p.0) (Err q.0) p.1 q.1))
-readable_once one k_encr list false true p q = absurd (ok_or_err q.0 p.0 (one k_encr list (Ok q.0) (Err p.0) q.1 p.1))
+-- the value of AT_NEXT_PSEUDONYM has one answer
+value_once : OneWalk → (bytes : List ℕ) (x y : Option (List ℕ)) → IsValueIn 132 bytes x → IsValueIn 132 bytes y → x ≡ y
+value_once walk bytes x y v w =
+    let same = walk bytes v.0 w.0 v.1 w.1 v.2 w.2 in
+    v.3 ∙ ap (λ (is : List Item). value_of 132 v.1 is) same.0 ∙ ap (λ (end : Option AttrRefusal). value_of 132 end w.0) same.1 ∙ sym w.3
+
+gives_once : OneWalk → (bytes other : List ℕ) (x y : Option (List ℕ)) → bytes ≡ other → Gives bytes x → Gives other y → x ≡ y
+gives_once walk bytes other x y e g h =
+    g.same ∙ ap (λ (v : Option (List ℕ)). pseudonym_in v) (value_once walk bytes g.value h.value g.there (subst (λ (t : List ℕ). IsValueIn 132 t h.value) (sym e) h.there)) ∙ sym h.same
+
+ok_same : (bytes other : List ℕ) → ◌≡◌ {A = Result (List ℕ) SealRefusal} (Ok bytes) (Ok other) → bytes ≡ other
+ok_same bytes other e = cc
+
+-- what a list has encrypted has one answer
+inner_once : OneWalk → OneOpening → (k_encr : List ℕ) (list : List Attr) (b d : Decrypted) → IsInner k_encr list b → IsInner k_encr list d → b ≡ d
+inner_once walk one k_encr list decrypted.Unreadable decrypted.Unreadable p q = refl
+inner_once walk one k_encr list (decrypted.Attributes x) (decrypted.Attributes y) p q =
+    ap (λ (t : Option (List ℕ)). decrypted.Attributes t) (gives_once walk p.0 q.0 x y (ok_same p.0 q.0 (one k_encr list (Ok p.0) (Ok q.0) p.1 q.1)) p.2 q.2)
+inner_once walk one k_encr list (decrypted.Attributes x) decrypted.Unreadable p q = absurd (ok_or_err p.0 q.0 (one k_encr list (Ok p.0) (Err q.0) p.1 q.1))
+inner_once walk one k_encr list decrypted.Unreadable (decrypted.Attributes y) p q = absurd (ok_or_err q.0 p.0 (one k_encr list (Ok q.0) (Err p.0) q.1 p.1))
 
 -- what comes after two tests, if both were passed, depends on what was decrypted alone
-picked : {T : Type 0} → OneOpening → (wrong other : Bool) (made : Decryption) (x y : T) (f : Bool → T) (b d : Bool)
+picked : {T : Type 0} → OneWalk → OneOpening → (wrong other : Bool) (made : Decryption) (x y : T) (f : Decrypted → T) (b d : Decrypted)
     → Decrypts (cond wrong None (cond other None (Some made))) b → Decrypts (cond wrong None (cond other None (Some made))) d
     → cond wrong x (cond other y (f b)) ≡ cond wrong x (cond other y (f d))
-picked one true other made x y f b d p q = refl
-picked one false true made x y f b d p q = refl
-picked one false false made x y f b d p q = ap f (readable_once one made.k_encr made.list b d p q)
+picked walk one true other made x y f b d p q = refl
+picked walk one false true made x y f b d p q = refl
+picked walk one false false made x y f b d p q = ap f (inner_once walk one made.k_encr made.list b d p q)
 
-answer_once : OneOpening → (p : Peer) (seen : Seen) (c : Challenge) (a : Answer) (b d : Bool) → Decrypts (decryption_by p seen c a) b → Decrypts (decryption_by p seen c a) d
+answer_once : OneWalk → OneOpening → (p : Peer) (seen : Seen) (c : Challenge) (a : Answer) (b d : Decrypted) → Decrypts (decryption_by p seen c a) b → Decrypts (decryption_by p seen c a) d
     → by_answer p seen c a b ≡ by_answer p seen c a d
-answer_once one p seen c answer.WrongMac b d x y = refl
-answer_once one p seen c (answer.SyncFailure auts sqn) b d x y = refl
-answer_once one p seen c (answer.Accepted res ck ik ak amf sqn) b d x y =
+answer_once walk one p seen c answer.WrongMac b d x y = refl
+answer_once walk one p seen c (answer.SyncFailure auts sqn) b d x y = refl
+answer_once walk one p seen c (answer.Accepted res ck ik ak amf sqn) b d x y =
     let keys = keys_at p seen c ik ck in
-    picked {T = Peer × Turn PeerWhy} one (not (is_sealed p.options.method keys.k_aut [] seen)) (differs (checkcode seen)) (record { k_encr = keys.k_encr; list = attrs_in seen.reading })
+    picked {T = Peer × Turn PeerWhy} walk one (not (is_sealed p.options.method keys.k_aut [] seen)) (differs (own_code p) (checkcode seen)) (record { k_encr = keys.k_encr; list = attrs_in seen.reading })
     (client p seen why.WrongMac (Some (note.Accepted sqn)) false) (client (accepting p seen c) seen why.WrongCheckcode (Some (note.Accepted sqn)) true)
-    (λ (readable : Bool). opened (accepting p seen c) seen res sqn keys readable) b d x y
+    (λ (inner : Decrypted). opened (accepting p seen c) seen res sqn keys inner) b d x y
 
 -- what a row does depends on what was decrypted alone, and not on a decryption that it doesn't make
-pub row_once : OneOpening → (s : Subscription) (p : Peer) (seen : Seen) (r : Row) (n : Option UsimNote) (b d : Bool) → Decrypts (decryption_noted s p seen (asked r) n) b → Decrypts (decryption_noted s p seen (asked r) n) d
-    → peer_does s p seen r n b ≡ peer_does s p seen r n d
-row_once one s p seen (row.Ignore cause) n b d x y = refl
-row_once one s p seen row.Again n b d x y = refl
-row_once one s p seen row.First n b d x y = refl
-row_once one s p seen (row.Client cause) n b d x y = refl
-row_once one s p seen (row.Reject cause) n b d x y = refl
-row_once one s p seen (row.Notified code) n b d x y = refl
-row_once one s p seen (row.Challenged c) None b d x y = refl
-row_once one s p seen (row.Challenged c) (Some n) b d x y = answer_once one p seen c (answer_noted s.secret c n) b d x y
-row_once one s p seen row.Success n b d x y = refl
-row_once one s p seen (row.Failure cause) n b d x y = refl
+pub row_once : OneWalk → OneOpening → (s : Subscription) (keeps : Keeps) (p : Peer) (seen : Seen) (r : Row) (n : Option UsimNote) (b d : Decrypted) → Decrypts (decryption_noted s p seen (asked r) n) b → Decrypts (decryption_noted s p seen (asked r) n) d
+    → peer_does s keeps p seen r n b ≡ peer_does s keeps p seen r n d
+row_once walk one s keeps p seen (row.Ignore cause) n b d x y = refl
+row_once walk one s keeps p seen row.Again n b d x y = refl
+row_once walk one s keeps p seen row.First n b d x y = refl
+row_once walk one s keeps p seen (row.Identity asked) n b d x y = refl
+row_once walk one s keeps p seen (row.Client cause) n b d x y = refl
+row_once walk one s keeps p seen (row.Reject cause) n b d x y = refl
+row_once walk one s keeps p seen (row.Notified code) n b d x y = refl
+row_once walk one s keeps p seen (row.Challenged c) None b d x y = refl
+row_once walk one s keeps p seen (row.Challenged c) (Some n) b d x y = answer_once walk one p seen c (answer_noted s.secret c n) b d x y
+row_once walk one s keeps p seen row.Success n b d x y = refl
+row_once walk one s keeps p seen (row.Failure cause) n b d x y = refl
 
 -- what a step decrypts
-abbrev Decrypted : Subscription → Peer → Seen → Option UsimNote → Bool → Type 0
-Decrypted s p seen n readable = Decrypts (decryption_noted s p seen (asked (peer_row p seen)) n) readable
+abbrev Did : Subscription → Peer → Seen → Option UsimNote → Decrypted → Type 0
+Did s p seen n inner = Decrypts (decryption_noted s p seen (asked (peer_row p seen)) n) inner
 
-step_once : OneOpening → (s : Subscription) (p : Peer) (seen other : Seen) (n m : Option UsimNote) (b d : Bool) → seen ≡ other → n ≡ m → Decrypted s p seen n b → Decrypted s p other m d
-    → peer_step s p seen n b ≡ peer_step s p other m d
-step_once one s p seen other n m b d e f x y =
-    let back : Decrypted s p seen n d = subst (λ (z : Seen). Decrypted s p z n d) (sym e) (subst (λ (k : Option UsimNote). Decrypted s p other k d) (sym f) y) in
-    row_once one s p seen (peer_row p seen) n b d x back
-    ∙ ap (λ (z : Seen). peer_step s p z n d) e ∙ ap (λ (k : Option UsimNote). peer_step s p other k d) f
+step_once : OneWalk → OneOpening → (s : Subscription) (keeps : Keeps) (p : Peer) (seen other : Seen) (n m : Option UsimNote) (b d : Decrypted) → seen ≡ other → n ≡ m → Did s p seen n b → Did s p other m d
+    → peer_step s keeps p seen n b ≡ peer_step s keeps p other m d
+step_once walk one s keeps p seen other n m b d e f x y =
+    let back : Did s p seen n d = subst (λ (z : Seen). Did s p z n d) (sym e) (subst (λ (k : Option UsimNote). Did s p other k d) (sym f) y) in
+    row_once walk one s keeps p seen (peer_row p seen) n b d x back
+    ∙ ap (λ (z : Seen). peer_step s keeps p z n d) e ∙ ap (λ (k : Option UsimNote). peer_step s keeps p other k d) f
 
 -- equal turns are one
-pub equal_turns : OneReceived → OneOpening → EqualTurnsAreOne
-equal_turns received one s old new other bytes before left right turn another past remembers x y alike =
+pub equal_turns : OneReceived → OneWalk → OneOpening → EqualTurnsAreOne
+equal_turns received walk one s keeps kept stored old new other bytes before left right turn another past remembers x y alike =
     let seen : x.seen ≡ y.seen = received x.seen y.seen (x.of ∙ sym y.of) x.received y.received in
     let same : ◌≡◌ {A = Peer × Turn PeerWhy} (new, turn) (other, another) =
     x.same past remembers
-    ∙ step_once one s old x.seen y.seen turn.notes.usim another.notes.usim (was_readable new.state) (was_readable other.state) seen alike (x.decrypts past remembers) (y.decrypts past remembers)
-    ∙ sym (y.same past remembers) in
-    (ap (λ (t : Peer × Turn PeerWhy). t.0) same, ap (λ (t : Peer × Turn PeerWhy). t.1) same)
+    ∙ step_once walk one s keeps old x.seen y.seen turn.notes.usim another.notes.usim (told new) (told other) seen alike (x.decrypts past remembers) (y.decrypts past remembers)
+    ∙ sym (y.same past remembers) in (
+      ap (λ (t : Peer × Turn PeerWhy). t.0) same,
+      ap (λ (t : Peer × Turn PeerWhy). t.1) same,
+      x.stored ∙ ap (λ (z : Seen). kept_by (peer_row old z) old keeps) seen ∙ sym y.stored,
+    )

@@ -20,17 +20,17 @@ pub record HasPlaces (places : Reserved Attr) : Type 0 where
   pub empty : places.written ≡ []
   pub left : places.left ≡ 2
 
--- a message may be written, in at most 44 bytes
+-- a message may be written, in at most 76 bytes
 pub record IsShort (p : Packet) : Type 0 where
   pub may : MayBeWritten p
-  pub size : length (packet_text p) ≤ 44
+  pub size : length (packet_text p) ≤ 76
 
--- a message may be written with AT_MAC, in at most 44 bytes, whatever the value is
+-- a message may be written with AT_MAC, in at most 76 bytes, whatever the value is
 pub record IsShortDraft (draft : Draft) : Type 0 where
   pub zero : IsShort (with_mac draft no_mac)
-  pub any : (mac : List ℕ) → length mac ≡ 16 → length (packet_text (with_mac draft mac)) ≤ 44
+  pub any : (mac : List ℕ) → length mac ≡ 16 → length (packet_text (with_mac draft mac)) ≤ 76
 
 -- for how many bytes a row needs memory, given the size of the first identity
 abbrev pub room_for : Row → ℕ → ℕ
 room_for row.First identity = 5 + identity
-room_for other identity = 44
+room_for other identity = 76

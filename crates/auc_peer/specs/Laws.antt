@@ -6,13 +6,17 @@ use Rattle.auc_hmac.specs.declared.method.Method.TheVariants as method
 use Rattle.auc_milenage.specs.Milenage.{f3, f4}
 use Rattle.auc_packet.specs.Received.{Seen, is_sealed}
 use Rattle.auc_peer.specs.Subscription.{Subscription}
-use Rattle.auc_peer.specs.Table.{gave_up, keys_for, new_peer, peer_step, text_or_none}
+use Rattle.auc_peer.specs.Identities.{adopted}
+use Rattle.auc_peer.specs.Rows.{peer_row}
+use Rattle.auc_peer.specs.Table.{gave_up, kept_by, keys_for, new_peer, peer_step, text_or_none}
 use Rattle.auc_peer.specs.Turn.{Steps}
-use Rattle.auc_peer.specs.declared.options.PeerOptions.{PeerOptions}
+use Rattle.auc_peer.specs.Told.{Told}
 use Rattle.auc_peer.specs.declared.peer.Challenge.{Challenge}
 use Rattle.auc_peer.specs.declared.peer.Peer.{Peer}
 use Rattle.auc_peer.specs.declared.peer.PeerState.TheVariants as state
 use Rattle.auc_peer.specs.declared.why.PeerWhy.{PeerWhy}
+use Rattle.auc_peer.specs.declared.decrypted.Decrypted.{Decrypted}
+use Rattle.auc_reauth.specs.Device.{Keeps}
 use Rattle.auc_sqn.specs.Past.{Past, Remembers}
 use Rattle.auc_vector.specs.declared.notes.UsimNote.{UsimNote}
 use Rattle.auc_vector.specs.declared.turn.Outcome.TheVariants as outcome
@@ -21,24 +25,24 @@ use Rattle.auc_vector.specs.declared.turn.Turn.{Turn}
 
 -- ---- Success
 
--- what befalls a peer: bytes at some subscription, with the USIM's note and whether what is encrypted was readable; or it
--- gives up
+-- what befalls a peer: bytes at some subscription whose device keeps something, with the USIM's note and what was
+-- decrypted; or it gives up
 pub data Input : Type 0 where
-  Bytes : Subscription → Seen → Option UsimNote → Bool → Input
+  Bytes : Subscription → Keeps → Seen → Option UsimNote → Decrypted → Input
   GiveUp : Input
 
 abbrev pub happened : Peer → Input → Peer
-happened p (Bytes s seen n readable) = (peer_step s p seen n readable).0
+happened p (Bytes s keeps seen n inner) = (peer_step s keeps p seen n inner).0
 happened p GiveUp = (gave_up p p.state).0
 
 -- a peer with some options after some inputs, the last of which stands first
-abbrev pub after : PeerOptions → List Input → Peer
+abbrev pub after : Told → List Input → Peer
 after o [] = new_peer o
 after o (input ∷ before) = happened (after o before) input
 
 -- bytes with a right AT_MAC of a method under some keys
 abbrev pub IsRightUnder : Method → KeySet → Input → Type 0
-IsRightUnder m keys (Bytes s seen n readable) = is_sealed m keys.k_aut [] seen ≡ true
+IsRightUnder m keys (Bytes s keeps seen n inner) = is_sealed m keys.k_aut [] seen ≡ true
 IsRightUnder m keys GiveUp = ⊥
 
 -- among some inputs are bytes with a right AT_MAC of a method under some keys
@@ -49,8 +53,8 @@ Came m keys (input ∷ before) = IsRightUnder m keys input ⊎ Came m keys befor
 -- a peer that ends in Success with some keys has received bytes with a right AT_MAC under them before
 abbrev pub SuccessNeedsARightMac : Type 0
 SuccessNeedsARightMac =
-    (o : PeerOptions) (before : List Input) (s : Subscription) (seen : Seen) (n : Option UsimNote) (readable : Bool) (keys : KeySet) (bytes : List ℕ)
-    → (peer_step s (after o before) seen n readable).1.step ≡ step.Ended (outcome.Success keys) bytes
+    (o : Told) (before : List Input) (s : Subscription) (keeps : Keeps) (seen : Seen) (n : Option UsimNote) (inner : Decrypted) (keys : KeySet) (bytes : List ℕ)
+    → (peer_step s keeps (after o before) seen n inner).1.step ≡ step.Ended (outcome.Success keys) bytes
     → Came o.method keys before
 
 -- ---- keys
@@ -72,13 +76,14 @@ Fits s p = (keys : KeySet) → p.state ≡ state.Answered keys → AreOfInputs s
 -- no turn makes a peer's keys others than those of its inputs
 abbrev pub EachTurnFits : Type 0
 EachTurnFits =
-    (s : Subscription) (p : Peer) (seen : Seen) (n : Option UsimNote) (readable : Bool) → Fits s p
-    → Fits s (peer_step s p seen n readable).0
+    (s : Subscription) (keeps : Keeps) (p : Peer) (seen : Seen) (n : Option UsimNote) (inner : Decrypted) → Fits s p
+    → Fits s (peer_step s keeps p seen n inner).0
 
 -- ---- inputs of the keys
 
 -- what a turn does to what keys are made from: options never change; only a waiting peer accepts a challenge, of
--- whichever network, or sends another identity; keys come with a right AT_MAC; Success comes under the keys of an answered Challenge; and a session that has ended stays so
+-- whichever network, or sends another identity; keys come with a right AT_MAC; Success comes under the keys of an
+-- answered Challenge; and a session that has ended stays so
 pub record Moves (p new : Peer) (turn : Turn PeerWhy) : Type 0 where
   pub options : new.options ≡ p.options
   pub network : (p.state ≡ state.Waiting) ⊎ (new.network ≡ p.network)
@@ -89,8 +94,8 @@ pub record Moves (p new : Peer) (turn : Turn PeerWhy) : Type 0 where
   pub ended : p.state ≡ state.Ended → new.state ≡ state.Ended
 
 abbrev pub EachTurnMoves : Type 0
-EachTurnMoves = (s : Subscription) (p : Peer) (seen : Seen) (n : Option UsimNote) (readable : Bool)
-    → Moves p (peer_step s p seen n readable).0 (peer_step s p seen n readable).1
+EachTurnMoves = (s : Subscription) (keeps : Keeps) (p : Peer) (seen : Seen) (n : Option UsimNote) (inner : Decrypted)
+    → Moves p (peer_step s keeps p seen n inner).0 (peer_step s keeps p seen n inner).1
 
 -- ---- the network
 
@@ -100,13 +105,25 @@ Named p = (c : Challenge) (name : List ℕ) → p.options.method ≡ method.Prim
 
 -- no turn accepts a challenge of another network
 abbrev pub EachTurnIsNamed : Type 0
-EachTurnIsNamed = (s : Subscription) (p : Peer) (seen : Seen) (n : Option UsimNote) (readable : Bool) → Named p → Named (peer_step s p seen n readable).0
+EachTurnIsNamed = (s : Subscription) (keeps : Keeps) (p : Peer) (seen : Seen) (n : Option UsimNote) (inner : Decrypted) → Named p → Named (peer_step s keeps p seen n inner).0
+
+-- ---- the pseudonym
+
+-- what a turn does to pseudonyms: one is taken up only with a right AT_MAC, and what the device keeps changes only when the
+-- session ends in Success
+pub record Adopts (p new : Peer) (turn : Turn PeerWhy) (keeps kept : Keeps) : Type 0 where
+  pub taken : (new.pseudonym ≡ p.pseudonym) ⊎ (turn.checked ≡ true)
+  pub stored : (kept ≡ keeps) ⊎ ((keys : KeySet) × (turn.step ≡ step.Ended (outcome.Success keys) []) × (kept ≡ adopted p.options.method p.pseudonym keeps))
+
+abbrev pub EachTurnAdopts : Type 0
+EachTurnAdopts = (s : Subscription) (keeps : Keeps) (p : Peer) (seen : Seen) (n : Option UsimNote) (inner : Decrypted)
+    → Adopts p (peer_step s keeps p seen n inner).0 (peer_step s keeps p seen n inner).1 keeps (kept_by (peer_row p seen) p keeps)
 
 -- ---- turns
 
 -- two turns of equal peers at equal bytes, in which a USIM that remembers some past answered alike, are the same
 abbrev pub EqualTurnsAreOne : Type 0
 EqualTurnsAreOne =
-    (s : Subscription) (old new other : Peer) (bytes before left right : List ℕ) (turn another : Turn PeerWhy) (past : Past) → Remembers before past
-    → Steps s old bytes before new turn left → Steps s old bytes before other another right
-    → turn.notes.usim ≡ another.notes.usim → (new ≡ other) × (turn ≡ another)
+    (s : Subscription) (keeps kept stored : Keeps) (old new other : Peer) (bytes before left right : List ℕ) (turn another : Turn PeerWhy) (past : Past)
+    → Remembers before past → Steps s keeps old bytes before new turn kept left → Steps s keeps old bytes before other another stored right
+    → turn.notes.usim ≡ another.notes.usim → (new ≡ other) × (turn ≡ another) × (kept ≡ stored)

@@ -1,4 +1,6 @@
+pub mod Told
 pub mod Subscription
+pub mod Identities
 pub mod Asking
 pub mod Attributes
 pub mod Rows

@@ -15,9 +15,13 @@ use Rattle.auc_packet.specs.declared.subtype.Subtype.TheVariants as subtype
 abbrev pub response : Method → ℕ → Subtype → List Attr → Packet
 response m id s list = packet.Aka false id m s list
 
--- the Identity response (RFC 3748 §5.1)
+-- the Identity response of EAP (RFC 3748 §5.1)
 abbrev pub identity_response : ℕ → List ℕ → Packet
 identity_response id text = packet.Identity false id text
+
+-- the AKA-Identity response (RFC 4187 §9.2)
+abbrev pub identified : Method → ℕ → List ℕ → Packet
+identified m id text = response m id subtype.Identity (attr.Identity text ∷ [])
 
 -- Client-Error, with code 0 (§9.9 and §10.20)
 abbrev pub client_error : Method → ℕ → Packet
@@ -40,10 +44,10 @@ own_kdf method.Prime = attr.Kdf 1 ∷ []
 abbrev pub sync_failure : Method → ℕ → List ℕ → Packet
 sync_failure m id auts = response m id subtype.SynchronizationFailure (attr.Auts auts ∷ own_kdf m)
 
--- AT_CHECKCODE of no AKA-Identity packet, if the request had AT_CHECKCODE (§10.13)
-abbrev pub own_checkcode : Bool → List Attr
-own_checkcode true = attr.Checkcode [] ∷ []
-own_checkcode false = []
+-- AT_CHECKCODE with the peer's own value, if the request had AT_CHECKCODE (§10.13)
+abbrev pub own_checkcode : Bool → List ℕ → List Attr
+own_checkcode true own = attr.Checkcode own ∷ []
+own_checkcode false own = []
 
 -- a Challenge response, to which AT_MAC is added
 abbrev pub draft_of : Method → ℕ → List Attr → Draft
@@ -56,5 +60,5 @@ draft_of m id list = record {
 }
 
 -- the bytes of the Challenge response (§9.4): AT_RES, AT_CHECKCODE and AT_MAC
-unfoldable pub response_bytes : Method → ℕ → List ℕ → List ℕ → Bool → List ℕ
-response_bytes m id k_aut res has = sealed k_aut [] (draft_of m id (attr.Res res ∷ own_checkcode has))
+unfoldable pub response_bytes : Method → ℕ → List ℕ → List ℕ → Bool → List ℕ → List ℕ
+response_bytes m id k_aut res has own = sealed k_aut [] (draft_of m id (attr.Res res ∷ own_checkcode has own))

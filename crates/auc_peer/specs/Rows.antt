@@ -1,6 +1,6 @@
 -- The peer's table: which row a packet falls into, in the order of the tests. Where RFC 4187 and RFC 9048 leave the order
 -- open, it is the project's.
-use Rattle.std.specs.Prelude.{ℕ, ◌==◌, ◌||◌, ◌&&◌, not, nat_le, nat_lt, Bool, true, false, List, slice_index, Option, Some, None, if◌then◌else◌}
+use Rattle.std.specs.Prelude.{ℕ, ◌==◌, ◌||◌, ◌&&◌, not, nat_le, nat_lt, Bool, true, false, List, Option, Some, None, if◌then◌else◌}
 use Rattle.std.specs.Str.{bytes_eq}
 use Rattle.auc_attr.specs.declared.attr.Attr.{Attr}
 use Rattle.auc_hmac.specs.declared.method.Method.{Method}
@@ -15,8 +15,8 @@ use Rattle.auc_packet.specs.declared.received.Reading.{Reading}
 use Rattle.auc_packet.specs.declared.received.Reading.TheVariants as reading
 use Rattle.auc_packet.specs.declared.subtype.Subtype.{Subtype}
 use Rattle.auc_packet.specs.declared.subtype.Subtype.TheVariants as subtype
-use Rattle.auc_peer.specs.Attributes.{rand_of, autn_of, bids, first_code, first_kdf, has_bytes, name_in}
-use Rattle.auc_peer.specs.declared.options.PeerOptions.{PeerOptions}
+use Rattle.auc_request.specs.Request.{rand_of, autn_of, bids, first_code, first_kdf, first_value, is_known_kdf, is_right_name, is_separated, name_in, request_in}
+use Rattle.auc_peer.specs.Told.{Told}
 use Rattle.auc_peer.specs.declared.peer.Challenge.{Challenge}
 use Rattle.auc_peer.specs.declared.peer.Last.{Last}
 use Rattle.auc_peer.specs.declared.peer.Peer.{Peer}
@@ -25,7 +25,6 @@ use Rattle.auc_peer.specs.declared.peer.PeerState.TheVariants as state
 use Rattle.auc_peer.specs.declared.rows.Row.{Row}
 use Rattle.auc_peer.specs.declared.rows.Row.TheVariants as row
 use Rattle.auc_peer.specs.declared.why.PeerWhy.TheVariants as why
-use Rattle.auc_seal.specs.Encrypted.{first_value}
 use Rattle.auc_vector.specs.declared.turn.Reason.TheVariants as reason
 
 -- ---- the request that was answered last
@@ -42,24 +41,6 @@ is_last (Some last) id = id == last.id
 
 -- ---- a Challenge in Waiting: what is tested before the USIM is asked
 
--- the first AT_KDF offers the one key derivation function that the peer has (RFC 9048 §3.2)
-abbrev pub is_known_kdf : Option ℕ → Bool
-is_known_kdf None = false
-is_known_kdf (Some n) = n == 1
-
--- a network has a peer's own name for it; without an own name it may have any
-abbrev pub is_own : Option (List ℕ) → List ℕ → Bool
-is_own None name = true
-is_own (Some own) name = bytes_eq name own
-
--- a name was received, and is that of the network that the peer means, if it means one (RFC 9048 §3.1)
-abbrev pub is_right_name : Option (List ℕ) → List ℕ → Bool
-is_right_name own name = has_bytes name && is_own own name
-
--- the separation bit, the first bit of AMF, is set (TS 33.102 Annex H); AMF begins with the seventh byte of AUTN
-abbrev pub is_separated : List ℕ → Bool
-is_separated autn = nat_le 128 (slice_index autn 6)
-
 -- the tests of EAP-AKA' (RFC 9048 §3.1 and §3.2, TS 33.102 Annex H)
 abbrev pub prime_row : Option (List ℕ) → List Attr → Challenge → Row
 prime_row own list c =
@@ -72,16 +53,16 @@ prime_row own list c =
 abbrev pub aka_row : Bool → List Attr → Challenge → Row
 aka_row has_prime list c = if has_prime && bids list then row.Reject why.Downgrade else row.Challenged c
 
-abbrev pub method_row : Method → PeerOptions → List Attr → Challenge → Row
+abbrev pub method_row : Method → Told → List Attr → Challenge → Row
 method_row method.Aka o list c = aka_row o.has_prime list c
 method_row method.Prime o list c = prime_row o.name list c
 
-abbrev pub challenge_of : PeerOptions → List Attr → Option (List ℕ) → Option (List ℕ) → Row
+abbrev pub challenge_of : Told → List Attr → Option (List ℕ) → Option (List ℕ) → Row
 challenge_of o list (Some rand) (Some autn) = method_row o.method o list (record { rand = rand; autn = autn })
 challenge_of o list _ _ = row.Client why.Missing
 
 -- a Challenge has AT_RAND, AT_AUTN and AT_MAC (RFC 4187 §9.3)
-abbrev pub on_challenge : PeerOptions → List Attr → Row
+abbrev pub on_challenge : Told → List Attr → Row
 on_challenge o list =
     if is_missing subtype.Challenge true list then row.Client why.Missing
     else challenge_of o list (first_value rand_of list) (first_value autn_of list)
@@ -101,11 +82,16 @@ notified_or other (Some code) = notified_row code
 abbrev pub on_notification : List Attr → Row
 on_notification list = notified_or (row.Client why.Missing) (first_code list)
 
--- the peer has no context of a fast re-authentication, and is asked for no identity within the method
-abbrev pub on_sound : PeerOptions → Subtype → List Attr → Row
+-- an AKA-Identity request asks for exactly one identity (RFC 4187 §9.1)
+abbrev pub on_identity : List Attr → Row
+on_identity list = if is_missing subtype.Identity true list then row.Client why.Missing else row.Identity (request_in list)
+
+-- the peer has no context of a fast re-authentication
+abbrev pub on_sound : Told → Subtype → List Attr → Row
 on_sound o subtype.Challenge list = on_challenge o list
 on_sound o subtype.Reauthentication list = row.Ignore reason.NoContext
 on_sound o subtype.Notification list = on_notification list
+on_sound o subtype.Identity list = on_identity list
 on_sound o other list = row.Ignore reason.Unexpected
 
 -- only responses have these Subtypes
@@ -115,11 +101,11 @@ is_response subtype.SynchronizationFailure = true
 is_response subtype.ClientError = true
 is_response other = false
 
-abbrev pub on_message : PeerOptions → Subtype → List Attr → Row
+abbrev pub on_message : Told → Subtype → List Attr → Row
 on_message o s list =
     if is_response s || is_malformed s true o.method list then row.Client why.Malformed else on_sound o s list
 
-abbrev pub waiting : PeerOptions → Reading → Row
+abbrev pub waiting : Told → Reading → Row
 waiting o (reading.Fault fault) = row.Client why.Malformed
 waiting o (reading.Read (packet.Identity request id text)) = row.First
 waiting o (reading.Read (packet.Aka request id m s list)) = on_message o s list
@@ -154,26 +140,26 @@ ended_by s last head =
 
 -- ---- the tests for every state
 
-abbrev pub requested : PeerOptions → PeerState → Reading → Row
+abbrev pub requested : Told → PeerState → Reading → Row
 requested o state.Waiting r = waiting o r
 requested o (state.Answered keys) r = late o.method r
 requested o other r = row.Ignore reason.Unexpected
 
 -- type 1 is Identity, and each method has a type of its own
-abbrev pub of_kind : PeerOptions → PeerState → Option Last → Seen → Head → Option ℕ → Row
+abbrev pub of_kind : Told → PeerState → Option Last → Seen → Head → Option ℕ → Row
 of_kind o s last seen head None = ended_by s last head
 of_kind o s last seen head (Some kind) =
     if not (kind == 1 || kind == method_type o.method) then row.Ignore reason.OtherType else requested o s seen.reading
 
 -- code 2 is Response
-abbrev pub row_headed : PeerOptions → PeerState → Option Last → Seen → Option Head → Row
+abbrev pub row_headed : Told → PeerState → Option Last → Seen → Option Head → Row
 row_headed o s last seen None = row.Ignore reason.NotForMe
 row_headed o s last seen (Some head) =
     if head.code == 2 then row.Ignore reason.NotForMe
     else if repeats last seen.bytes then row.Again
     else of_kind o s last seen head head.kind
 
-abbrev pub row_in : PeerOptions → PeerState → Option Last → Seen → Row
+abbrev pub row_in : Told → PeerState → Option Last → Seen → Row
 row_in o state.Ended last seen = row.Ignore reason.Closed
 row_in o s last seen = row_headed o s last seen (head_at seen.bytes)
 

@@ -1,14 +1,16 @@
 -- A turn of a peer: what was received, what the USIM was asked, what was decrypted, and that the rest is the table's.
-use Rattle.std.specs.Prelude.{◌≡◌, ℕ, not, Bool, true, false, List, [], Option, Some, None, Ok, Err, if◌then◌else◌}
+use Rattle.std.specs.Prelude.{◌≡◌, ℕ, not, List, [], Option, Some, None, Ok, Err, if◌then◌else◌}
 use Rattle.auc_attr.specs.declared.attr.Attr.{Attr}
 use Rattle.auc_hmac.specs.declared.keys.KeySet.{KeySet}
-use Rattle.auc_hmac.specs.declared.method.Method.{Method}
 use Rattle.auc_packet.specs.Received.{Seen, IsReceived, is_sealed}
 use Rattle.auc_peer.specs.Asking.{answer_noted}
 use Rattle.auc_peer.specs.Attributes.{attrs_in, checkcode, differs}
 use Rattle.auc_peer.specs.Rows.{peer_row}
 use Rattle.auc_peer.specs.Subscription.{Subscription}
-use Rattle.auc_peer.specs.Table.{keys_at, peer_step}
+use Rattle.auc_request.specs.Request.{Gives}
+use Rattle.auc_peer.specs.Table.{keys_at, kept_by, own_code, peer_step}
+use Rattle.auc_peer.specs.declared.decrypted.Decrypted.{Decrypted}
+use Rattle.auc_peer.specs.declared.decrypted.Decrypted.TheVariants as decrypted
 use Rattle.auc_peer.specs.declared.peer.Challenge.{Challenge}
 use Rattle.auc_peer.specs.declared.peer.Peer.{Peer}
 use Rattle.auc_peer.specs.declared.peer.PeerState.{PeerState}
@@ -16,7 +18,7 @@ use Rattle.auc_peer.specs.declared.peer.PeerState.TheVariants as state
 use Rattle.auc_peer.specs.declared.rows.Row.{Row}
 use Rattle.auc_peer.specs.declared.rows.Row.TheVariants as row
 use Rattle.auc_peer.specs.declared.why.PeerWhy.{PeerWhy}
-use Rattle.auc_peer.specs.declared.why.PeerWhy.TheVariants as why
+use Rattle.auc_reauth.specs.Device.{Keeps}
 use Rattle.auc_seal.specs.Encrypted.{Opens}
 use Rattle.auc_seal.specs.declared.refusal.SealRefusal.{SealRefusal}
 use Rattle.auc_sqn.specs.Past.{Past, Remembers}
@@ -44,10 +46,10 @@ Asked s (Some c) (Some n) old new = (past : Past) → Remembers old past
 
 -- ---- what is encrypted
 
--- whether what a list has encrypted decrypts to attributes
-abbrev pub IsReadable : List ℕ → List Attr → Bool → Type 0
-IsReadable k_encr list true = (bytes : List ℕ) × Opens k_encr list (Ok bytes)
-IsReadable k_encr list false = (refused : SealRefusal) × Opens k_encr list (Err refused)
+-- what the encrypted attributes of a list are
+abbrev pub IsInner : List ℕ → List Attr → Decrypted → Type 0
+IsInner k_encr list decrypted.Unreadable = (refused : SealRefusal) × Opens k_encr list (Err refused)
+IsInner k_encr list (decrypted.Attributes pseudonym) = (bytes : List ℕ) × Opens k_encr list (Ok bytes) × Gives bytes pseudonym
 
 -- a decryption: under which key, and of which attributes
 pub record Decryption : Type 0 where
@@ -55,43 +57,44 @@ pub record Decryption : Type 0 where
   pub list : List Attr
 
 -- the decryption that a row makes: of a Challenge that the USIM accepted, with a right AT_MAC and AT_CHECKCODE
-abbrev pub decryption_under : Method → Seen → KeySet → Option Decryption
-decryption_under m seen keys =
-    if not (is_sealed m keys.k_aut [] seen) then None
-    else if differs (checkcode seen) then None
+abbrev pub decryption_under : Peer → Seen → KeySet → Option Decryption
+decryption_under p seen keys =
+    if not (is_sealed p.options.method keys.k_aut [] seen) then None
+    else if differs (own_code p) (checkcode seen) then None
     else Some (record { k_encr = keys.k_encr; list = attrs_in seen.reading })
 
 abbrev pub decryption_by : Peer → Seen → Challenge → Answer → Option Decryption
-decryption_by p seen c (answer.Accepted res ck ik ak amf sqn) = decryption_under p.options.method seen (keys_at p seen c ik ck)
+decryption_by p seen c (answer.Accepted res ck ik ak amf sqn) = decryption_under p seen (keys_at p seen c ik ck)
 decryption_by p seen c other = None
 
 abbrev pub decryption_noted : Subscription → Peer → Seen → Option Challenge → Option UsimNote → Option Decryption
 decryption_noted s p seen (Some c) (Some n) = decryption_by p seen c (answer_noted s.secret c n)
 decryption_noted s p seen c n = None
 
--- whether a decryption gives attributes; without one nothing is said
-abbrev pub Decrypts : Option Decryption → Bool → Type 0
-Decrypts None readable = Unit {0}
-Decrypts (Some d) readable = IsReadable d.k_encr d.list readable
+-- what a decryption gives; without one nothing is said
+abbrev pub Decrypts : Option Decryption → Decrypted → Type 0
+Decrypts None inner = Unit {0}
+Decrypts (Some d) inner = IsInner d.k_encr d.list inner
 
--- whether what was decrypted was readable: the peer's new state tells it
-abbrev pub is_undecryptable : PeerWhy → Bool
-is_undecryptable why.Undecryptable = true
-is_undecryptable other = false
+-- what was decrypted: the peer's new state tells it
+abbrev pub told_in : PeerState → Option (List ℕ) → Decrypted
+told_in (state.Answered keys) pseudonym = decrypted.Attributes pseudonym
+told_in other pseudonym = decrypted.Unreadable
 
-abbrev pub was_readable : PeerState → Bool
-was_readable (state.Refusing cause) = not (is_undecryptable cause)
-was_readable other = true
+abbrev pub told : Peer → Decrypted
+told new = told_in new.state new.pseudonym
 
 -- ---- the turn
 
 -- bytes were received as something; if the USIM remembers some past, the turn is the table's; the USIM was asked what
--- the row says, and answered as the note tells; and what the row decrypted was as the new state tells
-pub record Steps (s : Subscription) (old : Peer) (bytes before : List ℕ) (new : Peer) (turn : Turn PeerWhy) (after : List ℕ) : Type 0 where
+-- the row says, and answered as the note tells; what the row decrypted was as the new state tells; and the device keeps
+-- what the row says
+pub record Steps (s : Subscription) (keeps : Keeps) (old : Peer) (bytes before : List ℕ) (new : Peer) (turn : Turn PeerWhy) (kept : Keeps) (after : List ℕ) : Type 0 where
   pub seen : Seen
   pub received : IsReceived seen
   pub of : seen.bytes ≡ bytes
-  pub same : (past : Past) → Remembers before past → (new, turn) ≡ peer_step s old seen turn.notes.usim (was_readable new.state)
+  pub same : (past : Past) → Remembers before past → (new, turn) ≡ peer_step s keeps old seen turn.notes.usim (told new)
   pub usim : Asked s (asked (peer_row old seen)) turn.notes.usim before after
   pub decrypts : (past : Past) → Remembers before past
-      → Decrypts (decryption_noted s old seen (asked (peer_row old seen)) turn.notes.usim) (was_readable new.state)
+      → Decrypts (decryption_noted s old seen (asked (peer_row old seen)) turn.notes.usim) (told new)
+  pub stored : kept ≡ kept_by (peer_row old seen) old keeps

@@ -2,24 +2,27 @@
 
 ghost use Rattle.std.specs.Prelude.{◌≡◌, ◌≤◌, ℕ, [], length, Some};
 ghost use Rattle.auc_packet.specs.Received.{IsReceived, seen_of};
+ghost use Rattle.auc_seal.specs.Checkcode.{value_bytes};
 ghost use Rattle.auc_seal.specs.Encrypted.{ciphertext_of};
 ghost use Rattle.auc_sqn.specs.Past.{Past, Remembers};
 ghost use Rattle.auc_peer.specs.Asking.{note_of as note_by};
 ghost use Rattle.auc_peer.specs.Attributes.{attrs_in};
 ghost use Rattle.auc_peer.specs.Subscription.{subscription_of};
-ghost use Rattle.auc_peer.specs.Table.{accepted, by_answer, challenged, keys_for, network_in, opened, text_or_none};
-ghost use Rattle.auc_peer.specs.Turn.{Asked, Decrypts, IsReadable, decryption_by, decryption_noted, decryption_under, was_readable};
+ghost use Rattle.auc_peer.specs.Table.{accepted, by_answer, challenged, keys_for, network_in, opened, own_code, text_or_none};
+ghost use Rattle.auc_peer.specs.Turn.{Asked, Decrypts, IsInner, decryption_by, decryption_noted, decryption_under, told};
 
 use crate::asking::ask;
+use crate::decrypted::Decrypted;
 use crate::device::Device;
-use crate::messages::{challenge_response, res_in, sync_failure};
+use crate::messages::{challenge_response, sync_failure, value};
 use crate::peer::{Challenge, Peer, PeerState};
-use crate::reading::{differs, has_checkcode, id_of, is_readable};
+use crate::reading::{differs, has_checkcode, id_of, inner_in};
 use crate::rooms::Rooms;
 use crate::why::PeerWhy;
 use auc_edge::{Octets, Room};
 use auc_hmac::{KeySet, Method};
 use auc_packet::{Received, is_sealed};
+use auc_seal::CheckValue;
 use auc_usim::Answer;
 use auc_vector::{Turn, UsimNote, keys_by, keys_of};
 
@@ -59,18 +62,19 @@ impl Peer {
         requires request { request ≡ (seen_of received.now).bytes }
         requires network { network ≡ network_in self.old (seen_of received.now) }
         requires name { length network ≤ 65535 }
-        requires rooms { 44 ≤ rooms }
+        requires rooms { 76 ≤ rooms }
         requires empty { inner.written ≡ [] }
         requires room { length (ciphertext_of (attrs_in received.now.reading)) ≤ inner.left }
 
         ensures step { (past : Past) → Remembers device.old.usim.array past
             → (self.new, result) ≡ challenged (subscription_of device.old) self.old (seen_of received.now)
-            challenge result.notes.usim (was_readable self.new.state) }
+            challenge result.notes.usim (told self.new) }
         ensures usim { Asked (subscription_of device.old) (Some challenge) result.notes.usim
             device.old.usim.array device.new.usim.array }
         ensures decrypts { (past : Past) → Remembers device.old.usim.array past
             → Decrypts (decryption_noted (subscription_of device.old) self.old (seen_of received.now) (Some challenge)
-            result.notes.usim) (was_readable self.new.state) }
+            result.notes.usim) (told self.new) }
+        ensures store { device.new.store ≡ device.old.store }
         ensures subscription { subscription_of device.new ≡ subscription_of device.old }
     {
         let answer = ask(&mut device.usim, challenge);
@@ -92,14 +96,14 @@ impl Peer {
         requires request { request ≡ (seen_of received.now).bytes }
         requires network { network ≡ network_in self.old (seen_of received.now) }
         requires name { length network ≤ 65535 }
-        requires rooms { 44 ≤ rooms }
+        requires rooms { 76 ≤ rooms }
         requires empty { inner.written ≡ [] }
         requires room { length (ciphertext_of (attrs_in received.now.reading)) ≤ inner.left }
 
         ensures step { (self.new, result) ≡ by_answer self.old (seen_of received.now) challenge answer
-            (was_readable self.new.state) }
+            (told self.new) }
         ensures note { result.notes.usim ≡ Some (note_by answer) }
-        ensures decrypts { Decrypts (decryption_by self.old (seen_of received.now) challenge answer) (was_readable self.new.state) }
+        ensures decrypts { Decrypts (decryption_by self.old (seen_of received.now) challenge answer) (told self.new) }
     {
         match answer {
             Answer::WrongMac => self.reject(
@@ -159,14 +163,14 @@ impl Peer {
         requires is { IsReceived (seen_of received.now) }
         requires request { request ≡ (seen_of received.now).bytes }
         requires network { network ≡ network_in self.old (seen_of received.now) }
-        requires rooms { 44 ≤ rooms }
+        requires rooms { 76 ≤ rooms }
         requires empty { inner.written ≡ [] }
         requires room { length (ciphertext_of (attrs_in received.now.reading)) ≤ inner.left }
 
         ensures step { (self.new, result) ≡ accepted self.old (seen_of received.now) challenge res sqn keys
-            (was_readable self.new.state) }
+            (told self.new) }
         ensures note { result.notes.usim ≡ Some (UsimNote.Accepted sqn) }
-        ensures decrypts { Decrypts (decryption_under self.old.options.method (seen_of received.now) keys) (was_readable self.new.state) }
+        ensures decrypts { Decrypts (decryption_under self.old (seen_of received.now) keys) (told self.new) }
     {
         let note = Some(UsimNote::Accepted(sqn));
         if !is_sealed(received, self.options.method, &keys.k_aut, &[]) {
@@ -174,7 +178,7 @@ impl Peer {
         }
         self.accepted = Some(challenge);
         self.network = network;
-        if differs(&received.reading) {
+        if differs(self.own_code().as_slice(), &received.reading) {
             return self.client(
                 received,
                 request,
@@ -199,29 +203,33 @@ impl Peer {
         rooms: Rooms,
     ) -> Turn<PeerWhy>
         requires request { request ≡ (seen_of received.now).bytes }
-        requires rooms { 44 ≤ rooms }
+        requires rooms { 76 ≤ rooms }
         requires empty { inner.written ≡ [] }
         requires room { length (ciphertext_of (attrs_in received.now.reading)) ≤ inner.left }
 
         ensures step { (self.new, result) ≡ opened self.old (seen_of received.now) res sqn keys
-            (was_readable self.new.state) }
+            (told self.new) }
         ensures note { result.notes.usim ≡ Some (UsimNote.Accepted sqn) }
-        ensures decrypts { IsReadable keys.k_encr (attrs_in received.now.reading) (was_readable self.new.state) }
+        ensures decrypts { IsInner keys.k_encr (attrs_in received.now.reading) (told self.new) }
     {
         let note = Some(UsimNote::Accepted(sqn));
-        if !is_readable(keys.k_encr, &received.reading, &rooms.no_attrs, inner) {
-            return self.client(received, request, PeerWhy::Undecryptable, note, true, rooms);
-        }
+        let pseudonym = match inner_in(keys.k_encr, &received.reading, &rooms.no_attrs, inner) {
+            Decrypted::Attributes(pseudonym) => pseudonym,
+            Decrypted::Unreadable => {
+                return self.client(received, request, PeerWhy::Undecryptable, note, true, rooms);
+            }
+        };
         let Rooms {
             places,
             bytes,
             kept,
-            res: own,
-            none,
+            res: own_res,
+            code,
             ..
         } = rooms;
         let has = has_checkcode(&received.reading);
-        let res = res_in(res, own);
+        let res = value(&res, own_res);
+        let own = value(self.own_code().as_slice(), code);
         let method = self.options.method;
         let bytes = challenge_response(
             method,
@@ -229,11 +237,19 @@ impl Peer {
             &keys.k_aut,
             res,
             has,
-            none,
+            own,
             places,
             bytes,
         );
+        self.pseudonym = pseudonym;
         let state = PeerState::Answered(keys);
         self.answer(received, request, state, bytes, kept, note, true)
+    }
+
+    /// The value of AT_CHECKCODE for the AKA-Identity packets that the peer has counted.
+    fn own_code(&self) -> CheckValue
+        ensures { value_bytes result ≡ own_code self.now }
+    {
+        self.packets.value(self.options.method)
     }
 }

@@ -1,5 +1,5 @@
-//! The peer of EAP-AKA (RFC 4187) and EAP-AKA' (RFC 9048) with permanent identities: the end of a session that has the
-//! USIM. [`PeerOptions`] say which method it takes, and of which network.
+//! The peer of EAP-AKA (RFC 4187) and EAP-AKA' (RFC 9048) with permanent identities and pseudonyms: the end of a session
+//! that has the USIM. [`PeerOptions`] say which method it takes, of which network, and which identity it sends first.
 //!
 //! A [`Peer`] takes the packets that it receives by [`Peer::on_bytes`], at the [`Device`] of its subscriber, and gives
 //! up by [`Peer::give_up`]. Each call answers what the peer sent, or why it ended or ignored the packet.
@@ -12,7 +12,10 @@
 
 mod asking;
 mod challenge;
+mod decrypted;
 mod device;
+mod identities;
+mod identity;
 mod law;
 mod messages;
 mod options;
@@ -23,10 +26,13 @@ mod rows;
 mod turns;
 mod why;
 
+pub use decrypted::Decrypted;
 pub use device::Device;
+pub use identity::FirstIdentity;
 pub use law::{
-    each_turn_accepts_its_own_network, each_turn_keeps_the_keys_of_its_inputs,
-    each_turn_keeps_what_keys_are_made_from, equal_turns_are_one, success_needs_a_right_mac,
+    each_turn_accepts_its_own_network, each_turn_adopts_at_success_alone,
+    each_turn_keeps_the_keys_of_its_inputs, each_turn_keeps_what_keys_are_made_from,
+    equal_turns_are_one, success_needs_a_right_mac,
 };
 pub use options::PeerOptions;
 pub use peer::{Challenge, Last, Peer, PeerState};

@@ -3,8 +3,9 @@
 ghost use Rattle.std.specs.Prelude.{◌≡◌, ◌≤◌, ◌+◌, [], ◌∷◌, length};
 ghost use Rattle.auc_packet.specs.Sealed.{sealed};
 ghost use Rattle.auc_packet.specs.Spelling.{packet_text, MayBeWritten};
-ghost use Rattle.auc_peer.specs.InnerRooms.{HasPlaces, HasRoom, IsShort, IsShortDraft};
-ghost use Rattle.auc_peer.specs.Messages.{client_error, draft_of, identity_response, notified, own_kdf, reject, response, response_bytes, sync_failure};
+ghost use Rattle.auc_seal.specs.Checkcode.{IsHash};
+ghost use Rattle.auc_peer.specs.InnerRooms.{HasPlaces, IsShort, IsShortDraft};
+ghost use Rattle.auc_peer.specs.Messages.{client_error, draft_of, identified, identity_response, notified, own_kdf, reject, response, response_bytes, sync_failure};
 
 use auc_attr::{Attr, AttrList};
 use auc_edge::{Octets, Places, Room};
@@ -27,9 +28,9 @@ fn put(packet: &Packet, room: Room) -> Octets
 fn response(method: Method, id: u8, subtype: Subtype, attrs: AttrList, room: Room) -> Octets
     requires short { IsShort (response method id subtype attrs) }
     requires empty { room.written ≡ [] }
-    requires left { 44 ≤ room.left }
+    requires left { 76 ≤ room.left }
     ensures bytes { result ≡ packet_text (response method id subtype attrs) }
-    ensures size { length result ≤ 44 }
+    ensures size { length result ≤ 76 }
 {
     let packet = Packet::Aka {
         request: false,
@@ -59,10 +60,10 @@ fn none(places: Places<Attr>) -> AttrList
     AttrList::from_places(places)
 }
 
-/// The Identity response (RFC 3748 §5.1).
+/// The Identity response of EAP (RFC 3748 §5.1).
 #[tactic(auto, using(crate::proofs::MessageLemmas::identity_may, crate::proofs::MessageLemmas::identity_size))]
 pub(crate) fn identity_response(id: u8, text: Octets, room: Room) -> Octets
-    requires short { length text ≤ 272 }
+    requires short { length text ≤ 289 }
     requires empty { room.written ≡ [] }
     requires left { 5 + length text ≤ room.left }
     ensures bytes { result ≡ packet_text (identity_response id text) }
@@ -76,13 +77,39 @@ pub(crate) fn identity_response(id: u8, text: Octets, room: Room) -> Octets
     put(&packet, room)
 }
 
+/// The AKA-Identity response (RFC 4187 §9.2).
+#[tactic(auto, using(crate::proofs::MessageLemmas::identified_may, crate::proofs::MessageLemmas::identified_size))]
+pub(crate) fn identified(
+    method: Method,
+    id: u8,
+    text: Octets,
+    places: Places<Attr>,
+    room: Room,
+) -> Octets
+    requires short { length text ≤ 289 }
+    requires places { HasPlaces places }
+    requires empty { room.written ≡ [] }
+    requires left { 15 + length text ≤ room.left }
+    ensures bytes { result ≡ packet_text (identified method id text) }
+    ensures size { length result ≤ 15 + length text }
+{
+    let packet = Packet::Aka {
+        request: false,
+        id,
+        method,
+        subtype: Subtype::Identity,
+        attrs: one(Attr::Identity(text), places),
+    };
+    put(&packet, room)
+}
+
 /// Client-Error with code 0, "unable to process packet" (RFC 4187 §9.9 and §10.20).
 pub(crate) fn client_error(method: Method, id: u8, places: Places<Attr>, room: Room) -> Octets
     requires places { HasPlaces places }
     requires empty { room.written ≡ [] }
-    requires left { 44 ≤ room.left }
+    requires left { 76 ≤ room.left }
     ensures bytes { result ≡ packet_text (client_error method id) }
-    ensures size { length result ≤ 44 }
+    ensures size { length result ≤ 76 }
 {
     let attrs = one(Attr::ClientErrorCode(0), places);
     response(method, id, Subtype::ClientError, attrs, room)
@@ -92,9 +119,9 @@ pub(crate) fn client_error(method: Method, id: u8, places: Places<Attr>, room: R
 pub(crate) fn reject(method: Method, id: u8, places: Places<Attr>, room: Room) -> Octets
     requires places { HasPlaces places }
     requires empty { room.written ≡ [] }
-    requires left { 44 ≤ room.left }
+    requires left { 76 ≤ room.left }
     ensures bytes { result ≡ packet_text (reject method id) }
-    ensures size { length result ≤ 44 }
+    ensures size { length result ≤ 76 }
 {
     let attrs = none(places);
     response(method, id, Subtype::AuthenticationReject, attrs, room)
@@ -104,9 +131,9 @@ pub(crate) fn reject(method: Method, id: u8, places: Places<Attr>, room: Room) -
 pub(crate) fn notified(method: Method, id: u8, places: Places<Attr>, room: Room) -> Octets
     requires places { HasPlaces places }
     requires empty { room.written ≡ [] }
-    requires left { 44 ≤ room.left }
+    requires left { 76 ≤ room.left }
     ensures bytes { result ≡ packet_text (notified method id) }
-    ensures size { length result ≤ 44 }
+    ensures size { length result ≤ 76 }
 {
     let attrs = none(places);
     response(method, id, Subtype::Notification, attrs, room)
@@ -135,16 +162,15 @@ pub(crate) fn sync_failure(
 ) -> Octets
     requires places { HasPlaces places }
     requires empty { room.written ≡ [] }
-    requires left { 44 ≤ room.left }
+    requires left { 76 ≤ room.left }
     ensures bytes { result ≡ packet_text (sync_failure method id auts) }
-    ensures size { length result ≤ 44 }
+    ensures size { length result ≤ 76 }
 {
     let attrs = sync_attrs(method, auts, places);
     response(method, id, Subtype::SynchronizationFailure, attrs, room)
 }
 
-/// The Challenge response (RFC 4187 §9.4): AT_RES, AT_CHECKCODE of no packet if the request had AT_CHECKCODE, and
-/// AT_MAC.
+/// The Challenge response (RFC 4187 §9.4): AT_RES, AT_CHECKCODE if the request had it, and AT_MAC.
 #[tactic(auto, unfolding(crate::specs::Messages::response_bytes))]
 pub(crate) fn challenge_response(
     method: Method,
@@ -152,22 +178,22 @@ pub(crate) fn challenge_response(
     k_aut: &[u8; 32],
     res: Octets,
     has: bool,
-    none: Octets,
+    own: Octets,
     places: Places<Attr>,
     room: Room,
 ) -> Octets
     requires res { length res ≡ 8 }
-    requires none { none ≡ [] }
+    requires own { IsHash own }
     requires places { HasPlaces places }
     requires empty { room.written ≡ [] }
-    requires left { 44 ≤ room.left }
-    ensures bytes { result ≡ response_bytes method id k_aut.now res has }
-    ensures size { length result ≤ 44 }
+    requires left { 76 ≤ room.left }
+    ensures bytes { result ≡ response_bytes method id k_aut.now res has own }
+    ensures size { length result ≤ 76 }
 {
     let mut places = places;
     places.put(Attr::Res(res));
     if has {
-        places.put(Attr::Checkcode(none));
+        places.put(Attr::Checkcode(own));
         return sealed_response(method, id, k_aut, AttrList::from_places(places), room);
     }
     sealed_response(method, id, k_aut, AttrList::from_places(places), room)
@@ -177,9 +203,9 @@ pub(crate) fn challenge_response(
 fn sealed_response(method: Method, id: u8, k_aut: &[u8; 32], attrs: AttrList, room: Room) -> Octets
     requires short { IsShortDraft (draft_of method id attrs) }
     requires empty { room.written ≡ [] }
-    requires left { 44 ≤ room.left }
+    requires left { 76 ≤ room.left }
     ensures bytes { result ≡ sealed k_aut.now [] (draft_of method id attrs) }
-    ensures size { length result ≤ 44 }
+    ensures size { length result ≤ 76 }
 {
     let draft = Draft {
         method,
@@ -193,13 +219,13 @@ fn sealed_response(method: Method, id: u8, k_aut: &[u8; 32], attrs: AttrList, ro
     room.into_octets()
 }
 
-/// RES, in memory that was taken before.
-pub(crate) fn res_in(res: [u8; 8], room: Room) -> Octets
-    requires { HasRoom room 8 }
-    ensures bytes { result ≡ res }
-    ensures size { length result ≡ 8 }
+/// A value of an attribute, in memory that was taken before.
+pub(crate) fn value(bytes: &[u8], room: Room) -> Octets
+    requires empty { room.written ≡ [] }
+    requires left { length bytes.now ≤ room.left }
+    ensures { result ≡ bytes.now }
 {
     let mut room = room;
-    room.put(&res);
+    room.put(bytes);
     room.into_octets()
 }

@@ -9,10 +9,12 @@ use crate::device::Device;
 use crate::options::PeerOptions;
 use crate::reading::ciphertext_in;
 use crate::rooms::{Copies, Rooms, room_for};
+use crate::rows::Row;
 use crate::why::PeerWhy;
 use auc_edge::{NoMemory, Octets, Room};
 use auc_hmac::KeySet;
 use auc_packet::receive;
+use auc_seal::IdentityPackets;
 use auc_vector::{Outcome, Reason, Step, Turn};
 use std::alloc::Global;
 
@@ -64,6 +66,10 @@ pub struct Peer {
     pub accepted: Option<Challenge>,
     /// The network's name in that challenge (RFC 9048 §3.1); empty for EAP-AKA, and if there is no such challenge.
     pub network: Octets,
+    /// The AKA-Identity packets that it received and sent, of which AT_CHECKCODE is the hash (RFC 4187 §10.13).
+    pub packets: IdentityPackets,
+    /// The pseudonym in the Challenge that it answered, which the device adopts when the session ends in Success.
+    pub pseudonym: Option<[u8; 33]>,
 }
 
 impl Peer {
@@ -78,6 +84,8 @@ impl Peer {
             identity: None,
             accepted: None,
             network: Octets::new(alloc),
+            packets: IdentityPackets::new(alloc),
+            pseudonym: None,
         }
     }
 
@@ -92,15 +100,18 @@ impl Peer {
     ) -> Result<Turn<PeerWhy>, NoMemory>
         requires { length device.old.realm ≤ 255 }
 
-        ensures step { IfOk result (λ turn. Steps (subscription_of device.old) self.old bytes.now
-            device.old.usim.array self.new turn device.new.usim.array) }
+        ensures step { IfOk result (λ turn. Steps (subscription_of device.old) device.old.store self.old bytes.now
+            device.old.usim.array self.new turn device.new.store device.new.usim.array) }
         ensures subscription { subscription_of device.new ≡ subscription_of device.old }
         ensures peer { OnErr result (self.new ≡ self.old) }
         ensures device { OnErr result (device.new ≡ device.old) }
     {
         let received = receive(alloc, bytes)?;
         let row = self.row(&received);
-        let identity = device.identity(alloc, self.options.method)?;
+        if let Row::Identity(asked) = row {
+            return self.on_identity(alloc, device, &received, asked);
+        }
+        let identity = device.first_identity(alloc, &self.options)?;
         let rooms = Rooms::new(alloc, room_for(row, identity.len()))?;
         let copies = Copies {
             request: Octets::copied_from(alloc, bytes)?,

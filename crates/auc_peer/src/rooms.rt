@@ -14,9 +14,9 @@ use auc_packet::Received;
 use std::alloc::Global;
 use std::marker::Model;
 
-/// The greatest size of a message without an identity: a Challenge response with RES of 8 bytes, AT_CHECKCODE and
+/// The greatest size of a message without an identity: a Challenge response with RES of 8 bytes, AT_CHECKCODE of 32 and
 /// AT_MAC.
-const MOST: usize = 44;
+const MOST: usize = 76;
 
 /// Memory for a turn's message and for the copy of it that the peer keeps. Contracts see for how many bytes.
 #[derive(Drop)]
@@ -27,6 +27,7 @@ pub(crate) struct Rooms {
     pub(crate) kept: Room,
     pub(crate) plain: Room,
     pub(crate) res: Room,
+    pub(crate) code: Room,
     pub(crate) none: Octets,
     pub(crate) no_attrs: AttrList,
 }
@@ -40,7 +41,7 @@ impl Model for Rooms {
     ghost view = { λ r. r.size };
 
     ghost invariant = { λ r. HasPlaces r.places × HasRoom r.bytes r.size × HasRoom r.kept r.size × HasRoom r.plain r.size
-        × HasRoom r.res 8 × (r.none ≡ []) × (r.no_attrs ≡ []) };
+        × HasRoom r.res 8 × HasRoom r.code 32 × (r.none ≡ []) × (r.no_attrs ≡ []) };
 }
 
 impl Rooms {
@@ -55,6 +56,7 @@ impl Rooms {
             kept: Room::new(alloc, size)?,
             plain: Room::new(alloc, size)?,
             res: Room::new(alloc, 8)?,
+            code: Room::new(alloc, 32)?,
             none: Octets::new(alloc),
             no_attrs: AttrList::new(alloc),
         })
@@ -78,7 +80,7 @@ pub(crate) struct Copies {
 
 /// For how many bytes a row needs memory, given the size of the first identity.
 pub(crate) fn room_for(row: Row, identity: usize) -> usize
-    requires { identity ≤ 272 }
+    requires { identity ≤ 289 }
     ensures { result ≡ room_for row identity }
 {
     match row {

@@ -3,16 +3,19 @@
 ghost use Rattle.std.specs.Prelude.{◌≡◌};
 ghost use Rattle.auc_packet.specs.Packet.{method_type};
 ghost use Rattle.auc_packet.specs.Received.{seen_of};
-ghost use Rattle.auc_peer.specs.Rows.{peer_row, of_kind, ended_by, on_success, on_failure, waiting, late, on_message, on_sound, on_notification, late_notification, notified_row, on_challenge, repeats, is_last, is_response, method_row, aka_row, prime_row, is_known_kdf, is_own, is_right_name, is_separated};
+ghost use Rattle.auc_peer.specs.Rows.{peer_row, of_kind, ended_by, on_success, on_failure, waiting, late, on_message, on_sound, on_notification, late_notification, notified_row, on_challenge, on_identity, repeats, is_last, is_response, method_row, aka_row, prime_row};
 
 use crate::options::PeerOptions;
 use crate::peer::{Challenge, Last, Peer, PeerState};
-use crate::reading::{autn_in, bids, code_in, has_bytes, kdf_in, name_in, rand_in};
 use crate::why::PeerWhy;
 use auc_attr::AttrList;
 use auc_edge::Octets;
 use auc_hmac::Method;
 use auc_packet::{Head, Packet, Reading, Received, Subtype, head, is_malformed, is_missing};
+use auc_request::{
+    IdentityRequest, autn_in, bids, code_in, is_known_kdf, is_right_name, is_separated, kdf_in,
+    name_in, rand_in, request_in,
+};
 use auc_vector::Reason;
 
 /// A row of the table.
@@ -24,6 +27,8 @@ pub enum Row {
     Again,
     /// The first identity is sent.
     First,
+    /// An identity is sent within the method, as this request asks.
+    Identity(IdentityRequest),
     /// Client-Error is sent, for this cause.
     Client(PeerWhy),
     /// Authentication-Reject is sent without asking the USIM, for this cause.
@@ -183,8 +188,19 @@ fn on_sound(options: &PeerOptions, subtype: Subtype, list: &AttrList) -> Row
         Subtype::Challenge => on_challenge(options, list),
         Subtype::Reauthentication => Row::Ignore(Reason::NoContext),
         Subtype::Notification => on_notification(list),
+        Subtype::Identity => on_identity(list),
         _ => Row::Ignore(Reason::Unexpected),
     }
+}
+
+/// An AKA-Identity request in Waiting: it asks for exactly one identity (RFC 4187 §9.1).
+fn on_identity(list: &AttrList) -> Row
+    ensures { result ≡ on_identity list.now }
+{
+    if is_missing(Subtype::Identity, true, list) {
+        return Row::Client(PeerWhy::Missing);
+    }
+    Row::Identity(request_in(list))
 }
 
 /// A Challenge in Waiting.
@@ -237,39 +253,6 @@ fn prime_row(own: &Option<Octets>, list: &AttrList, challenge: Challenge) -> Row
         return Row::Reject(PeerWhy::NoSeparation);
     }
     Row::Challenged(challenge)
-}
-
-/// Whether the key derivation function that is offered first is the one that the peer has (RFC 9048 §3.2).
-fn is_known_kdf(first: Option<u16>) -> bool
-    ensures { result ≡ is_known_kdf first }
-{
-    match first {
-        None => false,
-        Some(kdf) => kdf == 1,
-    }
-}
-
-/// Whether a name was received, and is that of the network that the peer means, if it means one (RFC 9048 §3.1).
-fn is_right_name(own: &Option<Octets>, name: &[u8]) -> bool
-    ensures { result ≡ is_right_name own.now name.now }
-{
-    has_bytes(name) && is_own(own, name)
-}
-
-fn is_own(own: &Option<Octets>, name: &[u8]) -> bool
-    ensures { result ≡ is_own own.now name.now }
-{
-    match own {
-        None => true,
-        Some(own) => name == own.as_slice(),
-    }
-}
-
-/// Whether the separation bit, the first bit of AMF, is set in AUTN (TS 33.102 Annex H).
-fn is_separated(autn: [u8; 16]) -> bool
-    ensures { result ≡ is_separated autn }
-{
-    128 <= autn[6]
 }
 
 /// A Notification in Waiting.

@@ -1,15 +1,17 @@
 //! What each row does without the USIM.
 
-ghost use Rattle.std.specs.Prelude.{◌≡◌, ◌≤◌, ◌+◌, ℕ, [], length};
+ghost use Rattle.std.specs.Prelude.{◌≡◌, ◌≢◌, ◌≤◌, ◌+◌, ℕ, [], length, None};
 ghost use Rattle.auc_packet.specs.Received.{IsReceived, seen_of};
 ghost use Rattle.auc_seal.specs.Encrypted.{ciphertext_of};
 ghost use Rattle.auc_sqn.specs.Past.{Past, Remembers};
 ghost use Rattle.auc_peer.specs.Attributes.{attrs_in};
 ghost use Rattle.auc_peer.specs.InnerRooms.{room_for};
 ghost use Rattle.auc_peer.specs.Rows.{peer_row};
-ghost use Rattle.auc_peer.specs.Subscription.{identity_text, subscription_of};
-ghost use Rattle.auc_peer.specs.Table.{again, answer_or_none, answered, client, ended, first, ignored, network_in, noted, notify, peer_step, rejected, succeeded};
-ghost use Rattle.auc_peer.specs.Turn.{Asked, Decrypts, asked, decryption_noted, was_readable};
+ghost use Rattle.auc_request.specs.declared.identities.IdentityRequest.{IdentityRequest};
+ghost use Rattle.auc_peer.specs.Identities.{first_text};
+ghost use Rattle.auc_peer.specs.Subscription.{subscription_of};
+ghost use Rattle.auc_peer.specs.Table.{again, answer_or_none, answered, client, ended, first, ignored, kept_by, network_in, noted, notify, peer_step, rejected, succeeded, taken_up};
+ghost use Rattle.auc_peer.specs.Turn.{Asked, Decrypts, asked, decryption_noted, told};
 
 use crate::device::Device;
 use crate::messages::{client_error, identity_response, notified, reject};
@@ -47,10 +49,12 @@ impl Peer {
     ) -> Turn<PeerWhy>
         requires is { IsReceived (seen_of received.now) }
         requires row { row ≡ peer_row self.old (seen_of received.now) }
-        requires size { length copies.identity ≤ 272 }
+        requires size { length copies.identity ≤ 289 }
         requires rooms { room_for row (length copies.identity) ≤ rooms }
         requires request { copies.request ≡ (seen_of received.now).bytes }
-        requires identity { copies.identity ≡ identity_text self.old.options.method (subscription_of device.old) }
+        requires identity { copies.identity ≡ first_text self.old.options.method (subscription_of device.old) device.old.store
+            self.old.options.first }
+        requires other { (asked : IdentityRequest) → row ≢ Row.Identity asked }
         requires again { copies.again ≡ answer_or_none self.old.last }
         requires network { copies.network ≡ network_in self.old (seen_of received.now) }
         requires name { length copies.network ≤ 65535 }
@@ -58,13 +62,14 @@ impl Peer {
         requires room { length (ciphertext_of (attrs_in received.now.reading)) ≤ copies.inner.left }
 
         ensures step { (past : Past) → Remembers device.old.usim.array past
-            → (self.new, result) ≡ peer_step (subscription_of device.old) self.old (seen_of received.now)
-            result.notes.usim (was_readable self.new.state) }
+            → (self.new, result) ≡ peer_step (subscription_of device.old) device.old.store self.old (seen_of received.now)
+            result.notes.usim (told self.new) }
         ensures usim { Asked (subscription_of device.old) (asked row) result.notes.usim
             device.old.usim.array device.new.usim.array }
         ensures decrypts { (past : Past) → Remembers device.old.usim.array past
             → Decrypts (decryption_noted (subscription_of device.old) self.old (seen_of received.now) (asked row)
-            result.notes.usim) (was_readable self.new.state) }
+            result.notes.usim) (told self.new) }
+        ensures stored { device.new.store ≡ kept_by row self.old device.old.store }
         ensures subscription { subscription_of device.new ≡ subscription_of device.old }
     {
         let Copies {
@@ -84,7 +89,8 @@ impl Peer {
             Row::Challenged(challenge) => {
                 self.on_challenge(device, received, request, network, inner, challenge, rooms)
             }
-            Row::Success => self.succeed(rooms.none),
+            Row::Identity(_) => unreachable!(),
+            Row::Success => self.succeed(device, rooms.none),
             Row::Failure(why) => self.end(Outcome::Failure(why), rooms.none),
         }
     }
@@ -113,13 +119,20 @@ impl Peer {
         }
     }
 
-    /// Ends the session in Success.
-    fn succeed(&mut self, none: Octets) -> Turn<PeerWhy>
+    /// Ends the session in Success. The device adopts the pseudonym that it was given.
+    fn succeed(&mut self, device: &mut Device, none: Octets) -> Turn<PeerWhy>
         requires { none ≡ [] }
-        ensures { (self.new, result) ≡ succeeded self.old self.old.state }
+        ensures step { (self.new, result) ≡ succeeded self.old self.old.state }
+        ensures note { result.notes.usim ≡ None }
+        ensures stored { device.new.store ≡ taken_up self.old.state self.old device.old.store }
+        ensures subscription { subscription_of device.new ≡ subscription_of device.old }
+        ensures usim { device.new.usim ≡ device.old.usim }
     {
         match self.state {
-            PeerState::Answered(keys) => self.end(Outcome::Success(keys), none),
+            PeerState::Answered(keys) => {
+                device.adopt(self.options.method, self.pseudonym);
+                self.end(Outcome::Success(keys), none)
+            }
             _ => self.ignore(Reason::Unexpected),
         }
     }
@@ -166,7 +179,7 @@ impl Peer {
         rooms: Rooms,
     ) -> Turn<PeerWhy>
         requires request { request ≡ (seen_of received.now).bytes }
-        requires rooms { 44 ≤ rooms }
+        requires rooms { 76 ≤ rooms }
         ensures { (self.new, result) ≡ client self.old (seen_of received.now) why usim checked }
     {
         let Rooms {
@@ -190,7 +203,7 @@ impl Peer {
         rooms: Rooms,
     ) -> Turn<PeerWhy>
         requires request { request ≡ (seen_of received.now).bytes }
-        requires rooms { 44 ≤ rooms }
+        requires rooms { 76 ≤ rooms }
         ensures { (self.new, result) ≡ rejected self.old (seen_of received.now) why usim }
     {
         let Rooms {
@@ -213,7 +226,7 @@ impl Peer {
         rooms: Rooms,
     ) -> Turn<PeerWhy>
         requires request { request ≡ (seen_of received.now).bytes }
-        requires rooms { 44 ≤ rooms }
+        requires rooms { 76 ≤ rooms }
         ensures { (self.new, result) ≡ notify self.old (seen_of received.now) code }
     {
         let Rooms {
@@ -251,7 +264,7 @@ impl Peer {
         rooms: Rooms,
     ) -> Turn<PeerWhy>
         requires request { request ≡ (seen_of received.now).bytes }
-        requires size { length text ≤ 272 }
+        requires size { length text ≤ 289 }
         requires rooms { 5 + length text ≤ rooms }
         ensures { (self.new, result) ≡ first self.old (seen_of received.now) text }
     {

@@ -5,7 +5,8 @@
 pub enum PeerWhy {
     /// The request was no message that a server may send, or had an attribute that it may not have (RFC 4187 §6.3.1).
     Malformed,
-    /// The request had no AT_RAND, AT_AUTN, AT_MAC or AT_NOTIFICATION where it must have one (RFC 4187 §6.3.1).
+    /// The request had no AT_RAND, AT_AUTN, AT_MAC or AT_NOTIFICATION where it must have one (RFC 4187 §6.3.1), or it was an
+    /// AKA-Identity request that didn't ask for exactly one identity (RFC 4187 §9.1).
     Missing,
     /// A Challenge of EAP-AKA' offered no key derivation function that the peer has first (RFC 9048 §3.2).
     BadKdf,
@@ -19,7 +20,7 @@ pub enum PeerWhy {
     WrongAutn,
     /// The value of AT_MAC was wrong (RFC 4187 §6.3.1).
     WrongMac,
-    /// AT_CHECKCODE wasn't that of the peer's own AKA-Identity packets (RFC 4187 §10.13).
+    /// AT_CHECKCODE wasn't that of the AKA-Identity packets that the peer received and sent (RFC 4187 §10.13).
     WrongCheckcode,
     /// AT_ENCR_DATA couldn't be decrypted to attributes (RFC 4187 §10.12).
     Undecryptable,

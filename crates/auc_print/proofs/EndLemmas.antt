@@ -16,7 +16,7 @@ use Rattle.auc_world.specs.Given.{Before, DrawGives, EventGives, JobGives, JobsG
 use Rattle.auc_world.specs.Happened.{Delivery, Told, delivery_in}
 use Rattle.auc_world.specs.Net.{Net, device_place, other, packet_at, session_place}
 use Rattle.auc_world.specs.Setting.{Setting}
-use Rattle.auc_world.specs.Start.{start_of}
+use Rattle.auc_world.specs.Start.{Kept, start_of}
 use Rattle.auc_world.specs.Transcript.{Course, Leads, ServesPart, stop_before}
 use Rattle.auc_world.specs.declared.event.Event.{Event}
 use Rattle.auc_world.specs.declared.event.Event.TheVariants as event
@@ -155,18 +155,18 @@ job_at set before net (first ∷ asked) records last (front, rest, next, parts, 
     subst AreAt (sym parts) (All-append IsAtItsEnd front rest (line_at set before net first front next here)
     (job_at set (behind before front) next asked rest last more))
 
-jobs_at : (set : Setting) (early beside : List LineRecord) (jobs : List (List Line)) (records : List (List LineRecord)) (nets : List Net)
-    → JobsGive set early beside jobs records nets → All AreAt records
-jobs_at set early beside [] records nets (none, same) = subst (All AreAt) (sym none) (All-nil AreAt)
-jobs_at set early beside (job ∷ jobs) [] nets gives = absurd gives
-jobs_at set early beside (job ∷ jobs) (lines ∷ records) [] gives = absurd gives
-jobs_at set early beside (job ∷ jobs) (lines ∷ records) (net ∷ nets) (here, rest) =
-    All-cons AreAt lines records (job_at set (record { early = early; beside = beside; own = [] }) (start_of set job) job lines net here)
-    (jobs_at set early (beside ++ lines) jobs records nets rest)
+jobs_at : (set : Setting) (early : List LineRecord) (kept : List Kept) (beside : List LineRecord) (jobs : List (List Line)) (records : List (List LineRecord)) (nets : List Net)
+    → JobsGive set early kept beside jobs records nets → All AreAt records
+jobs_at set early kept beside [] records nets (none, same) = subst (All AreAt) (sym none) (All-nil AreAt)
+jobs_at set early kept beside (job ∷ jobs) [] nets gives = absurd gives
+jobs_at set early kept beside (job ∷ jobs) (lines ∷ records) [] gives = absurd gives
+jobs_at set early kept beside (job ∷ jobs) (lines ∷ records) (net ∷ nets) (here, rest) =
+    All-cons AreAt lines records (job_at set (record { early = early; beside = beside; own = [] }) (start_of set kept job) job lines net here)
+    (jobs_at set early kept (beside ++ lines) jobs records nets rest)
 
 part_at : (set : Setting) (stop : Option Stop) (at : Course) (part : Part) (made : PartRecord) (next : Course) → ServesPart set stop at part made next → PartIsAtItsEnds made
 part_at set stop at (part.Round jobs) (made.Round round) next serves =
-    jobs_at set at.early [] jobs round.jobs serves.lawful.nets serves.lawful.given
+    jobs_at set at.early at.kept [] jobs round.jobs serves.lawful.nets serves.lawful.given
 part_at set stop at (part.Round jobs) made.Restart next serves = absurd serves
 part_at set stop at part.Restart (made.Round round) next serves = absurd serves
 part_at set stop at part.Restart made.Restart next serves = tt

@@ -7,6 +7,7 @@ use crate::line::print_answer;
 use crate::{print_restart, print_round};
 use auc_edge::{Items, NoMemory, Octets, Stop};
 use auc_hmac::KeySet;
+use auc_ident::Names;
 use auc_random::Rands;
 use auc_subs::Subscribers;
 use auc_vector::{CounterNote, Notes, NumberNote, Outcome, ResyncNote, Step, UsimNote, Vector};
@@ -136,9 +137,11 @@ fn each_value_is_printed_in_its_place(rt: HostRuntime) -> Result<(), Fail> {
     let round = round(rt.alloc())?;
     assert!(rt; names_below(&round, subs.len() as usize));
     let rands = Rands::new([0; 32]);
+    let names = Names::new([0; 32]);
     let set = Setting {
         subs: &subs,
         rands: &rands,
+        names: &names,
         realm: b"",
     };
     let mut text = Octets::new(rt.alloc());

@@ -1,4 +1,5 @@
 pub mod Store
 pub mod Server
 pub mod Device
+pub mod Kept
 pub mod Laws

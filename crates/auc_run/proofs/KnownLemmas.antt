@@ -26,7 +26,7 @@ known_line : (rows : List Row) (line : Line) → IsLine rows line → IsKnownLin
 known_line rows (Draw sub count) is = is.0
 known_line rows (Sync sub seq bit count) is = (is.0, is.1, is.2)
 known_line rows (Give sub n) is = (is.0, is.1, is.2)
-known_line rows (Session line) is = (is.0, is.1)
+known_line rows (Session line) is = (is.0, is.1, is.2)
 known_line rows (Start session) is = tt
 known_line rows (Deliver session at' packet) is = tt
 known_line rows (Repeat session) is = tt

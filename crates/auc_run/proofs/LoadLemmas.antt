@@ -30,6 +30,7 @@ use Rattle.auc_world.specs.Lines.{all_lines, numbers_of, released_by, withheld_b
 use Rattle.auc_world.specs.Net.{Net}
 use Rattle.auc_world.specs.Round.{IsLawfulRound, closing_of, closings_from}
 use Rattle.auc_world.specs.Setting.{Setting}
+use Rattle.auc_world.specs.Start.{Kept}
 use Rattle.auc_world.specs.declared.record.Closing.{Closing}
 use Rattle.auc_world.specs.declared.record.LineRecord.{LineRecord}
 use Rattle.auc_world.specs.declared.record.LineRecord.TheVariants.{Vector, Withheld, Exhausted, Sync, Give, Event}
@@ -85,14 +86,14 @@ DrawsEach set count [] records = records ≡ []
 DrawsEach set count (s ∷ ss) [] = ⊥
 DrawsEach set count (s ∷ ss) (lines ∷ records) = DrawGives set s count lines × DrawsEach set count ss records
 
-pub draws_each : (set : Setting) (early beside : List LineRecord) (count : ℕ) (ss : List ℕ) (records : List (List LineRecord)) (nets : List Net)
-    → JobsGive set early beside (map (λ s. Draw s count ∷ []) ss) records nets → DrawsEach set count ss records
-draws_each set early beside count [] records nets gives = gives.0
-draws_each set early beside count (s ∷ ss) [] nets gives = absurd gives
-draws_each set early beside count (s ∷ ss) (lines ∷ records) [] gives = absurd gives
-draws_each set early beside count (s ∷ ss) (lines ∷ records) (net ∷ nets) ((front, rest, mid, cut, (gives, same), (none, last)), more) = (
+pub draws_each : (set : Setting) (early : List LineRecord) (kept : List Kept) (beside : List LineRecord) (count : ℕ) (ss : List ℕ) (records : List (List LineRecord)) (nets : List Net)
+    → JobsGive set early kept beside (map (λ s. Draw s count ∷ []) ss) records nets → DrawsEach set count ss records
+draws_each set early kept beside count [] records nets gives = gives.0
+draws_each set early kept beside count (s ∷ ss) [] nets gives = absurd gives
+draws_each set early kept beside count (s ∷ ss) (lines ∷ records) [] gives = absurd gives
+draws_each set early kept beside count (s ∷ ss) (lines ∷ records) (net ∷ nets) ((front, rest, mid, cut, (gives, same), (none, last)), more) = (
   subst (DrawGives set s count) (sym (cut ∙ ap (λ (r : List LineRecord). front ++ r) none ∙ append-nil front)) gives,
-  draws_each set early (beside ++ lines) count ss records nets more,
+  draws_each set early kept (beside ++ lines) count ss records nets more,
 )
 
 all_of_draw : (set : Setting) (count : ℕ) (ss : List ℕ) (records : List (List LineRecord)) → DrawsEach set count ss records → All IsOfDraw (all_lines records)
@@ -223,7 +224,8 @@ none_at sub lines k d inside none =
 
 -- a lawful round of such jobs, which opens each subscriber at 0
 pub record IsLoadRound (set : Setting) (count : ℕ) (ss openings : List ℕ) (round : RoundRecord) (words : List ℕ) : Type 0 where
-  pub lawful : IsLawfulRound set None [] openings (map (λ s. Draw s count ∷ []) ss) round words
+  pub kept : List Kept
+  pub lawful : IsLawfulRound set None [] kept openings (map (λ s. Draw s count ∷ []) ss) round words
   pub named : All (λ s. s < length openings) ss
   pub opens : (sub : ℕ) → sub < length openings → get_or openings sub 0 ≡ 0
   pub few : count * length ss < max_seq
@@ -232,7 +234,7 @@ pub record IsLoadRound (set : Setting) (count : ℕ) (ss openings : List ℕ) (r
 closes_low : (set : Setting) (count : ℕ) (ss openings : List ℕ) (round : RoundRecord) (words : List ℕ) → IsLoadRound set count ss openings round words
     → (sub : ℕ) → sub < length openings → get_or words sub 0 < max_seq
 closes_low set count ss openings round words is sub inside =
-    let draws = draws_each set [] [] count ss round.jobs is.lawful.nets is.lawful.given in
+    let draws = draws_each set [] is.kept [] count ss round.jobs is.lawful.nets is.lawful.given in
     let all = all_of_draw set count ss round.jobs draws in
     let lines = few_lines set count ss round.jobs draws in
     let whole = split_counts_its_numbers max_seq (get_or openings sub 0) (get_or words sub 0) (entries_of_jobs sub [] round.jobs) (is.lawful.split sub inside) in
@@ -249,7 +251,7 @@ only_vectors : (set : Setting) (count : ℕ) (ss openings : List ℕ) (round : R
     → All IsVector (all_lines round.jobs)
 only_vectors set count ss openings round words is k d inside =
     let line = get_or (all_lines round.jobs) k d in
-    let draws = draws_each set [] [] count ss round.jobs is.lawful.nets is.lawful.given in
+    let draws = draws_each set [] is.kept [] count ss round.jobs is.lawful.nets is.lawful.given in
     let sub = sub_of line in
     let named : sub < length openings = all_named set (length openings) count ss round.jobs is.named draws k d inside in
     let closing = get_or words sub 0 in
@@ -352,7 +354,7 @@ closing_is : (set : Setting) (count : ℕ) (ss openings : List ℕ) (round : Rou
     → (sub : ℕ) → sub < length openings
     → closing_of sub (get_or openings sub 0) (get_or words sub 0) round.jobs ≡ closing_with sub (count * count_by (λ s. s == sub) ss)
 closing_is set count ss openings round words is sub inside =
-    let draws = draws_each set [] [] count ss round.jobs is.lawful.nets is.lawful.given in
+    let draws = draws_each set [] is.kept [] count ss round.jobs is.lawful.nets is.lawful.given in
     let all = only_vectors set count ss openings round words is in
     let whole = split_counts_its_numbers max_seq (get_or openings sub 0) (get_or words sub 0) (entries_of_jobs sub [] round.jobs) (is.lawful.split sub inside) in
     let draw = jobs_draw set count sub [] ss round.jobs draws all in
@@ -433,9 +435,9 @@ opens_at load sub inside =
     ∙ get_or-map-range_with_len (λ i. (row_at key i).seq) 0 load.subscribers sub sub 0 inside (omega arith)
 
 -- a lawful round of it closes the subscribers as the summary has to be told
-pub load_round_closes : (load : LoadWords) (set : Setting) (round : RoundRecord) (words : List ℕ) → IsLoad load
-    → IsLawfulRound set None [] (map (λ (row : Row). row.seq) (load_rows load)) (load_jobs load) round words → round.closings ≡ load_closings load
-load_round_closes load set round words is lawful =
+pub load_round_closes : (load : LoadWords) (set : Setting) (kept : List Kept) (round : RoundRecord) (words : List ℕ) → IsLoad load
+    → IsLawfulRound set None [] kept (map (λ (row : Row). row.seq) (load_rows load)) (load_jobs load) round words → round.closings ≡ load_closings load
+load_round_closes load set kept round words is lawful =
     let openings = map (λ (row : Row). row.seq) (load_rows load) in
     let rows = length-map (load_rows load) (λ (row : Row). row.seq) in
     let many = length-map-range_with_len (row_at (load_key load.key)) 0 load.subscribers in
@@ -443,7 +445,8 @@ load_round_closes load set round words is lawful =
     let jobs = length-map-range_with_len (λ j. j % load.subscribers) 0 load.jobs in
     let bound = is.jobs in
     let round_is : IsLoadRound set vectors_of_a_job (subs_of_jobs load) openings round words = record {
-      lawful = subst (λ (js : List (List Line)). IsLawfulRound set None [] openings js round words) (jobs_are load) lawful;
+      kept = kept;
+      lawful = subst (λ (js : List (List Line)). IsLawfulRound set None [] kept openings js round words) (jobs_are load) lawful;
       named = subst (λ (n : ℕ). All (λ s. s < n) (subs_of_jobs load)) (sym count) (subs_named load is);
       opens = λ sub inside. opens_at load sub (omega (arith, count, inside));
       few = omega (arith, jobs, bound);

@@ -19,7 +19,7 @@ use Rattle.auc_world.specs.Happened.{Delivery, Told, delivery_in}
 use Rattle.auc_world.specs.Net.{Net, device_place, other, packet_at, session_place}
 use Rattle.auc_world.specs.Record.{IsBelow, subscriber_of}
 use Rattle.auc_world.specs.Setting.{Setting}
-use Rattle.auc_world.specs.Start.{start_of}
+use Rattle.auc_world.specs.Start.{Kept, start_of}
 use Rattle.auc_world.specs.declared.event.Event.{Event}
 use Rattle.auc_world.specs.declared.event.Event.TheVariants as event
 use Rattle.auc_world.specs.declared.net.SentPacket.{SentPacket}
@@ -188,12 +188,12 @@ job_named set before net (asked ∷ job) lines last known (front, rest, next, cu
     (job_named set (behind before front) next job rest last (λ k d inside. known (suc k) d (omega arith)) more))
 
 -- what the jobs of a round give
-pub jobs_named : (set : Setting) (early beside : List LineRecord) (jobs : List (List Line)) (records : List (List LineRecord)) (nets : List Net)
-    → AreAllKnown (length set.rows) jobs → JobsGive set early beside jobs records nets → All (All (IsNamed (length set.rows))) records
-jobs_named set early beside [] records nets known gives = All-same (All (IsNamed (length set.rows))) records [] gives.0 (All-nil (All (IsNamed (length set.rows))))
-jobs_named set early beside (job ∷ jobs) [] nets known gives = absurd gives
-jobs_named set early beside (job ∷ jobs) (lines ∷ records) [] known gives = absurd gives
-jobs_named set early beside (job ∷ jobs) (lines ∷ records) (net ∷ nets) known (gives, more) =
+pub jobs_named : (set : Setting) (early : List LineRecord) (kept : List Kept) (beside : List LineRecord) (jobs : List (List Line)) (records : List (List LineRecord)) (nets : List Net)
+    → AreAllKnown (length set.rows) jobs → JobsGive set early kept beside jobs records nets → All (All (IsNamed (length set.rows))) records
+jobs_named set early kept beside [] records nets known gives = All-same (All (IsNamed (length set.rows))) records [] gives.0 (All-nil (All (IsNamed (length set.rows))))
+jobs_named set early kept beside (job ∷ jobs) [] nets known gives = absurd gives
+jobs_named set early kept beside (job ∷ jobs) (lines ∷ records) [] known gives = absurd gives
+jobs_named set early kept beside (job ∷ jobs) (lines ∷ records) (net ∷ nets) known (gives, more) =
     All-cons (All (IsNamed (length set.rows))) lines records
-    (job_named set (record { early = early; beside = beside; own = [] }) (start_of set job) job lines net (known 0 job (omega arith)) gives)
-    (jobs_named set early (beside ++ lines) jobs records nets (λ k d inside. known (suc k) d (omega arith)) more)
+    (job_named set (record { early = early; beside = beside; own = [] }) (start_of set kept job) job lines net (known 0 job (omega arith)) gives)
+    (jobs_named set early kept (beside ++ lines) jobs records nets (λ k d inside. known (suc k) d (omega arith)) more)

@@ -13,6 +13,7 @@ use Rattle.auc_lines.specs.declared.part.Part.TheVariants.{Round, Restart}
 use Rattle.auc_sqn.specs.Number.{max_seq}
 use Rattle.auc_world.specs.Entries.{entries_of_jobs}
 use Rattle.auc_world.specs.Setting.{Setting}
+use Rattle.auc_world.specs.Start.{Kept}
 use Rattle.auc_world.specs.Lines.{numbers_of, withheld_of, all_lines}
 use Rattle.auc_world.specs.Round.{IsLawfulRound, closing_of, closings_from}
 use Rattle.auc_world.proofs.Facts.{length-opened}
@@ -64,11 +65,11 @@ closings_named count sub (opening ∷ openings) (word ∷ words) jobs all =
 -- ---- rounds
 
 -- a lawful round
-pub round_named : (set : Setting) (stop : Option Stop) (early : List LineRecord) (openings : List ℕ) (jobs : List (List Line)) (round : RoundRecord) (words : List ℕ)
-    → length openings ≡ length set.rows → AreAllKnown (length set.rows) jobs → IsLawfulRound set stop early openings jobs round words
+pub round_named : (set : Setting) (stop : Option Stop) (early : List LineRecord) (kept : List Kept) (openings : List ℕ) (jobs : List (List Line)) (round : RoundRecord) (words : List ℕ)
+    → length openings ≡ length set.rows → AreAllKnown (length set.rows) jobs → IsLawfulRound set stop early kept openings jobs round words
     → NamesBelow (length set.rows) round
-round_named set stop early openings jobs round words count known lawful = record {
-  jobs = jobs_named set early [] jobs round.jobs lawful.nets known lawful.given;
+round_named set stop early kept openings jobs round words count known lawful = record {
+  jobs = jobs_named set early kept [] jobs round.jobs lawful.nets known lawful.given;
   closings = All-same (IsNamedIn (length set.rows)) round.closings (closings_from 0 openings words round.jobs) lawful.closings
       (closings_named (length set.rows) 0 openings words round.jobs (omega (arith, count)));
 }
@@ -77,7 +78,7 @@ round_named set stop early openings jobs round words count known lawful = record
 part_named : (set : Setting) (stop : Option Stop) (at : Course) (part : Part) (made : PartRecord) (next : Course) → length at.openings ≡ length set.rows
     → IsKnownPart (length set.rows) part → ServesPart set stop at part made next → PartNamesBelow (length set.rows) made
 part_named set stop at (Round jobs) (record_of.Round round) next count known serves =
-    round_named set stop at.early at.openings jobs round serves.words count known.known serves.lawful
+    round_named set stop at.early at.kept at.openings jobs round serves.words count known.known serves.lawful
 part_named set stop at (Round jobs) record_of.Restart next count known serves = absurd serves
 part_named set stop at Restart (record_of.Round round) next count known serves = absurd serves
 part_named set stop at Restart record_of.Restart next count known serves = tt

@@ -20,6 +20,7 @@ use Rattle.auc_world.specs.Limits.{least_step, opened}
 use Rattle.auc_world.specs.Lines.{all_lines, numbers_of, released_by}
 use Rattle.auc_world.specs.Round.{IsLawfulRound}
 use Rattle.auc_world.specs.Setting.{Setting}
+use Rattle.auc_world.specs.Start.{Kept, fresh_kept, kept_by_jobs}
 use Rattle.auc_world.specs.Transcript.{Course, Restarts, ServesRound, after_restart, after_round, beginning}
 use Rattle.auc_world.specs.declared.record.LineRecord.{LineRecord}
 use Rattle.auc_world.specs.declared.record.RoundRecord.{RoundRecord}
@@ -131,14 +132,15 @@ covers_more seen may_leave rows from reserved at journal after reserves same mor
 
 -- where the first part begins
 pub begins_stand : {D : Type 0} (seen : D → Option (List ℕ)) (may_leave : D → List ℕ → Type 0) (faults : D → ℕ) (set : Setting) (from : D) (state : Standing) (journal : JournalState D)
-    → Begins seen may_leave faults set.rows from journal → state.words ≡ opened set.rows (limits_of journal) → StandsAt set [] state
+    → Begins seen may_leave faults set.rows from journal → state.words ≡ opened set.rows (limits_of journal) → state.kept ≡ map (λ row. fresh_kept) set.rows → StandsAt set [] state
     → ((sub : ℕ) → sub < length set.rows → slice_index (limits_of journal) sub ≤ max_seq)
     → StandsOn seen may_leave set from (limits_of journal) (beginning set.rows (limits_of journal)) 1 state journal
-begins_stand seen may_leave faults set from state journal begins opens stands within =
+begins_stand seen may_leave faults set from state journal begins opens kept stands within =
     let reserved = limits_of journal in
     record {
       numbered = refl;
       stands = stands;
+      kept = kept;
       opens = opens;
       ready = begins.ready;
       reserves = record {
@@ -151,14 +153,15 @@ begins_stand seen may_leave faults set from state journal begins opens stands wi
 
 -- where a restart leads
 pub restart_stands : {D : Type 0} (seen : D → Option (List ℕ)) (may_leave : D → List ℕ → Type 0) (set : Setting) (from : D) (reserved : List ℕ) (at : Course) (number : ℕ) (state next : Standing) (journal : JournalState D)
-    → StandsOn seen may_leave set from reserved at number state journal → next.words ≡ opened set.rows (limits_of journal) → StandsAt set at.early next
+    → StandsOn seen may_leave set from reserved at number state journal → next.words ≡ opened set.rows (limits_of journal) → next.kept ≡ state.kept → StandsAt set at.early next
     → Restarts set at (after_restart set.rows at (limits_of journal))
     × StandsOn seen may_leave set from reserved (after_restart set.rows at (limits_of journal)) number next journal
-restart_stands seen may_leave set from reserved at number state next journal on opens stands = (
+restart_stands seen may_leave set from reserved at number state next journal on opens kept stands = (
   record { limits = limits_of journal; raises = on.reserves.raises; leads = refl },
   record {
     numbered = on.numbered;
     stands = stands;
+    kept = kept ∙ on.kept;
     opens = opens;
     ready = on.ready;
     reserves = record {
@@ -169,6 +172,11 @@ restart_stands seen may_leave set from reserved at number state next journal on 
   },
 )
 
+-- a lawful round, and what homes and devices keep after it
+abbrev IsKeptBy : Setting → Option Stop → List LineRecord → List Kept → List ℕ → List (List Line) → RoundRecord → List ℕ → List Kept → Type 0
+IsKeptBy set stop early kept openings jobs round words next =
+    (lawful : IsLawfulRound set stop early kept openings jobs round words) × (next ≡ kept_by_jobs kept lawful.nets)
+
 -- a round that was served leads on
 pub record RoundLeads {D : Type 0} (seen : D → Option (List ℕ)) (may_leave : D → List ℕ → Type 0) (set : Setting) (from : D) (reserved : List ℕ) (at : Course) (jobs : List (List Line)) (round : RoundRecord)
     (stop : Option Stop) (state : Standing) (journal : JournalState D) : Type 0 where
@@ -176,6 +184,7 @@ pub record RoundLeads {D : Type 0} (seen : D → Option (List ℕ)) (may_leave :
   pub served : ServesRound set stop at jobs round next
   pub early : next.early ≡ at.early ++ all_lines round.jobs
   pub number : next.number ≡ at.number + 1
+  pub kept : state.kept ≡ next.kept
   pub opens : state.words ≡ next.openings
   pub reserves : Reserves seen may_leave set.rows from reserved next journal
 
@@ -185,22 +194,25 @@ pub round_leads : {D : Type 0} (seen : D → Option (List ℕ)) (may_leave : D �
     → Serves seen may_leave set at.early state jobs round stop journal next after → RoundLeads seen may_leave set from reserved at jobs round stop next after
 round_leads seen may_leave set from reserved at number state next journal after jobs round stop on numbered same serves =
     let words = serves.words in
-    let lawful : IsLawfulRound set stop at.early at.openings jobs round words =
-    subst (λ (openings : List ℕ). IsLawfulRound set stop at.early openings jobs round words) on.opens serves.lawful in
+    let begins : IsKeptBy set stop at.early state.kept at.openings jobs round words next.kept =
+    subst (λ (openings : List ℕ). IsKeptBy set stop at.early state.kept openings jobs round words next.kept) on.opens (serves.lawful, serves.keeps) in
+    let leads : IsKeptBy set stop at.early at.kept at.openings jobs round words next.kept =
+    subst (λ (kept : List Kept). IsKeptBy set stop at.early kept at.openings jobs round words next.kept) on.kept begins in
     let sizes = serves.lawful.sizes in
     let size = on.stands.subscribers.size in
     let count = count_of set.rows journal on.reserves.subscribers in
     let counts = ap length same in
     record {
-      next = after_round at round words;
-      served = record { numbered = numbered ∙ sym on.numbered; words = words; lawful = lawful; leads = refl };
+      next = after_round at round words leads.0.nets;
+      served = record { numbered = numbered ∙ sym on.numbered; words = words; lawful = leads.0; leads = refl };
       early = refl;
       number = refl;
+      kept = leads.1;
       opens = serves.opens;
       reserves = record {
         subscribers = same ∙ on.reserves.subscribers;
         raises = raises_round set.rows at.early (all_lines round.jobs) at.limits at.highs (limits_of journal) words (limits_of after) (sizes ∙ size) on.reserves.raises serves.limits;
-        durable = durable_more seen may_leave from (λ i. max (most_at reserved at i) (slice_index words i + least_step)) (most_at reserved (after_round at round words)) after
+        durable = durable_more seen may_leave from (λ i. max (most_at reserved at i) (slice_index words i + least_step)) (most_at reserved (after_round at round words leads.0.nets)) after
             (λ i inside. let greatest = get_or-greater words at.highs i (omega (arith, inside, counts, count, sizes, size)) in omega (arith, greatest))
             (serves.durable from (most_at reserved at) on.reserves.durable);
       };

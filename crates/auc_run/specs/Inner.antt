@@ -249,6 +249,7 @@ IsKnownPart count Restart = Unit {0}
 pub record StandsOn {D : Type 0} (seen : D → Option (List ℕ)) (may_leave : D → List ℕ → Type 0) (set : Setting) (from : D) (reserved : List ℕ) (at : Course) (number : ℕ) (state : Standing) (journal : JournalState D) : Type 0 where
   pub numbered : at.number ≡ number
   pub stands : StandsAt set at.early state
+  pub kept : state.kept ≡ at.kept
   pub opens : state.words ≡ at.openings
   pub ready : journal.failed ≡ false
   pub reserves : Reserves seen may_leave set.rows from reserved at journal

@@ -1,6 +1,7 @@
 -- What a run of a scenario writes.
 use Rattle.std.specs.Prelude.{◌≡◌, ℕ, Option, List, [], length}
 use Rattle.auc_edge.specs.declared.stop.Stop.{Stop}
+use Rattle.auc_ident.specs.Names.{names_key}
 use Rattle.auc_lines.specs.declared.part.Part.{Part}
 use Rattle.auc_print.specs.Text.{transcript_text}
 use Rattle.auc_script.specs.declared.script.Script.{Script}
@@ -14,9 +15,9 @@ use Rattle.auc_world.specs.Net.{Net}
 use Rattle.auc_world.specs.Transcript.{Course, Leads, IsLawful, beginning}
 use Rattle.auc_world.specs.declared.record.PartRecord.{PartRecord}
 
--- the key, the rows and the realm with which the lines of a script are served
+-- the keys of the random bytes and of the names, the rows and the realm with which the lines of a script are served
 abbrev pub setting_of : List Row → Script → Setting
-setting_of rows script = record { key = script.key; rows = rows; realm = script.realm }
+setting_of rows script = record { key = script.key; names = names_key script.key; rows = rows; realm = script.realm }
 
 -- a transcript is a lawful one of some parts of a script, before which these numbers were reserved. The reservation of
 -- numbers may have stopped in its last part
@@ -34,7 +35,7 @@ text_of rows script records = transcript_text (setting_of rows script) script.fu
 -- method that ended in Success over one challenge, of EAP-AKA' with one name of the network, have equal keys, if no delivery
 -- broke the premise in their jobs, and each round tells of a breach exactly if one did. A session that has its plain line and
 -- no other event line ends in Success at both ends, and its round says that they agree, unless a record of it tells why not,
--- or its options keep the peer from accepting a challenge
+-- or its line gives a text for the first identity or has options that keep the peer from accepting a challenge
 pub record IsOutput (rows : List Row) (script : Script) (reserved : List ℕ) (stop : Option Stop) (parts : List Part) (end : Course) (text : List ℕ) : Type 0 where
   pub transcript : List PartRecord
   -- it is lawful, and this is where it ends
@@ -48,7 +49,7 @@ pub record IsOutput (rows : List Row) (script : Script) (reserved : List ℕ) (s
   pub finds_right_macs : FindsRightMacs (setting_of rows script) transcript
   -- the networks of its jobs' sessions, a list for each round
   pub nets : List (List Net)
-  pub are_nets : AreNets (setting_of rows script) [] parts transcript nets
+  pub are_nets : AreNets (setting_of rows script) parts transcript nets
   pub keys : EndsAgree nets
   pub breaches : BreachesAreTold transcript nets
   pub plain : PlainSessionsAgree rows parts transcript nets

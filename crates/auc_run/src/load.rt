@@ -16,6 +16,7 @@ use crate::opening::open_journal;
 use crate::refusal::Refusal;
 use auc_disk::{FailList, MemDisk};
 use auc_edge::{Gate, NoMemory, Octets, Sink, write_whole};
+use auc_ident::Names;
 use auc_jobs::{Served, State, serve};
 use auc_journal::Journal;
 use auc_load::{LoadWords, jobs, key_of, load_words, subscribers, summary};
@@ -82,10 +83,13 @@ fn serve_load<R: Threads + Wait + Sync, G: Gate + Sync>(
     requires subscribers { subs.now ≡ load_rows load.now }
     ensures { IfOk result (λ round. round.closings ≡ load_closings load.now) }
 {
-    let rands = Rands::new(key_of(load.key));
+    let key = key_of(load.key);
+    let rands = Rands::new(key);
+    let names = Names::new(key);
     let set = Setting {
         subs,
         rands: &rands,
+        names: &names,
         realm: b"".as_slice(),
     };
     let jobs = jobs(alloc, load)?;

@@ -12,6 +12,7 @@ ghost use Rattle.auc_sqn.specs.Number.{max_seq};
 ghost use Rattle.auc_subs.specs.Subscriber.{AreSubscribers};
 ghost use Rattle.auc_world.specs.Limits.{opened};
 ghost use Rattle.auc_world.specs.Record.{NamesBelow};
+ghost use Rattle.auc_world.specs.Start.{fresh_kept};
 ghost use Rattle.auc_world.specs.Transcript.{Course, beginning};
 ghost use Rattle.auc_world.specs.Vectors.{vectors_in};
 ghost use Rattle.auc_world.specs.declared.record.LineRecord.{LineRecord};
@@ -24,6 +25,7 @@ use crate::opening::openings;
 use crate::refusal::{Performed, Refusal, refused};
 use auc_disk::Disk;
 use auc_edge::{Failed, Gate, NoMemory, Octets, Sink, Stop, write_whole};
+use auc_ident::Names;
 use auc_jobs::{Ran, Served, State, serve};
 use auc_journal::Journal;
 use auc_lines::{Part, RoundPart};
@@ -188,6 +190,7 @@ fn restart<D: Disk + Drop>(
     requires subscribers { stand.old.journal.imsis ≡ map (λ row. row.imsi) subs.now }
     requires size { length stand.old.state.words ≡ length subs.now }
     ensures opened { OnOk result (stand.new.state.words ≡ opened subs.now (limits_of stand.old.journal)) }
+    ensures names { OnOk result (stand.new.state.kept ≡ stand.old.state.kept) }
     ensures stands { OnOk result ((set : Setting) (early : List LineRecord)
         → StandsAt set early stand.old.state → StandsAt set early stand.new.state) }
     ensures limits { OnOk result ((sub : ℕ) → sub < length subs.now
@@ -310,6 +313,7 @@ fn first_state<D: Disk + Drop>(
 ) -> Result<State, NoMemory>
     requires { journal.now.imsis ≡ map (λ row. row.imsi) subs.now }
     ensures opened { IfOk result (λ state. state.words ≡ opened subs.now (limits_of journal.now)) }
+    ensures names { IfOk result (λ state. state.kept ≡ map (λ row. fresh_kept) subs.now) }
     ensures stands { IfOk result (λ state. (set : Setting) → set.rows ≡ subs.now → StandsAt set [] state) }
     ensures limits { OnOk result ((sub : ℕ) → sub < length subs.now
         → slice_index (limits_of journal.now) sub ≤ max_seq) }
@@ -350,10 +354,12 @@ pub(crate) fn serve_parts<R: Threads + Wait + Sync, K: Sink, D: Disk + Drop + Se
     ensures quiet_store { IsQuiet (status_in result.result) → D.faults result.disk ≡ D.faults journal.disk }
 {
     let rands = Rands::new(script.key);
+    let names = Names::new(script.key);
     let settings = Settings {
         set: Setting {
             subs,
             rands: &rands,
+            names: &names,
             realm: script.realm.as_slice(),
         },
         full: script.full,

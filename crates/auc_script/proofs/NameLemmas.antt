@@ -1,4 +1,4 @@
--- The names of a session aren't empty, for `read_session`.
+-- The texts of a session are within their limits, for `read_session`.
 use Rattle.std.proofs.Common.{ℕ, ◌≡◌, ◌≤◌, ◌&&◌, nat_le, Bool, true, false, List, ◌∷◌, [], length, codes, Option, Some, None, Ok, arith, refl}
 use Rattle.std.specs.Prelude.{◌==◌, not, IfSome, if◌then◌else◌}
 use Rattle.std.specs.List.{All, slice_split}
@@ -6,10 +6,13 @@ use Rattle.std.proofs.lemmas.Bool.Decides.{nat_tests}
 use Rattle.std.proofs.lemmas.List.Elements.{All-head, All-tail, filter_passes}
 use Rattle.auc_hmac.specs.declared.method.Method.{Method}
 use Rattle.auc_hmac.specs.declared.method.Method.TheVariants.{Aka, Prime}
+use Rattle.auc_lines.specs.declared.part.Identity.{Identity}
+use Rattle.auc_lines.specs.declared.part.Identity.TheVariants.{Held, Permanent, Text}
+use Rattle.auc_lines.specs.Part.{IsShortIdentity}
 use Rattle.auc_text.specs.Text.{is_blank, is_text, words_of}
-use Rattle.auc_script.specs.Limits.{AreNames}
-use Rattle.auc_script.specs.Numbers.{longest_name}
-use Rattle.auc_script.specs.Session.{is_short}
+use Rattle.auc_script.specs.Limits.{AreNames, HasText}
+use Rattle.auc_script.specs.Numbers.{longest_name, longest_text}
+use Rattle.auc_script.specs.Session.{is_first, is_short}
 use Rattle.auc_script.specs.SessionLine.{SessionFields, name_in, peer_name_in, seven_fields}
 
 -- a word has a byte
@@ -51,19 +54,30 @@ are_names Prime sname pname first second short = (first, which (is_text pname (c
     which true short = tt
     which false short = (second, grind (arith, nat_tests))
 
--- the names of a session that was read from a line
-pub names_from : (line : List ℕ) (f : SessionFields) (method : Method) (name : List ℕ) (peer_name : Option (List ℕ)) → seven_fields (words_of line) ≡ Ok f
-    → name ≡ name_in method f.sname → peer_name ≡ peer_name_in method f.pname → (nat_le (length name) longest_name && is_short peer_name) ≡ true
-    → (length name ≤ longest_name) × AreNames method name peer_name
-names_from line f method name peer_name fields named peer short =
-    let two = two_names (words_of line) f (are_words line) fields in
-    let both = each (nat_le (length name) longest_name) (is_short peer_name) short in
-    let fits : length name ≤ longest_name = within (length name) longest_name both.0 in
-    (fits, rw (named, peer) (are_names method f.sname f.pname two.0 two.1 (rw peer at both.1)))
-  where
-    each : (a b : Bool) → (a && b) ≡ true → (a ≡ true) × (b ≡ true)
-    each true b is = (refl, is)
-    each false b is = cc
+-- two tests, and a test of two numbers
+each : (a b : Bool) → (a && b) ≡ true → (a ≡ true) × (b ≡ true)
+each true b is = (refl, is)
+each false b is = cc
 
-    within : (n limit : ℕ) → nat_le n limit ≡ true → n ≤ limit
-    within n limit is = grind (arith, nat_tests)
+within : (n limit : ℕ) → nat_le n limit ≡ true → n ≤ limit
+within n limit is = grind (arith, nat_tests)
+
+-- the text of an identity, if it is one
+first_from : (identity : Identity) → is_first identity ≡ true → IsShortIdentity identity × HasText identity
+first_from Held is = (tt, tt)
+first_from Permanent is = (tt, tt)
+first_from (Text text) is =
+    let both = each (nat_le 1 (length text)) (nat_le (length text) longest_text) is in
+    (within (length text) longest_text both.1, within 1 (length text) both.0)
+
+-- the names of a session that was read from a line, and its first identity
+pub texts_from : (line : List ℕ) (f : SessionFields) (method : Method) (name : List ℕ) (peer_name : Option (List ℕ)) (identity : Identity) → seven_fields (words_of line) ≡ Ok f
+    → name ≡ name_in method f.sname → peer_name ≡ peer_name_in method f.pname
+    → (nat_le (length name) longest_name && is_short peer_name && is_first identity) ≡ true
+    → (length name ≤ longest_name) × AreNames method name peer_name × IsShortIdentity identity × HasText identity
+texts_from line f method name peer_name identity fields named peer fit =
+    let two = two_names (words_of line) f (are_words line) fields in
+    let texts = each (nat_le (length name) longest_name && is_short peer_name) (is_first identity) fit in
+    let names = each (nat_le (length name) longest_name) (is_short peer_name) texts.0 in
+    let first = first_from identity texts.1 in
+    (within (length name) longest_name names.0, rw (named, peer) (are_names method f.sname f.pname two.0 two.1 (rw peer at names.1)), first.0, first.1)

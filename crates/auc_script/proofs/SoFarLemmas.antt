@@ -26,7 +26,7 @@ use Rattle.auc_script.specs.Limits.{AreJobs, AreWithin, IsLine, IsOpened, IsPart
 use Rattle.auc_lines.specs.Part.{AreApart}
 use Rattle.auc_script.specs.Scenario.{Scenario, in_order, is_busy, jobs_in, job_line, line_of, no_jobs, of_job_line, parts_of, restart_line, round_line, rounds_of, with_round}
 use Rattle.auc_lines.specs.Part.{asked, asked_by, held_by, holds, is_held_by, jobs_of}
-use Rattle.auc_script.specs.Session.{has_short_names, is_among, named_by, opened, opened_by, packets, packets_by, sessions_of}
+use Rattle.auc_script.specs.Session.{has_fit_texts, is_among, named_by, opened, opened_by, packets, packets_by, sessions_of}
 use Rattle.auc_script.specs.declared.refusal.ScriptWhy.{ScriptWhy}
 use Rattle.auc_script.specs.declared.refusal.ScriptWhy.TheVariants.{Limit, UsimBusy}
 use Rattle.auc_subs.specs.Steps.{◌>>=◌}
@@ -304,7 +304,7 @@ pub record Passes (rows : List Row) (s : SoFar) (jobs : List (List Line)) (line 
   pub vectors : s.asked + asked_by line ≤ most_vectors
   pub sessions : length (s.sessions.all ++ option_to_list (opened_by line)) ≤ most_sessions
   pub packets : s.sessions.packets + packets_by line ≤ most_packets
-  pub names : has_short_names line ≡ true
+  pub names : has_fit_texts line ≡ true
 
 -- what is kept when a line of a job comes
 pub kept_line : (rows : List Row) (s : SoFar) (jobs : List (List Line)) (job : List Line) (line : Line) (holders : Holders) → IsSoFar rows (record s { round = Some (record { jobs = jobs; job = Some job }) })
@@ -532,7 +532,7 @@ abbrev pub room_for : SoFar → Line → Bool
 room_for s line =
     nat_le (s.asked + asked_by line) most_vectors && nat_le (length (s.sessions.all ++ option_to_list (opened_by line))) most_sessions
     && nat_le (s.sessions.packets + packets_by line) most_packets
-    && has_short_names line
+    && has_fit_texts line
 
 -- the sessions of the present job
 of_present : (rows : List Row) (s : SoFar) (round : RoundSoFar) (job : List Line) → IsSoFar rows s → s.round ≡ Some round → round.job ≡ Some job → AreOfJob s.sessions job

@@ -7,11 +7,13 @@ use Rattle.auc_hmac.specs.declared.method.Method.TheVariants.{Aka, Prime}
 use Rattle.auc_sqn.specs.Number.{max_seq}
 use Rattle.auc_subs.specs.declared.row.Row.{Row}
 use Rattle.auc_subs.specs.Subscriber.{AreSubscribers}
+use Rattle.auc_lines.specs.declared.part.Identity.{Identity}
+use Rattle.auc_lines.specs.declared.part.Identity.TheVariants.{Held, Permanent, Text}
 use Rattle.auc_lines.specs.declared.part.Line.{Line}
 use Rattle.auc_lines.specs.declared.part.Line.TheVariants.{Draw, Give, Sync, Session, Start, Deliver, Repeat, GiveUp, Plain}
 use Rattle.auc_lines.specs.declared.part.Part.{Part}
 use Rattle.auc_lines.specs.declared.part.Part.TheVariants.{Round, Restart}
-use Rattle.auc_lines.specs.Part.{AreApart, IsBit, asked, jobs_of}
+use Rattle.auc_lines.specs.Part.{AreApart, IsBit, IsShortIdentity, asked, jobs_of}
 use Rattle.auc_script.specs.declared.script.Script.{Script}
 use Rattle.auc_script.specs.Scenario.{rounds_of}
 use Rattle.auc_script.specs.Session.{is_among, named_by, opened, packets, sessions_of}
@@ -26,13 +28,20 @@ abbrev pub AreNames : Method → List ℕ → Option (List ℕ) → Type 0
 AreNames Aka name peer_name = (name ≡ []) × (peer_name ≡ None)
 AreNames Prime name peer_name = (1 ≤ length name) × IfSome peer_name (λ other. (1 ≤ length other) × (length other ≤ longest_name))
 
--- a line whose subscriber there is, and whose numbers are within their ranges
+-- an identity whose text, if it is one, isn't empty
+abbrev pub HasText : Identity → Type 0
+HasText Held = Unit {0}
+HasText Permanent = Unit {0}
+HasText (Text text) = 1 ≤ length text
+
+-- a line whose subscriber there is, and whose numbers and texts are within their ranges
 abbrev pub IsLine : List Row → Line → Type 0
 IsLine rows (Draw sub count) = (sub < length rows) × (1 ≤ count) × (count ≤ most_count)
 IsLine rows (Sync sub seq bit count) = (sub < length rows) × (seq ≤ max_seq) × IsBit bit × (count ≤ most_count)
 IsLine rows (Give sub number) = (sub < length rows) × (1 ≤ number) × (number ≤ max_seq)
 IsLine rows (Session line) =
-    (line.sub < length rows) × (length line.name ≤ longest_name) × IsSession line.session × AreNames line.method line.name line.peer_name
+    (line.sub < length rows) × (length line.name ≤ longest_name) × IsShortIdentity line.identity
+    × IsSession line.session × AreNames line.method line.name line.peer_name × HasText line.identity
 IsLine rows (Start session) = IsSession session
 IsLine rows (Deliver session end packet) = IsSession session
 IsLine rows (Repeat session) = IsSession session

@@ -36,9 +36,12 @@ most_packets = 1000000
 abbrev pub most_workers : ℕ
 most_workers = 64
 
--- how many bytes a realm may have, and a name of a network
+-- how many bytes a realm may have, a name of a network, and the text of an identity
 abbrev pub longest_realm : ℕ
 longest_realm = 255
 
 abbrev pub longest_name : ℕ
 longest_name = 255
+
+abbrev pub longest_text : ℕ
+longest_text = 255

@@ -17,10 +17,10 @@
 --   session T IMSI METHOD SNAME PNAME OPTIONS IDENTITY
 --                                            in a job; T from 1 to 999999; METHOD aka, with SNAME and
 --                                            PNAME -, or prime, with any names; OPTIONS - or letters of
---                                            p, r, b, a and d, each once; IDENTITY held or permanent; a
---                                            subscriber's IMSI; no session T before; no earlier job of
---                                            the round holds the USIM; 100000 at most; a name has 255
---                                            bytes at most
+--                                            p, r, b, a and d, each once; IDENTITY held, permanent, or
+--                                            = and a text; a subscriber's IMSI; no session T before; no
+--                                            earlier job of the round holds the USIM; 100000 at most; a
+--                                            name has 255 bytes at most, and an identity's text 1 to 255
 --   start T                                  in a job, after its line that opens session T; once
 --   repeat T                                 in a job, after its line that opens session T
 --   deliver T END P                          the same; END server or peer, P to 4294967295
@@ -30,7 +30,7 @@
 -- All lines together ask for 1000000 vectors at most, a session for two. The lines of sessions in a job count for 1000000
 -- packets at most, a plain for 40 and each other for one. A line without a word and a comment say nothing.
 -- What isn't served so far is told before all else: tamper and cut, and a session of seven fields whose OPTIONS are such
--- letters, of which one is p, r or a, or whose IDENTITY begins with =.
+-- letters, of which one is r.
 use Rattle.std.specs.Prelude.{ℕ, ◌+◌, ◌==◌, ◌++◌, ◌&&◌, not, nat_le, nat_lt, Bool, false, List, [], ◌∷◌, length, Option, Some, None, is_some, Result, Ok, Err, if◌then◌else◌}
 use Rattle.std.specs.List.{join_with_byte, list_any}
 use Rattle.std.specs.Option.{ok_or, option_to_list}
@@ -59,8 +59,8 @@ use Rattle.auc_script.specs.declared.word.Word.{Word}
 use Rattle.auc_script.specs.declared.word.Word.TheVariants as word
 use Rattle.auc_subs.specs.Steps.{◌>>=◌}
 use Rattle.auc_script.specs.Field.{bit_in, end_in, four_fields, full_in, no_field, number_between, one_field, require, three_fields, two_fields}
-use Rattle.auc_script.specs.Session.{has_short_names, is_among, opened, opened_by, packets, packets_by, sessions_of, started}
-use Rattle.auc_script.specs.SessionLine.{are_names, are_served, method_in, seven_fields, session_line}
+use Rattle.auc_script.specs.Session.{has_fit_texts, is_among, opened, opened_by, packets, packets_by, sessions_of, started}
+use Rattle.auc_script.specs.SessionLine.{are_names, are_options, is_identity, method_in, seven_fields, session_line}
 use Rattle.auc_script.specs.Word.{is_comment, is_later, word_of}
 
 -- what some lines say: the subscribers, the words of the header, the parts before the present round, and
@@ -217,7 +217,8 @@ session_of rows fields = do
   identity ← ok_or (identity_of seven.imsi) why.Fields
   method ← ok_or (method_in seven.method) why.Fields
   names ← require (are_names method seven.sname seven.pname) why.Fields
-  served ← require (are_served seven.options seven.identity) why.Fields
+  options ← require (are_options seven.options) why.Fields
+  first ← require (is_identity seven.identity) why.Fields
   sub ← ok_or (place_of rows identity) why.UnknownSubscriber
   Ok (Session (session_line session sub method seven))
 
@@ -279,7 +280,7 @@ has_room parts job line =
     nat_le (asked (jobs_of parts) + asked_by line) most_vectors
     && nat_le (length (sessions_of (jobs_of parts) ++ option_to_list (opened_by line))) most_sessions
     && nat_le (packets job + packets_by line) most_packets
-    && has_short_names line
+    && has_fit_texts line
 
 -- a line of a job
 abbrev pub of_job_line : Scenario → JobWord → List (List ℕ) → Result Scenario ScriptWhy

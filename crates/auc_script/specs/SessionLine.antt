@@ -1,8 +1,10 @@
--- The fields of a `session` line, what they say, and which of their values are served.
-use Rattle.std.specs.Prelude.{ℕ, ◌==◌, ◌&&◌, ◌||◌, nat_le, not, Bool, true, false, List, [], ◌∷◌, length, codes, Option, Some, None, Result, Ok, Err, if◌then◌else◌, slice_index_or}
+-- The fields of a `session` line, what they say, and which of their values isn't served.
+use Rattle.std.specs.Prelude.{ℕ, ◌==◌, ◌&&◌, ◌||◌, nat_le, not, Bool, true, false, List, [], ◌∷◌, drop, length, codes, Option, Some, None, Result, Ok, Err, if◌then◌else◌, slice_index_or}
 use Rattle.std.specs.List.{list_any}
 use Rattle.auc_hmac.specs.declared.method.Method.{Method}
 use Rattle.auc_hmac.specs.declared.method.Method.TheVariants as methods
+use Rattle.auc_lines.specs.declared.part.Identity.{Identity}
+use Rattle.auc_lines.specs.declared.part.Identity.TheVariants.{Held, Permanent, Text}
 use Rattle.auc_lines.specs.declared.part.SessionLine.{SessionLine}
 use Rattle.auc_text.specs.Text.{is_text}
 use Rattle.auc_script.specs.declared.refusal.ScriptWhy.{ScriptWhy}
@@ -59,11 +61,22 @@ has_letters text = nat_le 1 (length text) && nat_le (length text) 5 && are_lette
 abbrev pub are_options : List ℕ → Bool
 are_options text = is_text text (codes "-") || has_letters text
 
--- options, and the identity that the device holds or the permanent one
-abbrev pub are_served : List ℕ → List ℕ → Bool
-are_served options identity = are_options options && (is_text identity (codes "held") || is_text identity (codes "permanent"))
+-- the first byte is = (61)
+abbrev pub has_text : List ℕ → Bool
+has_text identity = slice_index_or identity 0 0 == 61
 
--- the session of a number and of a subscriber's place, by a method and the fields; its letters are b (98) and d (100)
+-- the identity that the device holds, the permanent one, or the text behind =
+abbrev pub is_identity : List ℕ → Bool
+is_identity text = is_text text (codes "held") || is_text text (codes "permanent") || has_text text
+
+abbrev pub identity_in : List ℕ → Identity
+identity_in text =
+    if is_text text (codes "held") then Held
+    else if is_text text (codes "permanent") then Permanent
+    else Text (drop 1 text)
+
+-- the session of a number and of a subscriber's place, by a method and the fields; its letters are p (112), b (98), a (97)
+-- and d (100)
 abbrev pub session_line : ℕ → ℕ → Method → SessionFields → SessionLine
 session_line session sub method f = record {
   session = session;
@@ -71,19 +84,14 @@ session_line session sub method f = record {
   method = method;
   name = name_in method f.sname;
   peer_name = peer_name_in method f.pname;
+  pseudonym = is_one_of f.options 112;
   bidding = is_one_of f.options 98;
+  any = is_one_of f.options 97;
   has_prime = is_one_of f.options 100;
+  identity = identity_in f.identity;
 }
 
--- letters with one that isn't served so far: p (112), r (114) or a (97)
-abbrev pub has_later_letter : List ℕ → Bool
-has_later_letter options = has_letters options && (is_one_of options 112 || is_one_of options 114 || is_one_of options 97)
-
--- the identity is the text behind = (61)
-abbrev pub has_text : List ℕ → Bool
-has_text identity = slice_index_or identity 0 0 == 61
-
--- a value that isn't served so far: an option, or an identity's text
+-- an option that isn't served so far: r (114), among letters
 abbrev pub has_later : Result SessionFields ScriptWhy → Bool
-has_later (Ok f) = has_later_letter f.options || has_text f.identity
+has_later (Ok f) = has_letters f.options && is_one_of f.options 114
 has_later (Err why) = false

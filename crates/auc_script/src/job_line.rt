@@ -6,7 +6,7 @@ ghost use Rattle.auc_text.specs.Text.{words_of};
 ghost use Rattle.auc_script.specs.InnerRefusal.{Says};
 ghost use Rattle.auc_script.specs.Limits.{IsLine};
 ghost use Rattle.auc_script.specs.Scenario.{draw_of, give_of, line_of, sync_of};
-ghost use Rattle.auc_script.specs.Session.{has_short_names};
+ghost use Rattle.auc_script.specs.Session.{has_fit_texts};
 
 use crate::field::{four_fields, read_bit, read_number, two_fields};
 use crate::limits::MAX_COUNT;
@@ -28,7 +28,7 @@ pub fn read_line(
 ) -> Result<Line, LineRefusal>
     ensures value { Says (line_of subs.now word (words_of fields.now)) result }
     ensures known { IfOk result (λ line. IfSome (held_by line) (λ sub. sub < length subs.now)) }
-    ensures line { IfOk result (λ line. has_short_names line ≡ true → IsLine subs.now line) }
+    ensures line { IfOk result (λ line. has_fit_texts line ≡ true → IsLine subs.now line) }
 {
     match word {
         JobWord::Draw => Ok(read_draw(subs, fields)?),

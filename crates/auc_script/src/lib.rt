@@ -26,13 +26,13 @@ mod sessions;
 mod so_far;
 mod word;
 
-pub use auc_lines::{End, JobPart, Line, Part, RoundPart, SessionLine};
+pub use auc_lines::{End, Identity, JobPart, Line, Part, RoundPart, SessionLine};
 pub use law::{
     refused_line_is_the_first_wrong, right_text_is_read_whole, text_that_is_read_is_right,
 };
 pub use limits::{
     LAST_PACKET, LAST_SESSION, MAX_COUNT, MAX_JOBS, MAX_NAME, MAX_PACKETS, MAX_REALM, MAX_ROUNDS,
-    MAX_SESSIONS, MAX_VECTORS, MAX_WORKERS, PACKETS_OF_PLAIN,
+    MAX_SESSIONS, MAX_TEXT, MAX_VECTORS, MAX_WORKERS, PACKETS_OF_PLAIN,
 };
 pub use refusal::{ScriptRefusal, ScriptWhy};
 pub use script::Script;

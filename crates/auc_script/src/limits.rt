@@ -24,3 +24,5 @@ pub const MAX_WORKERS: u64 = 64;
 pub const MAX_REALM: usize = 255;
 /// How many bytes a name of a network may have.
 pub const MAX_NAME: usize = 255;
+/// How many bytes the text of an identity may have.
+pub const MAX_TEXT: usize = 255;

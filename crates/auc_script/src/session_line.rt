@@ -7,37 +7,29 @@ ghost use Rattle.auc_text.specs.Text.{words_of};
 ghost use Rattle.auc_script.specs.InnerRefusal.{Says};
 ghost use Rattle.auc_script.specs.Limits.{IsLine, IsSession};
 ghost use Rattle.auc_script.specs.Numbers.{last_session};
-ghost use Rattle.auc_script.specs.SessionLine.{are_letters, are_names, are_served, has_later, has_later_letter, has_letters, method_in, name_in, peer_name_in, seven_fields};
+ghost use Rattle.auc_script.specs.SessionLine.{are_letters, are_names, are_options, has_later, has_letters, identity_in, is_identity, method_in, name_in, peer_name_in, seven_fields};
 ghost use Rattle.auc_script.specs.Field.{number_between};
 ghost use Rattle.auc_script.specs.Scenario.{deliver_of, give_up_of, number_of_session, session_of};
-ghost use Rattle.auc_script.specs.Session.{has_short_names, is_short};
+ghost use Rattle.auc_script.specs.Session.{has_fit_texts, is_first, is_short};
 
 use crate::field::{first_field, one_field, read_end, read_number, three_fields, two_fields};
-use crate::limits::{LAST_PACKET, LAST_SESSION, MAX_NAME};
+use crate::limits::{LAST_PACKET, LAST_SESSION, MAX_NAME, MAX_TEXT};
 use crate::refusal::{LineRefusal, ScriptWhy, require};
 use auc_edge::{Imsi, NoMemory, Octets};
 use auc_hmac::Method;
-use auc_lines::{Line, SessionLine};
+use auc_lines::{Identity, Line, SessionLine};
 use auc_subs::Subscribers;
 use auc_text::next_word;
 use std::alloc::Global;
 
-/// Whether the fields of a session's line are seven and have a value that isn't served so far.
+/// Whether the fields of a session's line are seven and have an option that isn't served so far.
 pub fn has_later(fields: &[u8]) -> bool
     ensures { result ≡ has_later (seven_fields (words_of fields.now)) }
 {
-    let Ok((_, _, _, _, _, options, identity)) = seven_fields(fields) else {
+    let Ok((_, _, _, _, _, options, _)) = seven_fields(fields) else {
         return false;
     };
-    has_later_letter(options) || (!identity.is_empty() && identity[0] == b'=')
-}
-
-/// Whether options are letters with one that isn't served so far.
-fn has_later_letter(options: &[u8]) -> bool
-    ensures { result ≡ has_later_letter options.now }
-{
-    has_letters(options)
-        && (options.contains(&b'p') || options.contains(&b'r') || options.contains(&b'a'))
+    has_letters(options) && options.contains(&b'r')
 }
 
 /// Whether options are letters, each once.
@@ -89,18 +81,19 @@ pub fn seven_fields(
     }
 }
 
-/// What the fields `T IMSI METHOD SNAME PNAME OPTIONS IDENTITY` say, with names of any length.
+/// What the fields `T IMSI METHOD SNAME PNAME OPTIONS IDENTITY` say, with texts of any length.
 pub fn read_session(alloc: Global, subs: &Subscribers, fields: &[u8]) -> Result<Line, LineRefusal>
     ensures value { Says (session_of subs.now (words_of fields.now)) result }
     ensures known { IfOk result (λ line. IfSome (held_by line) (λ sub. sub < length subs.now)) }
-    ensures line { IfOk result (λ line. has_short_names line ≡ true → IsLine subs.now line) }
+    ensures line { IfOk result (λ line. has_fit_texts line ≡ true → IsLine subs.now line) }
 {
     let (session, imsi, method, sname, pname, options, identity) = seven_fields(fields)?;
     let session = read_session_number(session)?;
     let imsi = Imsi::read(imsi).ok_or(ScriptWhy::Fields)?;
     let method = read_method(method).ok_or(ScriptWhy::Fields)?;
     require(are_names(method, sname, pname), ScriptWhy::Fields)?;
-    require(are_served(options, identity), ScriptWhy::Fields)?;
+    require(are_options(options), ScriptWhy::Fields)?;
+    require(is_identity(identity), ScriptWhy::Fields)?;
     let sub = subs.find(imsi).ok_or(ScriptWhy::UnknownSubscriber)?;
     Ok(Line::Session(SessionLine {
         session,
@@ -108,8 +101,11 @@ pub fn read_session(alloc: Global, subs: &Subscribers, fields: &[u8]) -> Result<
         method,
         name: read_name(alloc, method, sname)?,
         peer_name: read_peer_name(alloc, method, pname)?,
+        pseudonym: options.contains(&b'p'),
         bidding: options.contains(&b'b'),
+        any: options.contains(&b'a'),
         has_prime: options.contains(&b'd'),
+        identity: read_identity(alloc, identity)?,
     }))
 }
 
@@ -136,12 +132,20 @@ fn are_names(method: Method, sname: &[u8], pname: &[u8]) -> bool
     }
 }
 
-/// Whether the values of the last two fields are served.
-fn are_served(options: &[u8], identity: &[u8]) -> bool
-    ensures { result ≡ are_served options.now identity.now }
+/// Whether a field is options: letters, or none.
+fn are_options(text: &[u8]) -> bool
+    ensures { result ≡ are_options text.now }
 {
-    (options == b"-".as_slice() || has_letters(options))
-        && (identity == b"held".as_slice() || identity == b"permanent".as_slice())
+    text == b"-".as_slice() || has_letters(text)
+}
+
+/// Whether a field says which identity the peer gives first.
+fn is_identity(text: &[u8]) -> bool
+    ensures { result ≡ is_identity text.now }
+{
+    text == b"held".as_slice()
+        || text == b"permanent".as_slice()
+        || (!text.is_empty() && text[0] == b'=')
 }
 
 /// The server's name of the network.
@@ -165,13 +169,41 @@ fn read_peer_name(alloc: Global, method: Method, pname: &[u8]) -> Result<Option<
     }
 }
 
-/// Whether the names of the session that a line opens are within their limit.
-pub fn has_short_names(line: &Line) -> bool
-    ensures { result ≡ has_short_names line.now }
+/// The identity that the peer gives first.
+fn read_identity(alloc: Global, text: &[u8]) -> Result<Identity, NoMemory>
+    ensures { IfOk result (λ identity. identity ≡ identity_in text.now) }
+{
+    if text == b"held".as_slice() {
+        return Ok(Identity::Held);
+    }
+    if text == b"permanent".as_slice() {
+        return Ok(Identity::Permanent);
+    }
+    match text {
+        [] => Ok(Identity::Text(Octets::new(alloc))),
+        [_, behind @ ..] => Ok(Identity::Text(Octets::copied_from(alloc, behind)?)),
+    }
+}
+
+/// Whether the names of the session that a line opens, and its first identity, are within their limits.
+pub fn has_fit_texts(line: &Line) -> bool
+    ensures { result ≡ has_fit_texts line.now }
 {
     match line {
-        Line::Session(line) => line.name.len() <= MAX_NAME && is_short(&line.peer_name),
+        Line::Session(line) => {
+            line.name.len() <= MAX_NAME && is_short(&line.peer_name) && is_first(&line.identity)
+        }
         _ => true,
+    }
+}
+
+/// Whether the text of an identity, if it is one, is within its limits.
+fn is_first(identity: &Identity) -> bool
+    ensures { result ≡ is_first identity.now }
+{
+    match identity {
+        Identity::Held | Identity::Permanent => true,
+        Identity::Text(text) => !text.is_empty() && text.len() <= MAX_TEXT,
     }
 }
 

@@ -19,7 +19,7 @@ use crate::limits::{MAX_JOBS, MAX_ROUNDS, MAX_VECTORS};
 use crate::refusal::{LineRefusal, ScriptWhy};
 use crate::round_so_far::RoundSoFar;
 use crate::script::Script;
-use crate::session_line::has_short_names;
+use crate::session_line::has_fit_texts;
 use crate::sessions::Sessions;
 use crate::word::{HeaderWord, JobWord, Word, is_comment, is_later, read_word};
 use auc_edge::{Items, NoMemory, Octets};
@@ -263,7 +263,7 @@ impl SoFar {
             return Err(LineRefusal::Why(ScriptWhy::UsimBusy));
         }
         let asked = self.asked + line.count();
-        if asked > MAX_VECTORS || !self.sessions.has_room(&line) || !has_short_names(&line) {
+        if asked > MAX_VECTORS || !self.sessions.has_room(&line) || !has_fit_texts(&line) {
             return Err(LineRefusal::Why(ScriptWhy::Limit));
         }
         self.holders.note(round, &line);

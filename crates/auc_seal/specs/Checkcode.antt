@@ -1,6 +1,7 @@
 -- The checkcode (RFC 4187 §10.13, RFC 9048 §3.4.3): a hash of packets in their order.
-use Rattle.std.specs.Prelude.{◌≡◌, ℕ, Bool, true, false, List, [], ◌∷◌}
-use Rattle.std.specs.List.{concat}
+use Rattle.std.specs.Prelude.{◌≡◌, ◌⊎◌, ℕ, Bool, true, false, List, [], ◌∷◌, ◌++◌, length, if◌then◌else◌}
+use Rattle.std.specs.List.{concat, list_any}
+use Rattle.std.specs.Str.{bytes_eq}
 use Rattle.sha1.specs.Sha1.{sha1}
 use Rattle.sha1.specs.Sha1 as One
 use Rattle.sha2.specs.Sha256.{sha256}
@@ -22,6 +23,28 @@ hash_of methods.Prime bytes = values.Sha256 (sha256 bytes)
 abbrev pub checkcode_of : Method → List (List ℕ) → CheckValue
 checkcode_of method [] = values.Empty
 checkcode_of method (packet ∷ packets) = hash_of method (concat (packet ∷ packets))
+
+-- the bytes of a value
+abbrev pub value_bytes : CheckValue → List ℕ
+value_bytes values.Empty = []
+value_bytes (values.Sha1 hash) = hash
+value_bytes (values.Sha256 hash) = hash
+
+-- the bytes of a value are none, or those of a hash: 20 of SHA-1, 32 of SHA-256
+abbrev pub IsHash : List ℕ → Type 0
+IsHash bytes = (length bytes ≡ 0) ⊎ ((length bytes ≡ 20) ⊎ (length bytes ≡ 32))
+
+-- ---- the packets of an exchange
+
+-- whether a packet was counted
+abbrev pub is_counted : List ℕ → List (List ℕ) → Bool
+is_counted packet packets = list_any (λ other. bytes_eq other packet) packets
+
+-- the packets after one was sent or received: a repetition isn't counted again
+abbrev pub counted : List ℕ → List (List ℕ) → List (List ℕ)
+counted packet packets = if is_counted packet packets then packets else packets ++ packet ∷ []
+
+-- ---- the hash while packets are fed
 
 -- whether there is no packet
 abbrev pub is_none : List (List ℕ) → Bool

@@ -3,8 +3,8 @@
 -- ciphertext.
 use Rattle.std.specs.Prelude.{◌≡◌, ◌≢◌, ℕ, ◌-◌, ◌%◌, ◌≤◌, ◌==◌, nat_lt, Bool, true, false, not, ◌&&◌, if◌then◌else◌, List, [], ◌∷◌, ◌++◌, length, replicate, Option, Some, None, Result, Ok, Err}
 use Rattle.std.specs.List.{filter, list_any}
-use Rattle.std.specs.Option.{option_or}
 use Rattle.auc_aes.specs.Cbc.{cbc_encrypted, cbc_decrypted}
+pub use Rattle.auc_attr.specs.First.{first_value}
 use Rattle.auc_attr.specs.declared.attr.Attr.{Attr}
 use Rattle.auc_attr.specs.declared.attr.Attr.TheVariants as attr
 use Rattle.auc_attr.specs.declared.refusal.AttrRefusal.{AttrRefusal}
@@ -29,11 +29,6 @@ iv_of _ = None
 abbrev pub data_of : Attr → Option (List ℕ)
 data_of (attr.EncrData v) = Some v
 data_of _ = None
-
--- the first such value in a list
-abbrev pub first_value : (Attr → Option (List ℕ)) → List Attr → Option (List ℕ)
-first_value value [] = None
-first_value value (a ∷ list) = option_or (value a) (first_value value list)
 
 -- ---- encryption
 

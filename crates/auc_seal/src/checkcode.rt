@@ -6,7 +6,7 @@ ghost use Rattle.sha1.specs.Sha1.{sha1};
 ghost use Rattle.sha1.specs.Sha1 as One;
 ghost use Rattle.sha2.specs.Sha256.{sha256};
 ghost use Rattle.sha2.specs.Hashers.{Holds256};
-ghost use Rattle.auc_seal.specs.Checkcode.{HoldsBytes, HoldsPackets, checkcode_of};
+ghost use Rattle.auc_seal.specs.Checkcode.{HoldsBytes, HoldsPackets, IsHash, checkcode_of, value_bytes};
 
 use auc_edge::NoMemory;
 use auc_hmac::Method;
@@ -37,6 +37,20 @@ pub enum CheckValue {
     Sha1([u8; 20]),
     /// The SHA-256 of the packets of EAP-AKA', 32 bytes.
     Sha256([u8; 32]),
+}
+
+impl CheckValue {
+    /// The bytes of AT_CHECKCODE's value: none, 20 or 32.
+    pub fn as_slice(&self) -> &[u8]
+        ensures bytes { result.now ≡ value_bytes self.now }
+        ensures size { IsHash result.now }
+    {
+        match self {
+            CheckValue::Empty => &[],
+            CheckValue::Sha1(hash) => hash,
+            CheckValue::Sha256(hash) => hash,
+        }
+    }
 }
 
 impl Checkcode {

@@ -13,11 +13,14 @@ use Rattle.auc_vector.specs.declared.parts.Vector.{Vector}
 use Rattle.auc_vector.specs.declared.turn.Outcome.{Outcome}
 use Rattle.auc_vector.specs.declared.turn.Outcome.TheVariants as outcome
 use Rattle.auc_hmac.specs.declared.keys.KeySet.{KeySet}
-use Rattle.auc_server.specs.Laws.{Fits, Has}
+use Rattle.auc_server.specs.Laws.{Fits, Has, awaits_identity}
 use Rattle.auc_server.specs.Rows.{server_row, subscriber_in, text_in}
 use Rattle.auc_server.specs.Server.{ServerEnd}
 use Rattle.auc_server.specs.Setting.{Setting}
-use Rattle.auc_server.specs.Table.{challenge_of, challenged, challenged_with, ended, failed, identified, noted, notified, resynchronised, resynchronising, server_does, server_step, silent, succeeded, vector_at}
+use Rattle.auc_server.specs.Table.{asked, awaiting, challenge_of, challenged, challenged_with, ended, failed, identified, identity_asked, name_given, noted, notified, packets_after, resynchronised, resynchronising, server_does, server_step, silent, succeeded, vector_at}
+use Rattle.auc_request.specs.declared.identities.IdentityRequest.{IdentityRequest}
+use Rattle.auc_request.specs.declared.identities.IdentityRequest.TheVariants as asks
+use Rattle.auc_server.specs.declared.naming.NewName.{NewName}
 use Rattle.auc_server.specs.declared.rows.Row.{Row}
 use Rattle.auc_server.specs.declared.rows.Row.TheVariants as row
 use Rattle.auc_server.specs.declared.server.Challenged.{Challenged}
@@ -27,10 +30,10 @@ use Rattle.auc_server.specs.declared.why.ServerWhy.{ServerWhy}
 use Rattle.auc_server.specs.declared.why.ServerWhy.TheVariants as why
 use Rattle.auc_server.proofs.LawLemmas.{Says, says_row}
 
-no_notifying : (cause : ServerWhy) → state.Notifying cause ≡ state.AwaitIdentity → ⊥
+no_notifying : (cause : ServerWhy) → awaits_identity (state.Notifying cause) ≡ true → ⊥
 no_notifying cause e = cc
 
-no_ended : (result : Outcome ServerWhy) → state.Ended result ≡ state.AwaitIdentity → ⊥
+no_ended : (result : Outcome ServerWhy) → awaits_identity (state.Ended result) ≡ true → ⊥
 no_ended result e = cc
 
 no_success : (cause : ServerWhy) (keys : KeySet) → state.Notifying cause ≡ state.Ended (outcome.Success keys) → ⊥
@@ -48,7 +51,7 @@ same_result a b e = cc
 same_keys : (a b : KeySet) → ◌≡◌ {A = Outcome ServerWhy} (outcome.Success a) (outcome.Success b) → b ≡ a
 same_keys a b e = cc
 
-no_challenge : state.AwaitChallenge ≡ state.AwaitIdentity → ⊥
+no_challenge : awaits_identity state.AwaitChallenge ≡ true → ⊥
 no_challenge e = cc
 
 pub no_sent : (c : Option Challenged) (sent : Challenged) → c ≡ None → c ≡ Some sent → ⊥
@@ -57,9 +60,21 @@ no_sent c sent e f = cc
 same_sent : (a b : Challenged) → ◌≡◌ {A = Option Challenged} (Some a) (Some b) → b ≡ a
 same_sent a b e = cc
 
+no_success_asked : (kind : IdentityRequest) (keys : KeySet) → awaiting kind ≡ state.Ended (outcome.Success keys) → ⊥
+no_success_asked asks.Any keys e = cc
+no_success_asked asks.Fullauth keys e = cc
+no_success_asked asks.Permanent keys e = cc
+
 -- a server that fits, with another identity before its first challenge
-identified_fits : (s : ServerEnd) (text : List ℕ) → s.state ≡ state.AwaitIdentity → Fits s → Fits (identified s text)
-identified_fits s text e f = record { first = f.first; keys = λ sent g. absurd (no_sent s.challenged sent (f.first e) g); success = f.success }
+identified_fits : (s : ServerEnd) (text : List ℕ) (packets : List (List ℕ)) → awaits_identity s.state ≡ true → Fits s → Fits (identified s text packets)
+identified_fits s text packets e f = record { first = f.first; keys = λ sent g. absurd (no_sent s.challenged sent (f.first e) g); success = f.success }
+
+asked_fits : (s : ServerEnd) (text : List ℕ) (packets : List (List ℕ)) (kind : IdentityRequest) → awaits_identity s.state ≡ true → Fits s → Fits (asked s text packets kind).0
+asked_fits s text packets kind e f = record {
+  first = λ g. f.first e;
+  keys = λ sent g. absurd (no_sent s.challenged sent (f.first e) g);
+  success = λ keys g. absurd (no_success_asked kind keys g);
+}
 
 notified_fits : (s : ServerEnd) (cause : ServerWhy) (notes : Notes) (checked : Bool) → Fits s → Fits (notified s cause notes checked).0
 notified_fits s cause notes checked f = record { first = λ e. absurd (no_notifying cause e); keys = f.keys; success = λ keys e. absurd (no_success cause keys e) }
@@ -71,30 +86,31 @@ ended_fits s result bytes checked has f = record { first = λ e. absurd (no_ende
 keys_are : (s : ServerEnd) (sub : ℕ) (v : Vector) (sent : Challenged) → sent ≡ challenge_of s sub v → sent.keys ≡ keys_of s.options.method s.identity sent.vector.ik sent.vector.ck
 keys_are s sub v sent e = rw e refl
 
-sent_fits : (s : ServerEnd) (sub : ℕ) (v : Option Vector) (notes : Notes) → Fits s → Fits (challenged_with s sub v notes).0
-sent_fits s sub None notes f = f
-sent_fits s sub (Some v) notes f = record {
+sent_fits : (s : ServerEnd) (sub : ℕ) (v : Option Vector) (given : Option NewName) (notes : Notes) → Fits s → Fits (challenged_with s sub v given notes).0
+sent_fits s sub None given notes f = f
+sent_fits s sub (Some v) given notes f = record {
   first = λ e. absurd (no_challenge e);
   keys = λ sent g. keys_are s sub v sent (same_sent (challenge_of s sub v) sent g);
   success = λ keys e. absurd (no_success_awaited keys e);
 }
 
-challenged_fits : (set : Setting) (s : ServerEnd) (sub : ℕ) (resynced : Option ResyncNote) (drawn : Option NumberNote) → Fits s → Fits (challenged set s sub resynced drawn).0
-challenged_fits set s sub resynced None f = f
-challenged_fits set s sub resynced (Some (number.Drew n)) f = sent_fits s sub (vector_at set s.options sub n) (noted resynced (Some (number.Drew n))) f
-challenged_fits set s sub resynced (Some (number.Exhausted w)) f = notified_fits s (why.Exhausted w) (noted resynced (Some (number.Exhausted w))) false f
-challenged_fits set s sub resynced (Some (number.Withheld n stop)) f = notified_fits s (why.Stopped n stop) (noted resynced (Some (number.Withheld n stop))) false f
+challenged_fits : (set : Setting) (homes : List HomeRow) (s : ServerEnd) (sub : ℕ) (resynced : Option ResyncNote) (drawn : Option NumberNote) → Fits s → Fits (challenged set homes s sub resynced drawn).0
+challenged_fits set homes s sub resynced None f = f
+challenged_fits set homes s sub resynced (Some (number.Drew n)) f =
+    sent_fits s sub (vector_at set s.options sub n) (name_given set homes s sub) (noted resynced (Some (number.Drew n))) f
+challenged_fits set homes s sub resynced (Some (number.Exhausted w)) f = notified_fits s (why.Exhausted w) (noted resynced (Some (number.Exhausted w))) false f
+challenged_fits set homes s sub resynced (Some (number.Withheld n stop)) f = notified_fits s (why.Stopped n stop) (noted resynced (Some (number.Withheld n stop))) false f
 
 synced_fits : (s : ServerEnd) → Fits s → Fits (resynchronising s)
 synced_fits s f = record { first = f.first; keys = f.keys; success = f.success }
 
-resynchronised_fits : (set : Setting) (s : ServerEnd) (sub : ℕ) (resynced : Option ResyncNote) (drawn : Option NumberNote) → Fits s → Fits (resynchronised set s sub resynced drawn).0
-resynchronised_fits set s sub None drawn f = f
-resynchronised_fits set s sub (Some resync.BadAuts) drawn f = f
-resynchronised_fits set s sub (Some (resync.Beyond seen seq)) drawn f =
+resynchronised_fits : (set : Setting) (homes : List HomeRow) (s : ServerEnd) (sub : ℕ) (resynced : Option ResyncNote) (drawn : Option NumberNote) → Fits s → Fits (resynchronised set homes s sub resynced drawn).0
+resynchronised_fits set homes s sub None drawn f = f
+resynchronised_fits set homes s sub (Some resync.BadAuts) drawn f = f
+resynchronised_fits set homes s sub (Some (resync.Beyond seen seq)) drawn f =
     notified_fits (resynchronising s) (why.Beyond seen seq) (noted (Some (resync.Beyond seen seq)) None) false (synced_fits s f)
-resynchronised_fits set s sub (Some (resync.InRange seen seq)) drawn f = challenged_fits set (resynchronising s) sub (Some (resync.InRange seen seq)) drawn (synced_fits s f)
-resynchronised_fits set s sub (Some (resync.Moved seen seq)) drawn f = challenged_fits set (resynchronising s) sub (Some (resync.Moved seen seq)) drawn (synced_fits s f)
+resynchronised_fits set homes s sub (Some (resync.InRange seen seq)) drawn f = challenged_fits set homes (resynchronising s) sub (Some (resync.InRange seen seq)) drawn (synced_fits s f)
+resynchronised_fits set homes s sub (Some (resync.Moved seen seq)) drawn f = challenged_fits set homes (resynchronising s) sub (Some (resync.Moved seen seq)) drawn (synced_fits s f)
 
 succeeded_fits : (s : ServerEnd) (c : Option Challenged) → s.challenged ≡ c → Fits s → Fits (succeeded s c).0
 succeeded_fits s None e f = f
@@ -104,20 +120,21 @@ succeeded_fits s (Some sent) e f =
 failed_fits : (s : ServerEnd) (cause : ServerWhy) → Fits s → Fits (failed s cause).0
 failed_fits s cause f = ended_fits s (outcome.Failure cause) (packet_text (packet.Failure s.id)) false (λ keys e. absurd (no_failure cause keys e)) f
 
-does_fits : (found : Option ℕ) (set : Setting) (s : ServerEnd) (seen : Seen) (text : List ℕ) (r : Row) (notes : Notes) → Says found s seen r → Fits s → Fits (server_does set s text r notes).0
-does_fits found set s seen text (row.Ignore cause) notes says f = f
-does_fits found set s seen text row.UnknownIdentity notes says f = notified_fits (identified s text) why.UnknownIdentity silent false (identified_fits s text says f)
-does_fits found set s seen text (row.Challenge sub) notes says f = challenged_fits set (identified s text) sub None notes.number (identified_fits s text says.0 f)
-does_fits found set s seen text row.WrongMac notes says f = notified_fits s why.WrongMac silent false f
-does_fits found set s seen text row.WrongRes notes says f = notified_fits s why.WrongRes silent true f
-does_fits found set s seen text row.WrongCheckcode notes says f = notified_fits s why.WrongCheckcode silent true f
-does_fits found set s seen text row.Success notes says f = succeeded_fits s s.challenged refl f
-does_fits found set s seen text row.SecondSync notes says f = notified_fits s why.SecondSync silent false f
-does_fits found set s seen text row.BadAuts notes says f = notified_fits s why.BadAuts (noted (Some resync.BadAuts) None) false f
-does_fits found set s seen text (row.Resynchronise sub seq) notes says f = resynchronised_fits set s sub notes.resync notes.number f
-does_fits found set s seen text row.Rejected notes says f = failed_fits s why.Rejected f
-does_fits found set s seen text (row.ClientError code) notes says f = failed_fits s (why.ClientError code) f
-does_fits found set s seen text (row.Notified cause) notes says f = failed_fits s cause f
+does_fits : (found : Option ℕ) (set : Setting) (homes : List HomeRow) (s : ServerEnd) (seen : Seen) (text : List ℕ) (packets : List (List ℕ)) (r : Row) (notes : Notes) → Says found s seen r → Fits s → Fits (server_does set homes s text packets r notes).0
+does_fits found set homes s seen text packets (row.Ignore cause) notes says f = f
+does_fits found set homes s seen text packets (row.Ask kind) notes says f = asked_fits s text packets kind says f
+does_fits found set homes s seen text packets row.UnknownIdentity notes says f = notified_fits (identified s text packets) why.UnknownIdentity silent false (identified_fits s text packets says f)
+does_fits found set homes s seen text packets (row.Challenge sub) notes says f = challenged_fits set homes (identified s text packets) sub None notes.number (identified_fits s text packets says.0 f)
+does_fits found set homes s seen text packets row.WrongMac notes says f = notified_fits s why.WrongMac silent false f
+does_fits found set homes s seen text packets row.WrongRes notes says f = notified_fits s why.WrongRes silent true f
+does_fits found set homes s seen text packets row.WrongCheckcode notes says f = notified_fits s why.WrongCheckcode silent true f
+does_fits found set homes s seen text packets row.Success notes says f = succeeded_fits s s.challenged refl f
+does_fits found set homes s seen text packets row.SecondSync notes says f = notified_fits s why.SecondSync silent false f
+does_fits found set homes s seen text packets row.BadAuts notes says f = notified_fits s why.BadAuts (noted (Some resync.BadAuts) None) false f
+does_fits found set homes s seen text packets (row.Resynchronise sub seq) notes says f = resynchronised_fits set homes s sub notes.resync notes.number f
+does_fits found set homes s seen text packets row.Rejected notes says f = failed_fits s why.Rejected f
+does_fits found set homes s seen text packets (row.ClientError code) notes says f = failed_fits s (why.ClientError code) f
+does_fits found set homes s seen text packets (row.Notified cause) notes says f = failed_fits s cause f
 
 pub each_turn_fits : (set : Setting) (homes : List HomeRow) (s : ServerEnd) (seen : Seen) (notes : Notes) → Fits s → Fits (server_step set homes s seen notes).0
-each_turn_fits set homes s seen notes f = does_fits (subscriber_in s.options.method set homes (text_in seen.reading)) set s seen (text_in seen.reading) (server_row set homes s seen) notes (says_row set homes s seen) f
+each_turn_fits set homes s seen notes f = does_fits (subscriber_in s.options.method set homes (text_in seen.reading)) set homes s seen (text_in seen.reading) (packets_after s seen (server_row set homes s seen)) (server_row set homes s seen) notes (says_row set homes s seen) f

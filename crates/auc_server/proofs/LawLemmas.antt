@@ -1,7 +1,9 @@
 -- What each row says of the server, and that Success comes only after a right AT_MAC.
 use Rattle.std.proofs.Common.{◌≡◌, ℕ, ◌==◌, ◌||◌, Bool, true, false, cond, not, List, [], Option, Some, None, slice_get, refl, sym, ap, ◌∙◌}
+use Rattle.std.specs.Option.{option_or}
 use Rattle.auc_attr.specs.declared.attr.Attr.{Attr}
 use Rattle.auc_hmac.specs.declared.keys.KeySet.{KeySet}
+use Rattle.auc_hmac.specs.declared.method.Method.{Method}
 use Rattle.auc_packet.specs.Head.{head_at}
 use Rattle.auc_packet.specs.Messages.{is_malformed, is_missing}
 use Rattle.auc_packet.specs.Received.{Seen, is_sealed}
@@ -26,12 +28,17 @@ use Rattle.auc_vector.specs.declared.turn.Reason.TheVariants as reason
 use Rattle.auc_vector.specs.declared.turn.Step.{Step}
 use Rattle.auc_vector.specs.declared.turn.Step.TheVariants as step
 use Rattle.auc_vector.specs.declared.turn.Turn.{Turn}
-use Rattle.auc_server.specs.Attributes.{res_of, auts_of, checkcode_of, error_code_of, first_of}
-use Rattle.auc_server.specs.Laws.{AreProved}
-use Rattle.auc_server.specs.Rows.{by_auts, differs, if_challenged, in_state, is_expected, is_type, on_auts, on_challenged, on_client_error, on_error_code, on_head, on_message, on_method, on_reading, on_response, on_subscriber, on_sync_failure, read_by, server_row, subscriber_in, text_in, type_awaited}
+use Rattle.auc_server.specs.Attributes.{res_of, auts_of, checkcode_of, error_code_of, first_of, identity_in}
+use Rattle.auc_server.specs.Laws.{AreProved, awaits_identity}
+use Rattle.auc_server.specs.Rounds.{checkcode}
+use Rattle.auc_server.specs.Rows.{by_auts, challenge_or, differs, if_challenged, in_state, is_expected, is_type, on_any, on_auts, on_challenged, on_client_error, on_error_code, on_first, on_full, on_head, on_identity, on_message, on_method, on_permanent, on_reading, on_response, on_sync_failure, permanent_subscriber, pseudonym_subscriber, read_by, server_row, subscriber_in, text_in, type_awaited}
 use Rattle.auc_server.specs.Server.{ServerEnd}
 use Rattle.auc_server.specs.Setting.{Setting}
-use Rattle.auc_server.specs.Table.{challenged, challenged_with, identified, noted, resynchronised, resynchronising, server_does, server_step, succeeded, vector_at}
+use Rattle.auc_server.specs.Table.{asked, challenged, challenged_with, identified, name_given, noted, packets_after, resynchronised, resynchronising, server_does, server_step, succeeded, vector_at}
+use Rattle.auc_request.specs.declared.identities.IdentityRequest.{IdentityRequest}
+use Rattle.auc_request.specs.declared.identities.IdentityRequest.TheVariants as asks
+use Rattle.auc_server.specs.declared.naming.NewName.{NewName}
+use Rattle.auc_server.specs.declared.options.ServerOptions.{ServerOptions}
 use Rattle.auc_server.specs.declared.rows.Row.{Row}
 use Rattle.auc_server.specs.declared.rows.Row.TheVariants as row
 use Rattle.auc_server.specs.declared.server.Challenged.{Challenged}
@@ -56,8 +63,9 @@ IsLast s sub = (sent : Challenged) × (s.challenged ≡ Some sent) × (sent.sub 
 -- right AT_MAC; and the subscriber of the last challenge resynchronises
 abbrev pub Says : Option ℕ → ServerEnd → Seen → Row → Type 0
 Says found s seen row.Success = IsRight s seen
-Says found s seen row.UnknownIdentity = s.state ≡ state.AwaitIdentity
-Says found s seen (row.Challenge sub) = (s.state ≡ state.AwaitIdentity) × (found ≡ Some sub)
+Says found s seen (row.Ask kind) = awaits_identity s.state ≡ true
+Says found s seen row.UnknownIdentity = awaits_identity s.state ≡ true
+Says found s seen (row.Challenge sub) = (awaits_identity s.state ≡ true) × (found ≡ Some sub)
 Says found s seen (row.Resynchronise sub seq) = IsLast s sub
 Says found s seen other = Unit {0}
 
@@ -69,11 +77,11 @@ is_true : (b : Bool) → not b ≡ false → b ≡ true
 is_true true e = refl
 is_true false e = absurd cc
 
-says_response : (found : Option ℕ) (s : ServerEnd) (sent : Challenged) (seen : Seen) (list : List Attr) → s.challenged ≡ Some sent → Says found s seen (on_response s.options.method sent seen list)
+says_response : (found : Option ℕ) (s : ServerEnd) (sent : Challenged) (seen : Seen) (list : List Attr) → s.challenged ≡ Some sent → Says found s seen (on_response s.options.method s.packets sent seen list)
 says_response found s sent seen list f =
     let sealed = is_sealed s.options.method sent.keys.k_aut [] seen in
     let expected = is_expected sent.vector.xres (first_of res_of list) in
-    let other = differs (first_of checkcode_of list) in
+    let other = differs (checkcode s.options.method s.packets) (first_of checkcode_of list) in
     let last = cond other row.WrongCheckcode row.Success in
     let by_res = cond (not expected) row.WrongRes last in
     on_cond (Says found s seen) (is_missing subtype.Challenge false list) (row.Ignore reason.Missing) (cond (not sealed) row.WrongMac by_res) tt (λ there.
@@ -123,40 +131,89 @@ says_if : (found : Option ℕ) (set : Setting) (s : ServerEnd) (c : Option Chall
 says_if found set s None seen kind list f = tt
 says_if found set s (Some sent) seen kind list f = says_answer found set s sent seen kind list f
 
-says_notified : (found : Option ℕ) (set : Setting) (s : ServerEnd) (seen : Seen) (kind : Subtype) (list : List Attr) (why : ServerWhy) → Says found s seen (on_message set s (state.Notifying why) seen kind list)
-says_notified found set s seen subtype.Notification list why = tt
-says_notified found set s seen subtype.Challenge list why = tt
-says_notified found set s seen subtype.AuthenticationReject list why = tt
-says_notified found set s seen subtype.SynchronizationFailure list why = tt
-says_notified found set s seen subtype.Identity list why = tt
-says_notified found set s seen subtype.Reauthentication list why = tt
-says_notified found set s seen subtype.ClientError list why = tt
+says_notified : (found : Option ℕ) (set : Setting) (homes : List HomeRow) (s : ServerEnd) (seen : Seen) (kind : Subtype) (list : List Attr) (why : ServerWhy) → Says found s seen (on_message set homes s (state.Notifying why) seen kind list)
+says_notified found set homes s seen subtype.Notification list why = tt
+says_notified found set homes s seen subtype.Challenge list why = tt
+says_notified found set homes s seen subtype.AuthenticationReject list why = tt
+says_notified found set homes s seen subtype.SynchronizationFailure list why = tt
+says_notified found set homes s seen subtype.Identity list why = tt
+says_notified found set homes s seen subtype.Reauthentication list why = tt
+says_notified found set homes s seen subtype.ClientError list why = tt
 
-says_message : (found : Option ℕ) (set : Setting) (s : ServerEnd) (now : ServerState) (seen : Seen) (kind : Subtype) (list : List Attr) → Says found s seen (on_message set s now seen kind list)
-says_message found set s state.AwaitChallenge seen kind list = says_if found set s s.challenged seen kind list refl
-says_message found set s (state.Notifying why) seen kind list = says_notified found set s seen kind list why
-says_message found set s state.AwaitIdentity seen kind list = tt
-says_message found set s (state.Ended result) seen kind list = tt
+-- ---- an identity
 
-says_method : (found : Option ℕ) (set : Setting) (s : ServerEnd) (now : ServerState) (seen : Seen) (r : Reading) → Says found s seen (on_method set s now seen r)
-says_method found set s now seen (reading.Read (packet.Aka request id m kind list)) =
-    on_cond (Says found s seen) (is_malformed kind false s.options.method list) (row.Ignore reason.Malformed) (on_message set s now seen kind list) tt
-    (λ sound. says_message found set s now seen kind list)
-says_method found set s now seen (reading.Read (packet.Identity request id text)) = tt
-says_method found set s now seen (reading.Read (packet.Success id)) = tt
-says_method found set s now seen (reading.Read (packet.Failure id)) = tt
-says_method found set s now seen (reading.Fault fault) = tt
+-- a subscriber that is found by its permanent identity
+permanent_is : (a b : Option ℕ) (sub : ℕ) → a ≡ Some sub → option_or a b ≡ Some sub
+permanent_is a b sub e = rw e refl
 
-says_subscriber : (found : Option ℕ) (s : ServerEnd) (seen : Seen) (r : Option ℕ) → s.state ≡ state.AwaitIdentity → found ≡ r → Says found s seen (on_subscriber r)
-says_subscriber found s seen None e f = e
-says_subscriber found s seen (Some sub) e f = (e, f)
+says_or : (found : Option ℕ) (s : ServerEnd) (seen : Seen) (other : Row) (r : Option ℕ) → awaits_identity s.state ≡ true → Says found s seen other
+    → ((sub : ℕ) → r ≡ Some sub → found ≡ Some sub) → Says found s seen (challenge_or other r)
+says_or found s seen other None e says f = says
+says_or found s seen other (Some sub) e says f = (e, f sub refl)
+
+says_any : (found : Option ℕ) (by : Method) (set : Setting) (homes : List HomeRow) (s : ServerEnd) (seen : Seen) (text : List ℕ) → awaits_identity s.state ≡ true
+    → found ≡ subscriber_in by set homes text → Says found s seen (on_any by set homes text)
+says_any found by set homes s seen text e f = says_or found s seen (row.Ask asks.Fullauth) (subscriber_in by set homes text) e e (λ sub g. f ∙ g)
+
+says_full : (found : Option ℕ) (by : Method) (set : Setting) (homes : List HomeRow) (s : ServerEnd) (seen : Seen) (text : List ℕ) → awaits_identity s.state ≡ true
+    → found ≡ subscriber_in by set homes text → Says found s seen (on_full by set homes text)
+says_full found by set homes s seen text e f = says_or found s seen (row.Ask asks.Permanent) (subscriber_in by set homes text) e e (λ sub g. f ∙ g)
+
+says_permanent : (found : Option ℕ) (by : Method) (set : Setting) (homes : List HomeRow) (s : ServerEnd) (seen : Seen) (text : List ℕ) → awaits_identity s.state ≡ true
+    → found ≡ subscriber_in by set homes text → Says found s seen (on_permanent by set homes text)
+says_permanent found by set homes s seen text e f =
+    says_or found s seen row.UnknownIdentity (permanent_subscriber by set homes text) e e
+    (λ sub g. f ∙ permanent_is (permanent_subscriber by set homes text) (pseudonym_subscriber by set homes text) sub g)
+
+says_first : (found : Option ℕ) (options : ServerOptions) (set : Setting) (homes : List HomeRow) (s : ServerEnd) (seen : Seen) (text : List ℕ) → awaits_identity s.state ≡ true
+    → found ≡ subscriber_in options.method set homes text → Says found s seen (on_first options set homes text)
+says_first found options set homes s seen text e f =
+    on_cond (Says found s seen) options.any (row.Ask asks.Any) (on_any options.method set homes text) e (λ now. says_any found options.method set homes s seen text e f)
+
+says_identity : (found : Option ℕ) (s : ServerEnd) (seen : Seen) (answered : Row) (kind : Subtype) (list : List Attr) → Says found s seen answered
+    → Says found s seen (on_identity answered kind list)
+says_identity found s seen answered subtype.Identity list says =
+    on_cond (Says found s seen) (is_missing subtype.Identity false list) (row.Ignore reason.Missing) answered tt (λ there. says)
+says_identity found s seen answered subtype.ClientError list says = says_error found s seen list
+says_identity found s seen answered subtype.Challenge list says = tt
+says_identity found s seen answered subtype.AuthenticationReject list says = tt
+says_identity found s seen answered subtype.SynchronizationFailure list says = tt
+says_identity found s seen answered subtype.Notification list says = tt
+says_identity found s seen answered subtype.Reauthentication list says = tt
+
+says_message : (found : Option ℕ) (set : Setting) (homes : List HomeRow) (s : ServerEnd) (now : ServerState) (seen : Seen) (kind : Subtype) (list : List Attr) → s.state ≡ now
+    → found ≡ subscriber_in s.options.method set homes (identity_in list) → Says found s seen (on_message set homes s now seen kind list)
+says_message found set homes s state.AwaitAny seen kind list e f =
+    says_identity found s seen (on_any s.options.method set homes (identity_in list)) kind list (says_any found s.options.method set homes s seen (identity_in list) (ap awaits_identity e) f)
+says_message found set homes s state.AwaitFull seen kind list e f =
+    says_identity found s seen (on_full s.options.method set homes (identity_in list)) kind list (says_full found s.options.method set homes s seen (identity_in list) (ap awaits_identity e) f)
+says_message found set homes s state.AwaitPermanent seen kind list e f =
+    says_identity found s seen (on_permanent s.options.method set homes (identity_in list)) kind list
+    (says_permanent found s.options.method set homes s seen (identity_in list) (ap awaits_identity e) f)
+says_message found set homes s state.AwaitChallenge seen kind list e f = says_if found set s s.challenged seen kind list refl
+says_message found set homes s (state.Notifying why) seen kind list e f = says_notified found set homes s seen kind list why
+says_message found set homes s state.AwaitIdentity seen kind list e f = tt
+says_message found set homes s (state.Ended result) seen kind list e f = tt
+
+says_method : (found : Option ℕ) (set : Setting) (homes : List HomeRow) (s : ServerEnd) (now : ServerState) (seen : Seen) (r : Reading) → s.state ≡ now
+    → found ≡ subscriber_in s.options.method set homes (text_in r) → Says found s seen (on_method set homes s now seen r)
+says_method found set homes s now seen (reading.Read (packet.Aka request id m kind list)) e f =
+    on_cond (Says found s seen) (is_malformed kind false s.options.method list) (row.Ignore reason.Malformed) (on_message set homes s now seen kind list) tt
+    (λ sound. says_message found set homes s now seen kind list e f)
+says_method found set homes s now seen (reading.Read (packet.Identity request id text)) e f = tt
+says_method found set homes s now seen (reading.Read (packet.Success id)) e f = tt
+says_method found set homes s now seen (reading.Read (packet.Failure id)) e f = tt
+says_method found set homes s now seen (reading.Fault fault) e f = tt
 
 says_reading : (found : Option ℕ) (set : Setting) (homes : List HomeRow) (s : ServerEnd) (now : ServerState) (seen : Seen) (r : Reading) → s.state ≡ now → found ≡ subscriber_in s.options.method set homes (text_in r)
     → Says found s seen (on_reading set homes s now seen r)
-says_reading found set homes s state.AwaitIdentity seen r e f = says_subscriber found s seen (subscriber_in s.options.method set homes (text_in r)) e f
-says_reading found set homes s state.AwaitChallenge seen r e f = says_method found set s state.AwaitChallenge seen r
-says_reading found set homes s (state.Notifying why) seen r e f = says_method found set s (state.Notifying why) seen r
-says_reading found set homes s (state.Ended result) seen r e f = says_method found set s (state.Ended result) seen r
+says_reading found set homes s state.AwaitIdentity seen r e f = says_first found s.options set homes s seen (text_in r) (ap awaits_identity e) f
+says_reading found set homes s state.AwaitAny seen r e f = says_method found set homes s state.AwaitAny seen r e f
+says_reading found set homes s state.AwaitFull seen r e f = says_method found set homes s state.AwaitFull seen r e f
+says_reading found set homes s state.AwaitPermanent seen r e f = says_method found set homes s state.AwaitPermanent seen r e f
+says_reading found set homes s state.AwaitChallenge seen r e f = says_method found set homes s state.AwaitChallenge seen r e f
+says_reading found set homes s (state.Notifying why) seen r e f = says_method found set homes s (state.Notifying why) seen r e f
+says_reading found set homes s (state.Ended result) seen r e f = says_method found set homes s (state.Ended result) seen r e f
 
 says_head : (found : Option ℕ) (set : Setting) (homes : List HomeRow) (s : ServerEnd) (seen : Seen) (head : Option Head) → found ≡ subscriber_in s.options.method set homes (text_in seen.reading) → Says found s seen (on_head set homes s seen head)
 says_head found set homes s seen None f = tt
@@ -169,6 +226,9 @@ says_head found set homes s seen (Some head) f =
 says_state : (found : Option ℕ) (set : Setting) (homes : List HomeRow) (s : ServerEnd) (seen : Seen) (now : ServerState) → found ≡ subscriber_in s.options.method set homes (text_in seen.reading) → Says found s seen (in_state set homes s seen now)
 says_state found set homes s seen (state.Ended result) f = tt
 says_state found set homes s seen state.AwaitIdentity f = says_head found set homes s seen (head_at seen.bytes) f
+says_state found set homes s seen state.AwaitAny f = says_head found set homes s seen (head_at seen.bytes) f
+says_state found set homes s seen state.AwaitFull f = says_head found set homes s seen (head_at seen.bytes) f
+says_state found set homes s seen state.AwaitPermanent f = says_head found set homes s seen (head_at seen.bytes) f
 says_state found set homes s seen state.AwaitChallenge f = says_head found set homes s seen (head_at seen.bytes) f
 says_state found set homes s seen (state.Notifying why) f = says_head found set homes s seen (head_at seen.bytes) f
 
@@ -181,24 +241,25 @@ says_row set homes s seen = says_state (subscriber_in s.options.method set homes
 abbrev EndsIn : KeySet → List ℕ → ServerEnd × Turn ServerWhy → Type 0
 EndsIn keys bytes t = t.1.step ≡ step.Ended (outcome.Success keys) bytes
 
-no_drawn : (s : ServerEnd) (sub : ℕ) (v : Option Vector) (notes : Notes) (keys : KeySet) (bytes : List ℕ) → EndsIn keys bytes (challenged_with s sub v notes) → ⊥
-no_drawn s sub None notes keys bytes e = cc
-no_drawn s sub (Some v) notes keys bytes e = cc
+no_drawn : (s : ServerEnd) (sub : ℕ) (v : Option Vector) (given : Option NewName) (notes : Notes) (keys : KeySet) (bytes : List ℕ) → EndsIn keys bytes (challenged_with s sub v given notes) → ⊥
+no_drawn s sub None given notes keys bytes e = cc
+no_drawn s sub (Some v) given notes keys bytes e = cc
 
-no_challenged : (set : Setting) (s : ServerEnd) (sub : ℕ) (resynced : Option ResyncNote) (drawn : Option NumberNote) (keys : KeySet) (bytes : List ℕ)
-    → EndsIn keys bytes (challenged set s sub resynced drawn) → ⊥
-no_challenged set s sub resynced None keys bytes e = cc
-no_challenged set s sub resynced (Some (number.Drew n)) keys bytes e = no_drawn s sub (vector_at set s.options sub n) (noted resynced (Some (number.Drew n))) keys bytes e
-no_challenged set s sub resynced (Some (number.Exhausted w)) keys bytes e = cc
-no_challenged set s sub resynced (Some (number.Withheld n stop)) keys bytes e = cc
+no_challenged : (set : Setting) (homes : List HomeRow) (s : ServerEnd) (sub : ℕ) (resynced : Option ResyncNote) (drawn : Option NumberNote) (keys : KeySet) (bytes : List ℕ)
+    → EndsIn keys bytes (challenged set homes s sub resynced drawn) → ⊥
+no_challenged set homes s sub resynced None keys bytes e = cc
+no_challenged set homes s sub resynced (Some (number.Drew n)) keys bytes e =
+    no_drawn s sub (vector_at set s.options sub n) (name_given set homes s sub) (noted resynced (Some (number.Drew n))) keys bytes e
+no_challenged set homes s sub resynced (Some (number.Exhausted w)) keys bytes e = cc
+no_challenged set homes s sub resynced (Some (number.Withheld n stop)) keys bytes e = cc
 
-no_resynchronised : (set : Setting) (s : ServerEnd) (sub : ℕ) (resynced : Option ResyncNote) (drawn : Option NumberNote) (keys : KeySet) (bytes : List ℕ)
-    → EndsIn keys bytes (resynchronised set s sub resynced drawn) → ⊥
-no_resynchronised set s sub None drawn keys bytes e = cc
-no_resynchronised set s sub (Some resync.BadAuts) drawn keys bytes e = cc
-no_resynchronised set s sub (Some (resync.Beyond seen seq)) drawn keys bytes e = cc
-no_resynchronised set s sub (Some (resync.InRange seen seq)) drawn keys bytes e = no_challenged set (resynchronising s) sub (Some (resync.InRange seen seq)) drawn keys bytes e
-no_resynchronised set s sub (Some (resync.Moved seen seq)) drawn keys bytes e = no_challenged set (resynchronising s) sub (Some (resync.Moved seen seq)) drawn keys bytes e
+no_resynchronised : (set : Setting) (homes : List HomeRow) (s : ServerEnd) (sub : ℕ) (resynced : Option ResyncNote) (drawn : Option NumberNote) (keys : KeySet) (bytes : List ℕ)
+    → EndsIn keys bytes (resynchronised set homes s sub resynced drawn) → ⊥
+no_resynchronised set homes s sub None drawn keys bytes e = cc
+no_resynchronised set homes s sub (Some resync.BadAuts) drawn keys bytes e = cc
+no_resynchronised set homes s sub (Some (resync.Beyond seen seq)) drawn keys bytes e = cc
+no_resynchronised set homes s sub (Some (resync.InRange seen seq)) drawn keys bytes e = no_challenged set homes (resynchronising s) sub (Some (resync.InRange seen seq)) drawn keys bytes e
+no_resynchronised set homes s sub (Some (resync.Moved seen seq)) drawn keys bytes e = no_challenged set homes (resynchronising s) sub (Some (resync.Moved seen seq)) drawn keys bytes e
 
 -- what a turn that ends in Success says
 abbrev IsProved : ServerEnd → Seen → KeySet → ServerEnd × Turn ServerWhy → Type 0
@@ -225,24 +286,25 @@ proved_by s seen (Some sent) keys bytes f right e =
       refl,
     )
 
-proved_does : (found : Option ℕ) (set : Setting) (s : ServerEnd) (seen : Seen) (text : List ℕ) (r : Row) (notes : Notes) (keys : KeySet) (bytes : List ℕ)
-    → Says found s seen r → EndsIn keys bytes (server_does set s text r notes) → IsProved s seen keys (server_does set s text r notes)
-proved_does found set s seen text row.Success notes keys bytes right e = proved_by s seen s.challenged keys bytes refl right e
-proved_does found set s seen text (row.Ignore cause) notes keys bytes right e = absurd cc
-proved_does found set s seen text row.UnknownIdentity notes keys bytes right e = absurd cc
-proved_does found set s seen text (row.Challenge sub) notes keys bytes right e = absurd (no_challenged set (identified s text) sub None notes.number keys bytes e)
-proved_does found set s seen text row.WrongMac notes keys bytes right e = absurd cc
-proved_does found set s seen text row.WrongRes notes keys bytes right e = absurd cc
-proved_does found set s seen text row.WrongCheckcode notes keys bytes right e = absurd cc
-proved_does found set s seen text row.SecondSync notes keys bytes right e = absurd cc
-proved_does found set s seen text row.BadAuts notes keys bytes right e = absurd cc
-proved_does found set s seen text (row.Resynchronise sub seq) notes keys bytes right e = absurd (no_resynchronised set s sub notes.resync notes.number keys bytes e)
-proved_does found set s seen text row.Rejected notes keys bytes right e = absurd cc
-proved_does found set s seen text (row.ClientError code) notes keys bytes right e = absurd cc
-proved_does found set s seen text (row.Notified cause) notes keys bytes right e = absurd cc
+proved_does : (found : Option ℕ) (set : Setting) (homes : List HomeRow) (s : ServerEnd) (seen : Seen) (text : List ℕ) (packets : List (List ℕ)) (r : Row) (notes : Notes) (keys : KeySet) (bytes : List ℕ)
+    → Says found s seen r → EndsIn keys bytes (server_does set homes s text packets r notes) → IsProved s seen keys (server_does set homes s text packets r notes)
+proved_does found set homes s seen text packets row.Success notes keys bytes right e = proved_by s seen s.challenged keys bytes refl right e
+proved_does found set homes s seen text packets (row.Ignore cause) notes keys bytes right e = absurd cc
+proved_does found set homes s seen text packets (row.Ask kind) notes keys bytes right e = absurd cc
+proved_does found set homes s seen text packets row.UnknownIdentity notes keys bytes right e = absurd cc
+proved_does found set homes s seen text packets (row.Challenge sub) notes keys bytes right e = absurd (no_challenged set homes (identified s text packets) sub None notes.number keys bytes e)
+proved_does found set homes s seen text packets row.WrongMac notes keys bytes right e = absurd cc
+proved_does found set homes s seen text packets row.WrongRes notes keys bytes right e = absurd cc
+proved_does found set homes s seen text packets row.WrongCheckcode notes keys bytes right e = absurd cc
+proved_does found set homes s seen text packets row.SecondSync notes keys bytes right e = absurd cc
+proved_does found set homes s seen text packets row.BadAuts notes keys bytes right e = absurd cc
+proved_does found set homes s seen text packets (row.Resynchronise sub seq) notes keys bytes right e = absurd (no_resynchronised set homes s sub notes.resync notes.number keys bytes e)
+proved_does found set homes s seen text packets row.Rejected notes keys bytes right e = absurd cc
+proved_does found set homes s seen text packets (row.ClientError code) notes keys bytes right e = absurd cc
+proved_does found set homes s seen text packets (row.Notified cause) notes keys bytes right e = absurd cc
 
 pub success_is_proved : (set : Setting) (homes : List HomeRow) (s : ServerEnd) (seen : Seen) (notes : Notes) (keys : KeySet) (bytes : List ℕ)
     → (server_step set homes s seen notes).1.step ≡ step.Ended (outcome.Success keys) bytes
     → AreProved s seen keys × ((server_step set homes s seen notes).1.checked ≡ true)
 success_is_proved set homes s seen notes keys bytes e =
-    proved_does (subscriber_in s.options.method set homes (text_in seen.reading)) set s seen (text_in seen.reading) (server_row set homes s seen) notes keys bytes (says_row set homes s seen) e
+    proved_does (subscriber_in s.options.method set homes (text_in seen.reading)) set homes s seen (text_in seen.reading) (packets_after s seen (server_row set homes s seen)) (server_row set homes s seen) notes keys bytes (says_row set homes s seen) e

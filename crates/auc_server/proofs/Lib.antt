@@ -6,4 +6,5 @@ mod LawLemmas
 mod MessageLemmas
 mod MoveLemmas
 mod OptionsLemmas
+mod OrdinalLemmas
 mod TurnLemmas

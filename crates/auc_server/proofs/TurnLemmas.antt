@@ -1,7 +1,16 @@
 -- What a server and its notes tell of the turn after which they stand.
-use Rattle.std.proofs.Common.{◌≡◌, ◌≤◌, ◌+◌, ◌⊎◌, ℕ, max, Bool, true, List, ◌∷◌, ◌++◌, length, arith, length-append, Option, Some, None, is_some, refl, sym, ap, ◌∙◌, inl, inr}
+use Rattle.std.proofs.Common.{◌≡◌, ◌≤◌, ◌+◌, ◌⊎◌, ℕ, max, Bool, true, List, [], ◌∷◌, ◌++◌, length, replicate, arith, length-append, Option, Some, None, is_some, refl, sym, ap, ◌∙◌, inl, inr}
+use Rattle.std.specs.Option.{option_or}
 use Rattle.std.specs.Int.{w16, to_be_bytes}
+use Rattle.auc_attr.proofs.Facts.{attr_size, attrs_within}
 use Rattle.auc_attr.specs.Frame.{IsIdentityPacket}
+use Rattle.auc_attr.specs.Grammar.{Walks}
+use Rattle.auc_attr.specs.Item.{item, item_of, items}
+use Rattle.auc_attr.specs.Spelling.{fill, item_text, shape_text}
+use Rattle.auc_attr.specs.Table.{row_of}
+use Rattle.auc_attr.specs.declared.attr.Attr.{Attr}
+use Rattle.auc_attr.specs.declared.attr.Attr.TheVariants as attr
+use Rattle.auc_packet.specs.Packet.{method_type, subtype_number}
 use Rattle.auc_packet.specs.Received.{IsReading, IsReceived, Seen}
 use Rattle.auc_packet.specs.declared.packet.Packet.TheVariants as packet
 use Rattle.auc_packet.specs.declared.received.Reading.{Reading}
@@ -15,11 +24,13 @@ use Rattle.auc_vector.specs.declared.notes.ResyncNote.TheVariants as resync
 use Rattle.auc_vector.specs.declared.parts.Vector.{Vector}
 use Rattle.auc_vector.specs.declared.turn.Turn.{Turn}
 use Rattle.auc_server.specs.Asked.{asked_after, sub_of}
+use Rattle.auc_server.specs.Attributes.{first_of, identity_in, identity_of, text_or_none}
 use Rattle.auc_server.specs.Rows.{server_row, subscriber_in, text_in}
 use Rattle.auc_server.specs.Server.{ServerEnd}
 use Rattle.auc_server.specs.Setting.{Setting}
 use Rattle.auc_server.specs.Steps.{AsksAsNeeded, asking, challenges_again}
-use Rattle.auc_server.specs.Table.{challenged, challenged_with, identified, noted, resynchronised, resynchronising, server_does, server_step, succeeded, vector_at}
+use Rattle.auc_server.specs.Table.{challenged, challenged_with, identified, name_given, noted, packets_after, resynchronised, resynchronising, server_does, server_step, succeeded, vector_at}
+use Rattle.auc_server.specs.declared.naming.NewName.{NewName}
 use Rattle.auc_server.specs.declared.rows.Row.{Row}
 use Rattle.auc_server.specs.declared.rows.Row.TheVariants as row
 use Rattle.auc_server.specs.declared.server.Challenged.{Challenged}
@@ -29,47 +40,48 @@ use Rattle.auc_server.proofs.LawLemmas.{IsLast, Says, says_row}
 
 -- ---- the identity after a turn
 
-with_keeps : (s : ServerEnd) (sub : ℕ) (v : Option Vector) (notes : Notes) → (challenged_with s sub v notes).0.identity ≡ s.identity
-with_keeps s sub None notes = refl
-with_keeps s sub (Some v) notes = refl
+with_keeps : (s : ServerEnd) (sub : ℕ) (v : Option Vector) (given : Option NewName) (notes : Notes) → (challenged_with s sub v given notes).0.identity ≡ s.identity
+with_keeps s sub None given notes = refl
+with_keeps s sub (Some v) given notes = refl
 
-challenged_keeps : (set : Setting) (s : ServerEnd) (sub : ℕ) (resynced : Option ResyncNote) (drawn : Option NumberNote) → (challenged set s sub resynced drawn).0.identity ≡ s.identity
-challenged_keeps set s sub resynced None = refl
-challenged_keeps set s sub resynced (Some (number.Drew n)) = with_keeps s sub (vector_at set s.options sub n) (noted resynced (Some (number.Drew n)))
-challenged_keeps set s sub resynced (Some (number.Exhausted w)) = refl
-challenged_keeps set s sub resynced (Some (number.Withheld n stop)) = refl
+challenged_keeps : (set : Setting) (homes : List HomeRow) (s : ServerEnd) (sub : ℕ) (resynced : Option ResyncNote) (drawn : Option NumberNote) → (challenged set homes s sub resynced drawn).0.identity ≡ s.identity
+challenged_keeps set homes s sub resynced None = refl
+challenged_keeps set homes s sub resynced (Some (number.Drew n)) = with_keeps s sub (vector_at set s.options sub n) (name_given set homes s sub) (noted resynced (Some (number.Drew n)))
+challenged_keeps set homes s sub resynced (Some (number.Exhausted w)) = refl
+challenged_keeps set homes s sub resynced (Some (number.Withheld n stop)) = refl
 
-resynchronised_keeps : (set : Setting) (s : ServerEnd) (sub : ℕ) (resynced : Option ResyncNote) (drawn : Option NumberNote) → (resynchronised set s sub resynced drawn).0.identity ≡ s.identity
-resynchronised_keeps set s sub None drawn = refl
-resynchronised_keeps set s sub (Some resync.BadAuts) drawn = refl
-resynchronised_keeps set s sub (Some (resync.Beyond seen seq)) drawn = refl
-resynchronised_keeps set s sub (Some (resync.InRange seen seq)) drawn = challenged_keeps set (resynchronising s) sub (Some (resync.InRange seen seq)) drawn
-resynchronised_keeps set s sub (Some (resync.Moved seen seq)) drawn = challenged_keeps set (resynchronising s) sub (Some (resync.Moved seen seq)) drawn
+resynchronised_keeps : (set : Setting) (homes : List HomeRow) (s : ServerEnd) (sub : ℕ) (resynced : Option ResyncNote) (drawn : Option NumberNote) → (resynchronised set homes s sub resynced drawn).0.identity ≡ s.identity
+resynchronised_keeps set homes s sub None drawn = refl
+resynchronised_keeps set homes s sub (Some resync.BadAuts) drawn = refl
+resynchronised_keeps set homes s sub (Some (resync.Beyond seen seq)) drawn = refl
+resynchronised_keeps set homes s sub (Some (resync.InRange seen seq)) drawn = challenged_keeps set homes (resynchronising s) sub (Some (resync.InRange seen seq)) drawn
+resynchronised_keeps set homes s sub (Some (resync.Moved seen seq)) drawn = challenged_keeps set homes (resynchronising s) sub (Some (resync.Moved seen seq)) drawn
 
 succeeded_keeps : (s : ServerEnd) (c : Option Challenged) → (succeeded s c).0.identity ≡ s.identity
 succeeded_keeps s None = refl
 succeeded_keeps s (Some sent) = refl
 
-does_identity : (set : Setting) (s : ServerEnd) (text : List ℕ) (r : Row) (notes : Notes)
-    → ((server_does set s text r notes).0.identity ≡ s.identity) ⊎ ((server_does set s text r notes).0.identity ≡ text)
-does_identity set s text (row.Ignore cause) notes = inl refl
-does_identity set s text row.UnknownIdentity notes = inr refl
-does_identity set s text (row.Challenge sub) notes = inr (challenged_keeps set (identified s text) sub None notes.number)
-does_identity set s text row.WrongMac notes = inl refl
-does_identity set s text row.WrongRes notes = inl refl
-does_identity set s text row.WrongCheckcode notes = inl refl
-does_identity set s text row.Success notes = inl (succeeded_keeps s s.challenged)
-does_identity set s text row.SecondSync notes = inl refl
-does_identity set s text row.BadAuts notes = inl refl
-does_identity set s text (row.Resynchronise sub seq) notes = inl (resynchronised_keeps set s sub notes.resync notes.number)
-does_identity set s text row.Rejected notes = inl refl
-does_identity set s text (row.ClientError code) notes = inl refl
-does_identity set s text (row.Notified cause) notes = inl refl
+does_identity : (set : Setting) (homes : List HomeRow) (s : ServerEnd) (text : List ℕ) (packets : List (List ℕ)) (r : Row) (notes : Notes)
+    → ((server_does set homes s text packets r notes).0.identity ≡ s.identity) ⊎ ((server_does set homes s text packets r notes).0.identity ≡ text)
+does_identity set homes s text packets (row.Ignore cause) notes = inl refl
+does_identity set homes s text packets (row.Ask kind) notes = inr refl
+does_identity set homes s text packets row.UnknownIdentity notes = inr refl
+does_identity set homes s text packets (row.Challenge sub) notes = inr (challenged_keeps set homes (identified s text packets) sub None notes.number)
+does_identity set homes s text packets row.WrongMac notes = inl refl
+does_identity set homes s text packets row.WrongRes notes = inl refl
+does_identity set homes s text packets row.WrongCheckcode notes = inl refl
+does_identity set homes s text packets row.Success notes = inl (succeeded_keeps s s.challenged)
+does_identity set homes s text packets row.SecondSync notes = inl refl
+does_identity set homes s text packets row.BadAuts notes = inl refl
+does_identity set homes s text packets (row.Resynchronise sub seq) notes = inl (resynchronised_keeps set homes s sub notes.resync notes.number)
+does_identity set homes s text packets row.Rejected notes = inl refl
+does_identity set homes s text packets (row.ClientError code) notes = inl refl
+does_identity set homes s text packets (row.Notified cause) notes = inl refl
 
 -- it is that before it, or the one that was received
 pub identity_is : (set : Setting) (homes : List HomeRow) (s : ServerEnd) (seen : Seen) (notes : Notes)
     → ((server_step set homes s seen notes).0.identity ≡ s.identity) ⊎ ((server_step set homes s seen notes).0.identity ≡ text_in seen.reading)
-identity_is set homes s seen notes = does_identity set s (text_in seen.reading) (server_row set homes s seen) notes
+identity_is set homes s seen notes = does_identity set homes s (text_in seen.reading) (packets_after s seen (server_row set homes s seen)) (server_row set homes s seen) notes
 
 -- ---- for whom the centre was asked
 
@@ -83,16 +95,16 @@ abbrev AsksFor : Setting → List HomeRow → Option ℕ → ServerEnd × Turn S
 AsksFor set homes sub t = asked_after set homes t.0 t.1.notes.resync t.1.notes.number ≡ sub
 
 -- an identity by which a subscriber is found
-with_asks : (set : Setting) (homes : List HomeRow) (s : ServerEnd) (sub : ℕ) (v : Option Vector) (drawn : NumberNote)
-    → subscriber_in s.options.method set homes s.identity ≡ Some sub → (challenged_with s sub v (noted None (Some drawn))).1.notes.number ≡ Some drawn
-    → AsksFor set homes (Some sub) (challenged_with s sub v (noted None (Some drawn)))
-with_asks set homes s sub None drawn found there = absurd cc
-with_asks set homes s sub (Some v) drawn found there = found
+with_asks : (set : Setting) (homes : List HomeRow) (s : ServerEnd) (sub : ℕ) (v : Option Vector) (given : Option NewName) (drawn : NumberNote)
+    → subscriber_in s.options.method set homes s.identity ≡ Some sub → (challenged_with s sub v given (noted None (Some drawn))).1.notes.number ≡ Some drawn
+    → AsksFor set homes (Some sub) (challenged_with s sub v given (noted None (Some drawn)))
+with_asks set homes s sub None given drawn found there = absurd cc
+with_asks set homes s sub (Some v) given drawn found there = found
 
 first_asks : (set : Setting) (homes : List HomeRow) (s : ServerEnd) (sub : ℕ) (drawn : Option NumberNote) → subscriber_in s.options.method set homes s.identity ≡ Some sub
-    → is_some drawn ≡ true → (challenged set s sub None drawn).1.notes.number ≡ drawn → AsksFor set homes (Some sub) (challenged set s sub None drawn)
+    → is_some drawn ≡ true → (challenged set homes s sub None drawn).1.notes.number ≡ drawn → AsksFor set homes (Some sub) (challenged set homes s sub None drawn)
 first_asks set homes s sub None found there told = absurd cc
-first_asks set homes s sub (Some (number.Drew n)) found there told = with_asks set homes s sub (vector_at set s.options sub n) (number.Drew n) found told
+first_asks set homes s sub (Some (number.Drew n)) found there told = with_asks set homes s sub (vector_at set s.options sub n) (name_given set homes s sub) (number.Drew n) found told
 first_asks set homes s sub (Some (number.Exhausted w)) found there told = found
 first_asks set homes s sub (Some (number.Withheld n stop)) found there told = found
 
@@ -100,24 +112,24 @@ first_asks set homes s sub (Some (number.Withheld n stop)) found there told = fo
 last_is : (s : ServerEnd) (sub : ℕ) → IsLast s sub → sub_of s.challenged ≡ Some sub
 last_is s sub last = ap sub_of last.1 ∙ ap (λ (n : ℕ). Some n) last.2
 
-again_with : (set : Setting) (homes : List HomeRow) (s : ServerEnd) (sub : ℕ) (r : ResyncNote) (v : Option Vector) (drawn : NumberNote)
+again_with : (set : Setting) (homes : List HomeRow) (s : ServerEnd) (sub : ℕ) (r : ResyncNote) (v : Option Vector) (given : Option NewName) (drawn : NumberNote)
     → ((t : ServerEnd) (d : Option NumberNote) → asked_after set homes t (Some r) d ≡ sub_of t.challenged)
-    → (challenged_with s sub v (noted (Some r) (Some drawn))).1.notes.number ≡ Some drawn
-    → AsksFor set homes (Some sub) (challenged_with s sub v (noted (Some r) (Some drawn)))
-again_with set homes s sub r None drawn asks told = absurd cc
-again_with set homes s sub r (Some v) drawn asks told = asks (challenged_with s sub (Some v) (noted (Some r) (Some drawn))).0 (Some drawn)
+    → (challenged_with s sub v given (noted (Some r) (Some drawn))).1.notes.number ≡ Some drawn
+    → AsksFor set homes (Some sub) (challenged_with s sub v given (noted (Some r) (Some drawn)))
+again_with set homes s sub r None given drawn asks told = absurd cc
+again_with set homes s sub r (Some v) given drawn asks told = asks (challenged_with s sub (Some v) given (noted (Some r) (Some drawn))).0 (Some drawn)
 
 again_asks : (set : Setting) (homes : List HomeRow) (s : ServerEnd) (sub : ℕ) (r : ResyncNote) (drawn : Option NumberNote) → sub_of s.challenged ≡ Some sub
     → ((t : ServerEnd) (d : Option NumberNote) → asked_after set homes t (Some r) d ≡ sub_of t.challenged)
-    → is_some drawn ≡ true → (challenged set s sub (Some r) drawn).1.notes.number ≡ drawn → AsksFor set homes (Some sub) (challenged set s sub (Some r) drawn)
+    → is_some drawn ≡ true → (challenged set homes s sub (Some r) drawn).1.notes.number ≡ drawn → AsksFor set homes (Some sub) (challenged set homes s sub (Some r) drawn)
 again_asks set homes s sub r None last asks there told = absurd cc
-again_asks set homes s sub r (Some (number.Drew n)) last asks there told = again_with set homes s sub r (vector_at set s.options sub n) (number.Drew n) asks told
+again_asks set homes s sub r (Some (number.Drew n)) last asks there told = again_with set homes s sub r (vector_at set s.options sub n) (name_given set homes s sub) (number.Drew n) asks told
 again_asks set homes s sub r (Some (number.Exhausted w)) last asks there told = asks s (Some (number.Exhausted w)) ∙ last
 again_asks set homes s sub r (Some (number.Withheld n stop)) last asks there told = asks s (Some (number.Withheld n stop)) ∙ last
 
 resynchronised_asks : (set : Setting) (homes : List HomeRow) (s : ServerEnd) (sub seq : ℕ) (k : Option ℕ) (r : Option ResyncNote) (drawn : Option NumberNote)
     → sub_of s.challenged ≡ Some sub → AnswersReport k (Some seq) r → is_some drawn ≡ challenges_again r
-    → (resynchronised set s sub r drawn).1.notes.number ≡ drawn → AsksFor set homes (Some sub) (resynchronised set s sub r drawn)
+    → (resynchronised set homes s sub r drawn).1.notes.number ≡ drawn → AsksFor set homes (Some sub) (resynchronised set homes s sub r drawn)
 resynchronised_asks set homes s sub seq k None drawn last answer need told = absurd answer
 resynchronised_asks set homes s sub seq k (Some resync.BadAuts) drawn last answer need told = absurd answer
 resynchronised_asks set homes s sub seq k (Some (resync.Beyond at' to)) drawn last answer need told = last
@@ -135,24 +147,25 @@ abbrev pub IsReported : Option Asking → Notes → Type 0
 IsReported None notes = Unit {0}
 IsReported (Some request) notes = (kept : Option ℕ) × AnswersReport kept request.reported notes.resync
 
-does_asks : (set : Setting) (homes : List HomeRow) (s : ServerEnd) (seen : Seen) (text : List ℕ) (r : Row) (notes : Notes) → Says (subscriber_in s.options.method set homes text) s seen r
-    → AsksAsNeeded r notes → IsReported (asking r) notes → (server_does set s text r notes).1.notes ≡ notes
-    → AsksFor set homes (sub_asked (asking r)) (server_does set s text r notes)
-does_asks set homes s seen text (row.Ignore cause) notes says need report told = refl
-does_asks set homes s seen text row.UnknownIdentity notes says need report told = refl
-does_asks set homes s seen text (row.Challenge sub) notes says need report told =
-    first_asks set homes (identified s text) sub notes.number says.1 need (ap (λ (n : Notes). n.number) told)
-does_asks set homes s seen text row.WrongMac notes says need report told = refl
-does_asks set homes s seen text row.WrongRes notes says need report told = refl
-does_asks set homes s seen text row.WrongCheckcode notes says need report told = refl
-does_asks set homes s seen text row.Success notes says need report told = succeeded_asks set homes s s.challenged
-does_asks set homes s seen text row.SecondSync notes says need report told = refl
-does_asks set homes s seen text row.BadAuts notes says need report told = refl
-does_asks set homes s seen text (row.Resynchronise sub seq) notes says need report told =
+does_asks : (set : Setting) (homes : List HomeRow) (s : ServerEnd) (seen : Seen) (text : List ℕ) (packets : List (List ℕ)) (r : Row) (notes : Notes) → Says (subscriber_in s.options.method set homes text) s seen r
+    → AsksAsNeeded r notes → IsReported (asking r) notes → (server_does set homes s text packets r notes).1.notes ≡ notes
+    → AsksFor set homes (sub_asked (asking r)) (server_does set homes s text packets r notes)
+does_asks set homes s seen text packets (row.Ignore cause) notes says need report told = refl
+does_asks set homes s seen text packets (row.Ask kind) notes says need report told = refl
+does_asks set homes s seen text packets row.UnknownIdentity notes says need report told = refl
+does_asks set homes s seen text packets (row.Challenge sub) notes says need report told =
+    first_asks set homes (identified s text packets) sub notes.number says.1 need (ap (λ (n : Notes). n.number) told)
+does_asks set homes s seen text packets row.WrongMac notes says need report told = refl
+does_asks set homes s seen text packets row.WrongRes notes says need report told = refl
+does_asks set homes s seen text packets row.WrongCheckcode notes says need report told = refl
+does_asks set homes s seen text packets row.Success notes says need report told = succeeded_asks set homes s s.challenged
+does_asks set homes s seen text packets row.SecondSync notes says need report told = refl
+does_asks set homes s seen text packets row.BadAuts notes says need report told = refl
+does_asks set homes s seen text packets (row.Resynchronise sub seq) notes says need report told =
     resynchronised_asks set homes s sub seq report.0 notes.resync notes.number (last_is s sub says) report.1 need (ap (λ (n : Notes). n.number) told)
-does_asks set homes s seen text row.Rejected notes says need report told = refl
-does_asks set homes s seen text (row.ClientError code) notes says need report told = refl
-does_asks set homes s seen text (row.Notified cause) notes says need report told = refl
+does_asks set homes s seen text packets row.Rejected notes says need report told = refl
+does_asks set homes s seen text packets (row.ClientError code) notes says need report told = refl
+does_asks set homes s seen text packets (row.Notified cause) notes says need report told = refl
 
 -- the server and its notes tell it
 pub asked_is : (set : Setting) (homes : List HomeRow) (s : ServerEnd) (seen : Seen) (notes : Notes)
@@ -160,7 +173,7 @@ pub asked_is : (set : Setting) (homes : List HomeRow) (s : ServerEnd) (seen : Se
     → asked_after set homes (server_step set homes s seen notes).0 notes.resync notes.number ≡ sub_asked (asking (server_row set homes s seen))
 asked_is set homes s seen notes need report told =
     ap (λ (n : Notes). asked_after set homes (server_step set homes s seen notes).0 n.resync n.number) (sym told)
-    ∙ does_asks set homes s seen (text_in seen.reading) (server_row set homes s seen) notes (says_row set homes s seen) need report told
+    ∙ does_asks set homes s seen (text_in seen.reading) (packets_after s seen (server_row set homes s seen)) (server_row set homes s seen) notes (says_row set homes s seen) need report told
 
 -- ---- the text that was received
 
@@ -168,9 +181,55 @@ framed_fits : (request : Bool) (id : ℕ) (text bytes : List ℕ) → IsIdentity
 framed_fits request id text bytes framed =
     rw framed.parts (omega (arith, length-append text framed.past, length-append (to_be_bytes w16 (5 + length text)) (1 ∷ (text ++ framed.past))))
 
+-- the text of an AT_IDENTITY is shorter than the attribute
+identity_size : (v : List ℕ) → length v ≤ length (item_text (item 14 v))
+unfolding item_text row_of shape_text
+identity_size v = omega (arith, length-append (to_be_bytes w16 (length v)) (v ++ replicate (fill (length v)) 0), length-append v (replicate (fill (length v)) 0))
+
+text_size : (a : Attr) → length (text_or_none (identity_of a)) ≤ length (item_text (item_of a))
+text_size (attr.Identity v) = identity_size v
+text_size (attr.Rand v) = omega arith
+text_size (attr.Autn v) = omega arith
+text_size (attr.Res v) = omega arith
+text_size (attr.Auts v) = omega arith
+text_size (attr.Padding v) = omega arith
+text_size attr.PermanentIdReq = omega arith
+text_size (attr.Mac v) = omega arith
+text_size (attr.Notification n) = omega arith
+text_size attr.AnyIdReq = omega arith
+text_size attr.FullauthIdReq = omega arith
+text_size (attr.Counter n) = omega arith
+text_size attr.CounterTooSmall = omega arith
+text_size (attr.NonceS v) = omega arith
+text_size (attr.ClientErrorCode n) = omega arith
+text_size (attr.KdfInput v) = omega arith
+text_size (attr.Kdf n) = omega arith
+text_size (attr.Iv v) = omega arith
+text_size (attr.EncrData v) = omega arith
+text_size (attr.NextPseudonym v) = omega arith
+text_size (attr.NextReauthId v) = omega arith
+text_size (attr.Checkcode v) = omega arith
+text_size attr.ResultInd = omega arith
+text_size (attr.Bidding d) = omega arith
+text_size (attr.Skipped kind v) = omega arith
+
+either_fits : (first later : Option (List ℕ)) (n : ℕ) → length (text_or_none first) ≤ n → length (text_or_none later) ≤ n → length (text_or_none (option_or first later)) ≤ n
+either_fits None later n here there = there
+either_fits (Some v) later n here there = here
+
+-- the text of the first AT_IDENTITY is no longer than the attributes
+walk_fits : (seen bytes : List ℕ) (list : List Attr) → Walks seen bytes (items list) None → length (identity_in list) ≤ length bytes
+walk_fits seen bytes [] w = omega arith
+walk_fits seen bytes (a ∷ list) w =
+    let size = attr_size seen (item_of a) bytes w.0 w.1 in
+    either_fits (identity_of a) (first_of identity_of list) (length bytes) (omega (arith, size, text_size a))
+    (omega (arith, size, walk_fits (seen ++ (item_of a).kind ∷ []) w.0 list w.2))
+
 reading_fits : (bytes : List ℕ) (r : Reading) → IsReading bytes r → length (text_in r) ≤ length bytes
 reading_fits bytes (reading.Read (packet.Identity request id text)) is = framed_fits request id text bytes is.0
-reading_fits bytes (reading.Read (packet.Aka request id m kind list)) is = omega arith
+reading_fits bytes (reading.Read (packet.Aka request id m kind list)) is =
+    let within = attrs_within request id (method_type m) (subtype_number kind) is.0.0 bytes is.0.1 in
+    omega (arith, within.0, within.1, walk_fits [] is.0.0 list is.0.2.0)
 reading_fits bytes (reading.Read (packet.Success id)) is = omega arith
 reading_fits bytes (reading.Read (packet.Failure id)) is = omega arith
 reading_fits bytes (reading.Fault fault) is = omega arith

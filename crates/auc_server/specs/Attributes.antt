@@ -19,6 +19,11 @@ abbrev pub checkcode_of : Attr → Option (List ℕ)
 checkcode_of (attr.Checkcode v) = Some v
 checkcode_of _ = None
 
+-- the text of an AT_IDENTITY
+abbrev pub identity_of : Attr → Option (List ℕ)
+identity_of (attr.Identity v) = Some v
+identity_of _ = None
+
 -- the code of an AT_CLIENT_ERROR_CODE
 abbrev pub error_code_of : Attr → Option ℕ
 error_code_of (attr.ClientErrorCode code) = Some code
@@ -28,3 +33,11 @@ error_code_of _ = None
 abbrev pub first_of : {A : Type 0} → (Attr → Option A) → List Attr → Option A
 first_of value [] = None
 first_of value (a ∷ list) = option_or (value a) (first_of value list)
+
+abbrev pub text_or_none : Option (List ℕ) → List ℕ
+text_or_none None = []
+text_or_none (Some text) = text
+
+-- the text of the first AT_IDENTITY of a list, empty if there is none (RFC 4187 §10.5)
+abbrev pub identity_in : List Attr → List ℕ
+identity_in list = text_or_none (first_of identity_of list)

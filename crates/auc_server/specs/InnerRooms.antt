@@ -6,9 +6,24 @@ use Rattle.auc_edge.specs.Reserved.{Reserved}
 -- for the greatest request, the Challenge
 pub record IsFresh (room : Reserved ℕ) : Type 0 where
   pub empty : room.written ≡ []
-  pub size : room.left ≡ 336
+  pub size : room.left ≡ 440
 
 -- for the attributes of the Challenge
 pub record HasPlaces (places : Reserved Attr) : Type 0 where
   pub empty : places.written ≡ []
-  pub size : places.left ≡ 5
+  pub size : places.left ≡ 7
+
+-- for a pseudonym
+pub record IsFreshName (room : Reserved ℕ) : Type 0 where
+  pub empty : room.written ≡ []
+  pub size : room.left ≡ 33
+
+-- for the value of AT_CHECKCODE
+pub record IsFreshCheck (room : Reserved ℕ) : Type 0 where
+  pub empty : room.written ≡ []
+  pub size : room.left ≡ 32
+
+-- for the encrypted attribute
+pub record HasOnePlace (places : Reserved Attr) : Type 0 where
+  pub empty : places.written ≡ []
+  pub size : places.left ≡ 1

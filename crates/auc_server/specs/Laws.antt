@@ -1,5 +1,5 @@
 -- What holds of every turn of a server.
-use Rattle.std.specs.Prelude.{◌≡◌, ◌⊎◌, ℕ, true, List, [], Option, Some, None}
+use Rattle.std.specs.Prelude.{◌≡◌, ◌⊎◌, ℕ, ◌+◌, Bool, true, false, List, [], Option, Some, None}
 use Rattle.auc_hmac.specs.declared.keys.KeySet.{KeySet}
 use Rattle.auc_packet.specs.Received.{Seen, is_sealed}
 use Rattle.auc_vector.specs.Keys.{keys_of}
@@ -10,12 +10,14 @@ use Rattle.auc_vector.specs.declared.parts.Vector.{Vector}
 use Rattle.auc_vector.specs.declared.turn.Outcome.TheVariants as outcome
 use Rattle.auc_vector.specs.declared.turn.Step.TheVariants as step
 use Rattle.auc_vector.specs.declared.turn.Turn.{Turn}
+use Rattle.auc_server.specs.Ordinals.{home_at}
 use Rattle.auc_server.specs.Rows.{server_row}
 use Rattle.auc_server.specs.Server.{ServerEnd}
 use Rattle.auc_server.specs.Setting.{Setting}
 use Rattle.auc_server.specs.Steps.{asking}
-use Rattle.auc_server.specs.Table.{challenge_of, gave_up, server_step, vector_at}
+use Rattle.auc_server.specs.Table.{challenge_of, gave_up, homes_after, server_step, vector_at}
 use Rattle.auc_server.specs.declared.server.Challenged.{Challenged}
+use Rattle.auc_server.specs.declared.server.ServerState.{ServerState}
 use Rattle.auc_server.specs.declared.server.ServerState.TheVariants as state
 use Rattle.auc_server.specs.declared.setting.HomeRow.{HomeRow}
 use Rattle.auc_server.specs.declared.why.ServerWhy.{ServerWhy}
@@ -37,10 +39,18 @@ SuccessNeedsARightMac = (set : Setting) (homes : List HomeRow) (s : ServerEnd) (
 abbrev pub Has : Option Challenged → KeySet → Type 0
 Has challenged keys = (sent : Challenged) × (challenged ≡ Some sent) × (keys ≡ sent.keys)
 
+-- whether an identity is awaited
+abbrev pub awaits_identity : ServerState → Bool
+awaits_identity state.AwaitIdentity = true
+awaits_identity state.AwaitAny = true
+awaits_identity state.AwaitFull = true
+awaits_identity state.AwaitPermanent = true
+awaits_identity other = false
+
 -- the keys of the last challenge are those of its vector under the identity that was received last, and there is none
--- while the identity is awaited; the keys of Success are those of the last challenge
+-- while an identity is awaited; the keys of Success are those of the last challenge
 pub record Fits (s : ServerEnd) : Type 0 where
-  pub first : s.state ≡ state.AwaitIdentity → s.challenged ≡ None
+  pub first : awaits_identity s.state ≡ true → s.challenged ≡ None
   pub keys : (sent : Challenged) → s.challenged ≡ Some sent → sent.keys ≡ keys_of s.options.method s.identity sent.vector.ik sent.vector.ck
   pub success : (keys : KeySet) → s.state ≡ state.Ended (outcome.Success keys) → Has s.challenged keys
 
@@ -78,3 +88,15 @@ EachTurnKeepsOrChallenges = (set : Setting) (homes : List HomeRow) (s : ServerEn
 pub record OptionsStay : Type 0 where
   pub turn : (set : Setting) (homes : List HomeRow) (s : ServerEnd) (seen : Seen) (notes : Notes) → (server_step set homes s seen notes).0.options ≡ s.options
   pub given_up : (s : ServerEnd) → (gave_up s s.state).0.options ≡ s.options
+
+-- ---- the ordinals of pseudonyms
+
+-- a home's ordinals stay, or the next one is used
+pub record IsAfter (home later : HomeRow) : Type 0 where
+  pub sub : later.sub ≡ home.sub
+  pub ordinals : (later.ordinals ≡ home.ordinals) ⊎ (later.ordinals ≡ home.ordinals + 1)
+
+-- no turn gives an ordinal back
+abbrev pub OrdinalsRise : Type 0
+OrdinalsRise = (set : Setting) (homes : List HomeRow) (s : ServerEnd) (seen : Seen) (notes : Notes) (place : ℕ)
+    → IsAfter (home_at homes place) (home_at (homes_after set homes s seen notes) place)

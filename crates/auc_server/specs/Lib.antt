@@ -1,9 +1,12 @@
 pub mod Asked
 pub mod Attributes
+pub mod InnerMessages
 pub mod InnerRooms
 pub mod InnerRows
 pub mod Laws
 pub mod Messages
+pub mod Ordinals
+pub mod Rounds
 pub mod Rows
 pub mod Server
 pub mod Setting

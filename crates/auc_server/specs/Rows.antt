@@ -2,11 +2,14 @@
 -- §9).
 use Rattle.std.specs.Prelude.{ℕ, ◌==◌, ◌||◌, not, Bool, true, false, List, [], ◌∷◌, Option, Some, None, slice_get, if◌then◌else◌}
 use Rattle.std.specs.List.{list_any}
+use Rattle.std.specs.Option.{option_or}
 use Rattle.std.specs.Str.{bytes_eq}
 use Rattle.auc_attr.specs.declared.attr.Attr.{Attr}
 use Rattle.auc_edge.specs.Identity.{Identity}
 use Rattle.auc_hmac.specs.declared.method.Method.{Method}
+use Rattle.auc_ident.specs.Names.{resolved}
 use Rattle.auc_ident.specs.Permanent.{permanent_in, username}
+use Rattle.auc_ident.specs.declared.names.NameKind.TheVariants as kinds
 use Rattle.auc_packet.specs.Head.{head_at}
 use Rattle.auc_packet.specs.Messages.{is_malformed, is_missing}
 use Rattle.auc_packet.specs.Packet.{method_type}
@@ -23,9 +26,12 @@ use Rattle.auc_vector.specs.Auts.{read_auts_of}
 use Rattle.auc_vector.specs.declared.auts.Auts.{Auts}
 use Rattle.auc_vector.specs.declared.auts.Auts.TheVariants as auts
 use Rattle.auc_vector.specs.declared.turn.Reason.TheVariants as reason
-use Rattle.auc_server.specs.Attributes.{res_of, auts_of, checkcode_of, error_code_of, first_of}
+use Rattle.auc_server.specs.Attributes.{res_of, auts_of, checkcode_of, error_code_of, first_of, identity_in}
+use Rattle.auc_server.specs.Rounds.{checkcode}
 use Rattle.auc_server.specs.Server.{ServerEnd}
 use Rattle.auc_server.specs.Setting.{Setting}
+use Rattle.auc_request.specs.declared.identities.IdentityRequest.TheVariants as asks
+use Rattle.auc_server.specs.declared.options.ServerOptions.{ServerOptions}
 use Rattle.auc_server.specs.declared.rows.Row.{Row}
 use Rattle.auc_server.specs.declared.rows.Row.TheVariants as row
 use Rattle.auc_server.specs.declared.server.Challenged.{Challenged}
@@ -49,17 +55,48 @@ abbrev pub held_place : List rows.Row → List HomeRow → Option Identity → O
 held_place all homes None = None
 held_place all homes (Some imsi) = if_held homes (place_of all imsi)
 
--- the held subscriber whose permanent identity of a method a text begins with, up to its realm
+-- the held subscriber whose permanent identity of a method a text is, up to its realm
+abbrev pub permanent_subscriber : Method → Setting → List HomeRow → List ℕ → Option ℕ
+permanent_subscriber by set homes text = held_place set.rows homes (permanent_in by (username text))
+
+-- the subscriber of a name, if it is one of the homes
+abbrev pub named_place : List HomeRow → Option (ℕ × ℕ) → Option ℕ
+named_place homes None = None
+named_place homes (Some of) = if_held homes (Some of.0)
+
+-- the held subscriber whose pseudonym of a method a text is, up to its realm (RFC 4187 §4.1.1.7)
+abbrev pub pseudonym_subscriber : Method → Setting → List HomeRow → List ℕ → Option ℕ
+pseudonym_subscriber by set homes text = named_place homes (resolved set.names kinds.Pseudonym by text)
+
+-- the held subscriber whose permanent identity or pseudonym of a method a text is
 abbrev pub subscriber_in : Method → Setting → List HomeRow → List ℕ → Option ℕ
-subscriber_in by set homes text = held_place set.rows homes (permanent_in by (username text))
+subscriber_in by set homes text = option_or (permanent_subscriber by set homes text) (pseudonym_subscriber by set homes text)
 
-abbrev pub on_subscriber : Option ℕ → Row
-on_subscriber None = row.UnknownIdentity
-on_subscriber (Some sub) = row.Challenge sub
+-- a subscriber is challenged, and if there is none, another row is taken
+abbrev pub challenge_or : Row → Option ℕ → Row
+challenge_or other None = other
+challenge_or other (Some sub) = row.Challenge sub
 
--- the text of an Identity response
+-- an identity that may be a pseudonym: if it is none, one for full authentication is asked for (RFC 4187 §4.1.4)
+abbrev pub on_any : Method → Setting → List HomeRow → List ℕ → Row
+on_any by set homes text = challenge_or (row.Ask asks.Fullauth) (subscriber_in by set homes text)
+
+-- the same, where one for full authentication was asked for: then the permanent identity is
+abbrev pub on_full : Method → Setting → List HomeRow → List ℕ → Row
+on_full by set homes text = challenge_or (row.Ask asks.Permanent) (subscriber_in by set homes text)
+
+-- a permanent identity
+abbrev pub on_permanent : Method → Setting → List HomeRow → List ℕ → Row
+on_permanent by set homes text = challenge_or row.UnknownIdentity (permanent_subscriber by set homes text)
+
+-- the identity of EAP's own Identity round: with the option, another is asked for at once, whatever it is
+abbrev pub on_first : ServerOptions → Setting → List HomeRow → List ℕ → Row
+on_first options set homes text = if options.any then row.Ask asks.Any else on_any options.method set homes text
+
+-- the text of an Identity response, or of an AKA-Identity response
 abbrev pub text_in : Reading → List ℕ
 text_in (reading.Read (packet.Identity request id text)) = text
+text_in (reading.Read (packet.Aka request id m kind list)) = identity_in list
 text_in other = []
 
 -- ---- the response to a challenge
@@ -69,19 +106,18 @@ abbrev pub is_expected : List ℕ → Option (List ℕ) → Bool
 is_expected xres None = false
 is_expected xres (Some res) = bytes_eq res xres
 
--- whether there is a checkcode, and it isn't that of a session without AKA-Identity rounds
-abbrev pub differs : Option (List ℕ) → Bool
-differs None = false
-differs (Some []) = false
-differs (Some (byte ∷ bytes)) = true
+-- whether there is a checkcode, and it isn't that of the session
+abbrev pub differs : List ℕ → Option (List ℕ) → Bool
+differs right None = false
+differs right (Some value) = not (bytes_eq value right)
 
 -- AT_MAC is tested before RES, and RES before AT_CHECKCODE
-abbrev pub on_response : Method → Challenged → Seen → List Attr → Row
-on_response by sent seen list =
+abbrev pub on_response : Method → List (List ℕ) → Challenged → Seen → List Attr → Row
+on_response by packets sent seen list =
     if is_missing subtype.Challenge false list then row.Ignore reason.Missing
     else if not (is_sealed by sent.keys.k_aut [] seen) then row.WrongMac
     else if not (is_expected sent.vector.xres (first_of res_of list)) then row.WrongRes
-    else if differs (first_of checkcode_of list) then row.WrongCheckcode
+    else if differs (checkcode by packets) (first_of checkcode_of list) then row.WrongCheckcode
     else row.Success
 
 -- ---- a synchronisation failure
@@ -118,7 +154,7 @@ on_client_error list = if is_missing subtype.ClientError false list then row.Ign
 -- ---- a message that isn't malformed
 
 abbrev pub on_challenged : Setting → ServerEnd → Challenged → Seen → Subtype → List Attr → Row
-on_challenged set s sent seen subtype.Challenge list = on_response s.options.method sent seen list
+on_challenged set s sent seen subtype.Challenge list = on_response s.options.method s.packets sent seen list
 on_challenged set s sent seen subtype.SynchronizationFailure list = on_sync_failure set s.synced sent list
 on_challenged set s sent seen subtype.AuthenticationReject list = row.Rejected
 on_challenged set s sent seen subtype.ClientError list = on_client_error list
@@ -129,23 +165,32 @@ abbrev pub if_challenged : Setting → ServerEnd → Option Challenged → Seen 
 if_challenged set s None seen kind list = row.Ignore reason.Unexpected
 if_challenged set s (Some sent) seen kind list = on_challenged set s sent seen kind list
 
-abbrev pub on_message : Setting → ServerEnd → ServerState → Seen → Subtype → List Attr → Row
-on_message set s state.AwaitChallenge seen kind list = if_challenged set s s.challenged seen kind list
-on_message set s (state.Notifying why) seen subtype.Notification list = row.Notified why
-on_message set s other seen kind list = row.Ignore reason.Unexpected
+-- an AKA-Identity response, for which a row is taken, or an error of the peer
+abbrev pub on_identity : Row → Subtype → List Attr → Row
+on_identity answered subtype.Identity list = if is_missing subtype.Identity false list then row.Ignore reason.Missing else answered
+on_identity answered subtype.ClientError list = on_client_error list
+on_identity answered other list = row.Ignore reason.Unexpected
+
+abbrev pub on_message : Setting → List HomeRow → ServerEnd → ServerState → Seen → Subtype → List Attr → Row
+on_message set homes s state.AwaitAny seen kind list = on_identity (on_any s.options.method set homes (identity_in list)) kind list
+on_message set homes s state.AwaitFull seen kind list = on_identity (on_full s.options.method set homes (identity_in list)) kind list
+on_message set homes s state.AwaitPermanent seen kind list = on_identity (on_permanent s.options.method set homes (identity_in list)) kind list
+on_message set homes s state.AwaitChallenge seen kind list = if_challenged set s s.challenged seen kind list
+on_message set homes s (state.Notifying why) seen subtype.Notification list = row.Notified why
+on_message set homes s other seen kind list = row.Ignore reason.Unexpected
 
 -- ---- the tests for every state
 
 -- a response of the method
-abbrev pub on_method : Setting → ServerEnd → ServerState → Seen → Reading → Row
-on_method set s now seen (reading.Read (packet.Aka request id m kind list)) =
-    if is_malformed kind false s.options.method list then row.Ignore reason.Malformed else on_message set s now seen kind list
-on_method set s now seen other = row.Ignore reason.Malformed
+abbrev pub on_method : Setting → List HomeRow → ServerEnd → ServerState → Seen → Reading → Row
+on_method set homes s now seen (reading.Read (packet.Aka request id m kind list)) =
+    if is_malformed kind false s.options.method list then row.Ignore reason.Malformed else on_message set homes s now seen kind list
+on_method set homes s now seen other = row.Ignore reason.Malformed
 
 -- a response of the type that the state expects
 abbrev pub on_reading : Setting → List HomeRow → ServerEnd → ServerState → Seen → Reading → Row
-on_reading set homes s state.AwaitIdentity seen r = on_subscriber (subscriber_in s.options.method set homes (text_in r))
-on_reading set homes s other seen r = on_method set s other seen r
+on_reading set homes s state.AwaitIdentity seen r = on_first s.options set homes (text_in r)
+on_reading set homes s other seen r = on_method set homes s other seen r
 
 -- the type that the state expects: Identity first, and that of the method then
 abbrev pub type_awaited : Method → ServerState → ℕ

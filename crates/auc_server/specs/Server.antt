@@ -8,7 +8,7 @@ use Rattle.auc_server.specs.declared.server.ServerState.{ServerState}
 use Rattle.auc_server.specs.declared.server.ServerState.TheVariants as state
 
 pub record ServerEnd : Type 0 where
-  -- method, network name and bidding of its session
+  -- what it was told of its session
   pub options : ServerOptions
   -- what it waits for
   pub state : ServerState
@@ -22,6 +22,10 @@ pub record ServerEnd : Type 0 where
   pub challenged : Option Challenged
   -- whether a synchronisation failure led to a new challenge
   pub synced : Bool
+  -- the AKA-Identity packets that it sent, or received and didn't ignore, in their order; a repetition isn't counted again
+  pub packets : List (List ℕ)
+  -- the index of its next initialisation vector, an even number
+  pub next_iv : ℕ
 
 -- after its first request, which asks for an identity under the Identifier 1
 abbrev pub started : ServerOptions → ServerEnd
@@ -33,4 +37,6 @@ started options = record {
   identity = [];
   challenged = None;
   synced = false;
+  packets = [];
+  next_iv = 0;
 }

@@ -16,7 +16,7 @@ use Rattle.auc_vector.specs.declared.turn.Turn.{Turn}
 use Rattle.auc_server.specs.Rows.{is_held, server_row}
 use Rattle.auc_server.specs.Server.{ServerEnd}
 use Rattle.auc_server.specs.Setting.{Setting}
-use Rattle.auc_server.specs.Table.{server_step}
+use Rattle.auc_server.specs.Table.{homes_after, server_step}
 use Rattle.auc_server.specs.declared.rows.Row.{Row}
 use Rattle.auc_server.specs.declared.rows.Row.TheVariants as row
 use Rattle.auc_server.specs.declared.server.Challenged.{Challenged}
@@ -69,12 +69,13 @@ needs_number other notes = false
 abbrev pub AsksAsNeeded : Row → Notes → Type 0
 AsksAsNeeded r notes = is_some notes.number ≡ needs_number r notes
 
--- bytes are received as something, new state and turn are those of the table, the centre answered what the row asked, as
--- the notes say, and a number was asked for exactly if the turn needs one
-pub record Steps {S : Type 0} (goes : S → ℕ → List Entry → List (ℕ × Stop) → S → Type 0) (kept : S → ℕ → Option ℕ) (top : S → ℕ → ℕ) (set : Setting) (homes : List HomeRow) (old : ServerEnd) (bytes : List ℕ) (before : S) (new : ServerEnd) (turn : Turn ServerWhy) (after : S) : Type 0 where
+-- bytes are received as something, new state, turn and homes are those of the table, the centre answered what the row
+-- asked, as the notes say, and a number was asked for exactly if the turn needs one
+pub record Steps {S : Type 0} (goes : S → ℕ → List Entry → List (ℕ × Stop) → S → Type 0) (kept : S → ℕ → Option ℕ) (top : S → ℕ → ℕ) (set : Setting) (homes : List HomeRow) (old : ServerEnd) (bytes : List ℕ) (before : S) (new : ServerEnd) (turn : Turn ServerWhy) (later : List HomeRow) (after : S) : Type 0 where
   pub seen : Seen
   pub received : IsReceived seen
   pub of : seen.bytes ≡ bytes
   pub same : (new, turn) ≡ server_step set homes old seen turn.notes
+  pub homes_are : later ≡ homes_after set homes old seen turn.notes
   pub asked : Asked goes kept top (asking (server_row set homes old seen)) turn.notes before after
   pub drawn : AsksAsNeeded (server_row set homes old seen) turn.notes

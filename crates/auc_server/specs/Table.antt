@@ -1,11 +1,13 @@
 -- The table of a server of EAP-AKA or EAP-AKA': what each row does (RFC 4187 §3 and §6).
-use Rattle.std.specs.Prelude.{ℕ, ◌+◌, ◌%◌, Bool, true, false, List, [], Option, Some, None, slice_get}
+use Rattle.std.specs.Prelude.{ℕ, ◌+◌, ◌%◌, ◌^◌, Bool, true, false, List, [], Option, Some, None, slice_get}
+use Rattle.auc_ident.specs.Names.{name_text}
+use Rattle.auc_ident.specs.declared.names.NameKind.TheVariants as kinds
 use Rattle.auc_packet.specs.Spelling.{packet_text}
 use Rattle.auc_packet.specs.Received.{Seen}
 use Rattle.auc_packet.specs.declared.packet.Packet.TheVariants as packet
 use Rattle.auc_subs.specs.declared.row.Row as rows
 use Rattle.auc_vector.specs.Keys.{keys_of}
-use Rattle.auc_random.specs.Random.{rand_of}
+use Rattle.auc_random.specs.Random.{nonce_of, rand_of}
 use Rattle.auc_vector.specs.Vector.{vector_of}
 use Rattle.auc_vector.specs.declared.notes.Notes.{Notes}
 use Rattle.auc_vector.specs.declared.notes.NumberNote.{NumberNote}
@@ -20,10 +22,16 @@ use Rattle.auc_vector.specs.declared.turn.Reason.TheVariants as reason
 use Rattle.auc_vector.specs.declared.turn.Step.{Step}
 use Rattle.auc_vector.specs.declared.turn.Step.TheVariants as step
 use Rattle.auc_vector.specs.declared.turn.Turn.{Turn}
-use Rattle.auc_server.specs.Messages.{challenge_bytes, notification}
+use Rattle.auc_server.specs.Messages.{aka_identity, challenge_bytes, notification}
+use Rattle.auc_server.specs.Ordinals.{homes_given, ordinal_given}
+use Rattle.auc_seal.specs.Checkcode.{counted}
+use Rattle.auc_server.specs.Rounds.{checkcode, heard}
 use Rattle.auc_server.specs.Rows.{server_row, text_in}
 use Rattle.auc_server.specs.Server.{ServerEnd}
 use Rattle.auc_server.specs.Setting.{Setting}
+use Rattle.auc_request.specs.declared.identities.IdentityRequest.{IdentityRequest}
+use Rattle.auc_request.specs.declared.identities.IdentityRequest.TheVariants as asks
+use Rattle.auc_server.specs.declared.naming.NewName.{NewName}
 use Rattle.auc_server.specs.declared.options.ServerOptions.{ServerOptions}
 use Rattle.auc_server.specs.declared.rows.Row.{Row}
 use Rattle.auc_server.specs.declared.rows.Row.TheVariants as row
@@ -88,69 +96,124 @@ vector_at set options sub n = vector_of_row set options sub n (slice_get set.row
 abbrev pub challenge_of : ServerEnd → ℕ → Vector → Challenged
 challenge_of s sub v = record { sub = sub; vector = v; keys = keys_of s.options.method s.identity v.ik v.ck }
 
-abbrev pub sent_with : ServerEnd → Challenged → Notes → ServerEnd × Turn ServerWhy
-sent_with s sent notes =
-    requested (record s { challenged = Some sent }) state.AwaitChallenge (challenge_bytes s.options (next_id s.id) sent.vector sent.keys) notes false
+-- the next initialisation vector; the indices count modulo 2^32
+abbrev pub iv_after : ℕ → Option NewName → ℕ
+iv_after k None = k
+iv_after k (Some name) = (k + 2) % 2 ^ 32
 
-abbrev pub challenged_with : ServerEnd → ℕ → Option Vector → Notes → ServerEnd × Turn ServerWhy
-challenged_with s sub None notes = ignored s reason.Unexpected
-challenged_with s sub (Some v) notes = sent_with s (challenge_of s sub v) notes
+-- the pseudonym of an ordinal, and the initialisation vector under which it is encrypted
+abbrev pub name_of : Setting → ServerEnd → ℕ → Option ℕ → Option NewName
+name_of set s sub None = None
+name_of set s sub (Some ordinal) = Some (record {
+  iv = nonce_of set.key s.options.session s.next_iv;
+  text = name_text set.names kinds.Pseudonym s.options.method sub ordinal;
+})
+
+-- the pseudonym that a challenge of a subscriber gives
+abbrev pub name_given : Setting → List HomeRow → ServerEnd → ℕ → Option NewName
+name_given set homes s sub = name_of set s sub (ordinal_given s.options.pseudonym homes sub)
+
+abbrev pub sent_with : ServerEnd → Challenged → Option NewName → Notes → ServerEnd × Turn ServerWhy
+sent_with s sent given notes =
+    requested (record s { challenged = Some sent; next_iv = iv_after s.next_iv given }) state.AwaitChallenge
+    (challenge_bytes s.options (next_id s.id) sent.vector sent.keys given (checkcode s.options.method s.packets)) notes false
+
+abbrev pub challenged_with : ServerEnd → ℕ → Option Vector → Option NewName → Notes → ServerEnd × Turn ServerWhy
+challenged_with s sub None given notes = ignored s reason.Unexpected
+challenged_with s sub (Some v) given notes = sent_with s (challenge_of s sub v) given notes
 
 -- a subscriber is challenged, if the centre gives a number
-abbrev pub challenged : Setting → ServerEnd → ℕ → Option ResyncNote → Option NumberNote → ServerEnd × Turn ServerWhy
-challenged set s sub resynced None = ignored s reason.Unexpected
-challenged set s sub resynced (Some (number.Drew n)) = challenged_with s sub (vector_at set s.options sub n) (noted resynced (Some (number.Drew n)))
-challenged set s sub resynced (Some (number.Exhausted w)) = notified s (why.Exhausted w) (noted resynced (Some (number.Exhausted w))) false
-challenged set s sub resynced (Some (number.Withheld n stop)) = notified s (why.Stopped n stop) (noted resynced (Some (number.Withheld n stop))) false
+abbrev pub challenged : Setting → List HomeRow → ServerEnd → ℕ → Option ResyncNote → Option NumberNote → ServerEnd × Turn ServerWhy
+challenged set homes s sub resynced None = ignored s reason.Unexpected
+challenged set homes s sub resynced (Some (number.Drew n)) =
+    challenged_with s sub (vector_at set s.options sub n) (name_given set homes s sub) (noted resynced (Some (number.Drew n)))
+challenged set homes s sub resynced (Some (number.Exhausted w)) = notified s (why.Exhausted w) (noted resynced (Some (number.Exhausted w))) false
+challenged set homes s sub resynced (Some (number.Withheld n stop)) = notified s (why.Stopped n stop) (noted resynced (Some (number.Withheld n stop))) false
+
+-- the homes after a subscriber was challenged
+abbrev pub homes_challenged : ServerOptions → List HomeRow → ℕ → Option NumberNote → List HomeRow
+homes_challenged options homes sub (Some (number.Drew n)) = homes_given options.pseudonym homes sub
+homes_challenged options homes sub other = homes
 
 -- ---- the rows
 
--- the identity that was received
-abbrev pub identified : ServerEnd → List ℕ → ServerEnd
-identified s text = record s { identity = text }
+-- the identity that was received, and the AKA-Identity packets after this turn
+abbrev pub identified : ServerEnd → List ℕ → List (List ℕ) → ServerEnd
+identified s text packets = record s { identity = text; packets = packets }
 
-abbrev pub unknown : ServerEnd → List ℕ → ServerEnd × Turn ServerWhy
-unknown s text = notified (identified s text) why.UnknownIdentity silent false
+abbrev pub unknown : ServerEnd → List ℕ → List (List ℕ) → ServerEnd × Turn ServerWhy
+unknown s text packets = notified (identified s text packets) why.UnknownIdentity silent false
 
-abbrev pub first_challenge : Setting → ServerEnd → List ℕ → ℕ → Option NumberNote → ServerEnd × Turn ServerWhy
-first_challenge set s text sub drawn = challenged set (identified s text) sub None drawn
+-- what is awaited after an identity was asked for
+abbrev pub awaiting : IdentityRequest → ServerState
+awaiting asks.Any = state.AwaitAny
+awaiting asks.Fullauth = state.AwaitFull
+awaiting asks.Permanent = state.AwaitPermanent
+
+-- the AKA-Identity request that a server sends next
+abbrev pub identity_asked : ServerEnd → IdentityRequest → List ℕ
+identity_asked s kind = packet_text (aka_identity s.options.method (next_id s.id) kind)
+
+-- another identity is asked for (RFC 4187 §4.1.4)
+abbrev pub asked : ServerEnd → List ℕ → List (List ℕ) → IdentityRequest → ServerEnd × Turn ServerWhy
+asked s text packets kind = requested (identified s text packets) (awaiting kind) (identity_asked s kind) silent false
+
+abbrev pub first_challenge : Setting → List HomeRow → ServerEnd → List ℕ → List (List ℕ) → ℕ → Option NumberNote → ServerEnd × Turn ServerWhy
+first_challenge set homes s text packets sub drawn = challenged set homes (identified s text packets) sub None drawn
 
 abbrev pub resynchronising : ServerEnd → ServerEnd
 resynchronising s = record s { synced = true }
 
 -- the centre resynchronises, and the USIM is challenged again unless the number is too far above (TS 33.102 §6.3.5)
-abbrev pub resynchronised : Setting → ServerEnd → ℕ → Option ResyncNote → Option NumberNote → ServerEnd × Turn ServerWhy
-resynchronised set s sub None drawn = ignored s reason.Unexpected
-resynchronised set s sub (Some resync.BadAuts) drawn = ignored s reason.Unexpected
-resynchronised set s sub (Some (resync.Beyond seen seq)) drawn =
+abbrev pub resynchronised : Setting → List HomeRow → ServerEnd → ℕ → Option ResyncNote → Option NumberNote → ServerEnd × Turn ServerWhy
+resynchronised set homes s sub None drawn = ignored s reason.Unexpected
+resynchronised set homes s sub (Some resync.BadAuts) drawn = ignored s reason.Unexpected
+resynchronised set homes s sub (Some (resync.Beyond seen seq)) drawn =
     notified (resynchronising s) (why.Beyond seen seq) (noted (Some (resync.Beyond seen seq)) None) false
-resynchronised set s sub (Some (resync.InRange seen seq)) drawn = challenged set (resynchronising s) sub (Some (resync.InRange seen seq)) drawn
-resynchronised set s sub (Some (resync.Moved seen seq)) drawn = challenged set (resynchronising s) sub (Some (resync.Moved seen seq)) drawn
+resynchronised set homes s sub (Some (resync.InRange seen seq)) drawn = challenged set homes (resynchronising s) sub (Some (resync.InRange seen seq)) drawn
+resynchronised set homes s sub (Some (resync.Moved seen seq)) drawn = challenged set homes (resynchronising s) sub (Some (resync.Moved seen seq)) drawn
 
 -- EAP-Success, under the keys of the last challenge; a response comes only after a challenge
 abbrev pub succeeded : ServerEnd → Option Challenged → ServerEnd × Turn ServerWhy
 succeeded s None = ignored s reason.Unexpected
 succeeded s (Some sent) = ended s (outcome.Success sent.keys) (packet_text (packet.Success s.id)) true
 
--- a row, with the text of an identity and the notes of what the centre answered
-abbrev pub server_does : Setting → ServerEnd → List ℕ → Row → Notes → ServerEnd × Turn ServerWhy
-server_does set s text (row.Ignore cause) notes = ignored s cause
-server_does set s text row.UnknownIdentity notes = unknown s text
-server_does set s text (row.Challenge sub) notes = first_challenge set s text sub notes.number
-server_does set s text row.WrongMac notes = notified s why.WrongMac silent false
-server_does set s text row.WrongRes notes = notified s why.WrongRes silent true
-server_does set s text row.WrongCheckcode notes = notified s why.WrongCheckcode silent true
-server_does set s text row.Success notes = succeeded s s.challenged
-server_does set s text row.SecondSync notes = notified s why.SecondSync silent false
-server_does set s text row.BadAuts notes = notified s why.BadAuts (noted (Some resync.BadAuts) None) false
-server_does set s text (row.Resynchronise sub seq) notes = resynchronised set s sub notes.resync notes.number
-server_does set s text row.Rejected notes = failed s why.Rejected
-server_does set s text (row.ClientError code) notes = failed s (why.ClientError code)
-server_does set s text (row.Notified cause) notes = failed s cause
+-- a row, with the text of an identity, the AKA-Identity packets after this turn, and the notes of what the centre answered
+abbrev pub server_does : Setting → List HomeRow → ServerEnd → List ℕ → List (List ℕ) → Row → Notes → ServerEnd × Turn ServerWhy
+server_does set homes s text packets (row.Ignore cause) notes = ignored s cause
+server_does set homes s text packets (row.Ask kind) notes = asked s text packets kind
+server_does set homes s text packets row.UnknownIdentity notes = unknown s text packets
+server_does set homes s text packets (row.Challenge sub) notes = first_challenge set homes s text packets sub notes.number
+server_does set homes s text packets row.WrongMac notes = notified s why.WrongMac silent false
+server_does set homes s text packets row.WrongRes notes = notified s why.WrongRes silent true
+server_does set homes s text packets row.WrongCheckcode notes = notified s why.WrongCheckcode silent true
+server_does set homes s text packets row.Success notes = succeeded s s.challenged
+server_does set homes s text packets row.SecondSync notes = notified s why.SecondSync silent false
+server_does set homes s text packets row.BadAuts notes = notified s why.BadAuts (noted (Some resync.BadAuts) None) false
+server_does set homes s text packets (row.Resynchronise sub seq) notes = resynchronised set homes s sub notes.resync notes.number
+server_does set homes s text packets row.Rejected notes = failed s why.Rejected
+server_does set homes s text packets (row.ClientError code) notes = failed s (why.ClientError code)
+server_does set homes s text packets (row.Notified cause) notes = failed s cause
+
+-- the AKA-Identity packets after a turn: the one that was received, and the one that is sent (RFC 4187 §10.13)
+abbrev pub packets_after : ServerEnd → Seen → Row → List (List ℕ)
+packets_after s seen (row.Ask kind) = counted (identity_asked s kind) (heard s.packets seen.bytes seen.reading)
+packets_after s seen other = heard s.packets seen.bytes seen.reading
 
 -- the table
 abbrev pub server_step : Setting → List HomeRow → ServerEnd → Seen → Notes → ServerEnd × Turn ServerWhy
-server_step set homes s seen notes = server_does set s (text_in seen.reading) (server_row set homes s seen) notes
+server_step set homes s seen notes =
+    server_does set homes s (text_in seen.reading) (packets_after s seen (server_row set homes s seen)) (server_row set homes s seen) notes
+
+-- the homes after a row
+abbrev pub homes_done : ServerOptions → List HomeRow → Row → Notes → List HomeRow
+homes_done options homes (row.Challenge sub) notes = homes_challenged options homes sub notes.number
+homes_done options homes (row.Resynchronise sub seq) notes = homes_challenged options homes sub notes.number
+homes_done options homes other notes = homes
+
+-- the homes after a turn: each pseudonym that is given uses an ordinal
+abbrev pub homes_after : Setting → List HomeRow → ServerEnd → Seen → Notes → List HomeRow
+homes_after set homes s seen notes = homes_done s.options homes (server_row set homes s seen) notes
 
 -- ---- beside the table
 

@@ -2,7 +2,7 @@
 
 ghost use Rattle.std.specs.Prelude.{◌≡◌};
 ghost use Rattle.std.specs.Option.{option_copied};
-ghost use Rattle.auc_server.specs.Attributes.{res_of, auts_of, checkcode_of, error_code_of, first_of};
+ghost use Rattle.auc_server.specs.Attributes.{res_of, auts_of, checkcode_of, error_code_of, first_of, identity_in, identity_of};
 
 use auc_attr::{Attr, AttrList};
 use auc_edge::Octets;
@@ -66,6 +66,37 @@ fn checkcode_of(attr: &Attr) -> Option<&Octets>
 {
     match attr {
         Attr::Checkcode(value) => Some(value),
+        _ => None,
+    }
+}
+
+/// The text of the first AT_IDENTITY, or an empty one.
+pub(crate) fn identity_in(attrs: &AttrList) -> &[u8]
+    ensures { result.now ≡ identity_in attrs.now }
+{
+    match first_identity(attrs) {
+        None => &[],
+        Some(text) => text.as_slice(),
+    }
+}
+
+/// The text of the first AT_IDENTITY.
+fn first_identity(attrs: &AttrList) -> Option<&Octets>
+    ensures { option_copied result ≡ first_of identity_of attrs.now }
+{
+    for attr in attrs.as_slice() {
+        if let Some(text) = identity_of(attr) {
+            return Some(text);
+        }
+    }
+    None
+}
+
+fn identity_of(attr: &Attr) -> Option<&Octets>
+    ensures { option_copied result ≡ identity_of attr.now }
+{
+    match attr {
+        Attr::Identity(text) => Some(text),
         _ => None,
     }
 }

@@ -7,16 +7,19 @@ ghost use Rattle.auc_vector.specs.Notes.{AnswersNumber, AskedOf, entries_noted, 
 ghost use Rattle.auc_server.specs.Rows.{is_held};
 ghost use Rattle.auc_server.specs.Steps.{IsHeld, IsHome, bytes_of, challenges_again};
 ghost use Rattle.auc_server.specs.declared.setting.HomeRow.{HomeRow};
-ghost use Rattle.auc_server.specs.Table.{challenged, first_challenge, resynchronised, sent_with, vector_at};
+ghost use Rattle.auc_server.specs.Table.{challenged, first_challenge, homes_challenged, resynchronised, sent_with, vector_at};
 
 use crate::messages::challenge;
+use crate::naming::{NewName, iv_after};
 use crate::options::ServerOptions;
 use crate::rooms::Rooms;
+use crate::rounds::checkcode;
 use crate::server::{Challenged, Server, ServerState};
-use crate::setting::Setting;
+use crate::setting::{HomeRow, Setting};
 use crate::turns::noted;
 use crate::why::ServerWhy;
 use auc_edge::Octets;
+use auc_seal::IdentityPackets;
 use auc_vector::{
     Centre, Notes, NumberNote, ResyncNote, Turn, Vector, ask, keys_of, report, vector,
 };
@@ -44,30 +47,41 @@ fn vector_at(set: &Setting, options: &ServerOptions, sub: u32, n: u64) -> Vector
 
 impl Server {
     /// Sends a Challenge (RFC 4187 §9.3).
-    fn send_challenge(&mut self, sent: Challenged, notes: Notes, rooms: Rooms) -> Turn<ServerWhy>
+    fn send_challenge(
+        &mut self,
+        sent: Challenged,
+        given: Option<NewName>,
+        notes: Notes,
+        rooms: Rooms,
+    ) -> Turn<ServerWhy>
         requires { rooms ≡ self.old.options.name }
-        ensures step { (self.new, result) ≡ sent_with self.old sent notes }
-        ensures small { length (bytes_of result.step) ≤ 336 }
+        ensures step { (self.new, result) ≡ sent_with self.old sent given notes }
+        ensures small { length (bytes_of result.step) ≤ 440 }
     {
         let Rooms {
             message,
             kept,
             attrs,
             name,
-            checkcode,
+            check,
+            names,
         } = rooms;
         let id = self.id.wrapping_add(1);
+        let check = checkcode(self.options.method, &self.packets, check);
         let bytes = challenge(
             &self.options,
             id,
             &sent.vector,
             &sent.keys,
+            given,
             name,
-            checkcode,
+            names,
+            check,
             attrs,
             message,
         );
         self.challenged = Some(sent);
+        self.next_iv = iv_after(self.next_iv, &given);
         self.request(ServerState::AwaitChallenge, bytes, notes, false, kept)
     }
 
@@ -76,6 +90,7 @@ impl Server {
         &mut self,
         rt: &R,
         set: &Setting,
+        homes: &mut [HomeRow],
         centre: &mut C,
         sub: u32,
         resynced: Option<ResyncNote>,
@@ -84,8 +99,9 @@ impl Server {
         requires home { IsHome set.now.rows (C.subs centre.old) (C.top centre.old) sub }
         requires named { rooms ≡ self.old.options.name }
 
-        ensures step { (self.new, result) ≡ challenged set.now self.old sub resynced result.notes.number }
-        ensures small { length (bytes_of result.step) ≤ 336 }
+        ensures step { (self.new, result) ≡ challenged set.now homes.old self.old sub resynced result.notes.number }
+        ensures homes { homes.new ≡ homes_challenged self.old.options homes.old sub result.notes.number }
+        ensures small { length (bytes_of result.step) ≤ 440 }
         ensures resync { result.notes.resync ≡ resynced }
         ensures drawn { is_some result.notes.number ≡ true }
 
@@ -98,8 +114,8 @@ impl Server {
         ensures still { (i : ℕ) → i ≢ sub → C.kept centre.new i ≡ C.kept centre.old i }
 
         // A home stays one, also if it is challenged now.
-        ensures held { (homes : List HomeRow) → IsHeld homes self.old.challenged → is_held homes sub ≡ true
-            → IsHeld homes self.new.challenged }
+        ensures held { (all : List HomeRow) → IsHeld all self.old.challenged → is_held all sub ≡ true
+            → IsHeld all self.new.challenged }
 
         ensures subs { C.subs centre.new ≡ C.subs centre.old }
         ensures top { (i : ℕ) → C.top centre.new i ≡ C.top centre.old i }
@@ -110,8 +126,9 @@ impl Server {
                 let vector = vector_at(set, &self.options, sub, n);
                 let method = self.options.method;
                 let keys = keys_of(method, self.identity.as_slice(), vector.ik, vector.ck);
+                let given = self.give_name(set, homes, sub);
                 let notes = noted(resynced, Some(NumberNote::Drew(n)));
-                self.send_challenge(Challenged { sub, vector, keys }, notes, rooms)
+                self.send_challenge(Challenged { sub, vector, keys }, given, notes, rooms)
             }
             NumberNote::Exhausted(word) => {
                 let notes = noted(resynced, Some(NumberNote::Exhausted(word)));
@@ -131,29 +148,33 @@ impl Server {
         &mut self,
         rt: &R,
         set: &Setting,
+        homes: &mut [HomeRow],
         centre: &mut C,
         sub: u32,
         text: Octets,
+        packets: IdentityPackets,
         rooms: Rooms,
     ) -> Turn<ServerWhy>
         requires home { IsHome set.now.rows (C.subs centre.old) (C.top centre.old) sub }
         requires named { rooms ≡ self.old.options.name }
 
-        ensures step { (self.new, result) ≡ first_challenge set.now self.old text sub result.notes.number }
-        ensures small { length (bytes_of result.step) ≤ 336 }
+        ensures step { (self.new, result) ≡ first_challenge set.now homes.old self.old text packets sub result.notes.number }
+        ensures homes { homes.new ≡ homes_challenged self.old.options homes.old sub result.notes.number }
+        ensures small { length (bytes_of result.step) ≤ 440 }
         ensures asked { AskedOf C.goes C.kept C.top (record { sub = sub; reported = None }) result.notes centre.old centre.new }
         ensures drawn { is_some result.notes.number ≡ true }
 
         // A home stays one, also if it is challenged now.
-        ensures held { (homes : List HomeRow) → IsHeld homes self.old.challenged → is_held homes sub ≡ true
-            → IsHeld homes self.new.challenged }
+        ensures held { (all : List HomeRow) → IsHeld all self.old.challenged → is_held all sub ≡ true
+            → IsHeld all self.new.challenged }
 
         ensures subs { C.subs centre.new ≡ C.subs centre.old }
         ensures top { (i : ℕ) → C.top centre.new i ≡ C.top centre.old i }
         ensures name { C.name centre.new ≡ C.name centre.old }
     {
         self.identity = text;
-        self.challenge(rt, set, centre, sub, None, rooms)
+        self.packets = packets;
+        self.challenge(rt, set, homes, centre, sub, None, rooms)
     }
 
     /// Resynchronises with the SEQ that a USIM reported, and challenges it again unless the number is too far above
@@ -162,6 +183,7 @@ impl Server {
         &mut self,
         rt: &R,
         set: &Setting,
+        homes: &mut [HomeRow],
         centre: &mut C,
         sub: u32,
         seq: u64,
@@ -171,14 +193,15 @@ impl Server {
         requires number { seq ≤ max_seq }
         requires named { rooms ≡ self.old.options.name }
 
-        ensures step { (self.new, result) ≡ resynchronised set.now self.old sub result.notes.resync result.notes.number }
-        ensures small { length (bytes_of result.step) ≤ 336 }
+        ensures step { (self.new, result) ≡ resynchronised set.now homes.old self.old sub result.notes.resync result.notes.number }
+        ensures homes { homes.new ≡ homes_challenged self.old.options homes.old sub result.notes.number }
+        ensures small { length (bytes_of result.step) ≤ 440 }
         ensures asked { AskedOf C.goes C.kept C.top (record { sub = sub; reported = Some seq }) result.notes centre.old centre.new }
         ensures drawn { is_some result.notes.number ≡ challenges_again result.notes.resync }
 
         // A home stays one, also if it is challenged now.
-        ensures held { (homes : List HomeRow) → IsHeld homes self.old.challenged → is_held homes sub ≡ true
-            → IsHeld homes self.new.challenged }
+        ensures held { (all : List HomeRow) → IsHeld all self.old.challenged → is_held all sub ≡ true
+            → IsHeld all self.new.challenged }
 
         ensures subs { C.subs centre.new ≡ C.subs centre.old }
         ensures top { (i : ℕ) → C.top centre.new i ≡ C.top centre.old i }
@@ -190,6 +213,7 @@ impl Server {
                 self.challenge(
                     rt,
                     set,
+                    homes,
                     centre,
                     sub,
                     Some(ResyncNote::Moved(seen, to)),
@@ -200,6 +224,7 @@ impl Server {
                 self.challenge(
                     rt,
                     set,
+                    homes,
                     centre,
                     sub,
                     Some(ResyncNote::InRange(seen, at)),

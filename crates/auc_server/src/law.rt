@@ -1,6 +1,6 @@
 //! What holds of every turn of a server.
 
-ghost use Rattle.auc_server.specs.Laws.{EachTurnFits, EachTurnKeepsOrChallenges, OptionsStay, SuccessNeedsARightMac};
+ghost use Rattle.auc_server.specs.Laws.{EachTurnFits, EachTurnKeepsOrChallenges, OptionsStay, OrdinalsRise, SuccessNeedsARightMac};
 
 /// A session ends in Success only in a turn in which a response with a right AT_MAC came, under the keys of the last
 /// challenge (RFC 4187 §6.3.4 and §10.15); an EAP-Success that somebody else sent changes nothing.
@@ -23,4 +23,9 @@ pub fn each_turn_keeps_the_challenge_or_sends_one()
 /// The options of a server stay what they were when it started, in every turn and if it gives up.
 pub fn no_turn_changes_the_options()
     ensures { OptionsStay }
+{}
+
+/// The ordinals of each home stay in a turn, or the next one is used; none is given back (RFC 4187 §4.1.1.7).
+pub fn no_turn_gives_an_ordinal_back()
+    ensures { OrdinalsRise }
 {}

@@ -1,4 +1,4 @@
-//! The server of a session of EAP-AKA (RFC 4187) or EAP-AKA' (RFC 9048), for permanent identities.
+//! The server of a session of EAP-AKA (RFC 4187) or EAP-AKA' (RFC 9048), for permanent identities and pseudonyms.
 //!
 //! [`Server::start`] takes the method and the network name and gives the first request, and [`Server::on_bytes`] takes
 //! what was received: it falls into one [`Row`] of the table, which tells what is sent, what the
@@ -15,9 +15,11 @@ mod attributes;
 mod challenge;
 mod law;
 mod messages;
+mod naming;
 mod options;
 mod receiving;
 mod rooms;
+mod rounds;
 mod rows;
 mod server;
 mod setting;
@@ -26,8 +28,9 @@ mod why;
 
 pub use law::{
     each_turn_keeps_the_challenge_or_sends_one, each_turn_keeps_the_keys_of_its_inputs,
-    no_turn_changes_the_options, success_needs_a_right_mac,
+    no_turn_changes_the_options, no_turn_gives_an_ordinal_back, success_needs_a_right_mac,
 };
+pub use naming::NewName;
 pub use options::ServerOptions;
 pub use rows::Row;
 pub use server::{Challenged, Server, ServerState};

@@ -1,19 +1,46 @@
 //! Memory for a turn.
 
-ghost use Rattle.std.specs.Prelude.{◌≡◌, [], IfOk};
+ghost use Rattle.std.specs.Prelude.{◌≡◌, IfOk};
 
 use auc_attr::Attr;
 use auc_edge::{NoMemory, Octets, Places, Room};
+use auc_seal::EncryptionRoom;
 use std::alloc::Global;
 use std::marker::Model;
 
-/// The greatest request that a server sends, the Challenge of EAP-AKA' with a name of 255 bytes.
-const MOST: usize = 336;
+/// The greatest request that a server sends, the Challenge of EAP-AKA' with a name of 255 bytes, a checkcode and a
+/// pseudonym.
+const MOST: usize = 440;
 
 /// How many attributes a Challenge has at most beside AT_MAC.
-const ATTRIBUTES: usize = 5;
+const ATTRIBUTES: usize = 7;
 
-/// Memory for a turn: the message, its copy, its attributes, the network name for them, and a checkcode without a value.
+/// How many bytes a pseudonym has.
+const PSEUDONYM: usize = 33;
+
+/// How many bytes a checkcode has at most.
+const CHECKCODE: usize = 32;
+
+/// Memory for a pseudonym: its text, the list of the one attribute that it is, and the encryption of that list. Contracts
+/// see no value of it.
+#[derive(Drop)]
+pub(crate) struct NameRooms {
+    pub(crate) text: Room,
+    pub(crate) inner: Places<Attr>,
+    pub(crate) encryption: EncryptionRoom,
+}
+
+impl Model for NameRooms {
+    ghost use Rattle.auc_server.specs.InnerRooms.{IsFreshName, HasOnePlace};
+
+    ghost Value = { Unit {0} };
+
+    ghost view = { λ _. tt };
+
+    ghost invariant = { λ r. IsFreshName r.text × HasOnePlace r.inner };
+}
+
+/// Memory for a turn: the message, its copy, its attributes, the network name for them, a checkcode, and a pseudonym.
 /// Contracts see the name.
 #[derive(Drop)]
 pub(crate) struct Rooms {
@@ -21,18 +48,30 @@ pub(crate) struct Rooms {
     pub(crate) kept: Room,
     pub(crate) attrs: Places<Attr>,
     pub(crate) name: Octets,
-    pub(crate) checkcode: Octets,
+    pub(crate) check: Room,
+    pub(crate) names: NameRooms,
 }
 
 impl Model for Rooms {
-    ghost use Rattle.std.specs.Prelude.{◌≡◌, ℕ, List, []};
-    ghost use Rattle.auc_server.specs.InnerRooms.{IsFresh, HasPlaces};
+    ghost use Rattle.std.specs.Prelude.{ℕ, List};
+    ghost use Rattle.auc_server.specs.InnerRooms.{IsFresh, IsFreshCheck, HasPlaces};
 
     ghost Value = { List ℕ };
 
     ghost view = { λ r. r.name };
 
-    ghost invariant = { λ r. IsFresh r.message × IsFresh r.kept × HasPlaces r.attrs × (r.checkcode ≡ []) };
+    ghost invariant = { λ r. IsFresh r.message × IsFresh r.kept × HasPlaces r.attrs × IsFreshCheck r.check };
+}
+
+impl NameRooms {
+    /// Memory for a pseudonym.
+    fn new(alloc: Global) -> Result<NameRooms, NoMemory> {
+        Ok(NameRooms {
+            text: Room::new(alloc, PSEUDONYM)?,
+            inner: Places::new(alloc, 1)?,
+            encryption: EncryptionRoom::new(alloc)?,
+        })
+    }
 }
 
 impl Rooms {
@@ -45,7 +84,8 @@ impl Rooms {
             kept: Room::new(alloc, MOST)?,
             attrs: Places::new(alloc, ATTRIBUTES)?,
             name: Octets::copied_from(alloc, name)?,
-            checkcode: Octets::new(alloc),
+            check: Room::new(alloc, CHECKCODE)?,
+            names: NameRooms::new(alloc)?,
         })
     }
 }

@@ -1,27 +1,33 @@
 //! The rows of a server's table: which of them received bytes fall into.
 
-ghost use Rattle.std.specs.Prelude.{◌≡◌, ◌<◌, ℕ, length, true, Some, IfSome};
+ghost use Rattle.std.specs.Prelude.{◌≡◌, ◌<◌, ℕ, List, length, true, Some, IfSome};
 ghost use Rattle.std.specs.Option.{option_copied};
 ghost use Rattle.auc_packet.specs.Packet.{method_type};
 ghost use Rattle.auc_packet.specs.Received.{IsReceived, seen_of};
 ghost use Rattle.auc_server.specs.Asked.{asked_after};
-ghost use Rattle.auc_server.specs.Attributes.{res_of, checkcode_of, first_of};
-ghost use Rattle.auc_server.specs.Rows.{by_auts, differs, held_place, if_held, in_state, is_expected, is_held, is_type, on_auts, on_challenged, on_client_error, on_error_code, on_head, on_message, on_method, on_reading, on_response, on_subscriber, on_sync_failure, server_row, subscriber_in, text_in, type_awaited};
+ghost use Rattle.auc_server.specs.Attributes.{res_of, checkcode_of, first_of, identity_in};
+ghost use Rattle.auc_server.specs.Rounds.{checkcode};
+ghost use Rattle.auc_server.specs.Rows.{by_auts, challenge_or, differs, held_place, if_challenged, if_held, in_state, on_any, on_first, on_full, on_identity, on_permanent, named_place, permanent_subscriber, pseudonym_subscriber, is_expected, is_held, is_type, on_auts, on_challenged, on_client_error, on_error_code, on_head, on_message, on_method, on_reading, on_response, on_sync_failure, server_row, subscriber_in, text_in, type_awaited};
 ghost use Rattle.auc_server.specs.Steps.{IsHeld};
+ghost use Rattle.auc_server.specs.declared.setting.HomeRow.{HomeRow};
 ghost use Rattle.auc_vector.specs.Auts.{IsNumber};
 ghost use Rattle.auc_server.specs.InnerRows.{IsOwnRow, IsRowOf, IsHeldRow};
 
-use crate::attributes::{auts_in, checkcode_in, error_code_in, res_in};
+use crate::attributes::{auts_in, checkcode_in, error_code_in, identity_in, res_in};
+use crate::options::ServerOptions;
+use crate::rounds::is_checkcode;
 use crate::server::{Challenged, Server, ServerState};
 use crate::setting::{HomeRow, Setting};
 use crate::why::ServerWhy;
 use auc_attr::AttrList;
 use auc_edge::Octets;
 use auc_hmac::Method;
-use auc_ident::{permanent_in, username};
+use auc_ident::{NameKind, permanent_in, username};
 use auc_packet::{
     Head, Packet, Reading, Received, Subtype, head, is_malformed, is_missing, is_sealed,
 };
+use auc_request::IdentityRequest;
+use auc_seal::IdentityPackets;
 use auc_vector::{Auts, Notes, Reason, ResyncNote, read_auts};
 
 /// A row of a server's table.
@@ -29,6 +35,8 @@ use auc_vector::{Auts, Notes, Reason, ResyncNote, read_auts};
 pub enum Row {
     /// Nothing is done.
     Ignore(Reason),
+    /// Another identity is asked for (RFC 4187 §4.1.4).
+    Ask(IdentityRequest),
     /// The identity isn't that of a subscriber that is served (RFC 4187 §6.3.2).
     UnknownIdentity,
     /// The subscriber at this place is challenged (RFC 4187 §3).
@@ -62,14 +70,96 @@ fn is_held(homes: &[HomeRow], sub: u32) -> bool
     homes.iter().any(|home| home.sub == sub)
 }
 
-/// The held subscriber whose permanent identity of a method a text begins with (RFC 4187 §4.1.1.6, RFC 9048 §3).
-fn subscriber_in(method: Method, set: &Setting, homes: &[HomeRow], text: &[u8]) -> Option<u32>
-    ensures value { result ≡ subscriber_in method set.now homes.now text.now }
+/// A subscriber, if it is one of the homes.
+fn if_held(homes: &[HomeRow], sub: u32) -> Option<u32>
+    ensures value { result ≡ if_held homes.now (Some sub) }
+    ensures held { IfSome result (λ sub. is_held homes.now sub ≡ true) }
+{
+    if is_held(homes, sub) { Some(sub) } else { None }
+}
+
+/// The held subscriber whose permanent identity of a method a text is, up to its realm (RFC 4187 §4.1.1.6, RFC 9048 §3).
+fn permanent_subscriber(
+    method: Method,
+    set: &Setting,
+    homes: &[HomeRow],
+    text: &[u8],
+) -> Option<u32>
+    ensures value { result ≡ permanent_subscriber method set.now homes.now text.now }
     ensures held { IfSome result (λ sub. is_held homes.now sub ≡ true) }
 {
     let imsi = permanent_in(method, username(text))?;
     let sub = set.subs.find(imsi)?;
-    if is_held(homes, sub) { Some(sub) } else { None }
+    if_held(homes, sub)
+}
+
+/// The held subscriber whose pseudonym of a method a text is, up to its realm (RFC 4187 §4.1.1.7).
+fn pseudonym_subscriber(
+    method: Method,
+    set: &Setting,
+    homes: &[HomeRow],
+    text: &[u8],
+) -> Option<u32>
+    ensures value { result ≡ pseudonym_subscriber method set.now homes.now text.now }
+    ensures held { IfSome result (λ sub. is_held homes.now sub ≡ true) }
+{
+    let of = set.names.resolve(NameKind::Pseudonym, method, text)?;
+    if_held(homes, of.0)
+}
+
+/// The held subscriber whose permanent identity or pseudonym of a method a text is.
+fn subscriber_in(method: Method, set: &Setting, homes: &[HomeRow], text: &[u8]) -> Option<u32>
+    ensures value { result ≡ subscriber_in method set.now homes.now text.now }
+    ensures held { IfSome result (λ sub. is_held homes.now sub ≡ true) }
+{
+    match permanent_subscriber(method, set, homes, text) {
+        Some(sub) => Some(sub),
+        None => pseudonym_subscriber(method, set, homes, text),
+    }
+}
+
+/// An identity that may be a pseudonym.
+fn on_any(method: Method, set: &Setting, homes: &[HomeRow], text: &[u8]) -> Row
+    ensures row { result ≡ on_any method set.now homes.now text.now }
+    ensures held { IsHeldRow homes.now result }
+{
+    match subscriber_in(method, set, homes, text) {
+        None => Row::Ask(IdentityRequest::Fullauth),
+        Some(sub) => Row::Challenge(sub),
+    }
+}
+
+/// An identity that may be a pseudonym, where one for full authentication was asked for.
+fn on_full(method: Method, set: &Setting, homes: &[HomeRow], text: &[u8]) -> Row
+    ensures row { result ≡ on_full method set.now homes.now text.now }
+    ensures held { IsHeldRow homes.now result }
+{
+    match subscriber_in(method, set, homes, text) {
+        None => Row::Ask(IdentityRequest::Permanent),
+        Some(sub) => Row::Challenge(sub),
+    }
+}
+
+/// An identity that must be a permanent one.
+fn on_permanent(method: Method, set: &Setting, homes: &[HomeRow], text: &[u8]) -> Row
+    ensures row { result ≡ on_permanent method set.now homes.now text.now }
+    ensures held { IsHeldRow homes.now result }
+{
+    match permanent_subscriber(method, set, homes, text) {
+        None => Row::UnknownIdentity,
+        Some(sub) => Row::Challenge(sub),
+    }
+}
+
+/// The identity of EAP's own Identity round.
+fn on_first(options: &ServerOptions, set: &Setting, homes: &[HomeRow], text: &[u8]) -> Row
+    ensures row { result ≡ on_first options.now set.now homes.now text.now }
+    ensures held { IsHeldRow homes.now result }
+{
+    if options.any {
+        return Row::Ask(IdentityRequest::Any);
+    }
+    on_any(options.method, set, homes, text)
 }
 
 impl Server {
@@ -87,12 +177,13 @@ impl Server {
     }
 }
 
-/// The text of an Identity response, or an empty one.
+/// The text of an Identity response or of an AKA-Identity response, or an empty one.
 pub(crate) fn text_in(reading: &Reading) -> &[u8]
     ensures { result.now ≡ text_in reading.now }
 {
     match reading {
         Reading::Read(Packet::Identity { text, .. }) => text.as_slice(),
+        Reading::Read(Packet::Aka { attrs, .. }) => identity_in(attrs),
         _ => &[],
     }
 }
@@ -107,26 +198,26 @@ fn is_expected(xres: &[u8; 8], res: Option<&Octets>) -> bool
     }
 }
 
-/// Whether there is a checkcode, and it isn't that of a session without AKA-Identity rounds.
-fn differs(checkcode: Option<&Octets>) -> bool
-    ensures { result ≡ differs (option_copied checkcode.entry) }
+/// Whether there is a checkcode, and it isn't that of the session.
+fn differs(method: Method, packets: &IdentityPackets, value: Option<&Octets>) -> bool
+    ensures { result ≡ differs (checkcode method packets.now) (option_copied value.entry) }
 {
-    match checkcode {
+    match value {
         None => false,
-        Some(value) => is_some_byte(value),
+        Some(value) => !is_checkcode(method, packets, value.as_slice()),
     }
 }
 
-fn is_some_byte(value: &Octets) -> bool
-    ensures { result ≡ differs (Some value.now) }
-{
-    !value.is_empty()
-}
-
 /// A Challenge response.
-fn on_response(method: Method, sent: &Challenged, received: &Received, attrs: &AttrList) -> Row
+fn on_response(
+    method: Method,
+    packets: &IdentityPackets,
+    sent: &Challenged,
+    received: &Received,
+    attrs: &AttrList,
+) -> Row
     requires { IsReceived (seen_of received.now) }
-    ensures row { result ≡ on_response method sent.now (seen_of received.now) attrs.now }
+    ensures row { result ≡ on_response method packets.now sent.now (seen_of received.now) attrs.now }
     ensures own { IsOwnRow sent.now.sub result }
 {
     if is_missing(Subtype::Challenge, false, attrs) {
@@ -138,7 +229,7 @@ fn on_response(method: Method, sent: &Challenged, received: &Received, attrs: &A
     if !is_expected(&sent.vector.xres, res_in(attrs)) {
         return Row::WrongRes;
     }
-    if differs(checkcode_in(attrs)) {
+    if differs(method, packets, checkcode_in(attrs)) {
         return Row::WrongCheckcode;
     }
     Row::Success
@@ -179,6 +270,7 @@ fn on_sync_failure(set: &Setting, synced: bool, sent: &Challenged, attrs: &AttrL
 fn on_client_error(attrs: &AttrList) -> Row
     ensures row { result ≡ on_client_error attrs.now }
     ensures own { (own : ℕ) → IsOwnRow own result }
+    ensures held { (homes : List HomeRow) → IsHeldRow homes result }
 {
     if is_missing(Subtype::ClientError, false, attrs) {
         return Row::Ignore(Reason::Missing);
@@ -187,6 +279,69 @@ fn on_client_error(attrs: &AttrList) -> Row
         None => Row::Ignore(Reason::Missing),
         Some(code) => Row::ClientError(code),
     }
+}
+
+/// An AKA-Identity response, for which a row is taken, or an error of the peer.
+fn on_identity(answered: Row, homes: &[HomeRow], subtype: Subtype, attrs: &AttrList) -> Row
+    requires { IsHeldRow homes.now answered }
+    ensures row { result ≡ on_identity answered subtype attrs.now }
+    ensures held { IsHeldRow homes.now result }
+{
+    match subtype {
+        Subtype::Identity => {
+            if is_missing(Subtype::Identity, false, attrs) {
+                return Row::Ignore(Reason::Missing);
+            }
+            answered
+        }
+        Subtype::ClientError => on_client_error(attrs),
+        _ => Row::Ignore(Reason::Unexpected),
+    }
+}
+
+/// A message after any identity was asked for.
+fn in_any(
+    method: Method,
+    set: &Setting,
+    homes: &[HomeRow],
+    subtype: Subtype,
+    attrs: &AttrList,
+) -> Row
+    ensures row { result ≡ on_identity (on_any method set.now homes.now (identity_in attrs.now)) subtype attrs.now }
+    ensures held { IsHeldRow homes.now result }
+{
+    let answered = on_any(method, set, homes, identity_in(attrs));
+    on_identity(answered, homes, subtype, attrs)
+}
+
+/// A message after an identity for full authentication was asked for.
+fn in_full(
+    method: Method,
+    set: &Setting,
+    homes: &[HomeRow],
+    subtype: Subtype,
+    attrs: &AttrList,
+) -> Row
+    ensures row { result ≡ on_identity (on_full method set.now homes.now (identity_in attrs.now)) subtype attrs.now }
+    ensures held { IsHeldRow homes.now result }
+{
+    let answered = on_full(method, set, homes, identity_in(attrs));
+    on_identity(answered, homes, subtype, attrs)
+}
+
+/// A message after the permanent identity was asked for.
+fn in_permanent(
+    method: Method,
+    set: &Setting,
+    homes: &[HomeRow],
+    subtype: Subtype,
+    attrs: &AttrList,
+) -> Row
+    ensures row { result ≡ on_identity (on_permanent method set.now homes.now (identity_in attrs.now)) subtype attrs.now }
+    ensures held { IsHeldRow homes.now result }
+{
+    let answered = on_permanent(method, set, homes, identity_in(attrs));
+    on_identity(answered, homes, subtype, attrs)
 }
 
 /// The type that a state expects.
@@ -233,7 +388,13 @@ impl Server {
         ensures own { IsOwnRow sent.now.sub result }
     {
         match subtype {
-            Subtype::Challenge => on_response(self.options.method, sent, received, attrs),
+            Subtype::Challenge => on_response(
+                self.options.method,
+                &self.packets,
+                sent,
+                received,
+                attrs,
+            ),
             Subtype::SynchronizationFailure => on_sync_failure(set, self.synced, sent, attrs),
             Subtype::AuthenticationReject => Row::Rejected,
             Subtype::ClientError => on_client_error(attrs),
@@ -241,8 +402,8 @@ impl Server {
         }
     }
 
-    /// A message that isn't malformed.
-    fn on_message(
+    /// The answer to the last challenge, if there is one.
+    fn if_challenged(
         &self,
         set: &Setting,
         received: &Received,
@@ -251,14 +412,36 @@ impl Server {
     ) -> Row
         requires received { IsReceived (seen_of received.now) }
         requires listed { IfSome self.now.challenged (λ sent. sent.sub < length set.now.rows) }
-        ensures row { result ≡ on_message set.now self.now self.now.state (seen_of received.now) subtype attrs.now }
+        ensures row { result ≡ if_challenged set.now self.now self.now.challenged (seen_of received.now) subtype attrs.now }
         ensures own { IsRowOf self.now.challenged result }
     {
+        match &self.challenged {
+            None => Row::Ignore(Reason::Unexpected),
+            Some(sent) => self.on_challenged(set, sent, received, subtype, attrs),
+        }
+    }
+
+    /// A message that isn't malformed.
+    fn on_message(
+        &self,
+        set: &Setting,
+        homes: &[HomeRow],
+        received: &Received,
+        subtype: Subtype,
+        attrs: &AttrList,
+    ) -> Row
+        requires received { IsReceived (seen_of received.now) }
+        requires listed { IfSome self.now.challenged (λ sent. sent.sub < length set.now.rows) }
+        requires held { IsHeld homes.now self.now.challenged }
+        ensures row { result ≡ on_message set.now homes.now self.now self.now.state (seen_of received.now) subtype attrs.now }
+        ensures held { IsHeldRow homes.now result }
+    {
+        let method = self.options.method;
         match self.state {
-            ServerState::AwaitChallenge => match &self.challenged {
-                None => Row::Ignore(Reason::Unexpected),
-                Some(sent) => self.on_challenged(set, sent, received, subtype, attrs),
-            },
+            ServerState::AwaitAny => in_any(method, set, homes, subtype, attrs),
+            ServerState::AwaitFull => in_full(method, set, homes, subtype, attrs),
+            ServerState::AwaitPermanent => in_permanent(method, set, homes, subtype, attrs),
+            ServerState::AwaitChallenge => self.if_challenged(set, received, subtype, attrs),
             ServerState::Notifying(why) => match subtype {
                 Subtype::Notification => Row::Notified(why),
                 _ => Row::Ignore(Reason::Unexpected),
@@ -268,11 +451,12 @@ impl Server {
     }
 
     /// A response of the method.
-    fn on_method(&self, set: &Setting, received: &Received) -> Row
+    fn on_method(&self, set: &Setting, homes: &[HomeRow], received: &Received) -> Row
         requires received { IsReceived (seen_of received.now) }
         requires listed { IfSome self.now.challenged (λ sent. sent.sub < length set.now.rows) }
-        ensures row { result ≡ on_method set.now self.now self.now.state (seen_of received.now) received.now.reading }
-        ensures own { IsRowOf self.now.challenged result }
+        requires held { IsHeld homes.now self.now.challenged }
+        ensures row { result ≡ on_method set.now homes.now self.now self.now.state (seen_of received.now) received.now.reading }
+        ensures held { IsHeldRow homes.now result }
     {
         let Reading::Read(Packet::Aka { subtype, attrs, .. }) = &received.reading else {
             return Row::Ignore(Reason::Malformed);
@@ -280,7 +464,7 @@ impl Server {
         if is_malformed(*subtype, false, self.options.method, attrs) {
             return Row::Ignore(Reason::Malformed);
         }
-        self.on_message(set, received, *subtype, attrs)
+        self.on_message(set, homes, received, *subtype, attrs)
     }
 
     /// A response of the type that the state expects.
@@ -292,17 +476,9 @@ impl Server {
         ensures held { IsHeldRow homes.now result }
     {
         if let ServerState::AwaitIdentity = self.state {
-            return match subscriber_in(
-                self.options.method,
-                set,
-                homes,
-                text_in(&received.reading),
-            ) {
-                None => Row::UnknownIdentity,
-                Some(sub) => Row::Challenge(sub),
-            };
+            return on_first(&self.options, set, homes, text_in(&received.reading));
         }
-        self.on_method(set, received)
+        self.on_method(set, homes, received)
     }
 
     /// The row that received bytes fall into.

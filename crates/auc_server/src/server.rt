@@ -4,6 +4,7 @@ use crate::options::ServerOptions;
 use crate::why::ServerWhy;
 use auc_edge::Octets;
 use auc_hmac::KeySet;
+use auc_seal::IdentityPackets;
 use auc_vector::{Outcome, Vector};
 use std::marker::Model;
 
@@ -23,6 +24,12 @@ pub struct Challenged {
 pub enum ServerState {
     /// The peer's identity (RFC 3748 §5.1).
     AwaitIdentity,
+    /// Any identity (RFC 4187 §9.2 and §10.3).
+    AwaitAny,
+    /// An identity for full authentication (RFC 4187 §9.2 and §10.4).
+    AwaitFull,
+    /// The permanent identity (RFC 4187 §9.2 and §10.2).
+    AwaitPermanent,
     /// The answer to a challenge (RFC 4187 §9.4).
     AwaitChallenge,
     /// The answer to a notification of this failure (RFC 4187 §9.11).
@@ -34,7 +41,7 @@ pub enum ServerState {
 /// The server of a session of EAP-AKA or EAP-AKA'. Contracts see its `ServerEnd`.
 #[derive(Drop)]
 pub struct Server {
-    /// Method, network name and bidding of the session.
+    /// What the server was told of its session.
     pub(crate) options: ServerOptions,
     pub(crate) state: ServerState,
     /// The Identifier of the last request.
@@ -47,6 +54,10 @@ pub struct Server {
     pub(crate) challenged: Option<Challenged>,
     /// Whether a synchronisation failure led to a new challenge.
     pub(crate) synced: bool,
+    /// The AKA-Identity packets that were sent, or received and not ignored, each once.
+    pub(crate) packets: IdentityPackets,
+    /// The index of the next initialisation vector.
+    pub(crate) next_iv: u32,
 }
 
 impl Model for Server {
@@ -55,7 +66,7 @@ impl Model for Server {
 
     ghost Value = { ServerEnd };
 
-    ghost view = { λ s. record { options = s.options; state = s.state; id = s.id; last = s.last; identity = s.identity; challenged = s.challenged; synced = s.synced } };
+    ghost view = { λ s. record { options = s.options; state = s.state; id = s.id; last = s.last; identity = s.identity; challenged = s.challenged; synced = s.synced; packets = s.packets; next_iv = s.next_iv } };
 
     ghost invariant = { λ s. length s.options.name ≤ 255 };
 }

@@ -5,15 +5,17 @@ ghost use Rattle.auc_packet.specs.Spelling.{packet_text};
 ghost use Rattle.auc_server.specs.InnerRooms.{IsFresh};
 ghost use Rattle.auc_server.specs.Server.{started};
 ghost use Rattle.auc_server.specs.Steps.{bytes_of};
-ghost use Rattle.auc_server.specs.Table.{ended, failed, gave_up, ignored, noted, notified, repeated, requested, silent, succeeded, unknown};
+ghost use Rattle.auc_server.specs.Table.{asked, awaiting, ended, failed, gave_up, ignored, noted, notified, repeated, requested, silent, succeeded, unknown};
 
-use crate::messages::{message, notification};
+use crate::messages::{aka_identity, message, notification};
 use crate::options::ServerOptions;
 use crate::rooms::Rooms;
 use crate::server::{Challenged, Server, ServerState};
 use crate::why::ServerWhy;
 use auc_edge::{NoMemory, Octets, Room};
 use auc_packet::Packet;
+use auc_request::IdentityRequest;
+use auc_seal::IdentityPackets;
 use auc_vector::{Notes, NumberNote, Outcome, Reason, ResyncNote, Step, Turn};
 use std::alloc::Global;
 
@@ -37,11 +39,22 @@ pub(crate) fn silent() -> Notes
     noted(None, None)
 }
 
+/// What is awaited after an identity was asked for.
+fn awaiting(kind: IdentityRequest) -> ServerState
+    ensures { result ≡ awaiting kind }
+{
+    match kind {
+        IdentityRequest::Any => ServerState::AwaitAny,
+        IdentityRequest::Fullauth => ServerState::AwaitFull,
+        IdentityRequest::Permanent => ServerState::AwaitPermanent,
+    }
+}
+
 impl Server {
     /// Ignores what was received.
     pub(crate) fn ignore(&self, why: Reason) -> Turn<ServerWhy>
         ensures step { (self.now, result) ≡ ignored self.now why }
-        ensures small { length (bytes_of result.step) ≤ 336 }
+        ensures small { length (bytes_of result.step) ≤ 440 }
     {
         Turn {
             notes: silent(),
@@ -59,10 +72,10 @@ impl Server {
         checked: bool,
         kept: Room,
     ) -> Turn<ServerWhy>
-        requires small { length bytes ≤ 336 }
+        requires small { length bytes ≤ 440 }
         requires fresh { IsFresh kept }
         ensures step { (self.new, result) ≡ requested self.old state bytes notes checked }
-        ensures small { length (bytes_of result.step) ≤ 336 }
+        ensures small { length (bytes_of result.step) ≤ 440 }
     {
         let mut kept = kept;
         kept.put(bytes.as_slice());
@@ -85,7 +98,7 @@ impl Server {
         rooms: Rooms,
     ) -> Turn<ServerWhy>
         ensures step { (self.new, result) ≡ notified self.old why notes checked }
-        ensures small { length (bytes_of result.step) ≤ 336 }
+        ensures small { length (bytes_of result.step) ≤ 440 }
     {
         let Rooms {
             message,
@@ -99,9 +112,9 @@ impl Server {
 
     /// Ends the session.
     fn end(&mut self, outcome: Outcome<ServerWhy>, bytes: Octets, checked: bool) -> Turn<ServerWhy>
-        requires { length bytes ≤ 336 }
+        requires { length bytes ≤ 440 }
         ensures step { (self.new, result) ≡ ended self.old outcome bytes checked }
-        ensures small { length (bytes_of result.step) ≤ 336 }
+        ensures small { length (bytes_of result.step) ≤ 440 }
     {
         self.state = ServerState::Ended(outcome);
         Turn {
@@ -114,7 +127,7 @@ impl Server {
     /// Ends the session with EAP-Failure (RFC 3748 §4.2).
     pub(crate) fn fail(&mut self, why: ServerWhy, rooms: Rooms) -> Turn<ServerWhy>
         ensures step { (self.new, result) ≡ failed self.old why }
-        ensures small { length (bytes_of result.step) ≤ 336 }
+        ensures small { length (bytes_of result.step) ≤ 440 }
     {
         let bytes = message(&Packet::Failure(self.id), rooms.message);
         self.end(Outcome::Failure(why), bytes, false)
@@ -123,7 +136,7 @@ impl Server {
     /// Ends the session with EAP-Success (RFC 3748 §4.2).
     pub(crate) fn succeed(&mut self, rooms: Rooms) -> Turn<ServerWhy>
         ensures step { (self.new, result) ≡ succeeded self.old self.old.challenged }
-        ensures small { length (bytes_of result.step) ≤ 336 }
+        ensures small { length (bytes_of result.step) ≤ 440 }
     {
         match self.challenged {
             None => self.ignore(Reason::Unexpected),
@@ -134,12 +147,42 @@ impl Server {
         }
     }
 
+    /// Asks for another identity (RFC 4187 §4.1.4).
+    pub(crate) fn ask(
+        &mut self,
+        kind: IdentityRequest,
+        text: Octets,
+        packets: IdentityPackets,
+        rooms: Rooms,
+    ) -> Turn<ServerWhy>
+        ensures step { (self.new, result) ≡ asked self.old text packets kind }
+        ensures small { length (bytes_of result.step) ≤ 440 }
+    {
+        let Rooms {
+            message,
+            kept,
+            attrs,
+            ..
+        } = rooms;
+        let id = self.id.wrapping_add(1);
+        let bytes = aka_identity(self.options.method, id, kind, attrs, message);
+        self.identity = text;
+        self.packets = packets;
+        self.request(awaiting(kind), bytes, silent(), false, kept)
+    }
+
     /// Notifies the peer that its identity is unknown.
-    pub(crate) fn refuse_identity(&mut self, text: Octets, rooms: Rooms) -> Turn<ServerWhy>
-        ensures step { (self.new, result) ≡ unknown self.old text }
-        ensures small { length (bytes_of result.step) ≤ 336 }
+    pub(crate) fn refuse_identity(
+        &mut self,
+        text: Octets,
+        packets: IdentityPackets,
+        rooms: Rooms,
+    ) -> Turn<ServerWhy>
+        ensures step { (self.new, result) ≡ unknown self.old text packets }
+        ensures small { length (bytes_of result.step) ≤ 440 }
     {
         self.identity = text;
+        self.packets = packets;
         self.notify(ServerWhy::UnknownIdentity, silent(), false, rooms)
     }
 }
@@ -167,6 +210,8 @@ impl Server {
             identity: Octets::new(alloc),
             challenged: None,
             synced: false,
+            packets: IdentityPackets::new(alloc),
+            next_iv: 0,
         };
         Ok((server, bytes))
     }
@@ -194,7 +239,7 @@ impl Server {
         Step::Ended(outcome, Octets::new(alloc))
     }
 
-    /// Method, network name and bidding of the session.
+    /// What the server was told of its session.
     pub fn options(&self) -> &ServerOptions
         ensures value { result.now ≡ self.now.options }
         ensures short { length result.now.name ≤ 255 }

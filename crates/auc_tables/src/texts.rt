@@ -1,7 +1,7 @@
 //! How scenarios and subscribers are read.
 
 use auc_edge::Items;
-use auc_lines::{JobPart, Line, SessionLine};
+use auc_lines::{Identity, JobPart, Line, SessionLine};
 use auc_script::{Part, Script, ScriptRefusal};
 use auc_subs::{AddRefusal, SubsRefusal, Subscribers};
 use std::alloc::{AllocError, Global};
@@ -93,7 +93,7 @@ fn text_of_line(alloc: Global, line: &Line) -> Result<String, AllocError> {
     }
 }
 
-/// A session with its names as hexadecimal digits.
+/// A session with its texts as hexadecimal digits.
 fn text_of_session(alloc: Global, line: &SessionLine) -> Result<String, AllocError> {
     let SessionLine {
         session,
@@ -101,17 +101,32 @@ fn text_of_session(alloc: Global, line: &SessionLine) -> Result<String, AllocErr
         method,
         name,
         peer_name,
+        pseudonym,
         bidding,
+        any,
         has_prime,
+        identity,
     } = line;
     let name = hex::encode(alloc, name.as_slice())?;
     let peer_name = match peer_name {
         Some(name) => Some(hex::encode(alloc, name.as_slice())?),
         None => None,
     };
+    let identity = text_of_identity(alloc, identity)?;
     format!(in alloc;
-        "Session {{ session: {session}, sub: {sub}, method: {method:?}, name: {name}, peer_name: {peer_name:?}, bidding: {bidding}, has_prime: {has_prime} }}"
+        "Session {{ session: {session}, sub: {sub}, method: {method:?}, name: {name}, peer_name: {peer_name:?}, pseudonym: {pseudonym}, bidding: {bidding}, any: {any}, has_prime: {has_prime}, identity: {identity} }}"
     )
+}
+
+fn text_of_identity(alloc: Global, identity: &Identity) -> Result<String, AllocError> {
+    match identity {
+        Identity::Held => String::from_str(alloc, "Held"),
+        Identity::Permanent => String::from_str(alloc, "Permanent"),
+        Identity::Text(text) => {
+            let text = hex::encode(alloc, text.as_slice())?;
+            format!(in alloc; "Text({text})")
+        }
+    }
 }
 
 /// How many subscribers a file has, or the record of its refusal and the cause.

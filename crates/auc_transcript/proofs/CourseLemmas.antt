@@ -150,7 +150,7 @@ parts_risen set stop reserved at (Round jobs ∷ parts) (record_of.Round round �
           let low = risen.near sub inside in
           let greatest = get_or-greater words at.highs sub (omega (arith, same, sizes, inside)) in omega (arith, low, greatest);
     } in
-    parts_risen set stop reserved (after_round at round words) parts records end (omega (arith, many, same, sizes)) here more
+    parts_risen set stop reserved (after_round at round words serves.lawful.nets) parts records end (omega (arith, many, same, sizes)) here more
 parts_risen set stop reserved at (Round jobs ∷ parts) (record_of.Restart ∷ records) end sizes risen (next, serves, rest) = absurd serves
 parts_risen set stop reserved at (Restart ∷ parts) (record_of.Round round ∷ records) end sizes risen (next, serves, rest) = absurd serves
 parts_risen set stop reserved at (Restart ∷ parts) (record_of.Restart ∷ records) end sizes risen (next, restarts, rest) =

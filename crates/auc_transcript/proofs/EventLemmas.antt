@@ -15,14 +15,17 @@ use Rattle.auc_packet.specs.Received.{Seen, is_sealed}
 use Rattle.auc_peer.specs.Attributes.{checkcode, differs}
 use Rattle.auc_peer.specs.Rows.{peer_row}
 use Rattle.auc_peer.specs.Subscription.{Subscription}
-use Rattle.auc_peer.specs.Table.{accepted as peer_accepts, accepting, client, genuine, opened, peer_does}
+use Rattle.auc_peer.specs.Table.{accepted as peer_accepts, accepting, client, genuine, opened, own_code, peer_does}
 use Rattle.auc_peer.specs.Turn.{asked}
+use Rattle.auc_peer.specs.declared.decrypted.Decrypted.{Decrypted}
+use Rattle.auc_peer.specs.declared.decrypted.Decrypted.TheVariants as decrypted
 use Rattle.auc_peer.specs.declared.peer.Challenge.{Challenge}
 use Rattle.auc_peer.specs.declared.peer.Peer.{Peer}
 use Rattle.auc_peer.specs.declared.rows.Row.{Row as PeerRow}
 use Rattle.auc_peer.specs.declared.rows.Row.TheVariants as row
 use Rattle.auc_peer.specs.declared.why.PeerWhy.{PeerWhy}
 use Rattle.auc_peer.specs.declared.why.PeerWhy.TheVariants as why
+use Rattle.auc_reauth.specs.Device.{Keeps}
 use Rattle.auc_server.specs.Server.{ServerEnd}
 use Rattle.auc_server.specs.declared.options.ServerOptions.{ServerOptions}
 use Rattle.auc_sqn.specs.Number.{ind_of, max_seq, seq_of}
@@ -44,7 +47,7 @@ use Rattle.auc_world.specs.Event.{asked_in, device_in, number_in, usim_in}
 use Rattle.auc_world.specs.Given.{Before, CentreAnswers, IsCentreAsked, IsNumberAnswer, IsUsimAsked, NumberFollows, UsimNotes, past_before, past_of}
 use Rattle.auc_world.specs.Happened.{Delivery, Told, delivery_in, peer_turn, server_turn}
 use Rattle.auc_world.specs.Lines.{accepted}
-use Rattle.auc_world.specs.Net.{Net, device_place, packet_at, session_place}
+use Rattle.auc_world.specs.Net.{Net, device_place, keeps_at, packet_at, session_place}
 use Rattle.auc_world.specs.Setting.{Setting}
 use Rattle.auc_world.specs.declared.event.Event.{Event}
 use Rattle.auc_world.specs.declared.event.Event.TheVariants as event
@@ -152,23 +155,23 @@ picked_note : (b : Bool) (x y : Peer × Turn PeerWhy) (n : Option UsimNote) → 
 picked_note true x y n e f = e
 picked_note false x y n e f = f
 
-opened_note : (p : Peer) (seen : Seen) (res sqn : List ℕ) (keys : KeySet) (readable : Bool) → (opened p seen res sqn keys readable).1.notes.usim ≡ Some (usim.Accepted sqn)
-opened_note p seen res sqn keys true = refl
-opened_note p seen res sqn keys false = refl
+opened_note : (p : Peer) (seen : Seen) (res sqn : List ℕ) (keys : KeySet) (inner : Decrypted) → (opened p seen res sqn keys inner).1.notes.usim ≡ Some (usim.Accepted sqn)
+opened_note p seen res sqn keys decrypted.Unreadable = refl
+opened_note p seen res sqn keys (decrypted.Attributes next) = refl
 
 -- the note of a turn in which the USIM accepted names the SQN that AUTN has
-accepted_note : (p : Peer) (seen : Seen) (c : Challenge) (res sqn : List ℕ) (keys : KeySet) (readable : Bool)
-    → (peer_accepts p seen c res sqn keys readable).1.notes.usim ≡ Some (usim.Accepted sqn)
-accepted_note p seen c res sqn keys readable =
-    picked_note (not (is_sealed p.options.method keys.k_aut [] seen)) (client p seen why.WrongMac (Some (usim.Accepted sqn)) false) (genuine (accepting p seen c) seen res sqn keys readable)
+accepted_note : (p : Peer) (seen : Seen) (c : Challenge) (res sqn : List ℕ) (keys : KeySet) (inner : Decrypted)
+    → (peer_accepts p seen c res sqn keys inner).1.notes.usim ≡ Some (usim.Accepted sqn)
+accepted_note p seen c res sqn keys inner =
+    picked_note (not (is_sealed p.options.method keys.k_aut [] seen)) (client p seen why.WrongMac (Some (usim.Accepted sqn)) false) (genuine (accepting p seen c) seen res sqn keys inner)
     (Some (usim.Accepted sqn)) refl
-    (picked_note (differs (checkcode seen)) (client (accepting p seen c) seen why.WrongCheckcode (Some (usim.Accepted sqn)) true) (opened (accepting p seen c) seen res sqn keys readable)
-    (Some (usim.Accepted sqn)) refl (opened_note (accepting p seen c) seen res sqn keys readable))
+    (picked_note (differs (own_code (accepting p seen c)) (checkcode seen)) (client (accepting p seen c) seen why.WrongCheckcode (Some (usim.Accepted sqn)) true) (opened (accepting p seen c) seen res sqn keys inner)
+    (Some (usim.Accepted sqn)) refl (opened_note (accepting p seen c) seen res sqn keys inner))
 
-challenged_note : (s : Subscription) (p : Peer) (seen : Seen) (c : Challenge) (m : List ℕ) (readable : Bool)
-    → (peer_does s p seen (row.Challenged c) (Some (usim.Accepted m)) readable).1.notes.usim ≡ Some (usim.Accepted (sqn_in s.secret c.rand c.autn))
+challenged_note : (s : Subscription) (keeps : Keeps) (p : Peer) (seen : Seen) (c : Challenge) (m : List ℕ) (inner : Decrypted)
+    → (peer_does s keeps p seen (row.Challenged c) (Some (usim.Accepted m)) inner).1.notes.usim ≡ Some (usim.Accepted (sqn_in s.secret c.rand c.autn))
 unfolding acceptance
-challenged_note s p seen c m readable = accepted_note p seen c _ (sqn_in s.secret c.rand c.autn) _ readable
+challenged_note s keeps p seen c m inner = accepted_note p seen c _ (sqn_in s.secret c.rand c.autn) _ inner
 
 one_sqn : (o : Option UsimNote) (a b : List ℕ) → o ≡ Some (usim.Accepted a) → o ≡ Some (usim.Accepted b) → a ≡ b
 one_sqn o a b e f = cc
@@ -183,23 +186,24 @@ no_wrong : (x : Option UsimNote) (sqn : List ℕ) → Some usim.WrongMac ≡ x �
 no_wrong x sqn e f = cc
 
 -- an SQN that a turn notes as accepted is fresh by the USIM's past
-turn_fresh : (s : Subscription) (p : Peer) (seen : Seen) (r : PeerRow) (past : Past) (n : Option UsimNote) (readable : Bool) (sqn : List ℕ)
-    → UsimNotes s.secret past (asked r) n → n ≡ (peer_does s p seen r n readable).1.notes.usim → (peer_does s p seen r n readable).1.notes.usim ≡ Some (usim.Accepted sqn)
+turn_fresh : (s : Subscription) (keeps : Keeps) (p : Peer) (seen : Seen) (r : PeerRow) (past : Past) (n : Option UsimNote) (inner : Decrypted) (sqn : List ℕ)
+    → UsimNotes s.secret past (asked r) n → n ≡ (peer_does s keeps p seen r n inner).1.notes.usim → (peer_does s keeps p seen r n inner).1.notes.usim ≡ Some (usim.Accepted sqn)
     → verdict_of past (seq_of sqn) (ind_of sqn) ≡ Fresh
-turn_fresh s p seen (row.Ignore cause) past n readable sqn is same accepts = absurd (no_asking n _ sqn is same accepts)
-turn_fresh s p seen row.Again past n readable sqn is same accepts = absurd (no_asking n _ sqn is same accepts)
-turn_fresh s p seen row.First past n readable sqn is same accepts = absurd (no_asking n _ sqn is same accepts)
-turn_fresh s p seen (row.Client cause) past n readable sqn is same accepts = absurd (no_asking n _ sqn is same accepts)
-turn_fresh s p seen (row.Reject cause) past n readable sqn is same accepts = absurd (no_asking n _ sqn is same accepts)
-turn_fresh s p seen (row.Notified code) past n readable sqn is same accepts = absurd (no_asking n _ sqn is same accepts)
-turn_fresh s p seen (row.Challenged c) past None readable sqn is same accepts = absurd is
-turn_fresh s p seen (row.Challenged c) past (Some (usim.Accepted m)) readable sqn is same accepts =
-    subst (λ (x : List ℕ). verdict_of past (seq_of x) (ind_of x) ≡ Fresh) (one_sqn _ (sqn_in s.secret c.rand c.autn) sqn (challenged_note s p seen c m readable) accepts)
+turn_fresh s keeps p seen (row.Ignore cause) past n inner sqn is same accepts = absurd (no_asking n _ sqn is same accepts)
+turn_fresh s keeps p seen row.Again past n inner sqn is same accepts = absurd (no_asking n _ sqn is same accepts)
+turn_fresh s keeps p seen row.First past n inner sqn is same accepts = absurd (no_asking n _ sqn is same accepts)
+turn_fresh s keeps p seen (row.Identity kind) past n inner sqn is same accepts = absurd (no_asking n _ sqn is same accepts)
+turn_fresh s keeps p seen (row.Client cause) past n inner sqn is same accepts = absurd (no_asking n _ sqn is same accepts)
+turn_fresh s keeps p seen (row.Reject cause) past n inner sqn is same accepts = absurd (no_asking n _ sqn is same accepts)
+turn_fresh s keeps p seen (row.Notified code) past n inner sqn is same accepts = absurd (no_asking n _ sqn is same accepts)
+turn_fresh s keeps p seen (row.Challenged c) past None inner sqn is same accepts = absurd is
+turn_fresh s keeps p seen (row.Challenged c) past (Some (usim.Accepted m)) inner sqn is same accepts =
+    subst (λ (x : List ℕ). verdict_of past (seq_of x) (ind_of x) ≡ Fresh) (one_sqn _ (sqn_in s.secret c.rand c.autn) sqn (challenged_note s keeps p seen c m inner) accepts)
     (accepts_fresh s.secret past c.rand c.autn is)
-turn_fresh s p seen (row.Challenged c) past (Some (usim.Sync m)) readable sqn is same accepts = absurd (no_sync _ m sqn same accepts)
-turn_fresh s p seen (row.Challenged c) past (Some usim.WrongMac) readable sqn is same accepts = absurd (no_wrong _ sqn same accepts)
-turn_fresh s p seen row.Success past n readable sqn is same accepts = absurd (no_asking n _ sqn is same accepts)
-turn_fresh s p seen (row.Failure cause) past n readable sqn is same accepts = absurd (no_asking n _ sqn is same accepts)
+turn_fresh s keeps p seen (row.Challenged c) past (Some (usim.Sync m)) inner sqn is same accepts = absurd (no_sync _ m sqn same accepts)
+turn_fresh s keeps p seen (row.Challenged c) past (Some usim.WrongMac) inner sqn is same accepts = absurd (no_wrong _ sqn same accepts)
+turn_fresh s keeps p seen row.Success past n inner sqn is same accepts = absurd (no_asking n _ sqn is same accepts)
+turn_fresh s keeps p seen (row.Failure cause) past n inner sqn is same accepts = absurd (no_asking n _ sqn is same accepts)
 
 peer_served : (set : Setting) (place : Before) (w : Net) (d : Delivery) (told : Told) (o : Option Subscription) → TellsNotes told (came_at_peer w d told o)
     → IsUsimAsked set place (presented_at d told o) told → IsEventServed set (all_before place) (came_at_peer w d told o)
@@ -210,13 +214,13 @@ peer_served set place w d told (Some device) tells is = record {
 }
   where
     notes : Option UsimNote
-    notes = (peer_turn device d.session told).1.notes.usim
+    notes = (peer_turn device (keeps_at w d.session.device) d.session told).1.notes.usim
 
     here : (sqn : List ℕ) → notes ≡ Some (usim.Accepted sqn) → IsFreshFor set (all_before place) d.session.sub sqn
     here sqn accepts = record {
       row = is.row;
       there = is.there;
-      fresh = turn_fresh device d.session.peer told.seen (peer_row d.session.peer told.seen) (past_before place is.row d.session.sub) told.notes.usim told.readable sqn
+      fresh = turn_fresh device (keeps_at w d.session.device) d.session.peer told.seen (peer_row d.session.peer told.seen) (past_before place is.row d.session.sub) told.notes.usim told.inner sqn
           is.answers (ap (λ (n : Notes). n.usim) tells) accepts;
     }
 

@@ -13,10 +13,10 @@ use Rattle.auc_packet.specs.declared.received.Reading.{Reading}
 use Rattle.auc_packet.specs.declared.received.Reading.TheVariants as reading
 use Rattle.auc_packet.specs.declared.subtype.Subtype.{Subtype}
 use Rattle.auc_packet.specs.declared.subtype.Subtype.TheVariants as subtype
-use Rattle.auc_peer.specs.Attributes.{attrs_in, autn_of as autn_value, bids, first_code, first_kdf, name_in, rand_of as rand_value}
-use Rattle.auc_peer.specs.Rows.{challenge_of, is_known_kdf, is_last, is_response, is_right_name, is_separated, late, method_row, notified_or, of_kind, on_failure, on_sound, on_success, peer_row, repeats, requested, row_headed, row_in, waiting}
+use Rattle.auc_peer.specs.Attributes.{attrs_in}
+use Rattle.auc_peer.specs.Rows.{challenge_of, is_last, is_response, late, method_row, notified_or, of_kind, on_failure, on_sound, on_success, peer_row, repeats, requested, row_headed, row_in, waiting}
+use Rattle.auc_peer.specs.Told.{Told}
 use Rattle.auc_peer.specs.Turn.{asked}
-use Rattle.auc_peer.specs.declared.options.PeerOptions.{PeerOptions}
 use Rattle.auc_peer.specs.declared.peer.Challenge.{Challenge}
 use Rattle.auc_peer.specs.declared.peer.Last.{Last}
 use Rattle.auc_peer.specs.declared.peer.Peer.{Peer}
@@ -25,7 +25,7 @@ use Rattle.auc_peer.specs.declared.peer.PeerState.TheVariants as state
 use Rattle.auc_peer.specs.declared.rows.Row.{Row}
 use Rattle.auc_peer.specs.declared.rows.Row.TheVariants as row
 use Rattle.auc_peer.specs.declared.why.PeerWhy.TheVariants as why
-use Rattle.auc_seal.specs.Encrypted.{first_value}
+use Rattle.auc_request.specs.Request.{autn_of as autn_value, bids, first_code, first_kdf, first_value, is_known_kdf, is_right_name, is_separated, name_in, rand_of as rand_value, request_in}
 use Rattle.auc_vector.specs.declared.turn.Reason.TheVariants as reason
 
 -- a challenge has the RAND and the AUTN that were read
@@ -42,14 +42,14 @@ picked P true x y f g = f
 picked P false x y f g = g
 
 -- what a method tests of a challenge that was read hands the USIM that challenge, or nothing
-method_hands : (r : Reading) (m : Method) (o : PeerOptions) (list : List Attr) (c : Challenge) → IsReadIn r c → Hands r (method_row m o list c)
+method_hands : (r : Reading) (m : Method) (o : Told) (list : List Attr) (c : Challenge) → IsReadIn r c → Hands r (method_row m o list c)
 method_hands r method.Aka o list c is = picked (Hands r) (o.has_prime && bids list) (row.Reject why.Downgrade) (row.Challenged c) tt is
 method_hands r method.Prime o list c is =
     picked (Hands r) (not (is_known_kdf (first_kdf list))) (row.Reject why.BadKdf) _ tt
     (picked (Hands r) (not (is_right_name o.name (name_in list))) (row.Reject why.BadName) _ tt
     (picked (Hands r) (not (is_separated c.autn)) (row.Reject why.NoSeparation) (row.Challenged c) tt is))
 
-waiting_hands : (o : PeerOptions) (r : Reading) → Hands r (waiting o r)
+waiting_hands : (o : Told) (r : Reading) → Hands r (waiting o r)
 waiting_hands o (reading.Fault fault) = tt
 waiting_hands o (reading.Read (packet.Identity request id text)) = tt
 waiting_hands o (reading.Read (packet.Success id)) = tt
@@ -73,7 +73,8 @@ waiting_hands o (reading.Read (packet.Aka request id m s list)) =
         (challenge_of o list (first_value rand_value list) (first_value autn_value list)) tt (values (first_value rand_value list) (first_value autn_value list) refl refl)
     sound subtype.Reauthentication = tt
     sound subtype.Notification = noticed (first_code list)
-    sound subtype.Identity = tt
+    sound subtype.Identity =
+        picked (Hands (reading.Read (packet.Aka request id m s list))) (is_missing subtype.Identity true list) (row.Client why.Missing) (row.Identity (request_in list)) tt tt
     sound subtype.AuthenticationReject = tt
     sound subtype.SynchronizationFailure = tt
     sound subtype.ClientError = tt
@@ -96,7 +97,7 @@ late_hands own q (reading.Read (packet.Success id)) = tt
 late_hands own q (reading.Read (packet.Failure id)) = tt
 late_hands own q (reading.Fault fault) = tt
 
-requested_hands : (o : PeerOptions) (s : PeerState) (r : Reading) → Hands r (requested o s r)
+requested_hands : (o : Told) (s : PeerState) (r : Reading) → Hands r (requested o s r)
 requested_hands o state.Waiting r = waiting_hands o r
 requested_hands o (state.Answered keys) r = late_hands o.method r r
 requested_hands o (state.Refusing cause) r = tt
@@ -114,20 +115,20 @@ failure_hands r state.Waiting = tt
 failure_hands r (state.Refusing cause) = tt
 failure_hands r state.Ended = tt
 
-kind_hands : (o : PeerOptions) (s : PeerState) (last : Option Last) (seen : Seen) (head : Head) (kind : Option ℕ) → Hands seen.reading (of_kind o s last seen head kind)
+kind_hands : (o : Told) (s : PeerState) (last : Option Last) (seen : Seen) (head : Head) (kind : Option ℕ) → Hands seen.reading (of_kind o s last seen head kind)
 kind_hands o s last seen head None =
     picked (Hands seen.reading) (not (is_last last head.id)) (row.Ignore reason.Unexpected) (cond (head.code == 3) (on_success s) (on_failure s)) tt
     (picked (Hands seen.reading) (head.code == 3) (on_success s) (on_failure s) (success_hands seen.reading s) (failure_hands seen.reading s))
 kind_hands o s last seen head (Some kind) =
     picked (Hands seen.reading) (not (kind == 1 || kind == method_type o.method)) (row.Ignore reason.OtherType) (requested o s seen.reading) tt (requested_hands o s seen.reading)
 
-headed_hands : (o : PeerOptions) (s : PeerState) (last : Option Last) (seen : Seen) (head : Option Head) → Hands seen.reading (row_headed o s last seen head)
+headed_hands : (o : Told) (s : PeerState) (last : Option Last) (seen : Seen) (head : Option Head) → Hands seen.reading (row_headed o s last seen head)
 headed_hands o s last seen None = tt
 headed_hands o s last seen (Some head) =
     picked (Hands seen.reading) (head.code == 2) (row.Ignore reason.NotForMe) (cond (repeats last seen.bytes) row.Again (of_kind o s last seen head head.kind)) tt
     (picked (Hands seen.reading) (repeats last seen.bytes) row.Again (of_kind o s last seen head head.kind) tt (kind_hands o s last seen head head.kind))
 
-in_hands : (o : PeerOptions) (s : PeerState) (last : Option Last) (seen : Seen) → Hands seen.reading (row_in o s last seen)
+in_hands : (o : Told) (s : PeerState) (last : Option Last) (seen : Seen) → Hands seen.reading (row_in o s last seen)
 in_hands o state.Ended last seen = tt
 in_hands o state.Waiting last seen = headed_hands o state.Waiting last seen (head_at seen.bytes)
 in_hands o (state.Answered keys) last seen = headed_hands o (state.Answered keys) last seen (head_at seen.bytes)
@@ -142,6 +143,7 @@ row_asks r (row.Challenged d) c e is = subst (IsReadIn r) (one_challenge d c is)
 row_asks r row.First c e is = absurd (let no : ⊥ = cc in no)
 row_asks r (row.Ignore cause) c e is = absurd (let no : ⊥ = cc in no)
 row_asks r row.Again c e is = absurd (let no : ⊥ = cc in no)
+row_asks r (row.Identity kind) c e is = absurd (let no : ⊥ = cc in no)
 row_asks r (row.Client cause) c e is = absurd (let no : ⊥ = cc in no)
 row_asks r (row.Reject cause) c e is = absurd (let no : ⊥ = cc in no)
 row_asks r (row.Notified code) c e is = absurd (let no : ⊥ = cc in no)

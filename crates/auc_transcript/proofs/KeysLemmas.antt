@@ -1,6 +1,6 @@
 -- The law of equal keys: the two ends of an authentication agree, whichever jobs they are of.
 use Rattle.std.proofs.Common.{◌≡◌, ◌⊎◌, ℕ, zero, suc, ◌+◌, ◌≤◌, ◌<◌, List, [], ◌∷◌, ◌++◌, length, get_or, All, Contains, refl, sym, ap, ◌∙◌, subst, arith, inl, inr, ⊎_elim, append_assoc}
-use Rattle.std.specs.Prelude.{flat_map}
+use Rattle.std.specs.Prelude.{flat_map, map}
 use Rattle.std.proofs.lemmas.List.Concat.{flat_map-append}
 use Rattle.std.proofs.lemmas.List.Elements.{All-contains, Contains-append_left, Contains-append_right}
 use Rattle.auc_history.proofs.Facts.{times-append}
@@ -17,12 +17,13 @@ use Rattle.auc_world.specs.Given.{JobsGive}
 use Rattle.auc_world.specs.Lines.{all_lines, numbers_of, released_by}
 use Rattle.auc_world.specs.Net.{Net}
 use Rattle.auc_world.specs.Setting.{Setting}
+use Rattle.auc_world.specs.Start.{Kept, fresh_kept, kept_by_jobs}
 use Rattle.auc_world.specs.Transcript.{lines_of}
 use Rattle.auc_world.specs.declared.net.Inputs.{Inputs}
 use Rattle.auc_world.specs.declared.record.LineRecord.{LineRecord}
 use Rattle.auc_world.specs.declared.record.PartRecord.{PartRecord}
 use Rattle.auc_world.specs.declared.record.PartRecord.TheVariants as record_of
-use Rattle.auc_transcript.specs.Keys.{AreNets, EachAuthenticationAgrees}
+use Rattle.auc_transcript.specs.Keys.{AreNetsAfter, EachAuthenticationAgrees}
 use Rattle.auc_transcript.proofs.LineLemmas.{All-times}
 use Rattle.auc_transcript.proofs.VectorLemmas.{numbers_within, released_once, transcript_served}
 
@@ -39,37 +40,37 @@ of_lines-append set [] ys a b none more = subst (λ (ls : List LineRecord). AreO
 of_lines-append set (x ∷ xs) ys a b (front, rest, cut, is, more) others =
     (front, rest ++ b, ap (λ (ls : List LineRecord). ls ++ b) cut ∙ append_assoc front rest b, is, of_lines-append set xs ys rest b more others)
 
-jobs_are_of : Laws → (set : Setting) (early beside : List LineRecord) (jobs : List (List Line)) (records : List (List LineRecord)) (nets : List Net) → AreSubscribers set.rows
-    → JobsGive set early beside jobs records nets → AreOfLines set nets (all_lines records)
-jobs_are_of laws set early beside [] records nets are (none, is) =
+jobs_are_of : Laws → (set : Setting) (early : List LineRecord) (kept : List Kept) (beside : List LineRecord) (jobs : List (List Line)) (records : List (List LineRecord)) (nets : List Net) → AreSubscribers set.rows
+    → JobsGive set early kept beside jobs records nets → AreOfLines set nets (all_lines records)
+jobs_are_of laws set early kept beside [] records nets are (none, is) =
     subst (λ (ns : List Net). AreOfLines set ns (all_lines records)) (sym is) (ap all_lines none)
-jobs_are_of laws set early beside (job ∷ jobs) [] nets are gives = absurd gives
-jobs_are_of laws set early beside (job ∷ jobs) (lines ∷ records) [] are gives = absurd gives
-jobs_are_of laws set early beside (job ∷ jobs) (lines ∷ records) (net ∷ nets) are (first, more) = (
+jobs_are_of laws set early kept beside (job ∷ jobs) [] nets are gives = absurd gives
+jobs_are_of laws set early kept beside (job ∷ jobs) (lines ∷ records) [] are gives = absurd gives
+jobs_are_of laws set early kept beside (job ∷ jobs) (lines ∷ records) (net ∷ nets) are (first, more) = (
   lines,
   all_lines records,
   refl,
-  job_runs laws set (record { early = early; beside = beside; own = [] }) job lines net are first,
-  jobs_are_of laws set early (beside ++ lines) jobs records nets are more,
+  job_runs laws set (record { early = early; beside = beside; own = [] }) kept job lines net are first,
+  jobs_are_of laws set early kept (beside ++ lines) jobs records nets are more,
 )
 
 -- all networks, one round after the other
 abbrev all_nets : List (List Net) → List Net
 all_nets nets = flat_map (λ (round : List Net). round) nets
 
-nets_are_of : Laws → (set : Setting) (early : List LineRecord) (parts : List Part) (records : List PartRecord) (nets : List (List Net)) → AreSubscribers set.rows
-    → AreNets set early parts records nets → AreOfLines set (all_nets nets) (lines_of records)
-nets_are_of laws set early [] records nets are (none, is) =
+nets_are_of : Laws → (set : Setting) (early : List LineRecord) (kept : List Kept) (parts : List Part) (records : List PartRecord) (nets : List (List Net)) → AreSubscribers set.rows
+    → AreNetsAfter set early kept parts records nets → AreOfLines set (all_nets nets) (lines_of records)
+nets_are_of laws set early kept [] records nets are (none, is) =
     subst (λ (ns : List (List Net)). AreOfLines set (all_nets ns) (lines_of records)) (sym is) (ap lines_of none)
-nets_are_of laws set early (part.Round jobs ∷ parts) [] nets are gives = absurd gives
-nets_are_of laws set early (part.Round jobs ∷ parts) (record_of.Restart ∷ records) nets are gives = absurd gives
-nets_are_of laws set early (part.Round jobs ∷ parts) (record_of.Round round ∷ records) [] are gives = absurd gives
-nets_are_of laws set early (part.Round jobs ∷ parts) (record_of.Round round ∷ records) (first ∷ nets) are (gives, more) =
-    of_lines-append set first (all_nets nets) (all_lines round.jobs) (lines_of records) (jobs_are_of laws set early [] jobs round.jobs first are gives)
-    (nets_are_of laws set (early ++ all_lines round.jobs) parts records nets are more)
-nets_are_of laws set early (part.Restart ∷ parts) [] nets are gives = absurd gives
-nets_are_of laws set early (part.Restart ∷ parts) (record_of.Round round ∷ records) nets are gives = absurd gives
-nets_are_of laws set early (part.Restart ∷ parts) (record_of.Restart ∷ records) nets are gives = nets_are_of laws set early parts records nets are gives
+nets_are_of laws set early kept (part.Round jobs ∷ parts) [] nets are gives = absurd gives
+nets_are_of laws set early kept (part.Round jobs ∷ parts) (record_of.Restart ∷ records) nets are gives = absurd gives
+nets_are_of laws set early kept (part.Round jobs ∷ parts) (record_of.Round round ∷ records) [] are gives = absurd gives
+nets_are_of laws set early kept (part.Round jobs ∷ parts) (record_of.Round round ∷ records) (first ∷ nets) are (gives, more) =
+    of_lines-append set first (all_nets nets) (all_lines round.jobs) (lines_of records) (jobs_are_of laws set early kept [] jobs round.jobs first are gives)
+    (nets_are_of laws set (early ++ all_lines round.jobs) (kept_by_jobs kept first) parts records nets are more)
+nets_are_of laws set early kept (part.Restart ∷ parts) [] nets are gives = absurd gives
+nets_are_of laws set early kept (part.Restart ∷ parts) (record_of.Round round ∷ records) nets are gives = absurd gives
+nets_are_of laws set early kept (part.Restart ∷ parts) (record_of.Restart ∷ records) nets are gives = nets_are_of laws set early kept parts records nets are gives
 
 -- a network of a round is one of all
 is_one_of_all : (nets : List (List Net)) (round : List Net) (net : Net) → Contains nets round → Contains round net → Contains (all_nets nets) net
@@ -170,7 +171,7 @@ apart laws set lines x y i j are once is was both d e alike =
 pub each_authentication_agrees : Laws → EachAuthenticationAgrees
 each_authentication_agrees laws set reserved stop parts records nets are lawful lead a b k l i j one other won also_won alike =
     let lines = lines_of records in
-    let all = nets_are_of laws set [] parts records nets are lead in
+    let all = nets_are_of laws set [] (map (λ row. fresh_kept) set.rows) parts records nets are lead in
     let x_in = is_one_of_all nets one.round one.net one.is_round one.is_job in
     let y_in = is_one_of_all nets other.round other.net other.is_round other.is_job in
     let once : AreOnce set lines = record {

@@ -24,7 +24,10 @@ mod WalkLemmas
 mod HandedLemmas
 mod PresentedLemmas
 mod SessionFailureLemmas
+mod PseudonymLemmas
+mod FirstLemmas
 mod StayingLemmas
+mod OpeningLemmas
 mod ReadyLemmas
 mod PlainLemmas
 mod Examples

@@ -1,16 +1,20 @@
 -- For OneTold: an event of which the same is told comes to the same, and leads to the same network.
-use Rattle.std.proofs.Common.{◌≡◌, ℕ, Bool, true, List, Option, Some, None, Ok, Err, refl, sym, ap, subst, ◌∙◌}
-use Rattle.std.specs.Prelude.{slice_get}
+use Rattle.std.proofs.Common.{◌≡◌, ℕ, List, Option, Some, None, Ok, Err, refl, sym, ap, subst, ◌∙◌}
+use Rattle.std.specs.Prelude.{slice_get, slice_set}
+use Rattle.auc_attr.specs.Laws.{OneWalk}
 use Rattle.auc_lines.specs.declared.part.End.{End}
 use Rattle.auc_lines.specs.declared.part.End.TheVariants as end
 use Rattle.auc_packet.specs.Received.{OneReceived, Seen}
 use Rattle.auc_peer.proofs.Facts.{row_once}
 use Rattle.auc_peer.specs.Rows.{peer_row}
 use Rattle.auc_peer.specs.Subscription.{Subscription}
-use Rattle.auc_peer.specs.Table.{peer_step}
+use Rattle.auc_peer.specs.Table.{kept_by, peer_step}
 use Rattle.auc_peer.specs.Turn.{Decrypts, asked, decryption_noted}
+use Rattle.auc_peer.specs.declared.decrypted.Decrypted.{Decrypted}
+use Rattle.auc_peer.specs.declared.decrypted.Decrypted.TheVariants as decrypted
 use Rattle.auc_peer.specs.declared.peer.Peer.{Peer}
 use Rattle.auc_peer.specs.declared.why.PeerWhy.{PeerWhy}
+use Rattle.auc_reauth.specs.Device.{Keeps}
 use Rattle.auc_seal.specs.Laws.{OneOpening}
 use Rattle.auc_server.specs.Server.{ServerEnd}
 use Rattle.auc_server.specs.Table.{silent}
@@ -19,7 +23,7 @@ use Rattle.auc_vector.specs.declared.turn.Turn.{Turn}
 use Rattle.auc_world.specs.Came.{AreReceived, Came, TellsNotes, bytes_named, by_peer, came, came_at_peer, came_at_server, came_delivered, presented_at, presented_by, presented_in, received_at, received_by}
 use Rattle.auc_world.specs.Given.{Before, IsUsimAsked}
 use Rattle.auc_world.specs.Happened.{Delivery, Told, breach_at, delivered, delivery_at, delivery_of, found_by, happened, moved, found, peer_finds, peer_turn, server_finds, to_peer, to_server, with_peer}
-use Rattle.auc_world.specs.Net.{Finding, Net, inputs_of_peer, judged, packet_at, session_place}
+use Rattle.auc_world.specs.Net.{Finding, Net, inputs_of_peer, judged, keeps_at, packet_at, session_place}
 use Rattle.auc_world.specs.Setting.{Setting}
 use Rattle.auc_world.specs.Told.{told_came}
 use Rattle.auc_world.specs.declared.event.Event.{Event}
@@ -27,9 +31,10 @@ use Rattle.auc_world.specs.declared.event.Event.TheVariants as event
 use Rattle.auc_world.specs.declared.net.SentPacket.{SentPacket}
 use Rattle.auc_world.specs.declared.net.Session.{Session}
 
--- equal bytes are received alike, and opened alike
+-- equal bytes are received alike, opened alike, and read alike
 pub record Laws : Type 0 where
   pub received : OneReceived
+  pub walk : OneWalk
   pub opening : OneOpening
 
 -- an event comes to the same by what was told of it twice
@@ -49,7 +54,7 @@ notes_or (Ok note) = note.notes
 notes_or (Err why) = silent
 
 abbrev told_with : Seen → Notes → Told
-told_with seen notes = record { seen = seen; notes = notes; readable = true }
+told_with seen notes = record { seen = seen; notes = notes; inner = decrypted.Unreadable }
 
 -- ---- a delivery to a server
 
@@ -68,32 +73,41 @@ server_one laws set w d (Some s) a b first second tells also same =
 
 -- ---- a delivery to a peer
 
-abbrev Decrypted : Subscription → Peer → Seen → Notes → Bool → Type 0
-Decrypted s p seen notes readable = Decrypts (decryption_noted s p seen (asked (peer_row p seen)) notes.usim) readable
+abbrev Did : Subscription → Peer → Seen → Notes → Decrypted → Type 0
+Did s p seen notes inner = Decrypts (decryption_noted s p seen (asked (peer_row p seen)) notes.usim) inner
 
-turn_one : Laws → (s : Subscription) (p : Peer) (a b : Told) → a.seen ≡ b.seen → a.notes ≡ b.notes → Decrypted s p a.seen a.notes a.readable → Decrypted s p b.seen b.notes b.readable
-    → peer_step s p a.seen a.notes.usim a.readable ≡ peer_step s p b.seen b.notes.usim b.readable
-turn_one laws s p a b seen notes first second =
-    let back : Decrypted s p a.seen a.notes b.readable =
-    subst (λ (x : Seen). Decrypted s p x a.notes b.readable) (sym seen) (subst (λ (n : Notes). Decrypted s p b.seen n b.readable) (sym notes) second) in
-    row_once laws.opening s p a.seen (peer_row p a.seen) a.notes.usim a.readable b.readable first back
-    ∙ ap (λ (x : Seen). peer_step s p x a.notes.usim b.readable) seen ∙ ap (λ (n : Notes). peer_step s p b.seen n.usim b.readable) notes
+turn_one : Laws → (s : Subscription) (keeps : Keeps) (p : Peer) (a b : Told) → a.seen ≡ b.seen → a.notes ≡ b.notes → Did s p a.seen a.notes a.inner → Did s p b.seen b.notes b.inner
+    → peer_step s keeps p a.seen a.notes.usim a.inner ≡ peer_step s keeps p b.seen b.notes.usim b.inner
+turn_one laws s keeps p a b seen notes first second =
+    let back : Did s p a.seen a.notes b.inner =
+    subst (λ (x : Seen). Did s p x a.notes b.inner) (sym seen) (subst (λ (n : Notes). Did s p b.seen n b.inner) (sym notes) second) in
+    row_once laws.walk laws.opening s keeps p a.seen (peer_row p a.seen) a.notes.usim a.inner b.inner first back
+    ∙ ap (λ (x : Seen). peer_step s keeps p x a.notes.usim b.inner) seen ∙ ap (λ (n : Notes). peer_step s keeps p b.seen n.usim b.inner) notes
 
 peer_one : Laws → (set : Setting) (before also_before : Before) (w : Net) (d : Delivery) (o : Option Subscription) (a b : Told)
     → AreReceived (received_by d.bytes o) a.seen → AreReceived (received_by d.bytes o) b.seen → TellsNotes a (came_at_peer w d a o) → TellsNotes b (came_at_peer w d b o)
     → IsUsimAsked set before (presented_at d a o) a → IsUsimAsked set also_before (presented_at d b o) b → told_came (came_at_peer w d a o) ≡ told_came (came_at_peer w d b o)
-    → AreOne (came_at_peer w d a o) (came_at_peer w d b o) (to_peer w d a o) (to_peer w d b o) (peer_finds d a o) (peer_finds d b o)
+    → AreOne (came_at_peer w d a o) (came_at_peer w d b o) (to_peer w d a o) (to_peer w d b o) (peer_finds w d a o) (peer_finds w d b o)
 peer_one laws set before also_before w d None a b first second tells also is was same = record { same = refl; leads = refl; finds = refl }
 peer_one laws set before also_before w d (Some device) a b first second tells also is was same =
     let seen = one_seen laws d.bytes a.seen b.seen first second in
     let notes : a.notes ≡ b.notes = tells ∙ ap notes_or same ∙ sym also in
-    let turn : peer_turn device d.session a ≡ peer_turn device d.session b = turn_one laws device d.session.peer a b seen notes is.readable was.readable in
+    let turn : peer_turn device keeps d.session a ≡ peer_turn device keeps d.session b = turn_one laws device keeps d.session.peer a b seen notes is.decrypts was.decrypts in
     record {
       same = ap (λ (t : Peer × Turn PeerWhy). Ok (by_peer w t.1.notes t.1.step (Some d.session.sub))) turn;
-      leads = ap (λ (t : Peer × Turn PeerWhy). with_peer w d.place d.session t.0 t.1.step) turn;
+      leads = ap (λ (t : Peer × Turn PeerWhy). led t a.seen) turn ∙ ap (led (peer_turn device keeps d.session b)) seen;
       finds = ap (λ (t : Peer × Turn PeerWhy). finding t) turn;
     }
   where
+    keeps : Keeps
+    keeps = keeps_at w d.session.device
+
+    -- the network after a turn, by what was received
+    led : Peer × Turn PeerWhy → Seen → Net
+    led t seen = record (with_peer w d.place d.session t.0 t.1.step) {
+      stores = slice_set w.stores d.session.device (kept_by (peer_row d.session.peer seen) d.session.peer keeps);
+    }
+
     finding : Peer × Turn PeerWhy → Option Finding
     finding t = Some (record { checked = t.1.checked; inputs = inputs_of_peer d.session.sub t.0; bytes = d.bytes; delivery = breach_at d end.Peer })
 

@@ -11,7 +11,7 @@ use Rattle.auc_world.specs.Came.{Came, came}
 use Rattle.auc_world.specs.Given.{Before, DrawGives, EventGives, JobGives, JobsGive, LineGives, PlainGives, RelayGives, VectorsFollow, behind, packet_of}
 use Rattle.auc_world.specs.Net.{Net, other}
 use Rattle.auc_world.specs.Setting.{Setting}
-use Rattle.auc_world.specs.Start.{start_of}
+use Rattle.auc_world.specs.Start.{Kept, kept_by_jobs, start_of}
 use Rattle.auc_world.specs.Told.{told, told_came, told_event, told_job, told_line, told_part, told_round}
 use Rattle.auc_world.specs.Transcript.{Course, Leads, beginning}
 use Rattle.auc_world.specs.declared.event.Event.{Event as Happens}
@@ -234,17 +234,17 @@ job_one laws set before also_before net last also_last (l ∷ job) xs ys (front,
     (cut ∙ ap (λ (ls : List LineRecord). ls ++ rest) one.lines_are ∙ ap (λ (ls : List LineRecord). also_front ++ ls) all.0 ∙ sym also_cut, all.1)
 
 -- the jobs of a round
-pub jobs_one : Laws → (set : Setting) (early also_early beside also_beside : List LineRecord) (jobs : List (List Line)) (xs ys : List (List LineRecord)) (nets also_nets : List Net)
-    → JobsGive set early beside jobs xs nets → JobsGive set also_early also_beside jobs ys also_nets → map told_job xs ≡ map told_job ys → (xs ≡ ys) × (nets ≡ also_nets)
-jobs_one laws set early also_early beside also_beside [] xs ys nets also_nets (none, is) (nothing, was) same = (none ∙ sym nothing, is ∙ sym was)
-jobs_one laws set early also_early beside also_beside (job ∷ jobs) [] ys nets also_nets gives gave same = absurd gives
-jobs_one laws set early also_early beside also_beside (job ∷ jobs) (x ∷ xs) ys [] also_nets gives gave same = absurd gives
-jobs_one laws set early also_early beside also_beside (job ∷ jobs) (x ∷ xs) [] (net ∷ nets) also_nets gives gave same = absurd gave
-jobs_one laws set early also_early beside also_beside (job ∷ jobs) (x ∷ xs) (y ∷ ys) (net ∷ nets) [] gives gave same = absurd gave
-jobs_one laws set early also_early beside also_beside (job ∷ jobs) (x ∷ xs) (y ∷ ys) (net ∷ nets) (also_net ∷ also_nets) (first, more) (also_first, also_more) same =
-    let one = job_one laws set (record { early = early; beside = beside; own = [] }) (record { early = also_early; beside = also_beside; own = [] }) (start_of set job) net also_net job x y first also_first
+pub jobs_one : Laws → (set : Setting) (early also_early : List LineRecord) (kept : List Kept) (beside also_beside : List LineRecord) (jobs : List (List Line)) (xs ys : List (List LineRecord)) (nets also_nets : List Net)
+    → JobsGive set early kept beside jobs xs nets → JobsGive set also_early kept also_beside jobs ys also_nets → map told_job xs ≡ map told_job ys → (xs ≡ ys) × (nets ≡ also_nets)
+jobs_one laws set early also_early kept beside also_beside [] xs ys nets also_nets (none, is) (nothing, was) same = (none ∙ sym nothing, is ∙ sym was)
+jobs_one laws set early also_early kept beside also_beside (job ∷ jobs) [] ys nets also_nets gives gave same = absurd gives
+jobs_one laws set early also_early kept beside also_beside (job ∷ jobs) (x ∷ xs) ys [] also_nets gives gave same = absurd gives
+jobs_one laws set early also_early kept beside also_beside (job ∷ jobs) (x ∷ xs) [] (net ∷ nets) also_nets gives gave same = absurd gave
+jobs_one laws set early also_early kept beside also_beside (job ∷ jobs) (x ∷ xs) (y ∷ ys) (net ∷ nets) [] gives gave same = absurd gave
+jobs_one laws set early also_early kept beside also_beside (job ∷ jobs) (x ∷ xs) (y ∷ ys) (net ∷ nets) (also_net ∷ also_nets) (first, more) (also_first, also_more) same =
+    let one = job_one laws set (record { early = early; beside = beside; own = [] }) (record { early = also_early; beside = also_beside; own = [] }) (start_of set kept job) net also_net job x y first also_first
     (heads (told_job x) (told_job y) (map told_job xs) (map told_job ys) same) in
-    let all = jobs_one laws set early also_early (beside ++ x) (also_beside ++ y) jobs xs ys nets also_nets more also_more (tails (told_job x) (told_job y) (map told_job xs) (map told_job ys) same) in
+    let all = jobs_one laws set early also_early kept (beside ++ x) (also_beside ++ y) jobs xs ys nets also_nets more also_more (tails (told_job x) (told_job y) (map told_job xs) (map told_job ys) same) in
     (conses x y xs ys one.0 all.0, conses net also_net nets also_nets one.1 all.1)
 
 -- ---- parts
@@ -263,25 +263,30 @@ rounds_told : (a b : RoundRecord) → record_of.Round a ≡ record_of.Round b �
 rounds_told a b e = cc
 
 parts_one : Laws → (set : Setting) (stop also_stop : Option Stop) (at also_at : Course) (parts : List Part) (xs ys : List PartRecord) (end also_end : Course)
-    → Leads set stop at parts xs end → Leads set also_stop also_at parts ys also_end → told xs ≡ told ys → xs ≡ ys
-parts_one laws set stop also_stop at also_at [] xs ys end also_end (none, is) (nothing, was) same = none ∙ sym nothing
-parts_one laws set stop also_stop at also_at (p ∷ parts) [] ys end also_end leads led same = absurd leads
-parts_one laws set stop also_stop at also_at (p ∷ parts) (x ∷ xs) [] end also_end leads led same = absurd led
-parts_one laws set stop also_stop at also_at (part.Round jobs ∷ parts) (record_of.Round a ∷ xs) (record_of.Round b ∷ ys) end also_end (next, serves, rest) (also_next, served, also_rest) same =
+    → at.kept ≡ also_at.kept → Leads set stop at parts xs end → Leads set also_stop also_at parts ys also_end → told xs ≡ told ys → xs ≡ ys
+parts_one laws set stop also_stop at also_at [] xs ys end also_end kept (none, is) (nothing, was) same = none ∙ sym nothing
+parts_one laws set stop also_stop at also_at (p ∷ parts) [] ys end also_end kept leads led same = absurd leads
+parts_one laws set stop also_stop at also_at (p ∷ parts) (x ∷ xs) [] end also_end kept leads led same = absurd led
+parts_one laws set stop also_stop at also_at (part.Round jobs ∷ parts) (record_of.Round a ∷ xs) (record_of.Round b ∷ ys) end also_end kept (next, serves, rest) (also_next, served, also_rest) same =
     let rounds = rounds_told (told_round a) (told_round b) (heads (told_part (record_of.Round a)) (told_part (record_of.Round b)) (told xs) (told ys) same) in
-    let jobs_are = jobs_one laws set at.early also_at.early [] [] jobs a.jobs b.jobs serves.lawful.nets served.lawful.nets serves.lawful.given served.lawful.given
+    let given = subst (λ (k : List Kept). JobsGive set also_at.early k [] jobs b.jobs served.lawful.nets) (sym kept) served.lawful.given in
+    let one = jobs_one laws set at.early also_at.early at.kept [] [] jobs a.jobs b.jobs serves.lawful.nets served.lawful.nets serves.lawful.given given
     (ap (λ (r : RoundRecord). r.jobs) rounds) in
-    conses (record_of.Round a) (record_of.Round b) xs ys (ap record_of.Round (round_one a b jobs_are.0 rounds))
-    (parts_one laws set stop also_stop next also_next parts xs ys end also_end rest also_rest (tails (told_part (record_of.Round a)) (told_part (record_of.Round b)) (told xs) (told ys) same))
-parts_one laws set stop also_stop at also_at (part.Round jobs ∷ parts) (record_of.Round a ∷ xs) (record_of.Restart ∷ ys) end also_end leads (also_next, served, also_rest) same = absurd served
-parts_one laws set stop also_stop at also_at (part.Round jobs ∷ parts) (record_of.Restart ∷ xs) (y ∷ ys) end also_end (next, serves, rest) led same = absurd serves
-parts_one laws set stop also_stop at also_at (part.Restart ∷ parts) (record_of.Round a ∷ xs) (y ∷ ys) end also_end (next, serves, rest) led same = absurd serves
-parts_one laws set stop also_stop at also_at (part.Restart ∷ parts) (record_of.Restart ∷ xs) (record_of.Round b ∷ ys) end also_end leads (also_next, served, also_rest) same = absurd served
-parts_one laws set stop also_stop at also_at (part.Restart ∷ parts) (record_of.Restart ∷ xs) (record_of.Restart ∷ ys) end also_end (next, serves, rest) (also_next, served, also_rest) same =
+    let later : next.kept ≡ also_next.kept =
+    ap (λ (c : Course). c.kept) serves.leads ∙ ap (λ (k : List Kept). kept_by_jobs k serves.lawful.nets) kept ∙ ap (kept_by_jobs also_at.kept) one.1
+    ∙ sym (ap (λ (c : Course). c.kept) served.leads) in
+    conses (record_of.Round a) (record_of.Round b) xs ys (ap record_of.Round (round_one a b one.0 rounds))
+    (parts_one laws set stop also_stop next also_next parts xs ys end also_end later rest also_rest (tails (told_part (record_of.Round a)) (told_part (record_of.Round b)) (told xs) (told ys) same))
+parts_one laws set stop also_stop at also_at (part.Round jobs ∷ parts) (record_of.Round a ∷ xs) (record_of.Restart ∷ ys) end also_end kept leads (also_next, served, also_rest) same = absurd served
+parts_one laws set stop also_stop at also_at (part.Round jobs ∷ parts) (record_of.Restart ∷ xs) (y ∷ ys) end also_end kept (next, serves, rest) led same = absurd serves
+parts_one laws set stop also_stop at also_at (part.Restart ∷ parts) (record_of.Round a ∷ xs) (y ∷ ys) end also_end kept (next, serves, rest) led same = absurd serves
+parts_one laws set stop also_stop at also_at (part.Restart ∷ parts) (record_of.Restart ∷ xs) (record_of.Round b ∷ ys) end also_end kept leads (also_next, served, also_rest) same = absurd served
+parts_one laws set stop also_stop at also_at (part.Restart ∷ parts) (record_of.Restart ∷ xs) (record_of.Restart ∷ ys) end also_end kept (next, serves, rest) (also_next, served, also_rest) same =
+    let later : next.kept ≡ also_next.kept = ap (λ (c : Course). c.kept) serves.leads ∙ kept ∙ sym (ap (λ (c : Course). c.kept) served.leads) in
     ap (λ (rs : List PartRecord). record_of.Restart ∷ rs)
-    (parts_one laws set stop also_stop next also_next parts xs ys end also_end rest also_rest (tails record_of.Restart record_of.Restart (told xs) (told ys) same))
+    (parts_one laws set stop also_stop next also_next parts xs ys end also_end later rest also_rest (tails record_of.Restart record_of.Restart (told xs) (told ys) same))
 
 -- the law
 pub each_told_transcript_is_one : Laws → EachToldTranscriptIsOne
 each_told_transcript_is_one laws set parts reserved others_reserved stop others_stop records others (end, leads) (also_end, led) same =
-    parts_one laws set stop others_stop (beginning set.rows reserved) (beginning set.rows others_reserved) parts records others end also_end leads led same
+    parts_one laws set stop others_stop (beginning set.rows reserved) (beginning set.rows others_reserved) parts records others end also_end refl leads led same

@@ -14,7 +14,7 @@ use Rattle.auc_server.specs.declared.why.ServerWhy.{ServerWhy}
 use Rattle.auc_vector.specs.declared.turn.Step.TheVariants as step
 use Rattle.auc_world.specs.Came.{Came, came, came_at_peer, came_at_server, came_delivered, came_given_up, came_in, came_opened, came_repeated, came_started, server_came_to_give_up, session_at}
 use Rattle.auc_world.specs.Happened.{Delivery, Told, at_place, delivered, delivery_at, delivery_of, give_up, happened, in_session, opened, peer_turn, repeat, sent_by, server_gives_up, server_turn, start, to_peer, to_server}
-use Rattle.auc_world.specs.Net.{Net, device_place, inputs_of_peer, inputs_of_server, packet_at, posted, session_place}
+use Rattle.auc_world.specs.Net.{Net, device_place, inputs_of_peer, inputs_of_server, keeps_at, packet_at, posted, session_place}
 use Rattle.auc_world.specs.Setting.{Setting}
 use Rattle.auc_world.specs.declared.event.Event.{Event}
 use Rattle.auc_world.specs.declared.event.Event.TheVariants as event
@@ -53,7 +53,7 @@ server_posts set w d told (Some s) =
 peer_posts : (w : Net) (d : Delivery) (told : Told) (o : Option Subscription) → Posts w (came_at_peer w d told o) (to_peer w d told o)
 peer_posts w d told None = still w (came_at_peer w d told None) refl
 peer_posts w d told (Some device) =
-    let turn = peer_turn device d.session told in
+    let turn = peer_turn device (keeps_at w d.session.device) d.session told in
     record { packets = bytes_posted w.packets end.Peer (inputs_of_peer d.session.sub turn.0) (sent_by turn.1.step); devices = refl }
 
 lost_posts : (set : Setting) (w : Net) (at' : End) (told : Told) (y : Option SentPacket) → Posts w (came_delivered set w at' told y None) (delivered set w at' told None)

@@ -32,7 +32,7 @@ use Rattle.auc_world.specs.Came.{AreReceived, Came, TellsNotes, bytes_named, cam
 use Rattle.auc_world.specs.Event.{device_in, usim_for, usim_in}
 use Rattle.auc_world.specs.Given.{Before, IsUsimAsked, UsimAnswers, UsimNotes, past_before}
 use Rattle.auc_world.specs.Happened.{Delivery, Told, delivery_at, delivery_of, peer_turn}
-use Rattle.auc_world.specs.Net.{Net, packet_at, session_place}
+use Rattle.auc_world.specs.Net.{Net, keeps_at, packet_at, session_place}
 use Rattle.auc_world.specs.Setting.{Setting}
 use Rattle.auc_world.specs.declared.event.Event.{Event}
 use Rattle.auc_world.specs.declared.event.Event.TheVariants as event
@@ -150,7 +150,7 @@ peer_handed set place w d told sub note None at' received tells is secret noted 
 peer_handed set place w d told sub note (Some device) at' received tells is secret noted = by (d.session.sub == sub) refl noted
   where
     notes : Option UsimNote
-    notes = (peer_turn device d.session told).1.notes.usim
+    notes = (peer_turn device (keeps_at w d.session.device) d.session told).1.notes.usim
 
     here : notes ≡ Some note → IsHanded set place d.session.sub d.bytes note
     here answered =

@@ -1,5 +1,6 @@
--- For plain sessions: a session that a line of its job opened, and in which nothing has happened, is ready for its plain line.
-use Rattle.std.proofs.Common.{◌≡◌, ℕ, zero, suc, ◌==◌, ◌||◌, nat_lt, Bool, true, false, List, [], ◌∷◌, ◌++◌, get_or, map, fold, flat_map, position, All, Contains, Option, Some, None, slice_get, refl, sym, ap, ◌∙◌, subst, arith}
+-- For plain sessions: a session that a line of its job opened, and in which nothing has happened, is ready for its plain
+-- line.
+use Rattle.std.proofs.Common.{◌≡◌, ℕ, zero, suc, ◌==◌, ◌||◌, ◌<◌, nat_lt, Bool, true, false, List, [], ◌∷◌, ◌++◌, length, get_or, map, fold, flat_map, position, All, Contains, Option, Some, None, slice_get, refl, sym, ap, ◌∙◌, subst, arith}
 use Rattle.std.specs.Prelude.{if◌then◌else◌}
 use Rattle.std.specs.List.{list_any}
 use Rattle.std.proofs.lemmas.Bool.{and_from, eq-eqb, eqb-true}
@@ -14,6 +15,7 @@ use Rattle.auc_lines.specs.declared.part.Line.{Line}
 use Rattle.auc_lines.specs.declared.part.Line.TheVariants as line
 use Rattle.auc_lines.specs.declared.part.SessionLine.{SessionLine}
 use Rattle.auc_peer.specs.Subscription.{Subscription}
+use Rattle.auc_reauth.specs.Device.{nothing_kept}
 use Rattle.auc_server.specs.Rows.{is_held}
 use Rattle.auc_server.specs.Setting.{Setting}
 use Rattle.auc_server.specs.declared.setting.HomeRow.{HomeRow}
@@ -22,9 +24,12 @@ use Rattle.auc_subs.specs.declared.row.Row.{Row}
 use Rattle.auc_world.specs.Came.{session_of}
 use Rattle.auc_world.specs.Net.{Net, device_place, place_with}
 use Rattle.auc_world.specs.Plain.{IsReady}
-use Rattle.auc_world.specs.Start.{home_of, subscription_at, subscription_by}
+use Rattle.auc_world.specs.Start.{Kept, home_of, subscription_at, subscription_by}
 use Rattle.auc_world.specs.declared.net.Session.{Session}
-use Rattle.auc_transcript.proofs.StayingLemmas.{AreNew, IsNew, found_has_number, none_passes}
+use Rattle.auc_transcript.specs.Completeness.{IsSuited}
+use Rattle.auc_transcript.proofs.FirstLemmas.{none_passes}
+use Rattle.auc_transcript.proofs.PseudonymLemmas.{HasPseudonyms}
+use Rattle.auc_transcript.proofs.StayingLemmas.{AreNew, IsNew, found_has_number}
 
 -- ---- the subscribers whose USIMs a job holds
 
@@ -76,9 +81,13 @@ session_is_held opening job (k, inside, at') =
     held_from opening [] job k (slice_get-get_or job k (line.Session opening) inside ∙ ap Some at')
 
 -- its network has a home of each
-home_is_held : (sub : ℕ) (subs : List ℕ) → is_held (map home_of subs) sub ≡ is_among sub subs
+home_is_held : (sub : ℕ) (homes : List HomeRow) → is_held homes sub ≡ is_among sub (map (λ (home : HomeRow). home.sub) homes)
 home_is_held sub [] = refl
-home_is_held sub (x ∷ subs) = ap (λ (b : Bool). (x == sub) || b) (home_is_held sub subs)
+home_is_held sub (home ∷ homes) = ap (λ (b : Bool). (home.sub == sub) || b) (home_is_held sub homes)
+
+pub homes_are_of : (kept : List Kept) (subs : List ℕ) → map (λ (home : HomeRow). home.sub) (map (home_of kept) subs) ≡ subs
+homes_are_of kept [] = refl
+homes_are_of kept (sub ∷ subs) = ap (λ (xs : List ℕ). sub ∷ xs) (homes_are_of kept subs)
 
 -- ---- devices
 
@@ -178,49 +187,70 @@ one_subscriber rows i j a b are here there same = by (nat_lt i j) refl (nat_lt j
 
 -- ---- readiness
 
--- a new session of a network that has the devices and the homes of some subscribers
-new_is_ready : (set : Setting) (net : Net) (subs : List ℕ) (number : ℕ) (s : Session) → AreSubscribers set.rows → net.devices ≡ flat_map (subscription_at set) subs
-    → net.homes ≡ map home_of subs → session_of net number ≡ Some s → IsNew set.rows net.devices s → IsReady set net number
-new_is_ready set net subs number s are devices homes found new = by (slice_get set.rows s.sub) refl new.placed
+-- a session that is ready is that of its line's subscriber
+pub record IsReadyFor (set : Setting) (net : Net) (opening : SessionLine) : Type 0 where
+  pub ready : IsReady set net opening.session
+  pub own : ready.own.sub ≡ opening.sub
+
+-- a network that has the devices and the homes of some subscribers
+pub record IsOfSubs (set : Setting) (subs : List ℕ) (net : Net) : Type 0 where
+  pub devices : net.devices ≡ flat_map (subscription_at set) subs
+  pub homes : map (λ home. home.sub) net.homes ≡ subs
+  pub pseudonyms : HasPseudonyms net
+
+-- a new session of such a network
+new_is_ready : (set : Setting) (net : Net) (subs : List ℕ) (opening : SessionLine) (s : Session) → AreSubscribers set.rows → IsSuited set.rows opening → IsOfSubs set subs net
+    → session_of net opening.session ≡ Some s → IsNew set.rows net.devices opening s → IsReadyFor set net opening
+new_is_ready set net subs opening s are suited of found new = by (slice_get set.rows s.sub) refl new.placed
   where
     with_card : (row : Row) → slice_get set.rows s.sub ≡ Some row → (d : Subscription) → slice_get net.devices s.device ≡ Some d → same_identity d.imsi row.imsi ≡ true
-        → IsCard set subs d → IsReady set net number
+        → IsCard set subs d → IsReadyFor set net opening
     with_card row there d at' same card =
         let one : card.sub ≡ s.sub = one_subscriber set.rows card.sub s.sub card.row row are card.there there (sym card.imsi ∙ same_is d.imsi row.imsi same) in
+        let sizes = of.pseudonyms.sizes in
+        let place = slice_get_within net.devices s.device d at' in
+        let inside : s.device < length net.stores = omega arith in
+        let keeps = get_or net.stores s.device nothing_kept in
         record {
-          own = s;
-          is = found;
-          opening = new.opening;
-          row = new.suited.row;
-          listed = ap (λ (x : Session). slice_get set.rows x.sub) new.is ∙ new.suited.known;
-          suits = new.suited.suits;
-          options = ap (λ (x : Session). x.options) new.is;
-          server = ap (λ (x : Session). x.server) new.is;
-          peer = ap (λ (x : Session). x.peer) new.is;
-          device = d;
-          there = at';
-          subscribed = ap (subscription_at set) (sym one) ∙ card.is;
-          held = ap (λ (l : List HomeRow). is_held l s.sub) homes ∙ home_is_held s.sub subs ∙ ap (λ (n : ℕ). is_among n subs) (sym one) ∙ card.held;
+          ready = record {
+            own = s;
+            is = found;
+            opening = opening;
+            row = suited.row;
+            listed = ap (λ (x : Session). slice_get set.rows x.sub) new.is ∙ suited.known;
+            suits = suited.suits;
+            options = ap (λ (x : Session). x.options) new.is;
+            server = ap (λ (x : Session). x.server) new.is;
+            peer = ap (λ (x : Session). x.peer) new.is;
+            device = d;
+            there = at';
+            subscribed = ap (subscription_at set) (sym one) ∙ card.is;
+            keeps = keeps;
+            stored = slice_get-get_or net.stores s.device nothing_kept inside;
+            pseudonym = of.pseudonyms.stores s.device nothing_kept inside opening.method;
+            held = home_is_held s.sub net.homes ∙ ap (is_among s.sub) of.homes ∙ ap (λ (n : ℕ). is_among n subs) (sym one) ∙ card.held;
+          };
+          own = ap (λ (x : Session). x.sub) new.is;
         }
 
-    placed : (row : Row) → slice_get set.rows s.sub ≡ Some row → position (λ d. same_identity d.imsi row.imsi) net.devices ≡ Some s.device → IsReady set net number
+    placed : (row : Row) → slice_get set.rows s.sub ≡ Some row → position (λ d. same_identity d.imsi row.imsi) net.devices ≡ Some s.device → IsReadyFor set net opening
     placed row there first =
         let d0 : Subscription = record { imsi = row.imsi; realm = set.realm; secret = row.secret } in
         let at' = position-Some (λ (d : Subscription). same_identity d.imsi row.imsi) net.devices s.device d0 first in
         let d = get_or net.devices s.device d0 in
         with_card row there d (slice_get-get_or net.devices s.device d0 at'.0) at'.1
-        (subst (All (IsCard set subs)) (sym devices) (cards set subs) s.device d0 at'.0)
+        (subst (All (IsCard set subs)) (sym of.devices) (cards set subs) s.device d0 at'.0)
 
-    by : (o : Option Row) → slice_get set.rows s.sub ≡ o → device_place set.rows net.devices s.sub ≡ Some s.device → IsReady set net number
+    by : (o : Option Row) → slice_get set.rows s.sub ≡ o → device_place set.rows net.devices s.sub ≡ Some s.device → IsReadyFor set net opening
     by None there first = let no = sym (ap (place_with net.devices) there) ∙ first in let bad : ⊥ = cc in absurd bad
     by (Some row) there first = placed row there (sym (ap (place_with net.devices) there) ∙ first)
 
 -- an open session of a number whose sessions are new is ready
-pub open_is_ready : (set : Setting) (net : Net) (subs : List ℕ) (number : ℕ) (s : Session) → AreSubscribers set.rows → net.devices ≡ flat_map (subscription_at set) subs
-    → net.homes ≡ map home_of subs → session_of net number ≡ Some s → AreNew set.rows net.devices number net.sessions → IsReady set net number
-open_is_ready set net subs number s are devices homes found new =
-    let (i, there, has) = found_has_number net number s found in
+pub open_is_ready : (set : Setting) (net : Net) (subs : List ℕ) (opening : SessionLine) (s : Session) → AreSubscribers set.rows → IsSuited set.rows opening → IsOfSubs set subs net
+    → session_of net opening.session ≡ Some s → AreNew set.rows net.devices opening net.sessions → IsReadyFor set net opening
+open_is_ready set net subs opening s are suited of found new =
+    let (i, there, has) = found_has_number net opening.session s found in
     let inside = slice_get_within net.sessions i s there in
     let is = get_or_from_slice_get net.sessions i s s there in
-    new_is_ready set net subs number s are devices homes found
-    (subst (λ (x : Session). IsNew set.rows net.devices x) is (new i s inside (ap (λ (x : Session). x.number == number) is ∙ has)))
+    new_is_ready set net subs opening s are suited of found
+    (subst (λ (x : Session). IsNew set.rows net.devices opening x) is (new i s inside (ap (λ (x : Session). x.number == opening.session) is ∙ has)))

@@ -18,6 +18,7 @@ use Rattle.auc_world.specs.declared.record.RoundRecord.{RoundRecord}
 use Rattle.auc_world.specs.Lines.{numbers_of, all_lines}
 use Rattle.auc_world.specs.Setting.{Setting}
 use Rattle.auc_world.specs.Limits.{Raises}
+use Rattle.auc_world.specs.Net.{Net}
 use Rattle.auc_world.specs.Transcript.{Course, Leads, beginning, after_round, after_restart}
 use Rattle.auc_transcript.specs.Headline.{EachTranscriptMayRestart}
 use Rattle.auc_transcript.proofs.CourseLemmas.{leads_more}
@@ -70,10 +71,10 @@ record IsKept (rows : List Row) (at : Course) : Type 0 where
   within : (sub : ℕ) → sub < length rows → get_or at.limits sub 0 ≤ max_seq
 
 -- it is so after a round
-kept_round : (set : Setting) (at : Course) (round : RoundRecord) (words : List ℕ) → length words ≡ length set.rows
+kept_round : (set : Setting) (at : Course) (round : RoundRecord) (words : List ℕ) (nets : List Net) → length words ≡ length set.rows
     → ((sub n : ℕ) → sub < length set.rows → 1 ≤ times n (numbers_of sub (all_lines round.jobs)) → (n ≤ get_or words sub 0) × (n ≤ max_seq))
-    → IsKept set.rows at → IsKept set.rows (after_round at round words)
-kept_round set at round words sizes here is = record {
+    → IsKept set.rows at → IsKept set.rows (after_round at round words nets)
+kept_round set at round words nets sizes here is = record {
   below = λ sub n inside some.
       let cut = times-numbers-append n sub at.early (all_lines round.jobs) in
       let greatest = get_or-greater words at.highs sub (omega (arith, sizes, inside)) in
@@ -94,14 +95,14 @@ parts_kept set stop at (Round jobs ∷ parts) (record_of.Round round ∷ records
     let more = subst (λ (c : Course). Leads set stop c parts records end) serves.leads rest in
     let many = length-map words (λ (word : ℕ). min word max_seq) in
     let same = serves.lawful.sizes in
-    let here = kept_round set at round words (omega (arith, same, sizes))
+    let here = kept_round set at round words serves.lawful.nets (omega (arith, same, sizes))
     (λ sub n inside some.
     let splits = serves.lawful.split sub (omega (arith, inside, sizes)) in
-    let served = round_served set at.early jobs round.jobs serves.lawful.nets serves.lawful.given in
+    let served = round_served set at.early at.kept jobs round.jobs serves.lawful.nets serves.lawful.given in
     let (up, down) = round_between sub (get_or at.openings sub 0) (get_or words sub 0) n round splits.once some in
     (down, All-times (λ m. m ≤ max_seq) n (numbers_of sub (all_lines round.jobs)) (numbers_within set sub at.early (all_lines round.jobs) served) some))
     is in
-    parts_kept set stop (after_round at round words) parts records end (omega (arith, many, same, sizes)) here more
+    parts_kept set stop (after_round at round words serves.lawful.nets) parts records end (omega (arith, many, same, sizes)) here more
 parts_kept set stop at (Round jobs ∷ parts) (record_of.Restart ∷ records) end sizes is (next, serves, rest) = absurd serves
 parts_kept set stop at (Restart ∷ parts) (record_of.Round round ∷ records) end sizes is (next, serves, rest) = absurd serves
 parts_kept set stop at (Restart ∷ parts) (record_of.Restart ∷ records) end sizes is (next, restarts, rest) =

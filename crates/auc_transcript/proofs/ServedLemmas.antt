@@ -24,7 +24,7 @@ use Rattle.auc_world.specs.declared.record.SyncVerdict.TheVariants as verdict
 use Rattle.auc_world.specs.Lines.{numbers_of, accepted, all_lines}
 use Rattle.auc_world.specs.Given.{Before, DrawGives, EventGives, PlainGives, RelayGives, VectorsFollow, is_released, packet_of, past_of, past_before, UsimAnswers, IsGiven, LineGives, behind, JobGives, JobsGive}
 use Rattle.auc_world.specs.Net.{Net, other}
-use Rattle.auc_world.specs.Start.{start_of}
+use Rattle.auc_world.specs.Start.{Kept, start_of}
 use Rattle.auc_world.specs.declared.event.Event.{Event as Happens}
 use Rattle.auc_world.specs.declared.event.Event.TheVariants as event
 use Rattle.auc_world.specs.Setting.{Setting}
@@ -168,22 +168,22 @@ job_served set place net last (l ∷ job) records (front, rest, next, cut, gives
     (served_then set place front rest (line_served set place net next l front gives) (job_served set (behind place front) next last job rest more))
 
 -- what the jobs of a round give
-pub jobs_served : (set : Setting) (early beside : List LineRecord) (jobs : List (List Line)) (records : List (List LineRecord)) (nets : List Net)
-    → JobsGive set early beside jobs records nets → AreServed set (early ++ beside) (all_lines records)
-jobs_served set early beside [] records nets (none, is) = subst (λ (rs : List (List LineRecord)). AreServed set (early ++ beside) (all_lines rs)) (sym none) tt
-jobs_served set early beside (job ∷ jobs) [] nets gives = absurd gives
-jobs_served set early beside (job ∷ jobs) (lines ∷ records) [] gives = absurd gives
-jobs_served set early beside (job ∷ jobs) (lines ∷ records) (net ∷ nets) (gives, more) =
-    let first = job_served set (record { early = early; beside = beside; own = [] }) (start_of set job) net job lines gives in
+pub jobs_served : (set : Setting) (early : List LineRecord) (kept : List Kept) (beside : List LineRecord) (jobs : List (List Line)) (records : List (List LineRecord)) (nets : List Net)
+    → JobsGive set early kept beside jobs records nets → AreServed set (early ++ beside) (all_lines records)
+jobs_served set early kept beside [] records nets (none, is) = subst (λ (rs : List (List LineRecord)). AreServed set (early ++ beside) (all_lines rs)) (sym none) tt
+jobs_served set early kept beside (job ∷ jobs) [] nets gives = absurd gives
+jobs_served set early kept beside (job ∷ jobs) (lines ∷ records) [] gives = absurd gives
+jobs_served set early kept beside (job ∷ jobs) (lines ∷ records) (net ∷ nets) (gives, more) =
+    let first = job_served set (record { early = early; beside = beside; own = [] }) (start_of set kept job) net job lines gives in
     AreServed-append set (early ++ beside) lines (all_lines records)
     (subst (λ (ls : List LineRecord). AreServed set ls lines) (append-nil (early ++ beside)) first)
-    (subst (λ (ls : List LineRecord). AreServed set ls (all_lines records)) (sym (append_assoc early beside lines)) (jobs_served set early (beside ++ lines) jobs records nets more))
+    (subst (λ (ls : List LineRecord). AreServed set ls (all_lines records)) (sym (append_assoc early beside lines)) (jobs_served set early kept (beside ++ lines) jobs records nets more))
 
 -- what a round has, after the lines of earlier rounds
-pub round_served : (set : Setting) (early : List LineRecord) (jobs : List (List Line)) (records : List (List LineRecord)) (nets : List Net)
-    → JobsGive set early [] jobs records nets → AreServed set early (all_lines records)
-round_served set early jobs records nets gives =
-    subst (λ (ls : List LineRecord). AreServed set ls (all_lines records)) (append-nil early) (jobs_served set early [] jobs records nets gives)
+pub round_served : (set : Setting) (early : List LineRecord) (kept : List Kept) (jobs : List (List Line)) (records : List (List LineRecord)) (nets : List Net)
+    → JobsGive set early kept [] jobs records nets → AreServed set early (all_lines records)
+round_served set early kept jobs records nets gives =
+    subst (λ (ls : List LineRecord). AreServed set ls (all_lines records)) (append-nil early) (jobs_served set early kept [] jobs records nets gives)
 
 -- what the parts of a lawful transcript have
 pub parts_served : (set : Setting) (stop : Option Stop) (at : Course) (parts : List Part) (records : List PartRecord) (end : Course)
@@ -192,8 +192,8 @@ parts_served set stop at [] records end (none, same) = subst (λ (rs : List Part
 parts_served set stop at (part ∷ parts) [] end leads = absurd leads
 parts_served set stop at (Round jobs ∷ parts) (record_of.Round round ∷ records) end (next, serves, rest) =
     let more = subst (λ (c : Course). Leads set stop c parts records end) serves.leads rest in
-    AreServed-append set at.early (all_lines round.jobs) (lines_of records) (round_served set at.early jobs round.jobs serves.lawful.nets serves.lawful.given)
-    (parts_served set stop (after_round at round serves.words) parts records end more)
+    AreServed-append set at.early (all_lines round.jobs) (lines_of records) (round_served set at.early at.kept jobs round.jobs serves.lawful.nets serves.lawful.given)
+    (parts_served set stop (after_round at round serves.words serves.lawful.nets) parts records end more)
 parts_served set stop at (Round jobs ∷ parts) (record_of.Restart ∷ records) end (next, serves, rest) = absurd serves
 parts_served set stop at (Restart ∷ parts) (record_of.Round round ∷ records) end (next, serves, rest) = absurd serves
 parts_served set stop at (Restart ∷ parts) (record_of.Restart ∷ records) end (next, restarts, rest) =

@@ -10,9 +10,9 @@ use Rattle.auc_history.specs.Split.{all_entries, times}
 use Rattle.auc_lines.specs.declared.part.Part.{Part}
 use Rattle.auc_packet.specs.Received.{OneReceived, Seen}
 use Rattle.auc_peer.specs.Asking.{answer_noted}
-use Rattle.auc_peer.specs.Attributes.{attrs_in, autn_of as autn_value, rand_of as rand_value}
+use Rattle.auc_peer.specs.Attributes.{attrs_in}
 use Rattle.auc_peer.specs.declared.peer.Challenge.{Challenge}
-use Rattle.auc_seal.specs.Encrypted.{first_value}
+use Rattle.auc_request.specs.Request.{autn_of as autn_value, first_value, rand_of as rand_value}
 use Rattle.auc_sqn.specs.Number.{max_seq, sqn_bytes}
 use Rattle.auc_sqn.specs.Past.{Past, verdict_of}
 use Rattle.auc_sqn.specs.declared.verdict.Verdict.{Verdict}

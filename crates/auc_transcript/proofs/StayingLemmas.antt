@@ -1,13 +1,9 @@
 -- For plain sessions: a session stays as it is through the events of other sessions, and one without an event stays new.
-use Rattle.std.proofs.Common.{◌≡◌, ◌≢◌, ◌⊎◌, ℕ, ◌<◌, ◌≤◌, ◌==◌, Bool, true, false, List, [], ◌∷◌, ◌++◌, length, get_or, position, All, Option, Some, None, slice_get, slice_set, cond, ltb, nat_lt, refl, sym, ap, ◌∙◌, subst, arith, inl, inr, ⊎_elim}
-use Rattle.std.proofs.lemmas.Bool.{cases_eq, eq-eqb, eqb-true, lt-ltb}
-use Rattle.std.proofs.lemmas.Bool.Decides.{nat_tests}
-use Rattle.std.proofs.lemmas.List.{get_or-set_other, get_or-set_same, get_or_append_left, get_or_push, length-set, length_push}
+use Rattle.std.proofs.Common.{◌≡◌, ◌≢◌, ◌⊎◌, ℕ, ◌==◌, Bool, true, false, List, [], ◌∷◌, length, map, All, Option, Some, None, slice_get, slice_set, refl, sym, ap, ◌∙◌, subst, inl, inr, ⊎_elim}
+use Rattle.std.proofs.lemmas.Bool.{eq-eqb, eqb-true}
 use Rattle.std.proofs.lemmas.List.Elements.{All-push, All-set}
 use Rattle.std.proofs.lemmas.List.Quantifiers.{position-Some}
-use Rattle.std.proofs.lemmas.List.Sums.{fails_before_first, position_or_len_is}
-use Rattle.std.proofs.lemmas.Option.{get_or_from_slice_get, slice_get-get_or, slice_get_within}
-use Rattle.std.specs.List.{position_or_len}
+use Rattle.std.proofs.lemmas.Option.{slice_get-get_or}
 use Rattle.auc_lines.specs.declared.part.End.{End}
 use Rattle.auc_lines.specs.declared.part.End.TheVariants as end
 use Rattle.auc_lines.specs.declared.part.Line.{Line}
@@ -23,6 +19,7 @@ use Rattle.auc_server.specs.Server.{ServerEnd, started}
 use Rattle.auc_server.specs.Setting.{Setting}
 use Rattle.auc_server.specs.Steps.{asking}
 use Rattle.auc_server.specs.Table.{gave_up as server_gave_up, repeated}
+use Rattle.auc_server.specs.declared.setting.HomeRow.{HomeRow}
 use Rattle.auc_server.specs.declared.why.ServerWhy.{ServerWhy}
 use Rattle.auc_subs.specs.declared.row.Row.{Row}
 use Rattle.auc_vector.specs.declared.turn.Step.{Step}
@@ -30,87 +27,16 @@ use Rattle.auc_vector.specs.declared.turn.Step.TheVariants as step
 use Rattle.auc_world.specs.Came.{session_at, session_of}
 use Rattle.auc_world.specs.Given.{Before, EventGives, LineGives, PlainGives, RelayGives, behind, packet_of}
 use Rattle.auc_world.specs.Happened.{Delivery, Told, at_place, delivered, delivery_at, delivery_of, give_up, happened, in_session, keys_won, moved, new_session, opened, peer_turn, released_by, repeat, server_gives_up, server_turn, start, to_peer, to_server, with_peer, with_server}
-use Rattle.auc_world.specs.Net.{Net, device_place, other, packet_at, session_place}
+use Rattle.auc_world.specs.Net.{Net, device_place, keeps_at, other as other_end, packet_at, session_place}
+use Rattle.auc_world.specs.World.{AreOfSame}
 use Rattle.auc_world.specs.declared.event.Event.{Event}
 use Rattle.auc_world.specs.declared.event.Event.TheVariants as event
 use Rattle.auc_world.specs.declared.net.SentPacket.{SentPacket}
 use Rattle.auc_world.specs.declared.net.Session.{Session}
 use Rattle.auc_world.specs.declared.record.LineRecord.{LineRecord}
-use Rattle.auc_transcript.specs.Completeness.{IsSuited, SuitsIfOpened, session_in, session_named}
-
--- ---- lists
-
--- the first place at which a test passes
-position_is : {X : Type 0} (p : X → Bool) (xs : List X) (i : ℕ) (x : X) → slice_get xs i ≡ Some x → p x ≡ true → ((k : ℕ) → k < i → p (get_or xs k x) ≡ false)
-    → position p xs ≡ Some i
-position_is p xs i x there passes before =
-    let within = slice_get_within xs i x there in
-    let first = position_or_len_is p xs i x (omega arith) before (λ h. ap p (get_or_from_slice_get xs i x x there) ∙ passes) in
-    ap (λ (k : ℕ). cond (ltb k (length xs)) (Some k) None) first ∙ ap (λ (b : Bool). cond b (Some i) None) (lt-ltb i (length xs) within)
-
--- there is none if no element passes
-pub none_passes : {X : Type 0} (p : X → Bool) (xs : List X) → position p xs ≡ None → (k : ℕ) (d : X) → k < length xs → p (get_or xs k d) ≡ false
-none_passes {X} p xs none = by (nat_lt (position_or_len p xs) (length xs)) refl none
-  where
-    by : (b : Bool) → nat_lt (position_or_len p xs) (length xs) ≡ b → ◌≡◌ {A = Option ℕ} (cond b (Some (position_or_len p xs)) None) None → (k : ℕ) (d : X) → k < length xs → p (get_or xs k d) ≡ false
-    by true is none = absurd cc
-    by false is none = λ k d inside. let long : length xs ≤ position_or_len p xs = grind (arith, nat_tests) in fails_before_first p xs k d (omega arith)
-
--- two elements at one place are one
-at_one_place : {X : Type 0} (xs : List X) (i j : ℕ) (x y : X) → slice_get xs i ≡ Some x → slice_get xs j ≡ Some y → i ≡ j → x ≡ y
-at_one_place xs i j x y there also same = cc
-
--- the first that passes a test stays it, if an element that fails the test becomes another one that fails it
-record StaysFirst {X : Type 0} (p : X → Bool) (xs : List X) (i : ℕ) (x : X) : Type 0 where
-  pub first : position p xs ≡ Some i
-  pub there : slice_get xs i ≡ Some x
-
-passes_first : {X : Type 0} (p : X → Bool) (xs : List X) (i : ℕ) (x : X) → StaysFirst p xs i x → p x ≡ true
-passes_first p xs i x is = ap p (sym (get_or_from_slice_get xs i x x is.there)) ∙ (position-Some p xs i x is.first).1
-
-first_after_set : {X : Type 0} (p : X → Bool) (xs : List X) (i j : ℕ) (x old new : X) → StaysFirst p xs i x → slice_get xs j ≡ Some old → p old ≡ false → p new ≡ false
-    → StaysFirst p (slice_set xs j new) i x
-first_after_set {X} p xs i j x old new is was fails still =
-    let passes = passes_first p xs i x is in
-    let apart : i ≢ j = λ same. let one = at_one_place xs i j x old is.there was same in let no : ⊥ = cc in no in
-    let long = length-set xs j new in
-    let within = slice_get_within xs i x is.there in
-    let beyond = slice_get_within xs j old was in
-    let there : slice_get (slice_set xs j new) i ≡ Some x =
-    slice_get-get_or (slice_set xs j new) i x (omega arith) ∙ ap Some (get_or-set_other xs j i new x apart ∙ get_or_from_slice_get xs i x x is.there) in
-    record {
-      first = position_is p (slice_set xs j new) i x there passes (λ k less.
-          ⊎_elim
-          (λ (same : k ≡ j). ap (λ (n : ℕ). p (get_or (slice_set xs j new) n x)) same ∙ ap p (get_or-set_same xs j new x beyond) ∙ still)
-          (λ (differ : k ≢ j). ap p (get_or-set_other xs j k new x differ) ∙ (position-Some p xs i x is.first).2 k less)
-          (cases_eq k j));
-      there = there;
-    }
-
--- and if an element is added
-first_after_push : {X : Type 0} (p : X → Bool) (xs : List X) (i : ℕ) (x new : X) → StaysFirst p xs i x → StaysFirst p (xs ++ new ∷ []) i x
-first_after_push p xs i x new is =
-    let within = slice_get_within xs i x is.there in
-    let long = length_push xs new in
-    let there : slice_get (xs ++ new ∷ []) i ≡ Some x =
-    slice_get-get_or (xs ++ new ∷ []) i x (omega arith) ∙ ap Some (get_or_append_left xs (new ∷ []) x i within ∙ get_or_from_slice_get xs i x x is.there) in
-    record {
-      first = position_is p (xs ++ new ∷ []) i x there (passes_first p xs i x is)
-          (λ k less. ap p (get_or_append_left xs (new ∷ []) x k (omega arith)) ∙ (position-Some p xs i x is.first).2 k less);
-      there = there;
-    }
-
--- the first element that passes a test is the one that is added
-pushed_is_first : {X : Type 0} (p : X → Bool) (xs : List X) (new : X) → position p xs ≡ None → p new ≡ true → StaysFirst p (xs ++ new ∷ []) (length xs) new
-pushed_is_first p xs new none passes =
-    let long = length_push xs new in
-    let there : slice_get (xs ++ new ∷ []) (length xs) ≡ Some new =
-    slice_get-get_or (xs ++ new ∷ []) (length xs) new (omega arith) ∙ ap Some (get_or_push xs new new (length xs) refl) in
-    record {
-      first = position_is p (xs ++ new ∷ []) (length xs) new there passes
-          (λ k less. ap p (get_or_append_left xs (new ∷ []) new k less) ∙ none_passes p xs none k new less);
-      there = there;
-    }
+use Rattle.auc_world.proofs.Facts.{turn_subs}
+use Rattle.auc_transcript.specs.Completeness.{session_in, session_named}
+use Rattle.auc_transcript.proofs.FirstLemmas.{StaysFirst, first_after_push, first_after_set, passes_first, pushed_is_first}
 
 -- ---- a session of a number
 
@@ -157,7 +83,7 @@ record IsTurn (xs ys : List Session) (number : ℕ) : Type 0 where
 record IsMove (w next : Net) (number : ℕ) : Type 0 where
   pub sessions : (next.sessions ≡ w.sessions) ⊎ IsTurn w.sessions next.sessions number
   pub devices : next.devices ≡ w.devices
-  pub homes : next.homes ≡ w.homes
+  pub homes : AreOfSame w.homes next.homes
 
 nothing_moves : (w : Net) (number : ℕ) → IsMove w w number
 nothing_moves w number = record { sessions = inl refl; devices = refl; homes = refl }
@@ -220,11 +146,14 @@ delivery_moves set w number at' told packet = by (session_place w.sessions numbe
     to_server_moves d None st = nothing_moves w number
     to_server_moves d (Some q) st =
         let turn = server_turn set w q told in
-        server_moves w number d.place d.session (released_by (asking (server_row set w.homes q told.seen)) turn.1.notes.number) turn.0 turn.1.step st
+        let m = server_moves w number d.place d.session (released_by (asking (server_row set w.homes q told.seen)) turn.1.notes.number) turn.0 turn.1.step st in
+        record { sessions = m.sessions; devices = m.devices; homes = turn_subs set w.homes q told.seen told.notes }
 
     to_peer_moves : (d : Delivery) (o : Option Subscription) → Stands w number d.place d.session → IsMove w (to_peer w d told o) number
     to_peer_moves d None st = nothing_moves w number
-    to_peer_moves d (Some device) st = let turn = peer_turn device d.session told in peer_moves w number d.place d.session turn.0 turn.1.step st
+    to_peer_moves d (Some device) st =
+        let turn = peer_turn device (keeps_at w d.session.device) d.session told in
+        let m = peer_moves w number d.place d.session turn.0 turn.1.step st in record { sessions = m.sessions; devices = m.devices; homes = m.homes }
 
     nowhere : (e : End) → IsMove w (delivered set w e told None) number
     nowhere e = nothing_moves w number
@@ -244,50 +173,59 @@ delivery_moves set w number at' told packet = by (session_place w.sessions numbe
 
 -- ---- sessions that stay
 
--- a session that a line opened at its subscriber's device, whose ends suit each other, and in which nothing has happened
-pub record IsNew (rows : List Row) (devices : List Subscription) (s : Session) : Type 0 where
-  pub opening : SessionLine
+-- a session that a line opened at its subscriber's device, and in which nothing has happened
+pub record IsNew (rows : List Row) (devices : List Subscription) (opening : SessionLine) (s : Session) : Type 0 where
   pub is : s ≡ new_session opening s.device
   pub placed : device_place rows devices s.sub ≡ Some s.device
-  pub suited : IsSuited rows opening
 
--- each session of a number is new
-abbrev pub AreNew : List Row → List Subscription → ℕ → List Session → Type 0
-AreNew rows devices number sessions = All (λ s. has_number number s ≡ true → IsNew rows devices s) sessions
+-- each session of the number that a line names is the one that this line opened
+abbrev pub AreNew : List Row → List Subscription → SessionLine → List Session → Type 0
+AreNew rows devices opening sessions = All (λ s. has_number opening.session s ≡ true → IsNew rows devices opening s) sessions
 
--- a session of a number stays as it is; and sessions of the number stay new, if those that are opened suit
-pub record Keeps (rows : List Row) (w next : Net) (number : ℕ) (Suits : Type 0) : Type 0 where
-  pub stays : (s : Session) → session_of w number ≡ Some s → session_of next number ≡ Some s
-  pub new : Suits → AreNew rows w.devices number w.sessions → AreNew rows next.devices number next.sessions
+-- a session of the number that a line names stays as it is; and sessions of the number stay such, if while there is none no
+-- other line opens one
+pub record Leaves (rows : List Row) (opening : SessionLine) (w next : Net) (Suits : Type 0) : Type 0 where
+  pub stays : (s : Session) → session_of w opening.session ≡ Some s → session_of next opening.session ≡ Some s
+  pub new : (session_of w opening.session ≡ None → Suits) → AreNew rows w.devices opening w.sessions → AreNew rows next.devices opening next.sessions
   pub devices : next.devices ≡ w.devices
-  pub homes : next.homes ≡ w.homes
+  pub homes : AreOfSame w.homes next.homes
 
-pub keeps_itself : (rows : List Row) (w next : Net) (number : ℕ) (Suits : Type 0) → next ≡ w → Keeps rows w next number Suits
-keeps_itself rows w next number Suits same = record {
-  stays = λ s found. ap (λ (n : Net). session_of n number) same ∙ found;
-  new = λ suits all. subst (λ (n : Net). AreNew rows n.devices number n.sessions) (sym same) all;
+pub leaves_itself : (rows : List Row) (opening : SessionLine) (w next : Net) (Suits : Type 0) → next ≡ w → Leaves rows opening w next Suits
+leaves_itself rows opening w next Suits same = record {
+  stays = λ s found. ap (λ (n : Net). session_of n opening.session) same ∙ found;
+  new = λ suits all. subst (λ (n : Net). AreNew rows n.devices opening n.sessions) (sym same) all;
   devices = ap (λ (n : Net). n.devices) same;
-  homes = ap (λ (n : Net). n.homes) same;
+  homes = ap (λ (n : Net). map (λ (home : HomeRow). home.sub) n.homes) same;
 }
 
-pub keeps_on : (rows : List Row) (w mid next : Net) (number : ℕ) (First Second Suits : Type 0) → (Suits → First) → (Suits → Second) → Keeps rows w mid number First
-    → Keeps rows mid next number Second → Keeps rows w next number Suits
-keeps_on rows w mid next number First Second Suits here there first second = record {
+-- there was none before
+none_before : (x y : Option Session) → ((s : Session) → x ≡ Some s → y ≡ Some s) → y ≡ None → x ≡ None
+none_before None y stays none = refl
+none_before (Some s) y stays none = let some = stays s refl in let no : ⊥ = cc in absurd no
+
+pub leaves_on : (rows : List Row) (opening : SessionLine) (w mid next : Net) (First Second Suits : Type 0) → (Suits → First) → (Suits → Second) → Leaves rows opening w mid First
+    → Leaves rows opening mid next Second → Leaves rows opening w next Suits
+leaves_on rows opening w mid next First Second Suits here there first second = record {
   stays = λ s found. second.stays s (first.stays s found);
-  new = λ suits all. second.new (there suits) (first.new (here suits) all);
+  new = λ suits all.
+      second.new (λ none. there (suits (none_before (session_of w opening.session) (session_of mid opening.session) first.stays none)))
+      (first.new (λ none. here (suits none)) all);
   devices = second.devices ∙ first.devices;
   homes = second.homes ∙ first.homes;
 }
 
 -- an event of another session
-another_keeps : (rows : List Row) (w next : Net) (number another : ℕ) → another ≢ number → IsMove w next another → Keeps rows w next number (Unit {0})
-another_keeps rows w next number another apart m = record {
+another_leaves : (rows : List Row) (opening : SessionLine) (w next : Net) (another : ℕ) → another ≢ opening.session → IsMove w next another → Leaves rows opening w next (Unit {0})
+another_leaves rows opening w next another apart m = record {
   stays = λ s found. ⊎_elim (same_stays s found) (turn_stays s found) m.sessions;
   new = λ suits all. ⊎_elim (same_new all) (turn_new all) m.sessions;
   devices = m.devices;
   homes = m.homes;
 }
   where
+    number : ℕ
+    number = opening.session
+
     fails : (t : IsTurn w.sessions next.sessions another) → has_number number t.new ≡ false
     fails t = ap (λ (n : ℕ). n == number) t.same ∙ differs t.old number another t.numbered apart
 
@@ -302,30 +240,38 @@ another_keeps rows w next number another apart m = record {
         first_found next number i s (subst (λ (l : List Session). StaysFirst (has_number number) l i s) (sym t.is)
         (first_after_set (has_number number) w.sessions i t.place s t.old t.new is t.there (differs t.old number another t.numbered apart) (fails t)))
 
-    same_new : AreNew rows w.devices number w.sessions → next.sessions ≡ w.sessions → AreNew rows next.devices number next.sessions
+    same_new : AreNew rows w.devices opening w.sessions → next.sessions ≡ w.sessions → AreNew rows next.devices opening next.sessions
     same_new all same =
-        subst (λ (l : List Session). AreNew rows next.devices number l) (sym same) (subst (λ (ds : List Subscription). AreNew rows ds number w.sessions) (sym m.devices) all)
+        subst (λ (l : List Session). AreNew rows next.devices opening l) (sym same) (subst (λ (ds : List Subscription). AreNew rows ds opening w.sessions) (sym m.devices) all)
 
-    turn_new : AreNew rows w.devices number w.sessions → IsTurn w.sessions next.sessions another → AreNew rows next.devices number next.sessions
+    turn_new : AreNew rows w.devices opening w.sessions → IsTurn w.sessions next.sessions another → AreNew rows next.devices opening next.sessions
     turn_new all t =
-        let P : Session → Type 0 = λ (s : Session). has_number number s ≡ true → IsNew rows next.devices s in
-        let before : All P w.sessions = subst (λ (ds : List Subscription). AreNew rows ds number w.sessions) (sym m.devices) all in
+        let P : Session → Type 0 = λ (s : Session). has_number number s ≡ true → IsNew rows next.devices opening s in
+        let before : All P w.sessions = subst (λ (ds : List Subscription). AreNew rows ds opening w.sessions) (sym m.devices) all in
         let own : P t.new = λ has. let fail = fails t in let no : ⊥ = cc in absurd no in
         subst (All P) (sym t.is) (All-set P w.sessions t.place t.new own before)
 
+-- a line that opens a session under the number is the one
+abbrev pub IsTheOne : SessionLine → SessionLine → Type 0
+IsTheOne opening other = other.session ≡ opening.session → other ≡ opening
+
 -- a session that is opened: one of its number stays the first, and if there was none it is new
-opening_keeps : (rows : List Row) (w : Net) (opening : SessionLine) (number : ℕ) (first place : Option ℕ) → session_place w.sessions opening.session ≡ first
-    → device_place rows w.devices opening.sub ≡ place → Keeps rows w (opened w opening first place) number (opening.session ≡ number → IsSuited rows opening)
-opening_keeps rows w opening number (Some one) place found placed = keeps_itself rows w w number (opening.session ≡ number → IsSuited rows opening) refl
-opening_keeps rows w opening number None None found placed = keeps_itself rows w w number (opening.session ≡ number → IsSuited rows opening) refl
-opening_keeps rows w opening number None (Some place) found placed =
-    let own : Session = new_session opening place in
-    let next : Net = opened w opening None (Some place) in
+opening_leaves : (rows : List Row) (opening : SessionLine) (w : Net) (other : SessionLine) (first place : Option ℕ) → session_place w.sessions other.session ≡ first
+    → device_place rows w.devices other.sub ≡ place → Leaves rows opening w (opened w other first place) (IsTheOne opening other)
+opening_leaves rows opening w other (Some one) place found placed = leaves_itself rows opening w w (IsTheOne opening other) refl
+opening_leaves rows opening w other None None found placed = leaves_itself rows opening w w (IsTheOne opening other) refl
+opening_leaves rows opening w other None (Some place) found placed =
+    let own : Session = new_session other place in
+    let number = opening.session in
+    let next : Net = opened w other None (Some place) in
     record {
       stays = λ s is. let (i, first) = found_first w number s is in first_found next number i s (first_after_push (has_number number) w.sessions i s own first);
       new = λ suits all.
-          All-push (λ (s : Session). has_number number s ≡ true → IsNew rows w.devices s) w.sessions own all
-          (λ has. record { opening = opening; is = refl; placed = placed; suited = suits (eqb-true opening.session number has) });
+          All-push (λ (s : Session). has_number number s ≡ true → IsNew rows w.devices opening s) w.sessions own all
+          (λ has.
+          let same = eqb-true other.session number has in
+          let none = ap (session_at w) (ap (session_place w.sessions) (sym same) ∙ found) in
+          record { is = ap (λ (o : SessionLine). new_session o place) (suits none same); placed = placed });
       devices = refl;
       homes = refl;
     }
@@ -337,73 +283,92 @@ abbrev IsBeside : ℕ → Event → Type 0
 IsBeside number (event.Open opening) = Unit {0}
 IsBeside number e = session_in e ≢ number
 
--- the ends of a session suit each other, if an event opens it under a number
-abbrev SuitsIn : List Row → ℕ → Event → Type 0
-SuitsIn rows number (event.Open opening) = opening.session ≡ number → IsSuited rows opening
-SuitsIn rows number (event.Start session) = Unit {0}
-SuitsIn rows number (event.Deliver session at' packet) = Unit {0}
-SuitsIn rows number (event.Repeat session) = Unit {0}
-SuitsIn rows number (event.GiveUp session at') = Unit {0}
+-- an event that opens a session under the number of a line is by this line
+abbrev SuitsIn : SessionLine → Event → Type 0
+SuitsIn opening (event.Open other) = IsTheOne opening other
+SuitsIn opening (event.Start session) = Unit {0}
+SuitsIn opening (event.Deliver session at' packet) = Unit {0}
+SuitsIn opening (event.Repeat session) = Unit {0}
+SuitsIn opening (event.GiveUp session at') = Unit {0}
 
 -- what changes sessions, devices and homes alike
-rebroken : (rows : List Row) (set : Setting) (w : Net) (e : Event) (told : Told) (number : ℕ) (Suits : Type 0) → Keeps rows w (moved set w e told) number Suits
-    → Keeps rows w (happened set w e told) number Suits
-rebroken rows set w e told number Suits k = record { stays = k.stays; new = k.new; devices = k.devices; homes = k.homes }
+rebroken : (rows : List Row) (opening : SessionLine) (set : Setting) (w : Net) (e : Event) (told : Told) (Suits : Type 0) → Leaves rows opening w (moved set w e told) Suits
+    → Leaves rows opening w (happened set w e told) Suits
+rebroken rows opening set w e told Suits k = record { stays = k.stays; new = k.new; devices = k.devices; homes = k.homes }
 
-pub event_keeps : (set : Setting) (w : Net) (e : Event) (told : Told) (number : ℕ) → IsBeside number e → Keeps set.rows w (happened set w e told) number (SuitsIn set.rows number e)
-event_keeps set w (event.Open opening) told number beside =
-    rebroken set.rows set w (event.Open opening) told number (SuitsIn set.rows number (event.Open opening))
-    (opening_keeps set.rows w opening number (session_place w.sessions opening.session) (device_place set.rows w.devices opening.sub) refl refl)
-event_keeps set w (event.Start session) told number beside =
-    rebroken set.rows set w (event.Start session) told number (Unit {0})
-    (another_keeps set.rows w _ number session beside (at_moves w session (λ place s. start w place s s.server) (λ place s st. start_moves w session place s s.server st)))
-event_keeps set w (event.Deliver session at' packet) told number beside =
-    rebroken set.rows set w (event.Deliver session at' packet) told number (Unit {0}) (another_keeps set.rows w _ number session beside (delivery_moves set w session at' told packet))
-event_keeps set w (event.Repeat session) told number beside =
-    rebroken set.rows set w (event.Repeat session) told number (Unit {0})
-    (another_keeps set.rows w _ number session beside (at_moves w session (λ place s. repeat w place s s.server) (λ place s st. repeat_moves w session place s s.server st)))
-event_keeps set w (event.GiveUp session at') told number beside =
-    rebroken set.rows set w (event.GiveUp session at') told number (Unit {0})
-    (another_keeps set.rows w _ number session beside (at_moves w session (give_up w at') (λ place s st. over_moves w session at' place s st)))
+pub event_leaves : (set : Setting) (opening : SessionLine) (w : Net) (e : Event) (told : Told) → IsBeside opening.session e
+    → Leaves set.rows opening w (happened set w e told) (SuitsIn opening e)
+event_leaves set opening w (event.Open other) told beside =
+    rebroken set.rows opening set w (event.Open other) told (SuitsIn opening (event.Open other))
+    (opening_leaves set.rows opening w other (session_place w.sessions other.session) (device_place set.rows w.devices other.sub) refl refl)
+event_leaves set opening w (event.Start session) told beside =
+    rebroken set.rows opening set w (event.Start session) told (Unit {0})
+    (another_leaves set.rows opening w _ session beside (at_moves w session (λ place s. start w place s s.server) (λ place s st. start_moves w session place s s.server st)))
+event_leaves set opening w (event.Deliver session at' packet) told beside =
+    rebroken set.rows opening set w (event.Deliver session at' packet) told (Unit {0})
+    (another_leaves set.rows opening w _ session beside (delivery_moves set w session at' told packet))
+event_leaves set opening w (event.Repeat session) told beside =
+    rebroken set.rows opening set w (event.Repeat session) told (Unit {0})
+    (another_leaves set.rows opening w _ session beside (at_moves w session (λ place s. repeat w place s s.server) (λ place s st. repeat_moves w session place s s.server st)))
+event_leaves set opening w (event.GiveUp session at') told beside =
+    rebroken set.rows opening set w (event.GiveUp session at') told (Unit {0})
+    (another_leaves set.rows opening w _ session beside (at_moves w session (give_up w at') (λ place s st. over_moves w session at' place s st)))
 
-gives_keeps : (set : Setting) (before : Before) (w next : Net) (e : Event) (lines : List LineRecord) (number : ℕ) → IsBeside number e → EventGives set before w e lines next
-    → Keeps set.rows w next number (SuitsIn set.rows number e)
-gives_keeps set before w next e lines number beside gives =
-    subst (λ (n : Net). Keeps set.rows w n number (SuitsIn set.rows number e)) (sym gives.leads) (event_keeps set w e gives.told number beside)
+gives_leaves : (set : Setting) (opening : SessionLine) (before : Before) (w next : Net) (e : Event) (lines : List LineRecord) → IsBeside opening.session e
+    → EventGives set before w e lines next → Leaves set.rows opening w next (SuitsIn opening e)
+gives_leaves set opening before w next e lines beside gives =
+    subst (λ (n : Net). Leaves set.rows opening w n (SuitsIn opening e)) (sym gives.leads) (event_leaves set opening w e gives.told beside)
 
-relay_keeps : (set : Setting) (before : Before) (w next : Net) (session number : ℕ) (at' : End) (o : Option ℕ) (lines : List LineRecord) → session ≢ number
-    → RelayGives set before w session at' o lines next → Keeps set.rows w next number (Unit {0})
-relay_keeps set before w next session number at' None [] apart gives = keeps_itself set.rows w next number (Unit {0}) gives
-relay_keeps set before w next session number at' None (l ∷ lines) apart gives = absurd gives
-relay_keeps set before w next session number at' (Some packet) [] apart gives = absurd gives
-relay_keeps set before w next session number at' (Some packet) (l ∷ lines) apart (mid, first, more) =
-    keeps_on set.rows w mid next number (Unit {0}) (Unit {0}) (Unit {0}) (λ s. s) (λ s. s) (gives_keeps set before w mid (event.Deliver session at' packet) (l ∷ []) number apart first)
-    (relay_keeps set (behind before (l ∷ [])) mid next session number (other at') (packet_of l) lines apart more)
+relay_leaves : (set : Setting) (opening : SessionLine) (before : Before) (w next : Net) (session : ℕ) (at' : End) (o : Option ℕ) (lines : List LineRecord) → session ≢ opening.session
+    → RelayGives set before w session at' o lines next → Leaves set.rows opening w next (Unit {0})
+relay_leaves set opening before w next session at' None [] apart gives = leaves_itself set.rows opening w next (Unit {0}) gives
+relay_leaves set opening before w next session at' None (l ∷ lines) apart gives = absurd gives
+relay_leaves set opening before w next session at' (Some packet) [] apart gives = absurd gives
+relay_leaves set opening before w next session at' (Some packet) (l ∷ lines) apart (mid, first, more) =
+    leaves_on set.rows opening w mid next (Unit {0}) (Unit {0}) (Unit {0}) (λ s. s) (λ s. s)
+    (gives_leaves set opening before w mid (event.Deliver session at' packet) (l ∷ []) apart first)
+    (relay_leaves set opening (behind before (l ∷ [])) mid next session (other_end at') (packet_of l) lines apart more)
 
-plain_keeps : (set : Setting) (before : Before) (w next : Net) (session number : ℕ) (lines : List LineRecord) → session ≢ number → PlainGives set before w session lines next
-    → Keeps set.rows w next number (Unit {0})
-plain_keeps set before w next session number [] apart gives = absurd gives
-plain_keeps set before w next session number (l ∷ lines) apart (mid, first, more) =
-    keeps_on set.rows w mid next number (Unit {0}) (Unit {0}) (Unit {0}) (λ s. s) (λ s. s) (gives_keeps set before w mid (event.Start session) (l ∷ []) number apart first)
-    (relay_keeps set (behind before (l ∷ [])) mid next session number end.Peer (packet_of l) lines apart more)
+plain_leaves : (set : Setting) (opening : SessionLine) (before : Before) (w next : Net) (session : ℕ) (lines : List LineRecord) → session ≢ opening.session
+    → PlainGives set before w session lines next → Leaves set.rows opening w next (Unit {0})
+plain_leaves set opening before w next session [] apart gives = absurd gives
+plain_leaves set opening before w next session (l ∷ lines) apart (mid, first, more) =
+    leaves_on set.rows opening w mid next (Unit {0}) (Unit {0}) (Unit {0}) (λ s. s) (λ s. s)
+    (gives_leaves set opening before w mid (event.Start session) (l ∷ []) apart first)
+    (relay_leaves set opening (behind before (l ∷ [])) mid next session end.Peer (packet_of l) lines apart more)
 
 named_apart : (session number : ℕ) → ◌≢◌ {A = Option ℕ} (Some session) (Some number) → session ≢ number
 named_apart session number apart same = apart (ap Some same)
 
+-- a line that opens a session under the number of another one is this one
+abbrev pub SuitsAt : SessionLine → Line → Type 0
+SuitsAt opening (line.Draw sub count) = Unit {0}
+SuitsAt opening (line.Sync sub seq bit count) = Unit {0}
+SuitsAt opening (line.Give sub n) = Unit {0}
+SuitsAt opening (line.Session other) = IsTheOne opening other
+SuitsAt opening (line.Start session) = Unit {0}
+SuitsAt opening (line.Deliver session at' packet) = Unit {0}
+SuitsAt opening (line.Repeat session) = Unit {0}
+SuitsAt opening (line.GiveUp session at') = Unit {0}
+SuitsAt opening (line.Plain session) = Unit {0}
+
 -- a line that is of no event in the session
-pub line_keeps : (set : Setting) (before : Before) (w next : Net) (l : Line) (lines : List LineRecord) (number : ℕ) → session_named l ≢ Some number → LineGives set before w l lines next
-    → Keeps set.rows w next number (SuitsIfOpened set.rows number l)
-line_keeps set before w next (line.Draw sub count) lines number apart (gives, same) = keeps_itself set.rows w next number (Unit {0}) same
-line_keeps set before w next (line.Sync sub seq bit count) lines number apart (gives, same) = keeps_itself set.rows w next number (Unit {0}) same
-line_keeps set before w next (line.Give sub n) lines number apart (gives, same) = keeps_itself set.rows w next number (Unit {0}) same
-line_keeps set before w next (line.Session opening) lines number apart gives = gives_keeps set before w next (event.Open opening) lines number tt gives
-line_keeps set before w next (line.Start session) lines number apart gives = gives_keeps set before w next (event.Start session) lines number (named_apart session number apart) gives
-line_keeps set before w next (line.Deliver session at' packet) lines number apart gives =
-    gives_keeps set before w next (event.Deliver session at' packet) lines number (named_apart session number apart) gives
-line_keeps set before w next (line.Repeat session) lines number apart gives = gives_keeps set before w next (event.Repeat session) lines number (named_apart session number apart) gives
-line_keeps set before w next (line.GiveUp session at') lines number apart gives =
-    gives_keeps set before w next (event.GiveUp session at') lines number (named_apart session number apart) gives
-line_keeps set before w next (line.Plain session) lines number apart gives = plain_keeps set before w next session number lines (named_apart session number apart) gives
+pub line_leaves : (set : Setting) (opening : SessionLine) (before : Before) (w next : Net) (l : Line) (lines : List LineRecord) → session_named l ≢ Some opening.session
+    → LineGives set before w l lines next → Leaves set.rows opening w next (SuitsAt opening l)
+line_leaves set opening before w next (line.Draw sub count) lines apart (gives, same) = leaves_itself set.rows opening w next (Unit {0}) same
+line_leaves set opening before w next (line.Sync sub seq bit count) lines apart (gives, same) = leaves_itself set.rows opening w next (Unit {0}) same
+line_leaves set opening before w next (line.Give sub n) lines apart (gives, same) = leaves_itself set.rows opening w next (Unit {0}) same
+line_leaves set opening before w next (line.Session other) lines apart gives = gives_leaves set opening before w next (event.Open other) lines tt gives
+line_leaves set opening before w next (line.Start session) lines apart gives =
+    gives_leaves set opening before w next (event.Start session) lines (named_apart session opening.session apart) gives
+line_leaves set opening before w next (line.Deliver session at' packet) lines apart gives =
+    gives_leaves set opening before w next (event.Deliver session at' packet) lines (named_apart session opening.session apart) gives
+line_leaves set opening before w next (line.Repeat session) lines apart gives =
+    gives_leaves set opening before w next (event.Repeat session) lines (named_apart session opening.session apart) gives
+line_leaves set opening before w next (line.GiveUp session at') lines apart gives =
+    gives_leaves set opening before w next (event.GiveUp session at') lines (named_apart session opening.session apart) gives
+line_leaves set opening before w next (line.Plain session) lines apart gives =
+    plain_leaves set opening before w next session lines (named_apart session opening.session apart) gives
 
 -- a line that opens a session, for a subscriber whose device there is
 pub opens : (set : Setting) (before : Before) (w next : Net) (opening : SessionLine) (place : ℕ) (lines : List LineRecord) → device_place set.rows w.devices opening.sub ≡ Some place

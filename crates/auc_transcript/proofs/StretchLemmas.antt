@@ -22,6 +22,7 @@ use Rattle.auc_world.specs.Lines.{numbers_of, all_lines}
 use Rattle.auc_world.specs.Setting.{Setting}
 use Rattle.auc_world.specs.Limits.{opened}
 use Rattle.auc_world.specs.Round.{IsLawfulRound}
+use Rattle.auc_world.specs.Start.{Kept}
 use Rattle.auc_world.specs.Transcript.{Course, Leads, after_round, after_restart, reopened, stop_before, lines_of, entries_of, before_first, stretches_of}
 use Rattle.auc_transcript.proofs.LineLemmas.{All-times, times-numbers-append}
 use Rattle.auc_world.proofs.Facts.{length-opened, opened_above}
@@ -91,16 +92,16 @@ round_goes_on sub opening closing next early round (entries ∷ more) again forw
 )
 
 -- the later stretches of a transcript draw greater numbers than a round draws, since it released these
-above_round : (set : Setting) (sub opening : ℕ) (early : List LineRecord) (jobs : List (List Line)) (openings words : List ℕ) (stop : Option Stop) (round : RoundRecord)
-    (records : List PartRecord) → IsLawfulRound set (stop_before stop records) early openings jobs round words
+above_round : (set : Setting) (sub opening : ℕ) (early : List LineRecord) (kept : List Kept) (jobs : List (List Line)) (openings words : List ℕ) (stop : Option Stop) (round : RoundRecord)
+    (records : List PartRecord) → IsLawfulRound set (stop_before stop records) early kept openings jobs round words
     → (stretches : List (List Entry)) → stretches ≡ stretches_of sub records → GoOn opening (numbers_of sub (early ++ all_lines round.jobs)) stretches
     → AreAbove (drawn (entries_of sub round)) (later_ones stretches)
-above_round set sub opening early jobs openings words stop round [] lawful stretches same go =
+above_round set sub opening early kept jobs openings words stop round [] lawful stretches same go =
     subst (λ (ss : List (List Entry)). AreAbove (drawn (entries_of sub round)) (later_ones ss)) (sym same) (none_above (drawn (entries_of sub round)))
-above_round set sub opening early jobs openings words stop round (next ∷ records) lawful [] same go = absurd go
-above_round set sub opening early jobs openings words stop round (next ∷ records) lawful (entries ∷ more) same ((high, covers), above, others, are) = record {
+above_round set sub opening early kept jobs openings words stop round (next ∷ records) lawful [] same go = absurd go
+above_round set sub opening early kept jobs openings words stop round (next ∷ records) lawful (entries ∷ more) same ((high, covers), above, others, are) = record {
   above = λ m n low within some there.
-      let told = round_told set m sub early round low (round_served set early jobs round.jobs lawful.nets lawful.given) in
+      let told = round_told set m sub early round low (round_served set early kept jobs round.jobs lawful.nets lawful.given) in
       let none = ap (times m) (lawful.withheld sub) in
       let cut = times-numbers-append m sub early (all_lines round.jobs) in
       above.above m n low within (omega (arith, told, none, cut, some)) there;
@@ -149,11 +150,11 @@ parts_go_on set stop sub at (Round jobs ∷ parts) (record_of.Round round ∷ re
     let more = subst (λ (c : Course). Leads set stop c parts records end) serves.leads rest in
     let kept = length-map words (λ (word : ℕ). min word max_seq) in
     let same = serves.lawful.sizes in
-    let go = parts_go_on set stop sub (after_round at round words) parts records end inside (omega (arith, kept, same, sizes)) more in
+    let go = parts_go_on set stop sub (after_round at round words serves.lawful.nets) parts records end inside (omega (arith, kept, same, sizes)) more in
     let splits = serves.lawful.split sub (omega (arith, inside, sizes)) in
     round_goes_on sub (get_or at.openings sub 0) (get_or words sub 0) (get_or (reopened words) sub 0) at.early round (stretches_of sub records)
     (get_or-reopened words sub) splits.forward splits.once
-    (above_round set sub (get_or (reopened words) sub 0) at.early jobs at.openings words stop round records serves.lawful (stretches_of sub records) refl go) go
+    (above_round set sub (get_or (reopened words) sub 0) at.early at.kept jobs at.openings words stop round records serves.lawful (stretches_of sub records) refl go) go
 parts_go_on set stop sub at (Round jobs ∷ parts) (record_of.Restart ∷ records) end inside sizes (next, serves, rest) = absurd serves
 parts_go_on set stop sub at (Restart ∷ parts) (record_of.Round round ∷ records) end inside sizes (next, serves, rest) = absurd serves
 parts_go_on set stop sub at (Restart ∷ parts) (record_of.Restart ∷ records) end inside sizes (next, restarts, rest) =

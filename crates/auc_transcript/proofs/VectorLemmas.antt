@@ -150,9 +150,9 @@ parts_apart set stop sub at (Round jobs ∷ parts) (record_of.Round round ∷ re
     let kept = length-map words (λ (word : ℕ). min word max_seq) in
     let same = serves.lawful.sizes in
     let splits = serves.lawful.split sub (omega (arith, inside, sizes)) in
-    let within = numbers_within set sub at.early (all_lines round.jobs) (round_served set at.early jobs round.jobs serves.lawful.nets serves.lawful.given) in
+    let within = numbers_within set sub at.early (all_lines round.jobs) (round_served set at.early at.kept jobs round.jobs serves.lawful.nets serves.lawful.given) in
     let here = apart_round sub (get_or at.openings sub 0) (get_or words sub 0) (get_or (reopened words) sub 0) at.early round (get_or-reopened words sub) splits.forward splits.once within are in
-    let further = parts_apart set stop sub (after_round at round words) parts records end inside (omega (arith, kept, same, sizes)) here more n in
+    let further = parts_apart set stop sub (after_round at round words serves.lawful.nets) parts records end inside (omega (arith, kept, same, sizes)) here more n in
     subst (λ (ls : List LineRecord). times n (numbers_of sub ls) ≤ 1) (append_assoc at.early (all_lines round.jobs) (lines_of records)) further
 parts_apart set stop sub at (Round jobs ∷ parts) (record_of.Restart ∷ records) end inside sizes are (next, serves, rest) n = absurd serves
 parts_apart set stop sub at (Restart ∷ parts) (record_of.Round round ∷ records) end inside sizes are (next, serves, rest) n = absurd serves

@@ -26,7 +26,7 @@ use Rattle.auc_world.specs.Happened.{Told, happened}
 use Rattle.auc_world.specs.Lines.{all_lines}
 use Rattle.auc_world.specs.Net.{Net, other, place_with}
 use Rattle.auc_world.specs.Setting.{Setting}
-use Rattle.auc_world.specs.Start.{start_of, subscription_at, subscription_by}
+use Rattle.auc_world.specs.Start.{Kept, start_of, subscription_at, subscription_by}
 use Rattle.auc_world.specs.Transcript.{Course, Leads, after_restart, after_round, lines_of}
 use Rattle.auc_world.specs.declared.event.Event.{Event as Happens}
 use Rattle.auc_world.specs.declared.event.Event.TheVariants as event
@@ -91,8 +91,8 @@ one_row rows i j a b are there also same =
     ]
 
 -- the devices with which a job begins have their subscribers' secrets
-job_has_secrets : (set : Setting) (job : List Line) → AreSubscribers set.rows → HaveSecrets set (start_of set job).devices
-job_has_secrets set job are sub place device row found there known =
+job_has_secrets : (set : Setting) (kept : List Kept) (job : List Line) → AreSubscribers set.rows → HaveSecrets set (start_of set kept job).devices
+job_has_secrets set kept job are sub place device row found there known =
     let devices = flat_map (subscription_at set) (held_subs job) in
     let at' = ap (place_with devices) (sym known) ∙ found in
     let (inside, same, first) = position-Some (λ (d : Subscription). same_identity d.imsi row.imsi) devices place device at' in
@@ -113,8 +113,9 @@ pub record IsAfter (set : Setting) (own : List LineRecord) (w : Net) : Type 0 wh
   pub secrets : HaveSecrets set w.devices
   pub sessions : AreAt (HasSecret set w.devices) w.sessions
 
-begins : (set : Setting) (job : List Line) → AreSubscribers set.rows → IsAfter set [] (start_of set job)
-begins set job are = record { packets = refl; secrets = job_has_secrets set job are; sessions = All-nil (λ (s : Session). HasSecret set (start_of set job).devices s.sub s.device) }
+begins : (set : Setting) (kept : List Kept) (job : List Line) → AreSubscribers set.rows → IsAfter set [] (start_of set kept job)
+begins set kept job are =
+    record { packets = refl; secrets = job_has_secrets set kept job are; sessions = All-nil (λ (s : Session). HasSecret set (start_of set kept job).devices s.sub s.device) }
 
 -- a session is opened at a device with its subscriber's secret
 opens_at : (set : Setting) (w : Net) (e : Happens) → HaveSecrets set w.devices → OpensAt (HasSecret set w.devices) set w e
@@ -300,18 +301,18 @@ job_walks set place w last (l ∷ job) lines (front, rest, next, cut, gives, mor
 -- ---- rounds and transcripts
 
 -- a job of a round
-job_at : (set : Setting) (early beside : List LineRecord) (jobs : List (List Line)) (earlier others : List (List LineRecord)) (lines : List LineRecord) (nets : List Net) → AreSubscribers set.rows
-    → JobsGive set early beside jobs (earlier ++ lines ∷ others) nets → HaveOccurred set (record { early = early; beside = beside ++ all_lines earlier; own = [] }) lines
-job_at set early beside [] [] others lines nets are (none, is) = absurd (let no : ⊥ = cc in no)
-job_at set early beside [] (x ∷ earlier) others lines nets are (none, is) = absurd (let no : ⊥ = cc in no)
-job_at set early beside (job ∷ jobs) [] others lines [] are gives = absurd gives
-job_at set early beside (job ∷ jobs) [] others lines (net ∷ nets) are (gives, more) =
+job_at : (set : Setting) (early : List LineRecord) (kept : List Kept) (beside : List LineRecord) (jobs : List (List Line)) (earlier others : List (List LineRecord)) (lines : List LineRecord) (nets : List Net) → AreSubscribers set.rows
+    → JobsGive set early kept beside jobs (earlier ++ lines ∷ others) nets → HaveOccurred set (record { early = early; beside = beside ++ all_lines earlier; own = [] }) lines
+job_at set early kept beside [] [] others lines nets are (none, is) = absurd (let no : ⊥ = cc in no)
+job_at set early kept beside [] (x ∷ earlier) others lines nets are (none, is) = absurd (let no : ⊥ = cc in no)
+job_at set early kept beside (job ∷ jobs) [] others lines [] are gives = absurd gives
+job_at set early kept beside (job ∷ jobs) [] others lines (net ∷ nets) are (gives, more) =
     subst (λ (ls : List LineRecord). HaveOccurred set (record { early = early; beside = ls; own = [] }) lines) (sym (append-nil beside))
-    (job_walks set (record { early = early; beside = beside; own = [] }) (start_of set job) net job lines gives (begins set job are)).have
-job_at set early beside (job ∷ jobs) (x ∷ earlier) others lines [] are gives = absurd gives
-job_at set early beside (job ∷ jobs) (x ∷ earlier) others lines (net ∷ nets) are (gives, more) =
+    (job_walks set (record { early = early; beside = beside; own = [] }) (start_of set kept job) net job lines gives (begins set kept job are)).have
+job_at set early kept beside (job ∷ jobs) (x ∷ earlier) others lines [] are gives = absurd gives
+job_at set early kept beside (job ∷ jobs) (x ∷ earlier) others lines (net ∷ nets) are (gives, more) =
     subst (λ (ls : List LineRecord). HaveOccurred set (record { early = early; beside = ls; own = [] }) lines) (append_assoc beside x (all_lines earlier))
-    (job_at set early (beside ++ x) jobs earlier others lines nets are more)
+    (job_at set early kept (beside ++ x) jobs earlier others lines nets are more)
 
 -- a round of a transcript: the lines of a job of it
 pub round_at : (set : Setting) (stop : Option Stop) (at : Course) (parts : List Part) (early late : List PartRecord) (round : RoundRecord) (earlier others : List (List LineRecord))
@@ -322,8 +323,8 @@ round_at set stop at [] (x ∷ early) late round earlier others lines end are (n
 round_at set stop at (Restart ∷ parts) [] late round earlier others lines end are (next, serves, rest) jobs_are = absurd serves
 round_at set stop at (Round jobs ∷ parts) [] late round earlier others lines end are (next, serves, rest) jobs_are =
     subst (λ (ls : List LineRecord). HaveOccurred set (record { early = ls; beside = all_lines earlier; own = [] }) lines) (sym (append-nil at.early))
-    (job_at set at.early [] jobs earlier others lines serves.lawful.nets are
-    (subst (λ (js : List (List LineRecord)). JobsGive set at.early [] jobs js serves.lawful.nets) jobs_are serves.lawful.given))
+    (job_at set at.early at.kept [] jobs earlier others lines serves.lawful.nets are
+    (subst (λ (js : List (List LineRecord)). JobsGive set at.early at.kept [] jobs js serves.lawful.nets) jobs_are serves.lawful.given))
 round_at set stop at (Restart ∷ parts) (record_of.Round x ∷ early) late round earlier others lines end are (next, serves, rest) jobs_are = absurd serves
 round_at set stop at (Round jobs ∷ parts) (record_of.Restart ∷ early) late round earlier others lines end are (next, serves, rest) jobs_are = absurd serves
 round_at set stop at (Restart ∷ parts) (record_of.Restart ∷ early) late round earlier others lines end are (next, restarts, rest) jobs_are =
@@ -332,4 +333,4 @@ round_at set stop at (Restart ∷ parts) (record_of.Restart ∷ early) late roun
 round_at set stop at (Round jobs ∷ parts) (record_of.Round x ∷ early) late round earlier others lines end are (next, serves, rest) jobs_are =
     let more = subst (λ (c : Course). Leads set stop c parts (early ++ record_of.Round round ∷ late) end) serves.leads rest in
     subst (λ (ls : List LineRecord). HaveOccurred set (record { early = ls; beside = all_lines earlier; own = [] }) lines) (append_assoc at.early (all_lines x.jobs) (lines_of early))
-    (round_at set stop (after_round at x serves.words) parts early late round earlier others lines end are more jobs_are)
+    (round_at set stop (after_round at x serves.words serves.lawful.nets) parts early late round earlier others lines end are more jobs_are)

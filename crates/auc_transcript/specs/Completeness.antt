@@ -1,6 +1,7 @@
 -- Completeness of plain sessions in whole transcripts: a session that has its `plain` line and no other event line ends in
 -- Success at both ends under the same keys, unless a record of it tells why not (RFC 4187 §3, RFC 9048 §3).
-use Rattle.std.specs.Prelude.{◌≡◌, ◌≢◌, ℕ, ◌≤◌, ◌==◌, Bool, true, false, List, [], ◌∷◌, ◌++◌, length, filter, All, Contains, Option, Some, None, slice_get}
+use Rattle.std.specs.Prelude.{◌≡◌, ◌≢◌, ℕ, ◌≤◌, ◌==◌, Bool, true, false, if◌then◌else◌, List, [], ◌∷◌, ◌++◌, length, filter, All, Contains, Option, Some, None, slice_get}
+use Rattle.std.specs.Option.{option_or}
 use Rattle.auc_edge.specs.declared.stop.Stop.{Stop}
 use Rattle.auc_lines.specs.declared.part.Line.{Line}
 use Rattle.auc_lines.specs.declared.part.Line.TheVariants as line
@@ -36,31 +37,35 @@ session_named (line.Repeat session) = Some session
 session_named (line.GiveUp session end) = Some session
 session_named (line.Plain session) = Some session
 
+-- what a line says if it opens a session under this number
+abbrev pub opening_by : ℕ → Line → Option SessionLine
+opening_by session (line.Draw sub count) = None
+opening_by session (line.Sync sub seq bit count) = None
+opening_by session (line.Give sub n) = None
+opening_by session (line.Session opening) = if opening.session == session then Some opening else None
+opening_by session (line.Start started) = None
+opening_by session (line.Deliver delivered end packet) = None
+opening_by session (line.Repeat repeated) = None
+opening_by session (line.GiveUp ended end) = None
+opening_by session (line.Plain plain) = None
+
+-- what the first of some lines says that does so: a later one opens nothing
+abbrev pub opening_in : ℕ → List Line → Option SessionLine
+opening_in session [] = None
+opening_in session (l ∷ lines) = option_or (opening_by session l) (opening_in session lines)
+
 -- a line opens a session for a subscriber that there is, and with ends that may succeed
 pub record IsSuited (rows : List Row) (opening : SessionLine) : Type 0 where
   pub row : Row
   pub known : slice_get rows opening.sub ≡ Some row
   pub suits : EndsSuit row opening
 
--- a line does so if it opens a session under this number
-abbrev pub SuitsIfOpened : List Row → ℕ → Line → Type 0
-SuitsIfOpened rows session (line.Draw sub count) = Unit {0}
-SuitsIfOpened rows session (line.Sync sub seq bit count) = Unit {0}
-SuitsIfOpened rows session (line.Give sub n) = Unit {0}
-SuitsIfOpened rows session (line.Session opening) = opening.session ≡ session → IsSuited rows opening
-SuitsIfOpened rows session (line.Start started) = Unit {0}
-SuitsIfOpened rows session (line.Deliver delivered end packet) = Unit {0}
-SuitsIfOpened rows session (line.Repeat repeated) = Unit {0}
-SuitsIfOpened rows session (line.GiveUp ended end) = Unit {0}
-SuitsIfOpened rows session (line.Plain plain) = Unit {0}
-
--- a plain line between some lines of its job is its session's only event line: a line before it opens the session, each that
--- does so suits, and no other event line is of the session
+-- a plain line between some lines of its job is its session's only event line: a line before it opens the session, suited,
+-- and no other event line is of the session
 pub record IsOnlyEvent (rows : List Row) (front : List Line) (session : ℕ) (back : List Line) : Type 0 where
   pub opening : SessionLine
-  pub opened : Contains front (line.Session opening)
-  pub named : opening.session ≡ session
-  pub suited : All (SuitsIfOpened rows session) front
+  pub opened : opening_in session front ≡ Some opening
+  pub suited : IsSuited rows opening
   pub first : All (λ l. session_named l ≢ Some session) front
   pub last : All (λ l. session_named l ≢ Some session) back
 
@@ -89,10 +94,11 @@ records_of session records = filter (is_of_session session) records
 -- ---- jobs, rounds
 
 -- each plain session of a job succeeds in the job's last network, and its round has the verdict that its ends agree, if the
--- session's records tell no cause of a failure; one synchronisation failure is none
+-- session's records tell no cause of a failure. It is a cause if the centre was asked for another subscriber than that of the
+-- line that opened the session; one synchronisation failure is none
 abbrev pub PlainSessionsSucceed : List Row → List SessionVerdict → List Line → List LineRecord → Net → Type 0
 PlainSessionsSucceed rows verdicts job records net = (front back : List Line) (session : ℕ) → job ≡ front ++ line.Plain session ∷ back
-    → IsOnlyEvent rows front session back → TellNoCause 1 (records_of session records)
+    → (only : IsOnlyEvent rows front session back) → TellNoCause only.opening.sub 1 (records_of session records)
     → Succeeds net session × Contains verdicts (record { session = session; agree = true })
 
 -- those of each job of a round, with the job's records and its last network
@@ -115,5 +121,5 @@ PlainSessionsAgree rows (part ∷ parts) records nets = ⊥
 abbrev pub EachPlainSessionAgrees : Type 0
 EachPlainSessionAgrees =
     (set : Setting) (reserved : List ℕ) (stop : Option Stop) (parts : List Part) (records : List PartRecord) (nets : List (List Net))
-    → AreSubscribers set.rows → length set.realm ≤ 255 → IsLawful set reserved stop parts records → AreNets set [] parts records nets
+    → AreSubscribers set.rows → length set.realm ≤ 255 → IsLawful set reserved stop parts records → AreNets set parts records nets
     → PlainSessionsAgree set.rows parts records nets

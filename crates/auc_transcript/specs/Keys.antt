@@ -1,6 +1,6 @@
 -- The two ends of an authentication have equal keys, in whichever jobs and rounds they are, if the premise of equal keys
 -- held; and what the records of rounds tell of the premise.
-use Rattle.std.specs.Prelude.{◌≡◌, ◌↔◌, ℕ, List, [], ◌∷◌, ◌++◌, Option, None, All, Contains}
+use Rattle.std.specs.Prelude.{◌≡◌, ◌↔◌, ℕ, List, [], ◌∷◌, ◌++◌, Option, None, map, All, Contains}
 use Rattle.auc_edge.specs.declared.stop.Stop.{Stop}
 use Rattle.auc_hmac.specs.declared.keys.KeySet.{KeySet}
 use Rattle.auc_lines.specs.declared.part.Part.{Part}
@@ -11,6 +11,7 @@ use Rattle.auc_world.specs.Given.{JobsGive}
 use Rattle.auc_world.specs.Lines.{all_lines}
 use Rattle.auc_world.specs.Net.{Net}
 use Rattle.auc_world.specs.Setting.{Setting}
+use Rattle.auc_world.specs.Start.{Kept, fresh_kept, kept_by_jobs}
 use Rattle.auc_world.specs.Transcript.{IsLawful}
 use Rattle.auc_world.specs.declared.net.Inputs.{Inputs}
 use Rattle.auc_world.specs.declared.net.Session.{Session}
@@ -22,13 +23,18 @@ use Rattle.auc_world.specs.declared.record.Premise.TheVariants as premise
 
 -- ---- networks
 
--- the networks to which the jobs of some parts lead, a list for each round, after the lines of earlier rounds
-abbrev pub AreNets : Setting → List LineRecord → List Part → List PartRecord → List (List Net) → Type 0
-AreNets set early [] records nets = (records ≡ []) × (nets ≡ [])
-AreNets set early (Round jobs ∷ parts) (record_of.Round round ∷ records) (first ∷ nets) =
-    JobsGive set early [] jobs round.jobs first × AreNets set (early ++ all_lines round.jobs) parts records nets
-AreNets set early (Restart ∷ parts) (record_of.Restart ∷ records) nets = AreNets set early parts records nets
-AreNets set early (part ∷ parts) records nets = ⊥
+-- the networks to which the jobs of some parts lead, a list for each round, after the lines of earlier rounds and with what
+-- these left at homes and on devices
+abbrev pub AreNetsAfter : Setting → List LineRecord → List Kept → List Part → List PartRecord → List (List Net) → Type 0
+AreNetsAfter set early kept [] records nets = (records ≡ []) × (nets ≡ [])
+AreNetsAfter set early kept (Round jobs ∷ parts) (record_of.Round round ∷ records) (first ∷ nets) =
+    JobsGive set early kept [] jobs round.jobs first × AreNetsAfter set (early ++ all_lines round.jobs) (kept_by_jobs kept first) parts records nets
+AreNetsAfter set early kept (Restart ∷ parts) (record_of.Restart ∷ records) nets = AreNetsAfter set early kept parts records nets
+AreNetsAfter set early kept (part ∷ parts) records nets = ⊥
+
+-- those of a whole transcript: before the first round nothing is kept
+abbrev pub AreNets : Setting → List Part → List PartRecord → List (List Net) → Type 0
+AreNets set parts records nets = AreNetsAfter set [] (map (λ row. fresh_kept) set.rows) parts records nets
 
 -- ---- keys
 
@@ -49,7 +55,7 @@ EndsAgree nets = (a b : Session) (k l : KeySet) (i j : Inputs) → IsOfUnbrokenJ
 abbrev pub EachAuthenticationAgrees : Type 0
 EachAuthenticationAgrees =
     (set : Setting) (reserved : List ℕ) (stop : Option Stop) (parts : List Part) (records : List PartRecord) (nets : List (List Net))
-    → AreSubscribers set.rows → IsLawful set reserved stop parts records → AreNets set [] parts records nets → EndsAgree nets
+    → AreSubscribers set.rows → IsLawful set reserved stop parts records → AreNets set parts records nets → EndsAgree nets
 
 -- ---- what is told of the premise
 
@@ -73,10 +79,10 @@ BreachesAreTold (record_of.Restart ∷ records) nets = BreachesAreTold records n
 abbrev pub EachBreachIsTold : Type 0
 EachBreachIsTold =
     (set : Setting) (reserved : List ℕ) (stop : Option Stop) (parts : List Part) (records : List PartRecord) (nets : List (List Net))
-    → IsLawful set reserved stop parts records → AreNets set [] parts records nets → BreachesAreTold records nets
+    → IsLawful set reserved stop parts records → AreNets set parts records nets → BreachesAreTold records nets
 
 -- a lawful transcript leads to networks, and to no others
 abbrev pub EachTranscriptHasItsNets : Type 0
 EachTranscriptHasItsNets =
     (set : Setting) (reserved : List ℕ) (stop : Option Stop) (parts : List Part) (records : List PartRecord) → IsLawful set reserved stop parts records
-    → (nets : List (List Net)) × AreNets set [] parts records nets × ((others : List (List Net)) → AreNets set [] parts records others → others ≡ nets)
+    → (nets : List (List Net)) × AreNets set parts records nets × ((others : List (List Net)) → AreNets set parts records others → others ≡ nets)

@@ -5,8 +5,8 @@ use Rattle.auc_edge.specs.declared.stop.Stop.{Stop}
 use Rattle.auc_lines.specs.declared.part.End.TheVariants as end
 use Rattle.auc_lines.specs.declared.part.Part.{Part}
 use Rattle.auc_packet.specs.Received.{IsReceived, Seen}
-use Rattle.auc_peer.specs.Attributes.{attrs_in, autn_of as autn_value, rand_of as rand_value}
-use Rattle.auc_seal.specs.Encrypted.{first_value}
+use Rattle.auc_peer.specs.Attributes.{attrs_in}
+use Rattle.auc_request.specs.Request.{autn_of as autn_value, first_value, rand_of as rand_value}
 use Rattle.auc_subs.specs.Subscriber.{AreSubscribers}
 use Rattle.auc_subs.specs.declared.row.Row.{Row}
 use Rattle.auc_random.specs.Random.{rand_of}

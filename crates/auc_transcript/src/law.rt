@@ -8,6 +8,7 @@ ghost use Rattle.auc_transcript.specs.Position.{EachMoveStandsBetween, EachPlace
 ghost use Rattle.auc_transcript.specs.Presented.{EachFailureInSessionsIsByPlace, EachFailureInSessionsOfRoundsIsByPlace, EachPresentedVectorHasARightMac};
 ghost use Rattle.auc_transcript.specs.Rounds.{EachFailureInRoundsIsByPlace, EachSqnInRoundsIsGenuine};
 
+use auc_attr::bytes_have_one_reading_or_one_fault;
 use auc_packet::equal_bytes_are_received_alike;
 use auc_peer::{
     each_turn_keeps_the_keys_of_its_inputs as each_peer_keeps_its_keys,
@@ -82,6 +83,7 @@ pub fn place_is_a_position()
 pub fn each_told_transcript_is_one()
     ensures { EachToldTranscriptIsOne }
 {
+    bytes_have_one_reading_or_one_fault();
     equal_bytes_are_received_alike();
     opening_has_one_answer();
 }
@@ -104,18 +106,22 @@ pub fn each_breach_is_told()
     ensures nets { EachTranscriptHasItsNets }
     ensures told { EachBreachIsTold }
 {
+    bytes_have_one_reading_or_one_fault();
     equal_bytes_are_received_alike();
     opening_has_one_answer();
 }
 
 /// A session whose ends suit each other, and that has its `plain` line and no other event line, ends in Success at both ends
-/// under the same keys, and its round says that they agree, unless a record of the session tells why not: the centre gave no
-/// number, or its number was too far above the SEQ that the USIM reported, or the USIM reported two synchronisation failures.
-/// The ends of EAP-AKA' suit each other if the subscriber's separation bit is set, the network has a name and the peer
-/// expects no other one; those of EAP-AKA unless the server bids for EAP-AKA' and the device has it (RFC 9048 §3.1 and §4).
+/// under the same keys, and its round says that they agree, unless a record of the session tells why not: the centre was asked
+/// for another subscriber, or gave no number, or its number was too far above the SEQ that the USIM reported, or the USIM
+/// reported two synchronisation failures. The ends of EAP-AKA' suit each other if the subscriber's separation bit is set, the
+/// network has a name and the peer expects no other one; those of EAP-AKA unless the server bids for EAP-AKA' and the device has
+/// it (RFC 9048 §3.1 and §4). In both the peer's first identity is one of the device's own. The device may keep a pseudonym of an
+/// earlier session, whether or not the server can resolve it.
 pub fn each_plain_session_agrees()
     ensures { EachPlainSessionAgrees }
 {
+    bytes_have_one_reading_or_one_fault();
     equal_bytes_are_received_alike();
     opening_has_one_answer();
     each_plain_session_succeeds();

@@ -134,12 +134,18 @@ repeats packets sent session s what packet n is is_what is_sent is_packet is_n =
 gives_nothing : (s : ServerEnd) (now : ServerState) → sent_by (server_gave_up s now).1 ≡ None
 gives_nothing s (state.Ended result) = refl
 gives_nothing s state.AwaitIdentity = refl
+gives_nothing s state.AwaitAny = refl
+gives_nothing s state.AwaitFull = refl
+gives_nothing s state.AwaitPermanent = refl
 gives_nothing s state.AwaitChallenge = refl
 gives_nothing s (state.Notifying cause) = refl
 
 keeps_challenge : (s : ServerEnd) (now : ServerState) → (server_gave_up s now).0.challenged ≡ s.challenged
 keeps_challenge s (state.Ended result) = refl
 keeps_challenge s state.AwaitIdentity = refl
+keeps_challenge s state.AwaitAny = refl
+keeps_challenge s state.AwaitFull = refl
+keeps_challenge s state.AwaitPermanent = refl
 keeps_challenge s state.AwaitChallenge = refl
 keeps_challenge s (state.Notifying cause) = refl
 

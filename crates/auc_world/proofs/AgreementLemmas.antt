@@ -16,7 +16,7 @@ use Rattle.auc_peer.specs.declared.peer.PeerState.{PeerState}
 use Rattle.auc_peer.specs.declared.peer.PeerState.TheVariants as peer_state
 use Rattle.auc_peer.specs.declared.why.PeerWhy.{PeerWhy}
 use Rattle.auc_peer.specs.declared.why.PeerWhy.TheVariants as peer_why
-use Rattle.auc_server.specs.Laws.{EachTurnFits, EachTurnKeepsOrChallenges, Fits, KeepsChallenge, SendsChallenge}
+use Rattle.auc_server.specs.Laws.{EachTurnFits, EachTurnKeepsOrChallenges, Fits, KeepsChallenge, SendsChallenge, awaits_identity}
 use Rattle.auc_server.proofs.Facts.{turn_options}
 use Rattle.auc_server.specs.Rows.{server_row}
 use Rattle.auc_server.specs.Server.{ServerEnd, started}
@@ -43,7 +43,7 @@ use Rattle.auc_vector.specs.declared.turn.Step.{Step}
 use Rattle.auc_vector.specs.declared.turn.Step.TheVariants as step
 use Rattle.auc_world.specs.Agreement.{Agree, AreOfOneChallenge, AreReleasedOnce, EachHonestRunAgrees, Happening, HaveSecrets, IsFresh, IsHonest, IsHonestAt, IsHonestFinding, Noted, Occurs, after, after_one}
 use Rattle.auc_world.specs.Happened.{Delivery, Told, at_place, at_session, delivered, delivery_at, delivery_of, found, found_by, give_up, in_session, keys_won, moved, opened, peer_finds, peer_turn, released_by, repeat, sent_by, server_gives_up, server_turn, start, to_peer, to_server, with_peer, with_server}
-use Rattle.auc_world.specs.Net.{Net, device_place, inputs_accepted, inputs_of_peer, inputs_of_server, inputs_sent, packet_at, posted, session_place}
+use Rattle.auc_world.specs.Net.{Net, device_place, inputs_accepted, inputs_of_peer, inputs_of_server, inputs_sent, keeps_at, packet_at, posted, session_place}
 use Rattle.auc_lines.specs.declared.part.SessionLine.{SessionLine}
 use Rattle.auc_lines.specs.declared.part.End.{End}
 use Rattle.auc_lines.specs.declared.part.End.TheVariants as end
@@ -549,20 +549,21 @@ won_cases before (step.Sent bytes) keys e = inr e
 won_cases before (step.Ignored cause) keys e = inr e
 
 to_peer_next : Laws → (set : Setting) (w : Net) (d : Delivery) (told : Told) (o : Option Subscription) → slice_get w.devices d.session.device ≡ o
-    → slice_get w.sessions d.place ≡ Some d.session → IsHonestFinding w.packets (peer_finds d told o) → Next set w (to_peer w d told o)
+    → slice_get w.sessions d.place ≡ Some d.session → IsHonestFinding w.packets (peer_finds w d told o) → Next set w (to_peer w d told o)
 to_peer_next laws set w d told None is there honest = still set w
 to_peer_next laws set w d told (Some device) is there honest =
-    let turn = peer_turn device d.session told in
+    let keeps = keeps_at w d.session.device in
+    let turn = peer_turn device keeps d.session told in
     let p = d.session.peer in
     let z = turn.0 in
     let sub = d.session.sub in
-    let m = laws.peer_moves device p told.seen told.notes.usim told.readable in
+    let m = laws.peer_moves device keeps p told.seen told.notes.usim told.inner in
     record {
       more = [];
       grows = sym (append-nil w.released);
       holds = λ h o.
           let old = at (SessionFine set w.devices w.packets) w.sessions d.place d.session h.fine there in
-          let fits = laws.peer_fits device p told.seen told.notes.usim told.readable (λ keys e.
+          let fits = laws.peer_fits device keeps p told.seen told.notes.usim told.inner (λ keys e.
           let f = old.live device keys is e in record { challenge = f.challenge; was_accepted = f.was_accepted; same = f.same }) in
           let kept : (other : Subscription) (keys : KeySet) → PeerIs other w.packets sub p keys → (p.state ≡ peer_state.Waiting → ⊥) → PeerIs other w.packets sub z keys =
           λ other keys f apart. ⊎_elim (λ waits. absurd (apart waits))
@@ -665,7 +666,7 @@ repeat_next set w place session (Some s) is there = kept_next set w place sessio
 abbrev given_up : ServerEnd → ServerEnd
 given_up s = record s { state = state.Ended (outcome.Failure why.GivenUp) }
 
-no_awaiting : (r : Outcome ServerWhy) → state.Ended r ≡ state.AwaitIdentity → ⊥
+no_awaiting : (r : Outcome ServerWhy) → awaits_identity (state.Ended r) ≡ true → ⊥
 no_awaiting r e = cc
 
 no_success : (keys : KeySet) (cause : ServerWhy) → state.Ended (outcome.Failure cause) ≡ state.Ended (outcome.Success keys) → ⊥
@@ -690,6 +691,9 @@ server_gives_next set w place session (Some s) is there = by s.state
     by : (st : ServerState) → Next set w (with_server w place session [] (gave_up s st).0 (gave_up s st).1)
     by (state.Ended r) = kept_next set w place session s (gave_up s (state.Ended r)).1 there (λ h. server_in set w place session s there is h)
     by state.AwaitIdentity = kept_next set w place session (given_up s) (gave_up s state.AwaitIdentity).1 there (λ h. given_up_fine set w.packets s (server_in set w place session s there is h))
+    by state.AwaitAny = kept_next set w place session (given_up s) (gave_up s state.AwaitAny).1 there (λ h. given_up_fine set w.packets s (server_in set w place session s there is h))
+    by state.AwaitFull = kept_next set w place session (given_up s) (gave_up s state.AwaitFull).1 there (λ h. given_up_fine set w.packets s (server_in set w place session s there is h))
+    by state.AwaitPermanent = kept_next set w place session (given_up s) (gave_up s state.AwaitPermanent).1 there (λ h. given_up_fine set w.packets s (server_in set w place session s there is h))
     by state.AwaitChallenge = kept_next set w place session (given_up s) (gave_up s state.AwaitChallenge).1 there (λ h. given_up_fine set w.packets s (server_in set w place session s there is h))
     by (state.Notifying cause) = kept_next set w place session (given_up s) (gave_up s (state.Notifying cause)).1 there (λ h. given_up_fine set w.packets s (server_in set w place session s there is h))
 

@@ -5,10 +5,12 @@ use Rattle.auc_hmac.specs.declared.keys.KeySet.{KeySet}
 use Rattle.auc_lines.specs.declared.part.End.TheVariants as end
 use Rattle.auc_peer.specs.Subscription.{Subscription, subscription_of}
 use Rattle.auc_peer.specs.Table.{peer_step}
-use Rattle.auc_peer.specs.Turn.{Steps, was_readable}
+use Rattle.auc_peer.specs.Turn as peer_turns
+use Rattle.auc_peer.specs.Turn.{Steps}
 use Rattle.auc_peer.specs.declared.device.Device.{Device}
 use Rattle.auc_peer.specs.declared.peer.Peer.{Peer}
 use Rattle.auc_peer.specs.declared.why.PeerWhy.{PeerWhy}
+use Rattle.auc_reauth.specs.Device.{Keeps}
 use Rattle.auc_released.specs.declared.numbers.Number.{Number}
 use Rattle.auc_server.specs.declared.setting.HomeRow.{HomeRow}
 use Rattle.auc_vector.specs.declared.turn.Turn.{Turn}
@@ -17,9 +19,9 @@ use Rattle.auc_world.proofs.DeviceLemmas.{get_here, get_other}
 use Rattle.auc_world.proofs.ServingLemmas.{delivery_to, is_delivery, nothing_told, unjudged}
 use Rattle.auc_world.proofs.WorldLemmas.{map_same}
 use Rattle.auc_world.specs.Came.{AreReceived, Came, by_peer, came_at_peer, packet_number, presented_at, received_by}
-use Rattle.auc_world.specs.Happened.{Delivery, Told, breach_at, delivery_at, keys_won, peer_finds, sent_by, to_peer, with_peer}
+use Rattle.auc_world.specs.Happened.{Delivery, Told, breach_at, delivery_at, kept_after, keys_won, peer_finds, sent_by, to_peer, with_peer}
 use Rattle.auc_world.specs.InnerWorld.{Answers, number_after, state_of}
-use Rattle.auc_world.specs.Net.{Net, inputs_of_peer, judged, packet_at, posted}
+use Rattle.auc_world.specs.Net.{Net, inputs_of_peer, judged, keeps_at, keeps_or, packet_at, posted}
 use Rattle.auc_world.specs.World.{AreHanded, RememberPasts, WorldState}
 use Rattle.auc_world.specs.declared.event.Note.{Note}
 use Rattle.auc_world.specs.declared.event.NoteStep.TheVariants as did
@@ -38,6 +40,23 @@ subscription_at (first ∷ devices) zero device there = ap (λ (d : Option Devic
     subscriptions None = None
     subscriptions (Some d) = Some (subscription_of d)
 subscription_at (first ∷ devices) (suc place) device there = subscription_at devices place device there
+
+-- and what it keeps
+store_at : (devices : List Device) (place : ℕ) (device : Device) → slice_get devices place ≡ Some device → slice_get (map (λ (d : Device). d.store) devices) place ≡ Some device.store
+store_at [] place device there = absurd cc
+store_at (first ∷ devices) zero device there = ap (λ (d : Option Device). stores d) there
+  where
+    stores : Option Device → Option Keeps
+    stores None = None
+    stores (Some d) = Some d.store
+store_at (first ∷ devices) (suc place) device there = store_at devices place device there
+
+-- what is told of the items of a list after one of them was put
+module _ {A B : Type 0} (f : A → B) where
+  map_set : (xs : List A) (place : ℕ) (x : A) → map f (slice_set xs place x) ≡ slice_set (map f xs) place (f x)
+  map_set [] place x = refl
+  map_set (y ∷ xs) zero x = refl
+  map_set (y ∷ xs) (suc place) x = ap (λ (rest : List B). f y ∷ rest) (map_set xs place x)
 
 pub no_subscription_at : (devices : List Device) (place : ℕ) → slice_get devices place ≡ None → slice_get (map subscription_of devices) place ≡ None
 no_subscription_at [] place none = refl
@@ -60,7 +79,7 @@ module _ (packets : List SentPacket) (sessions : List Session) (released : List 
         told = nothing_told;
         is = ap (came_at_peer old.net d0 nothing_told) (sym none);
         leads = (λ j. record old.net { broken = unjudged packets broken j })
-            ∙ ap (λ (s : Option Subscription). record (to_peer old.net d0 nothing_told s) { broken = judged packets broken (peer_finds d0 nothing_told s) }) (sym none);
+            ∙ ap (λ (s : Option Subscription). record (to_peer old.net d0 nothing_told s) { broken = judged packets broken (peer_finds old.net d0 nothing_told s) }) (sym none);
         received = subst (λ (s : Option Subscription). AreReceived (received_by sent_packet.bytes s) nothing_told.seen) (sym none) tt;
         notes = tt;
         usims = subst (λ (s : Option Subscription). AreHanded (presented_at d0 nothing_told s) nothing_told devices devices) (sym none) refl;
@@ -68,18 +87,25 @@ module _ (packets : List SentPacket) (sessions : List Session) (released : List 
 
   module _ (device card : Device) (new : Peer) (turn : Turn PeerWhy) (bytes : List ℕ) (there : slice_get devices session.device ≡ Some device)
       (same_card : subscription_of card ≡ subscription_of device) (of_packet : bytes ≡ sent_packet.bytes)
-      (steps : Steps (subscription_of device) session.peer bytes device.usim.array new turn card.usim.array) (pasts : RememberPasts devices) where
+      (steps : Steps (subscription_of device) device.store session.peer bytes device.usim.array new turn card.store card.usim.array) (pasts : RememberPasts devices) where
     abbrev told : Told
-    told = record { seen = steps.seen; notes = turn.notes; readable = was_readable new.state }
+    told = record { seen = steps.seen; notes = turn.notes; inner = peer_turns.told new }
 
     -- the network after a turn
     abbrev after_turn : Peer × Turn PeerWhy → Net
     after_turn x = record (with_peer old.net place session x.0 x.1.step) {
+      stores = slice_set old.net.stores session.device (kept_after (keeps_at old.net session.device) session told);
       broken = judged packets broken (Some (record { checked = x.1.checked; inputs = inputs_of_peer session.sub x.0; bytes = sent_packet.bytes; delivery = breach_at d0 end.Peer }));
     }
 
-    turn_is : (new, turn) ≡ peer_step (subscription_of device) session.peer steps.seen turn.notes.usim (was_readable new.state)
-    turn_is = let past = pasts session.device device there in steps.same past.0 past.1
+    -- what the device keeps is what the network says
+    keeps_is : device.store ≡ keeps_at old.net session.device
+    keeps_is = sym (ap keeps_or (store_at devices session.device device there))
+
+    turn_is : (new, turn) ≡ peer_step (subscription_of device) (keeps_at old.net session.device) session.peer steps.seen turn.notes.usim (peer_turns.told new)
+    turn_is =
+        let past = pasts session.device device there in
+        steps.same past.0 past.1 ∙ ap (λ (k : Keeps). peer_step (subscription_of device) k session.peer steps.seen turn.notes.usim (peer_turns.told new)) keeps_is
 
     -- `read` and `looked` are the packets as the steps of the code find them
     pub answers : (read looked packets' : List SentPacket) (sessions' : List Session) (broken' : Option Breach) (inputs : Option Inputs)
@@ -103,8 +129,11 @@ module _ (packets : List SentPacket) (sessions : List Session) (released : List 
         let kept : sessions' ≡ slice_set sessions place (record session { peer = new; peer_keys = keys_won session.peer_keys turn.step }) =
         is_sessions ∙ ap (λ (k : Option KeySet). slice_set sessions place (record session { peer = new; peer_keys = k })) is_keys in
         let alike : map subscription_of (slice_set devices session.device card) ≡ map subscription_of devices = map_same subscription_of devices session.device device card there same_card in
+        let stored : map (λ d. d.store) (slice_set devices session.device card) ≡ slice_set old.net.stores session.device (kept_after (keeps_at old.net session.device) session told) =
+        map_set (λ (d : Device). d.store) devices session.device card
+        ∙ ap (slice_set old.net.stores session.device) (steps.stored ∙ ap (λ (k : Keeps). kept_after k session told) keeps_is) in
         let net_is : (state_of packets' sessions' released homes broken' (slice_set devices session.device card)).net ≡ after_turn (new, turn) =
-        λ j. record old.net { packets = put j; sessions = kept j; devices = alike j; broken = breach j } in
+        λ j. record old.net { packets = put j; sessions = kept j; devices = alike j; stores = stored j; broken = breach j } in
         let number_is : posted_as ≡ packet_number old.net (sent_by turn.step) =
         is_posted ∙ ap (λ (ps : List SentPacket). number_after ps sent) is_read ∙ ap (number_after packets) is_sent ∙ sym (numbered old.net packets (sent_by turn.step) refl) in
         let note_is : record { notes = turn.notes; step = did.Peer turn.step; packet = posted_as; asked = None; device = Some session.sub; vector = None } ≡ by_peer old.net turn.notes turn.step (Some session.sub) =
@@ -113,7 +142,7 @@ module _ (packets : List SentPacket) (sessions : List Session) (released : List 
           told = told;
           is = ap (λ (n : Note). Ok n) note_is ∙ ap (λ (x : Peer × Turn PeerWhy). Ok (by_peer old.net x.1.notes x.1.step (Some session.sub))) turn_is ∙ ap (came_at_peer old.net d0 told) (sym here);
           leads = net_is ∙ ap after_turn turn_is
-              ∙ ap (λ (o : Option Subscription). record (to_peer old.net d0 told o) { broken = judged packets broken (peer_finds d0 told o) }) (sym here);
+              ∙ ap (λ (o : Option Subscription). record (to_peer old.net d0 told o) { broken = judged packets broken (peer_finds old.net d0 told o) }) (sym here);
           received = subst (λ (o : Option Subscription). AreReceived (received_by sent_packet.bytes o) steps.seen) (sym here) (steps.received, steps.of ∙ of_packet);
           notes = refl;
           usims = subst (λ (o : Option Subscription). AreHanded (presented_at d0 told o) told devices (slice_set devices session.device card)) (sym here) (record {
@@ -124,7 +153,7 @@ module _ (packets : List SentPacket) (sessions : List Session) (released : List 
             secret = ap (λ (s : Subscription). s.secret) same_card;
             others = λ other differ. get_other devices session.device other card differ;
             asked = steps.usim;
-            readable = steps.decrypts;
+            decrypts = steps.decrypts;
           });
         }
 

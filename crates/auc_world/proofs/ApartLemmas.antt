@@ -21,7 +21,7 @@ use Rattle.auc_world.specs.Came.{Presented, came, presented_by}
 use Rattle.auc_world.specs.Event.{device_in, sqn_accepted, usim_in}
 use Rattle.auc_world.specs.Lines.{accepted, accepted_by, taken}
 use Rattle.auc_world.specs.Net.{Net, other}
-use Rattle.auc_world.specs.Start.{start_of}
+use Rattle.auc_world.specs.Start.{Kept, start_of}
 use Rattle.auc_world.specs.declared.event.Event.{Event}
 use Rattle.auc_world.specs.declared.event.Event.TheVariants as event
 use Rattle.auc_world.specs.declared.event.EventRecord.{EventRecord}
@@ -128,9 +128,9 @@ lines_quiet set before net last (l ∷ job) sub lines (front, rest, next, is, fi
     ap (accepted sub) is ∙ accepted-append sub front rest
     ∙ ap (λ (sqns : List (List ℕ)). sqns ++ accepted sub rest) quiet ∙ lines_quiet set (behind before front) next last job sub rest more there still
 
-pub job_quiet : (set : Setting) (before : Before) (job : List Line) (sub : ℕ) (lines : List LineRecord) (last : Net) → JobGives set before (start_of set job) job lines last → holds sub job ≡ false
+pub job_quiet : (set : Setting) (before : Before) (kept : List Kept) (job : List Line) (sub : ℕ) (lines : List LineRecord) (last : Net) → JobGives set before (start_of set kept job) job lines last → holds sub job ≡ false
     → accepted sub lines ≡ []
-job_quiet set before job sub lines last gives other = lines_quiet set before (start_of set job) last job sub lines gives other (All-nil (λ s. (s.sub == sub) ≡ false))
+job_quiet set before kept job sub lines last gives other = lines_quiet set before (start_of set kept job) last job sub lines gives other (All-nil (λ s. (s.sub == sub) ≡ false))
 
 -- ---- other lines before a job
 
@@ -171,7 +171,7 @@ event_beside set early own beside done net next e lines still gives = record {
       there = asked.there;
       answers = subst (λ (past : Past). UsimNotes p.device.secret past p.challenge gives.told.notes.usim)
           (same_past early own beside done asked.row p.delivery.session.sub still.own_none still.beside_none) asked.answers;
-      readable = asked.readable;
+      decrypts = asked.decrypts;
     }
 
 event_still : (set : Setting) (before : Before) (own beside : List LineRecord) (net next : Net) (e : Event) (lines : List LineRecord) → AreOf (IsStill own beside) net.sessions
@@ -252,21 +252,21 @@ not_given : (sub : ℕ) (job other : List Line) → AreApart job other → holds
 not_given sub job other apart to = false_from_ne_true (holds sub job) (λ is. true≢false (sym to ∙ apart sub is))
 
 -- jobs that are apart give their pieces' lines after the lines of all earlier jobs
-jobs_beside : (set : Setting) (early beside : List LineRecord) (jobs : List (List Line)) (pieces : List Piece) (nets : List Net) → AllPairs AreApart jobs → All (IsQuiet beside) jobs
-    → PiecesGive set early jobs pieces nets → JobsGive set early beside jobs (lines_of_pieces pieces) nets
-jobs_beside set early beside [] pieces nets apart still (none, is) = (ap lines_of_pieces none, is)
-jobs_beside set early beside (job ∷ jobs) [] nets apart still give = absurd give
-jobs_beside set early beside (job ∷ jobs) (piece ∷ pieces) [] apart still give = absurd give
-jobs_beside set early beside (job ∷ jobs) (piece ∷ pieces) (net ∷ nets) apart still (quiet, gives, more) = (
-  job_beside set early piece.earlier beside [] (start_of set job) net job piece.lines
+jobs_beside : (set : Setting) (early : List LineRecord) (kept : List Kept) (beside : List LineRecord) (jobs : List (List Line)) (pieces : List Piece) (nets : List Net) → AllPairs AreApart jobs → All (IsQuiet beside) jobs
+    → PiecesGive set early kept jobs pieces nets → JobsGive set early kept beside jobs (lines_of_pieces pieces) nets
+jobs_beside set early kept beside [] pieces nets apart still (none, is) = (ap lines_of_pieces none, is)
+jobs_beside set early kept beside (job ∷ jobs) [] nets apart still give = absurd give
+jobs_beside set early kept beside (job ∷ jobs) (piece ∷ pieces) [] apart still give = absurd give
+jobs_beside set early kept beside (job ∷ jobs) (piece ∷ pieces) (net ∷ nets) apart still (quiet, gives, more) = (
+  job_beside set early piece.earlier beside [] (start_of set kept job) net job piece.lines
       (λ sub is. record { own_none = quiet sub is; beside_none = All-head (IsQuiet beside) job jobs still sub is }) (All-nil (λ s. IsStill piece.earlier beside s.sub)) gives,
-  jobs_beside set early (beside ++ piece.lines) jobs pieces nets (AllPairs-tail AreApart job jobs apart)
+  jobs_beside set early kept (beside ++ piece.lines) jobs pieces nets (AllPairs-tail AreApart job jobs apart)
       (all_from_both (IsQuiet beside) (AreApart job) (IsQuiet (beside ++ piece.lines)) jobs
       (λ other was far sub to. accepted-append sub beside piece.lines ∙ ap (λ (sqns : List (List ℕ)). sqns ++ accepted sub piece.lines) (was sub to)
-      ∙ job_quiet set (place early piece.earlier []) job sub piece.lines net gives (not_given sub job other far to))
+      ∙ job_quiet set (place early piece.earlier []) kept job sub piece.lines net gives (not_given sub job other far to))
       (All-tail (IsQuiet beside) job jobs still) (AllPairs-head AreApart job jobs apart)) more,
 )
 
 -- the same of a round
 pub jobs_give_after_all_lines : JobsGiveAfterAllLines
-jobs_give_after_all_lines set early jobs pieces nets apart give = jobs_beside set early [] jobs pieces nets apart (λ k d within sub to. refl) give
+jobs_give_after_all_lines set early kept jobs pieces nets apart give = jobs_beside set early kept [] jobs pieces nets apart (λ k d within sub to. refl) give

@@ -1,11 +1,12 @@
 -- For worlds: the subscriber for whom a server asks the centre has a row.
 use Rattle.std.proofs.Common.{◌≡◌, ℕ, ◌<◌, ◌==◌, Bool, true, false, List, [], ◌∷◌, length, refl, sym, subst, ⊎_elim}
 use Rattle.std.specs.Prelude.{Option, Some, None, IfSome, if◌then◌else◌}
+use Rattle.std.specs.Option.{option_or}
 use Rattle.std.proofs.lemmas.Bool.{eqb-true, false≢true, or_cases}
 use Rattle.std.proofs.lemmas.List.Elements.{All-head, All-tail}
 use Rattle.auc_edge.specs.Identity.{Identity}
 use Rattle.auc_server.specs.Asked.{asked_after, sub_of}
-use Rattle.auc_server.specs.Rows.{held_place, if_held, is_held}
+use Rattle.auc_server.specs.Rows.{held_place, if_held, is_held, named_place, permanent_subscriber, pseudonym_subscriber}
 use Rattle.auc_server.specs.Server.{ServerEnd}
 use Rattle.auc_server.specs.Setting.{Setting}
 use Rattle.auc_server.specs.Steps.{IsHeld, IsHome}
@@ -47,6 +48,14 @@ place_listed : (rows : List Row) (subs : ℕ) (top : ℕ → ℕ) (homes : List 
 place_listed rows subs top homes None all = tt
 place_listed rows subs top homes (Some imsi) all = found_listed rows subs top homes (place_of rows imsi) all
 
+named_listed : (rows : List Row) (subs : ℕ) (top : ℕ → ℕ) (homes : List HomeRow) (o : Option (ℕ × ℕ)) → AreHomes rows subs top homes → IfSome (named_place homes o) (λ sub. sub < length rows)
+named_listed rows subs top homes None all = tt
+named_listed rows subs top homes (Some of) all = found_listed rows subs top homes (Some of.0) all
+
+either_listed : (n : ℕ) (o p : Option ℕ) → IfSome o (λ sub. sub < n) → IfSome p (λ sub. sub < n) → IfSome (option_or o p) (λ sub. sub < n)
+either_listed n None p first second = second
+either_listed n (Some sub) p first second = first
+
 challenged_listed : (rows : List Row) (subs : ℕ) (top : ℕ → ℕ) (homes : List HomeRow) (o : Option Challenged) → AreHomes rows subs top homes → IsHeld homes o
     → IfSome (sub_of o) (λ sub. sub < length rows)
 challenged_listed rows subs top homes None all held = tt
@@ -56,7 +65,9 @@ challenged_listed rows subs top homes (Some sent) all held = held_listed rows su
 pub asked_listed : (set : Setting) (subs : ℕ) (top : ℕ → ℕ) (homes : List HomeRow) (s : ServerEnd) (resynced : Option ResyncNote) (drawn : Option NumberNote)
     → AreHomes set.rows subs top homes → IsHeld homes s.challenged → IfSome (asked_after set homes s resynced drawn) (λ sub. sub < length set.rows)
 asked_listed set subs top homes s None None all held = tt
-asked_listed set subs top homes s None (Some drawn) all held = place_listed set.rows subs top homes _ all
+asked_listed set subs top homes s None (Some drawn) all held =
+    either_listed (length set.rows) (permanent_subscriber s.options.method set homes s.identity) (pseudonym_subscriber s.options.method set homes s.identity)
+    (place_listed set.rows subs top homes _ all) (named_listed set.rows subs top homes _ all)
 asked_listed set subs top homes s (Some resync.BadAuts) drawn all held = tt
 asked_listed set subs top homes s (Some (resync.Moved seen seq)) drawn all held = challenged_listed set.rows subs top homes s.challenged all held
 asked_listed set subs top homes s (Some (resync.InRange seen seq)) drawn all held = challenged_listed set.rows subs top homes s.challenged all held

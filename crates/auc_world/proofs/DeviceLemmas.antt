@@ -108,5 +108,5 @@ module _ (rows : List Row) (devices : List Device) (place sub : ℕ) (device car
   }
 
 -- a device whose USIM has the same secret
-pub same_subscription : (device : Device) (usim : Memory) → usim.secret ≡ device.usim.secret → subscription_of (record { imsi = device.imsi; usim = usim; realm = device.realm }) ≡ subscription_of device
+pub same_subscription : (device : Device) (usim : Memory) → usim.secret ≡ device.usim.secret → subscription_of (record { imsi = device.imsi; usim = usim; store = device.store; realm = device.realm }) ≡ subscription_of device
 same_subscription device usim same = λ j. record { imsi = device.imsi; realm = device.realm; secret = same j }

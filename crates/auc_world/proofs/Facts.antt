@@ -3,6 +3,7 @@ pub use Rattle.auc_world.proofs.AgreementLemmas.{HoldsOf, IsDrawn, Laws, agreed}
 pub use Rattle.auc_world.proofs.ApartLemmas.{accepted-append, job_quiet, jobs_give_after_all_lines}
 pub use Rattle.auc_world.proofs.BitLemmas.{bit_mask_is_bytes}
 pub use Rattle.auc_world.proofs.HeldLemmas.{withheld_of-held_of, none_held}
+pub use Rattle.auc_world.proofs.HomeLemmas.{homes_alike}
 pub use Rattle.auc_world.proofs.JobLemmas.{of_sub}
 pub use Rattle.auc_world.proofs.JobRunLemmas.{IsKnown, IsOfJob, counted_once, job_runs, number_counts}
 pub use Rattle.auc_world.proofs.LimitLemmas.{get_or-greater, length-opened, opened_above}
@@ -10,3 +11,4 @@ pub use Rattle.auc_world.proofs.NetLemmas.{AreAt, IsPresentedAt, OpensAt, places
 pub use Rattle.auc_world.proofs.PastLemmas.{each_accepted_in_past}
 pub use Rattle.auc_world.proofs.PieceLemmas.{pieces_split_the_round}
 pub use Rattle.auc_world.proofs.RunLemmas.{one_challenge_is_of_one_number, peer_success_is_drawn, server_success_is_drawn}
+pub use Rattle.auc_world.proofs.TurningLemmas.{turn_subs}

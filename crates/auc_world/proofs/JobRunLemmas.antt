@@ -26,7 +26,7 @@ use Rattle.auc_world.specs.Given.{Before, EventGives, JobGives, LineGives, Plain
 use Rattle.auc_world.specs.Lines.{numbers_of, released_by}
 use Rattle.auc_world.specs.Net.{Net, other, place_with}
 use Rattle.auc_world.specs.Setting.{Setting}
-use Rattle.auc_world.specs.Start.{start_of, subscription_at, subscription_by}
+use Rattle.auc_world.specs.Start.{Kept, start_of, subscription_at, subscription_by}
 use Rattle.auc_world.specs.declared.event.Event.{Event}
 use Rattle.auc_world.specs.declared.event.Event.TheVariants as event
 use Rattle.auc_world.specs.declared.record.LineRecord.{LineRecord}
@@ -176,8 +176,8 @@ one_row rows i j a b are there also same =
     ]
 
 -- the devices with which a job begins have their subscribers' secrets
-job_has_secrets : (set : Setting) (job : List Line) → AreSubscribers set.rows → HaveSecrets set (start_of set job).devices
-job_has_secrets set job are sub place device row found there known =
+job_has_secrets : (set : Setting) (kept : List Kept) (job : List Line) → AreSubscribers set.rows → HaveSecrets set (start_of set kept job).devices
+job_has_secrets set kept job are sub place device row found there known =
     let devices = flat_map (subscription_at set) (held_subs job) in
     let at' = ap (place_with devices) (sym known) ∙ found in
     let (inside, same, first) = position-Some (λ (d : Subscription). same_identity d.imsi row.imsi) devices place device at' in
@@ -194,15 +194,15 @@ pub record IsOfJob (set : Setting) (net : Net) (lines : List LineRecord) : Type 
   pub known : All (IsKnown set) net.released
   pub holds : AreReleasedOnce net.released → net.broken ≡ None → HoldsOf set net
 
-pub job_runs : Laws → (set : Setting) (before : Before) (job : List Line) (lines : List LineRecord) (net : Net) → AreSubscribers set.rows → JobGives set before (start_of set job) job lines net
+pub job_runs : Laws → (set : Setting) (before : Before) (kept : List Kept) (job : List Line) (lines : List LineRecord) (net : Net) → AreSubscribers set.rows → JobGives set before (start_of set kept job) job lines net
     → IsOfJob set net lines
-job_runs laws set before job lines net are gives =
-    let runs = lines_run set before (start_of set job) net job lines gives in
+job_runs laws set before kept job lines net are gives =
+    let runs = lines_run set before (start_of set kept job) net job lines gives in
     record {
       counts = λ sub n. let all = runs.counts sub n in omega (arith, all);
       known = runs.known (All-nil (IsKnown set));
       holds = λ once unbroken. subst (HoldsOf set) (sym runs.leads)
-          (unbroken_run_holds laws set (start_of set job) runs.happenings are (job_has_secrets set job are) (record { packets = refl; sessions = refl })
+          (unbroken_run_holds laws set (start_of set kept job) runs.happenings are (job_has_secrets set kept job are) (record { packets = refl; sessions = refl })
           (subst (λ (v : Net). AreReleasedOnce v.released) runs.leads once) (subst (λ (v : Net). v.broken ≡ None) runs.leads unbroken));
     }
 

@@ -21,7 +21,7 @@ use Rattle.auc_vector.specs.declared.turn.Step.TheVariants as step
 use Rattle.auc_world.specs.Came.{Came, Presented, came, came_at_peer, came_at_server, came_delivered, came_given_up, came_in, came_opened, came_repeated, came_started, presented_by, presented_in, presented_at, server_came_to_give_up, session_of}
 use Rattle.auc_world.specs.Event.{device_in}
 use Rattle.auc_world.specs.Happened.{Delivery, Told, at_place, delivered, delivery_at, delivery_of, give_up, happened, in_session, new_session, opened, peer_turn, released_by, repeat, server_gives_up, server_turn, start, to_peer, to_server, with_peer, with_server}
-use Rattle.auc_world.specs.Net.{Net, device_place, packet_at, session_place}
+use Rattle.auc_world.specs.Net.{Net, device_place, keeps_at, packet_at, session_place}
 use Rattle.auc_world.specs.declared.event.Event.{Event}
 use Rattle.auc_world.specs.declared.event.Event.TheVariants as event
 use Rattle.auc_world.specs.declared.net.SentPacket.{SentPacket}
@@ -97,7 +97,7 @@ delivered_stays Q set w at' told packet (Some place) all = by (slice_get w.sessi
 
     to_peer_stays : (d : Delivery) (o : Option Subscription) → Q d.session.sub d.session.device → AreAt Q (to_peer w d told o).sessions
     to_peer_stays d None own = all
-    to_peer_stays d (Some device) own = let turn = peer_turn device d.session told in peer_stays Q w d.place d.session turn.0 turn.1.step all own
+    to_peer_stays d (Some device) own = let turn = peer_turn device (keeps_at w d.session.device) d.session told in peer_stays Q w d.place d.session turn.0 turn.1.step all own
 
     by : (x : Option Session) (y : Option SentPacket) → slice_get w.sessions place ≡ x → (e : End)
         → AreAt Q (delivered set w e told (delivery_of packet place x y)).sessions

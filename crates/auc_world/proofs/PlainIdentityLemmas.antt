@@ -5,19 +5,28 @@ use Rattle.std.proofs.lemmas.List.{get_or_append_left, get_or_push, take_at}
 use Rattle.std.proofs.lemmas.List.Sums.{position_or_len_is}
 use Rattle.std.proofs.Math.Seq.{get_or-append_seam}
 use Rattle.std.proofs.lemmas.Option.{get_or_from_slice_get, slice_get_within}
-use Rattle.auc_edge.specs.Identity.{Identity, IsIdentity, digits_of, last_digits}
+use Rattle.auc_edge.specs.Identity.{Identity as Imsi, IsIdentity, digits_of, last_digits}
 use Rattle.auc_hmac.specs.declared.method.Method.{Method}
 use Rattle.auc_hmac.specs.declared.method.Method.TheVariants as method
 use Rattle.auc_ident.specs.Permanent.{permanent_in, permanent_text, up_to, username}
+use Rattle.auc_lines.specs.declared.part.Identity.{Identity}
+use Rattle.auc_lines.specs.declared.part.Identity.TheVariants as identity
+use Rattle.auc_peer.specs.Identities.{asked_text, first_text, held_text, pseudonym_or}
 use Rattle.auc_peer.specs.Subscription.{Subscription, identity_text, with_realm}
-use Rattle.auc_server.specs.Rows.{held_place, if_held, is_held, subscriber_in}
+use Rattle.auc_reauth.specs.Device.{Keeps}
+use Rattle.auc_reauth.specs.Store.{entry}
+use Rattle.auc_request.specs.declared.identities.IdentityRequest.{IdentityRequest}
+use Rattle.auc_request.specs.declared.identities.IdentityRequest.TheVariants as request
+use Rattle.auc_server.specs.Rows.{held_place, if_held, is_held, permanent_subscriber}
 use Rattle.auc_server.specs.Setting.{Setting}
 use Rattle.auc_server.specs.declared.setting.HomeRow.{HomeRow}
 use Rattle.auc_subs.specs.Subscriber.{AreSubscribers, IsRow, place_of, same_identity}
 use Rattle.auc_subs.specs.declared.row.Row.{Row}
-use Rattle.auc_world.proofs.PlainNetLemmas.{position_is}
+use Rattle.auc_world.proofs.PlainListLemmas.{position_is}
 use Rattle.auc_world.proofs.PlainPacketLemmas.{Laws}
 use Rattle.auc_world.proofs.VectorLemmas.{all_at}
+use Rattle.auc_world.specs.Happened.{first_of}
+use Rattle.auc_world.specs.Plain.{IsOwnIdentity, IsPseudonym}
 
 -- ---- the username
 
@@ -48,13 +57,13 @@ no_digit_at (suc count) number k lt =
         ap is_at (get_or_push front (48 + number % 10) 0 k last) ∙ ne_eqb (48 + number % 10) 64 (λ same. omega (arith, same))
 
 -- the leading digit and the digits of an IMSI have none
-no_at : (m : Method) (imsi : Identity) (k : ℕ) → k < length (permanent_text m imsi) → is_at (get_or (permanent_text m imsi) k 0) ≡ false
+no_at : (m : Method) (imsi : Imsi) (k : ℕ) → k < length (permanent_text m imsi) → is_at (get_or (permanent_text m imsi) k 0) ≡ false
 no_at method.Aka imsi zero lt = refl
 no_at method.Prime imsi zero lt = refl
 no_at m imsi (suc k) lt = no_digit_at imsi.digits imsi.number k (omega (arith, lt, length-last_digits imsi.digits imsi.number))
 
 -- the username of a permanent identity
-pub username_is : (m : Method) (imsi : Identity) (realm : List ℕ) → username (with_realm (permanent_text m imsi) realm) ≡ permanent_text m imsi
+pub username_is : (m : Method) (imsi : Imsi) (realm : List ℕ) → username (with_realm (permanent_text m imsi) realm) ≡ permanent_text m imsi
 username_is m imsi [] =
     let text = permanent_text m imsi in
     let long = length text in
@@ -72,23 +81,43 @@ username_is m imsi (letter ∷ letters) =
     (ap (λ (k : ℕ). cond (ltb k (length whole)) (Some k) None) first ∙ ap (λ (b : Bool). cond b (Some (length text)) None) (lt-ltb (length text) (length whole) within))
     ∙ take_at text (64 ∷ letter ∷ letters) (length text) refl
 
--- a permanent identity takes a byte more than the IMSI has digits, and one more than that with its realm
-pub identity_size : (m : Method) (device : Subscription) → device.imsi.digits ≤ 15 → length device.realm ≤ 255 → length (identity_text m device) ≤ 4091
-identity_size m device few short = by device.realm short
-  where
-    digits : length (digits_of device.imsi) ≡ device.imsi.digits
-    digits = length-last_digits device.imsi.digits device.imsi.number
+-- ---- sizes
 
-    by : (realm : List ℕ) → length realm ≤ 255 → length (with_realm (permanent_text m device.imsi) realm) ≤ 4091
-    by [] h = omega (arith, digits, few)
-    by (letter ∷ letters) h = omega (arith, digits, few, h, length-append (permanent_text m device.imsi) (64 ∷ letter ∷ letters))
+realm_size : (text realm : List ℕ) → length (with_realm text realm) ≤ length text + 1 + length realm
+realm_size text [] = omega arith
+realm_size text (letter ∷ letters) = omega (arith, length-append text (64 ∷ letter ∷ letters))
+
+permanent_size : (m : Method) (device : Subscription) → device.imsi.digits ≤ 15 → length device.realm ≤ 255 → length (identity_text m device) ≤ 1016
+permanent_size m device few short =
+    let digits : length (digits_of device.imsi) ≡ device.imsi.digits = length-last_digits device.imsi.digits device.imsi.number in
+    omega (arith, realm_size (permanent_text m device.imsi) device.realm, digits, few, short)
+
+held_size : (m : Method) (device : Subscription) (keeps : Keeps) → device.imsi.digits ≤ 15 → length device.realm ≤ 255 → IsPseudonym (entry m keeps.pseudonyms) → length (held_text m device keeps) ≤ 1016
+held_size m device keeps few short is = by (entry m keeps.pseudonyms) is
+  where
+    by : (name : Option (List ℕ)) → IsPseudonym name → length (with_realm (pseudonym_or (permanent_text m device.imsi) name) device.realm) ≤ 1016
+    by None is = permanent_size m device few short
+    by (Some name) is = omega (arith, realm_size name device.realm, is, short)
+
+-- a device's identities fit AT_IDENTITY
+pub first_size : (m : Method) (device : Subscription) (keeps : Keeps) (identity : Identity) → device.imsi.digits ≤ 15 → length device.realm ≤ 255 → IsPseudonym (entry m keeps.pseudonyms)
+    → IsOwnIdentity identity → length (first_text m device keeps (first_of identity)) ≤ 1016
+first_size m device keeps identity.Held few short is own = held_size m device keeps few short is
+first_size m device keeps identity.Permanent few short is own = permanent_size m device few short
+first_size m device keeps (identity.Text text) few short is own = absurd own
+
+pub asked_size : (m : Method) (device : Subscription) (keeps : Keeps) (kind : IdentityRequest) → device.imsi.digits ≤ 15 → length device.realm ≤ 255 → IsPseudonym (entry m keeps.pseudonyms)
+    → length (asked_text m device keeps kind) ≤ 1016
+asked_size m device keeps request.Any few short is = held_size m device keeps few short is
+asked_size m device keeps request.Fullauth few short is = held_size m device keeps few short is
+asked_size m device keeps request.Permanent few short is = permanent_size m device few short
 
 -- ---- the row
 
-one_identity : (d e m n : ℕ) → d ≡ e → m ≡ n → ◌≡◌ {A = Identity} (record { digits = d; number = m }) (record { digits = e; number = n })
+one_identity : (d e m n : ℕ) → d ≡ e → m ≡ n → ◌≡◌ {A = Imsi} (record { digits = d; number = m }) (record { digits = e; number = n })
 one_identity d e m n same number = cc
 
-not_same : (a b : Identity) → a ≢ b → same_identity a b ≡ false
+not_same : (a b : Imsi) → a ≢ b → same_identity a b ≡ false
 not_same a b differ = by (same_identity a b) refl
   where
     by : (t : Bool) → same_identity a b ≡ t → t ≡ false
@@ -107,13 +136,13 @@ place_is rows sub row subscribers there =
     (subst (λ (r : Row). (get_or rows k row).imsi ≢ r.imsi) here (subscribers.differ k sub row lt (slice_get_within rows sub row there))))
 
 -- and by its permanent identity with any realm, if it is held
-pub subscriber_is : Laws → (m : Method) (set : Setting) (homes : List HomeRow) (sub : ℕ) (row : Row) (device : Subscription) → AreSubscribers set.rows → slice_get set.rows sub ≡ Some row → device.imsi ≡ row.imsi
-    → is_held homes sub ≡ true → subscriber_in m set homes (identity_text m device) ≡ Some sub
-subscriber_is laws m set homes sub row device subscribers there same held =
+pub permanent_is : Laws → (m : Method) (set : Setting) (homes : List HomeRow) (sub : ℕ) (row : Row) (device : Subscription) → AreSubscribers set.rows → slice_get set.rows sub ≡ Some row → device.imsi ≡ row.imsi
+    → is_held homes sub ≡ true → permanent_subscriber m set homes (identity_text m device) ≡ Some sub
+permanent_is laws m set homes sub row device subscribers there same held =
     let text = permanent_text m device.imsi in
     let is_row = all_at IsRow set.rows sub row subscribers.each there in
     let read : permanent_in m text ≡ Some device.imsi =
-    (laws.permanent m text device.imsi (subst (λ (i : Identity). IsIdentity i.digits i.number) (sym same) is_row.identity)).1 refl in
+    (laws.permanent m text device.imsi (subst (λ (i : Imsi). IsIdentity i.digits i.number) (sym same) is_row.identity)).1 refl in
     ap (λ (t : List ℕ). held_place set.rows homes (permanent_in m t)) (username_is m device.imsi device.realm) ∙ ap (held_place set.rows homes) read
-    ∙ ap (λ (i : Identity). if_held homes (place_of set.rows i)) same ∙ ap (if_held homes) (place_is set.rows sub row subscribers there)
+    ∙ ap (λ (i : Imsi). if_held homes (place_of set.rows i)) same ∙ ap (if_held homes) (place_is set.rows sub row subscribers there)
     ∙ ap (λ (b : Bool). if b then Some sub else None) held

@@ -1,12 +1,8 @@
 -- For plain sessions: a packet that is under way reaches its end, and the packet that the end sends is under way to the other one.
-use Rattle.std.proofs.Common.{◌≡◌, ℕ, ◌+◌, ◌-◌, ◌<◌, ◌≤◌, ◌==◌, Bool, true, false, List, [], ◌∷◌, ◌++◌, length, Option, Some, None, Ok, slice_get, slice_set, get_or, suc, refl, sym, ap, ◌∙◌, subst, arith, cond, ltb, length-append}
-use Rattle.std.specs.Prelude.{flat_map, position}
-use Rattle.std.proofs.lemmas.Bool.{lt-ltb}
-use Rattle.std.proofs.lemmas.List.{get_or-set_other, get_or-set_same, get_or_push, length-set, length_push}
+use Rattle.std.proofs.Common.{◌≡◌, ℕ, ◌+◌, ◌-◌, ◌≤◌, ◌==◌, Bool, true, false, List, [], ◌∷◌, ◌++◌, length, Option, Some, None, Ok, slice_get, slice_set, refl, sym, ap, ◌∙◌, subst, arith, length-append}
+use Rattle.std.specs.Prelude.{flat_map}
 use Rattle.std.proofs.lemmas.List.Elements.{All-head, All-tail}
-use Rattle.std.proofs.lemmas.List.Quantifiers.{position-Some}
-use Rattle.std.proofs.lemmas.List.Sums.{position_or_len_is}
-use Rattle.std.proofs.lemmas.Option.{get_or_from_slice_get, slice_get-get_or, slice_get_within}
+use Rattle.std.proofs.lemmas.Option.{slice_get_within}
 use Rattle.auc_lines.specs.declared.part.End.{End}
 use Rattle.auc_lines.specs.declared.part.End.TheVariants as end
 use Rattle.auc_packet.specs.Received.{IsReceived}
@@ -20,7 +16,8 @@ use Rattle.auc_server.specs.Rows.{is_held, server_row}
 use Rattle.auc_server.specs.Server.{ServerEnd, started}
 use Rattle.auc_server.specs.Setting.{Setting}
 use Rattle.auc_server.specs.Steps.{asking}
-use Rattle.auc_server.specs.Table.{server_step, silent}
+use Rattle.auc_reauth.specs.Device.{Keeps}
+use Rattle.auc_server.specs.Table.{homes_after, server_step, silent}
 use Rattle.auc_server.specs.declared.setting.HomeRow.{HomeRow}
 use Rattle.auc_server.specs.declared.why.ServerWhy.{ServerWhy}
 use Rattle.auc_released.specs.declared.numbers.Number.{Number}
@@ -30,12 +27,16 @@ use Rattle.auc_vector.specs.declared.notes.Notes.{Notes}
 use Rattle.auc_vector.specs.declared.turn.Step.{Step}
 use Rattle.auc_vector.specs.declared.turn.Step.TheVariants as step
 use Rattle.auc_vector.specs.declared.turn.Turn.{Turn}
-use Rattle.auc_world.specs.Came.{AreReceived, Came, Presented, TellsNotes, asking_at, asking_in, by_peer, by_server, came, came_at_peer, came_at_server, came_delivered, came_in, came_started, packet_number, presented_at, presented_in, received_at, received_by, session_at, session_of, vector_sent}
-use Rattle.auc_world.specs.Event.{number_in, resync_in, usim_in}
+use Rattle.auc_world.proofs.DeviceLemmas.{get_here}
+use Rattle.auc_world.proofs.HomeLemmas.{is_held_alike}
+use Rattle.auc_world.proofs.PlainListLemmas.{last_packet, position_stays, set_there}
+use Rattle.auc_world.proofs.TurningLemmas.{turn_subs}
+use Rattle.auc_world.specs.Came.{AreReceived, Came, Presented, TellsNotes, asked_sub, asking_at, asking_in, by_peer, by_server, came, came_at_peer, came_at_server, came_delivered, came_in, came_started, packet_number, presented_at, presented_in, received_at, received_by, session_at, session_of, vector_sent}
+use Rattle.auc_world.specs.Event.{asked_in, number_in, resync_in, usim_in}
 use Rattle.auc_world.specs.Given.{Before, IsCentreAsked, IsUsimAsked, PlainGives, RelayGives, UsimNotes, behind, packet_of, past_before}
-use Rattle.auc_world.specs.Happened.{Delivery, Told, at_place, delivered, delivery_at, delivery_in, delivery_of, in_session, keys_won, moved, released_by, sent_by, start, to_peer, to_server, with_peer, with_server}
-use Rattle.auc_world.specs.Net.{Net, inputs_of_peer, inputs_of_server, packet_at, posted, session_place}
-use Rattle.auc_world.specs.Plain.{TellNoCause, is_refused, is_too_far, results, sqn_reported}
+use Rattle.auc_world.specs.Happened.{Delivery, Told, at_place, delivered, delivery_at, delivery_in, delivery_of, in_session, kept_after, keys_won, moved, peer_turn, released_by, sent_by, start, to_peer, to_server, with_peer, with_server}
+use Rattle.auc_world.specs.Net.{Net, inputs_of_peer, inputs_of_server, keeps_at, keeps_or, packet_at, posted, session_place}
+use Rattle.auc_world.specs.Plain.{IsAskedFor, TellNoCause, is_refused, is_too_far, results, sqn_reported}
 use Rattle.auc_world.specs.declared.event.Event.{Event}
 use Rattle.auc_world.specs.declared.event.Event.TheVariants as event
 use Rattle.auc_world.specs.declared.event.Note.{Note}
@@ -45,59 +46,30 @@ use Rattle.auc_world.specs.declared.net.Session.{Session}
 use Rattle.auc_world.specs.declared.record.LineRecord.{LineRecord}
 use Rattle.auc_world.specs.declared.record.LineRecord.TheVariants as record_of
 
--- ---- lists
-
--- the first place at which a test passes
-pub position_is : {X : Type 0} (p : X → Bool) (xs : List X) (i : ℕ) (x : X) → slice_get xs i ≡ Some x → p x ≡ true → ((k : ℕ) → k < i → p (get_or xs k x) ≡ false)
-    → position p xs ≡ Some i
-position_is p xs i x there passes before =
-    let within = slice_get_within xs i x there in
-    let first = position_or_len_is p xs i x (omega arith) before (λ h. ap p (get_or_from_slice_get xs i x x there) ∙ passes) in
-    ap (λ (k : ℕ). cond (ltb k (length xs)) (Some k) None) first ∙ ap (λ (b : Bool). cond b (Some i) None) (lt-ltb i (length xs) within)
-
-no_less : (i k : ℕ) → k < i → k ≡ i → ⊥
-no_less i k lt e = omega (arith, lt, e)
-
-set_there : {X : Type 0} (xs : List X) (i : ℕ) (y : X) → i < length xs → slice_get (slice_set xs i y) i ≡ Some y
-set_there xs i y within =
-    let long = length-set xs i y in slice_get-get_or (slice_set xs i y) i y (omega arith) ∙ ap Some (get_or-set_same xs i y y within)
-
--- it stays the first if what stands there is replaced by what passes too
-position_stays : {X : Type 0} (p : X → Bool) (xs : List X) (i : ℕ) (y : X) → position p xs ≡ Some i → p y ≡ true → position p (slice_set xs i y) ≡ Some i
-position_stays p xs i y at' passes =
-    let first = position-Some p xs i y at' in
-    position_is p (slice_set xs i y) i y (set_there xs i y first.0) passes (λ k lt. ap p (get_or-set_other xs i k y y (no_less i k lt)) ∙ first.2 k lt)
-
-push_there : {X : Type 0} (xs : List X) (y : X) → slice_get (xs ++ y ∷ []) (length xs) ≡ Some y
-push_there xs y =
-    let long = length_push xs y in slice_get-get_or (xs ++ y ∷ []) (length xs) y (omega arith) ∙ ap Some (get_or_push xs y y (length xs) refl)
-
--- the packet that was sent last
-last_packet : (packets : List SentPacket) (p : SentPacket) → packet_at (packets ++ p ∷ []) (length packets + 1) ≡ Some p
-last_packet packets p =
-    let next : length packets + 1 ≡ suc (length packets) = omega arith in ap (packet_at (packets ++ p ∷ [])) next ∙ push_there packets p
-
 -- ---- what a line tells
 
 -- a line tells no cause, and neither do those after it
-pub record Spared (syncs : ℕ) (notes : Notes) (lines : List LineRecord) : Type 0 where
+pub record Spared (sub syncs : ℕ) (asked : Option ℕ) (notes : Notes) (lines : List LineRecord) : Type 0 where
+  pub own : IsAskedFor sub asked
   pub given : is_refused notes.number ≡ false
   pub near : is_too_far notes.resync ≡ false
   pub once : length (sqn_reported notes.usim) ≤ syncs
-  pub later : TellNoCause (syncs - length (sqn_reported notes.usim)) lines
+  pub later : TellNoCause sub (syncs - length (sqn_reported notes.usim)) lines
 
-spared : (syncs : ℕ) (e : Event) (note : Note) (lines : List LineRecord) → TellNoCause syncs (record_of.Event (record { event = e; result = Ok note }) ∷ lines) → Spared syncs note.notes lines
-spared syncs e note lines t =
+spared : (sub syncs : ℕ) (e : Event) (note : Note) (lines : List LineRecord) → TellNoCause sub syncs (record_of.Event (record { event = e; result = Ok note }) ∷ lines) → Spared sub syncs note.asked note.notes lines
+spared sub syncs e note lines t =
     let own : Came = Ok note in
     let rest = results lines in
     let reported : Came → List (List ℕ) = λ c. sqn_reported (usim_in c) in
     let long : length (reported own ++ flat_map reported rest) ≡ length (reported own) + length (flat_map reported rest) = length-append (reported own) (flat_map reported rest) in
     let once = t.once in
     record {
+      own = All-head (λ (c : Came). IsAskedFor sub (asked_in c)) own rest t.own;
       given = All-head (λ (c : Came). is_refused (number_in c) ≡ false) own rest t.given;
       near = All-head (λ (c : Came). is_too_far (resync_in c) ≡ false) own rest t.near;
       once = omega (arith, long, once);
       later = record {
+        own = All-tail (λ (c : Came). IsAskedFor sub (asked_in c)) own rest t.own;
         given = All-tail (λ (c : Came). is_refused (number_in c) ≡ false) own rest t.given;
         near = All-tail (λ (c : Came). is_too_far (resync_in c) ≡ false) own rest t.near;
         once = omega (arith, long, once);
@@ -127,12 +99,13 @@ becomes w next number place s new st same e =
     }
 
 -- a packet of a session is on its way to an end, and some lines tell what comes of it, and no cause of a failure
-pub record OnWay (set : Setting) (number : ℕ) (to : End) (s : Session) (device : Subscription) (bytes : List ℕ) (syncs : ℕ) (next : Net) : Type 0 where
+pub record OnWay (set : Setting) (number : ℕ) (to : End) (s : Session) (device : Subscription) (keeps : Keeps) (bytes : List ℕ) (syncs : ℕ) (next : Net) : Type 0 where
   pub before : Before
   pub w : Net
   pub place : ℕ
   pub stands : Stands w number place s
   pub card : slice_get w.devices s.device ≡ Some device
+  pub stored : slice_get w.stores s.device ≡ Some keeps
   pub held : is_held w.homes s.sub ≡ true
   pub packet : ℕ
   pub sent : SentPacket
@@ -140,12 +113,12 @@ pub record OnWay (set : Setting) (number : ℕ) (to : End) (s : Session) (device
   pub are : sent.bytes ≡ bytes
   pub lines : List LineRecord
   pub gives : RelayGives set before w number to (Some packet) lines next
-  pub well : TellNoCause syncs lines
+  pub well : TellNoCause s.sub syncs lines
 
 -- a smaller number of synchronisation failures is one of them
-pub loosen : (set : Setting) (number : ℕ) (to : End) (s : Session) (device : Subscription) (bytes : List ℕ) (few syncs : ℕ) (next : Net) → OnWay set number to s device bytes few next → few ≤ syncs
-    → OnWay set number to s device bytes syncs next
-loosen set number to s device bytes few syncs next o less =
+pub loosen : (set : Setting) (number : ℕ) (to : End) (s : Session) (device : Subscription) (keeps : Keeps) (bytes : List ℕ) (few syncs : ℕ) (next : Net) → OnWay set number to s device keeps bytes few next → few ≤ syncs
+    → OnWay set number to s device keeps bytes syncs next
+loosen set number to s device keeps bytes few syncs next o less =
     let once = o.well.once in
     record {
       before = o.before;
@@ -153,6 +126,7 @@ loosen set number to s device bytes few syncs next o less =
       place = o.place;
       stands = o.stands;
       card = o.card;
+      stored = o.stored;
       held = o.held;
       packet = o.packet;
       sent = o.sent;
@@ -160,25 +134,26 @@ loosen set number to s device bytes few syncs next o less =
       are = o.are;
       lines = o.lines;
       gives = o.gives;
-      well = record { given = o.well.given; near = o.well.near; once = omega (arith, once, less) };
+      well = record { own = o.well.own; given = o.well.given; near = o.well.near; once = omega (arith, once, less) };
     }
 
 -- what comes of a step: the packet that was sent is on its way to the other end, or the session stands in the last network
-abbrev pub Goes : Setting → ℕ → End → Session → Subscription → Option (List ℕ) → ℕ → Net → Type 0
-Goes set number to s device (Some bytes) syncs next = OnWay set number to s device bytes syncs next
-Goes set number to s device None syncs next = session_of next number ≡ Some s
+abbrev pub Goes : Setting → ℕ → End → Session → Subscription → Keeps → Option (List ℕ) → ℕ → Net → Type 0
+Goes set number to s device keeps (Some bytes) syncs next = OnWay set number to s device keeps bytes syncs next
+Goes set number to s device keeps None syncs next = session_of next number ≡ Some s
 
 -- a network in which a session took a step
-record Steps (w mid : Net) (place : ℕ) (new : Session) (from : End) (inputs : Option Inputs) (sent : Option (List ℕ)) : Type 0 where
+record Steps (w mid : Net) (place : ℕ) (new : Session) (keeps : Keeps) (from : End) (inputs : Option Inputs) (sent : Option (List ℕ)) : Type 0 where
   pub sessions : mid.sessions ≡ slice_set w.sessions place new
   pub packets : mid.packets ≡ posted w.packets from inputs sent
   pub devices : mid.devices ≡ w.devices
-  pub homes : mid.homes ≡ w.homes
+  pub homes : is_held mid.homes new.sub ≡ is_held w.homes new.sub
+  pub stores : slice_get mid.stores new.device ≡ Some keeps
 
-goes_on : (set : Setting) (number : ℕ) (to from : End) (place : ℕ) (s new : Session) (device : Subscription) (syncs : ℕ) (before : Before) (w mid next : Net) (inputs : Option Inputs) (sent : Option (List ℕ)) (lines : List LineRecord)
-    → Stands w number place s → new.number ≡ s.number → slice_get w.devices new.device ≡ Some device → is_held w.homes new.sub ≡ true → Steps w mid place new from inputs sent
-    → RelayGives set before mid number to (packet_number w sent) lines next → TellNoCause syncs lines → Goes set number to new device sent syncs next
-goes_on set number to from place s new device syncs before w mid next inputs (Some bytes) lines st same card held steps gives well =
+goes_on : (set : Setting) (number : ℕ) (to from : End) (place : ℕ) (s new : Session) (device : Subscription) (keeps : Keeps) (syncs : ℕ) (before : Before) (w mid next : Net) (inputs : Option Inputs) (sent : Option (List ℕ)) (lines : List LineRecord)
+    → Stands w number place s → new.number ≡ s.number → slice_get w.devices new.device ≡ Some device → is_held w.homes new.sub ≡ true → Steps w mid place new keeps from inputs sent
+    → RelayGives set before mid number to (packet_number w sent) lines next → TellNoCause new.sub syncs lines → Goes set number to new device keeps sent syncs next
+goes_on set number to from place s new device keeps syncs before w mid next inputs (Some bytes) lines st same card held steps gives well =
     let sent : SentPacket = record { bytes = bytes; sender = from; inputs = inputs } in
     record {
       before = before;
@@ -186,7 +161,8 @@ goes_on set number to from place s new device syncs before w mid next inputs (So
       place = place;
       stands = becomes w mid number place s new st same steps.sessions;
       card = ap (λ (l : List Subscription). slice_get l new.device) steps.devices ∙ card;
-      held = ap (λ (l : List HomeRow). is_held l new.sub) steps.homes ∙ held;
+      stored = steps.stores;
+      held = steps.homes ∙ held;
       packet = length w.packets + 1;
       sent = sent;
       under_way = ap (λ (l : List SentPacket). packet_at l (length w.packets + 1)) steps.packets ∙ last_packet w.packets sent;
@@ -195,9 +171,9 @@ goes_on set number to from place s new device syncs before w mid next inputs (So
       gives = gives;
       well = well;
     }
-goes_on set number to from place s new device syncs before w mid next inputs None [] st same card held steps gives well =
+goes_on set number to from place s new device keeps syncs before w mid next inputs None [] st same card held steps gives well =
     ap (λ (n : Net). session_of n number) gives ∙ stands_as mid number place new (becomes w mid number place s new st same steps.sessions)
-goes_on set number to from place s new device syncs before w mid next inputs None (line ∷ lines) st same card held steps gives well = absurd gives
+goes_on set number to from place s new device keeps syncs before w mid next inputs None (line ∷ lines) st same card held steps gives well = absurd gives
 
 one_line : (a b : LineRecord) → a ∷ [] ≡ b ∷ [] → a ≡ b
 one_line a b e = cc
@@ -208,16 +184,16 @@ abbrev pub peer_new : Session → Peer × Turn PeerWhy → Session
 peer_new s turn = record s { peer = turn.0; peer_keys = keys_won s.peer_keys turn.1.step }
 
 -- a peer received a packet: what it received it as, what its USIM answered, and what comes of its turn
-pub record PeerTook (set : Setting) (number : ℕ) (s : Session) (device : Subscription) (bytes : List ℕ) (syncs : ℕ) (next : Net) : Type 0 where
+pub record PeerTook (set : Setting) (number : ℕ) (s : Session) (device : Subscription) (keeps : Keeps) (bytes : List ℕ) (syncs : ℕ) (next : Net) : Type 0 where
   pub told : Told
   pub received : IsReceived told.seen
   pub are : told.seen.bytes ≡ bytes
   pub past : Past
   pub usim : UsimNotes device.secret past (asked (peer_row s.peer told.seen)) told.notes.usim
-  pub readable : Decrypts (decryption_noted device s.peer told.seen (asked (peer_row s.peer told.seen)) told.notes.usim) told.readable
+  pub decrypts : Decrypts (decryption_noted device s.peer told.seen (asked (peer_row s.peer told.seen)) told.notes.usim) told.inner
   pub once : length (sqn_reported told.notes.usim) ≤ syncs
-  pub goes : (turn : Peer × Turn PeerWhy) → peer_step device s.peer told.seen told.notes.usim told.readable ≡ turn
-      → Goes set number end.Server (peer_new s turn) device (sent_by turn.1.step) (syncs - length (sqn_reported told.notes.usim)) next
+  pub goes : (turn : Peer × Turn PeerWhy) → peer_step device keeps s.peer told.seen told.notes.usim told.inner ≡ turn
+      → Goes set number end.Server (peer_new s turn) device (kept_after keeps s told) (sent_by turn.1.step) (syncs - length (sqn_reported told.notes.usim)) next
 
 -- the delivery of a packet that is on its way
 delivers : (w : Net) (number packet place : ℕ) (s : Session) (sent : SentPacket) → Stands w number place s → packet_at w.packets packet ≡ Some sent
@@ -226,11 +202,11 @@ delivers w number packet place s sent st under_way =
     ap (delivery_at w packet) st.numbered ∙ ap (λ (x : Option Session). delivery_of packet place x (packet_at w.packets packet)) st.there
     ∙ ap (delivery_of packet place (Some s)) under_way
 
-pub peer_takes : (set : Setting) (number : ℕ) (s : Session) (device : Subscription) (bytes : List ℕ) (syncs : ℕ) (next : Net) → OnWay set number end.Peer s device bytes syncs next
-    → PeerTook set number s device bytes syncs next
-peer_takes set number s device bytes syncs next o = by o.lines o.gives o.well
+pub peer_takes : (set : Setting) (number : ℕ) (s : Session) (device : Subscription) (keeps : Keeps) (bytes : List ℕ) (syncs : ℕ) (next : Net) → OnWay set number end.Peer s device keeps bytes syncs next
+    → PeerTook set number s device keeps bytes syncs next
+peer_takes set number s device keeps bytes syncs next o = by o.lines o.gives o.well
   where
-    by : (lines : List LineRecord) → RelayGives set o.before o.w number end.Peer (Some o.packet) lines next → TellNoCause syncs lines → PeerTook set number s device bytes syncs next
+    by : (lines : List LineRecord) → RelayGives set o.before o.w number end.Peer (Some o.packet) lines next → TellNoCause s.sub syncs lines → PeerTook set number s device keeps bytes syncs next
     by [] gives well = absurd gives
     by (line ∷ lines) (mid, gives, relay) well =
         let w = o.w in
@@ -238,11 +214,13 @@ peer_takes set number s device bytes syncs next o = by o.lines o.gives o.well
         let told = gives.told in
         let d : Delivery = record { place = o.place; session = s; bytes = o.sent.bytes; packet = o.packet } in
         let there : delivery_in w number o.packet ≡ Some d = delivers w number o.packet o.place s o.sent o.stands o.under_way in
-        let turn = peer_step device s.peer told.seen told.notes.usim told.readable in
+        let keeps_is : keeps_at w s.device ≡ keeps = ap keeps_or o.stored in
+        let turn = peer_step device keeps s.peer told.seen told.notes.usim told.inner in
         let note : Note = by_peer w turn.1.notes turn.1.step (Some s.sub) in
         let came_is : came set w e told ≡ Ok note =
         ap (λ (p : Option SentPacket). came_delivered set w end.Peer told p (delivery_in w number o.packet)) o.under_way
-        ∙ ap (came_delivered set w end.Peer told (Some o.sent)) there ∙ ap (came_at_peer w d told) o.card in
+        ∙ ap (came_delivered set w end.Peer told (Some o.sent)) there ∙ ap (came_at_peer w d told) o.card
+        ∙ ap (λ (k : Keeps). Ok (by_peer w (peer_turn device k s told).1.notes (peer_turn device k s told).1.step (Some s.sub))) keeps_is in
         let bytes_are : received_at w end.Peer (delivery_in w number o.packet) ≡ Some o.sent.bytes =
         ap (received_at w end.Peer) there ∙ ap (received_by o.sent.bytes) o.card in
         let received = subst (λ (b : Option (List ℕ)). AreReceived b told.seen) bytes_are gives.received in
@@ -252,31 +230,47 @@ peer_takes set number s device bytes syncs next o = by o.lines o.gives o.well
         let line_is : line ≡ record_of.Event (record { event = e; result = Ok note }) =
         one_line line (record_of.Event (record { event = e; result = came set w e told })) gives.lines_are
         ∙ ap (λ (c : Came). record_of.Event (record { event = e; result = c })) came_is in
-        let moved_is : moved set w e told ≡ with_peer w o.place s turn.0 turn.1.step = ap (delivered set w end.Peer told) there ∙ ap (to_peer w d told) o.card in
-        let spare = spared syncs e note lines (subst (λ (l : LineRecord). TellNoCause syncs (l ∷ lines)) line_is well) in
+        let went : Keeps → Net = λ k. record (with_peer w o.place s (peer_turn device k s told).0 (peer_turn device k s told).1.step) {
+          stores = slice_set w.stores s.device (kept_after k s told);
+        } in
+        let moved_is : moved set w e told ≡ went keeps = ap (delivered set w end.Peer told) there ∙ ap (to_peer w d told) o.card ∙ ap went keeps_is in
+        let spare = spared s.sub syncs e note lines (subst (λ (l : LineRecord). TellNoCause s.sub syncs (l ∷ lines)) line_is well) in
         let same_usim : length (sqn_reported turn.1.notes.usim) ≡ length (sqn_reported told.notes.usim) = ap (λ (n : Notes). length (sqn_reported n.usim)) (sym notes) in
-        let steps : Steps w mid o.place (peer_new s turn) end.Peer (inputs_of_peer s.sub turn.0) (sent_by turn.1.step) =
+        let steps : Steps w mid o.place (peer_new s turn) (kept_after keeps s told) end.Peer (inputs_of_peer s.sub turn.0) (sent_by turn.1.step) =
         record {
           sessions = ap (λ (n : Net). n.sessions) gives.leads ∙ ap (λ (n : Net). n.sessions) moved_is;
           packets = ap (λ (n : Net). n.packets) gives.leads ∙ ap (λ (n : Net). n.packets) moved_is;
           devices = ap (λ (n : Net). n.devices) gives.leads ∙ ap (λ (n : Net). n.devices) moved_is;
-          homes = ap (λ (n : Net). n.homes) gives.leads ∙ ap (λ (n : Net). n.homes) moved_is;
+          homes = ap (λ (n : Net). is_held n.homes s.sub) gives.leads ∙ ap (λ (n : Net). is_held n.homes s.sub) moved_is;
+          stores = ap (λ (n : Net). slice_get n.stores s.device) gives.leads ∙ ap (λ (n : Net). slice_get n.stores s.device) moved_is
+              ∙ get_here w.stores s.device keeps (kept_after keeps s told) o.stored;
         } in
-        let on : Goes set number end.Server (peer_new s turn) device (sent_by turn.1.step) (syncs - length (sqn_reported told.notes.usim)) next =
-        goes_on set number end.Server end.Peer o.place s (peer_new s turn) device (syncs - length (sqn_reported told.notes.usim)) (behind o.before (line ∷ [])) w mid next
+        let on : Goes set number end.Server (peer_new s turn) device (kept_after keeps s told) (sent_by turn.1.step) (syncs - length (sqn_reported told.notes.usim)) next =
+        goes_on set number end.Server end.Peer o.place s (peer_new s turn) device (kept_after keeps s told) (syncs - length (sqn_reported told.notes.usim)) (behind o.before (line ∷ [])) w mid next
         (inputs_of_peer s.sub turn.0) (sent_by turn.1.step) lines o.stands refl o.card o.held steps
         (subst (λ (p : Option ℕ). RelayGives set (behind o.before (line ∷ [])) mid number end.Server p lines next) (ap packet_of line_is) relay)
-        (subst (λ (n : ℕ). TellNoCause (syncs - n) lines) same_usim spare.later) in
+        (subst (λ (n : ℕ). TellNoCause s.sub (syncs - n) lines) same_usim spare.later) in
         record {
           told = told;
           received = received.0;
           are = received.1 ∙ o.are;
           past = past_before o.before usim.row s.sub;
           usim = usim.answers;
-          readable = usim.readable;
+          decrypts = usim.decrypts;
           once = subst (λ (n : ℕ). n ≤ syncs) same_usim spare.once;
-          goes = λ other same. subst (λ (t : Peer × Turn PeerWhy). Goes set number end.Server (peer_new s t) device (sent_by t.1.step) (syncs - length (sqn_reported told.notes.usim)) next) same on;
+          goes = λ other same. subst (λ (t : Peer × Turn PeerWhy). Goes set number end.Server (peer_new s t) device (kept_after keeps s told) (sent_by t.1.step) (syncs - length (sqn_reported told.notes.usim)) next) same on;
         }
+
+-- the packet that the peer sends is on its way to the server, if the device keeps what it kept
+pub peer_sends : (set : Setting) (number : ℕ) (s : Session) (device : Subscription) (keeps : Keeps) (bytes : List ℕ) (syncs few : ℕ) (next : Net) (took : PeerTook set number s device keeps bytes syncs next)
+    (z : Peer) (notes : Notes) (answer : List ℕ) (checked : Bool) → kept_after keeps s took.told ≡ keeps
+    → peer_step device keeps s.peer took.told.seen took.told.notes.usim took.told.inner ≡ (z, record { notes = notes; step = step.Sent answer; checked = checked })
+    → syncs - length (sqn_reported took.told.notes.usim) ≤ few → OnWay set number end.Server (record s { peer = z }) device keeps answer few next
+peer_sends set number s device keeps bytes syncs few next took z notes answer checked same is less =
+    let left = syncs - length (sqn_reported took.told.notes.usim) in
+    let way = took.goes (z, record { notes = notes; step = step.Sent answer; checked = checked }) is in
+    subst (λ (k : Keeps). OnWay set number end.Server (record s { peer = z }) device k answer few next) same
+    (loosen set number end.Server (record s { peer = z }) device (kept_after keeps s took.told) answer left few next way less)
 
 -- ---- a server
 
@@ -284,23 +278,24 @@ abbrev pub server_new : Session → ServerEnd → Session
 server_new s q = record s { server = Some q }
 
 -- a server received a packet: what it received it as, what the centre answered, and what comes of its turn
-pub record ServerTook (set : Setting) (number : ℕ) (s : Session) (device : Subscription) (bytes : List ℕ) (q : ServerEnd) (syncs : ℕ) (next : Net) : Type 0 where
+pub record ServerTook (set : Setting) (number : ℕ) (s : Session) (device : Subscription) (keeps : Keeps) (bytes : List ℕ) (q : ServerEnd) (syncs : ℕ) (next : Net) : Type 0 where
   pub told : Told
   pub received : IsReceived told.seen
   pub are : told.seen.bytes ≡ bytes
   pub homes : List HomeRow
   pub held : is_held homes s.sub ≡ true
+  pub own : IsAskedFor s.sub (asked_sub (asking (server_row set homes q told.seen)))
   pub centre : IsCentreAsked set (asking (server_row set homes q told.seen)) told.notes
   pub given : is_refused told.notes.number ≡ false
   pub near : is_too_far told.notes.resync ≡ false
   pub goes : (turn : ServerEnd × Turn ServerWhy) → server_step set homes q told.seen told.notes ≡ turn
-      → Goes set number end.Peer (server_new s turn.0) device (sent_by turn.1.step) (syncs - length (sqn_reported told.notes.usim)) next
+      → Goes set number end.Peer (server_new s turn.0) device keeps (sent_by turn.1.step) (syncs - length (sqn_reported told.notes.usim)) next
 
-pub server_takes : (set : Setting) (number : ℕ) (s : Session) (device : Subscription) (bytes : List ℕ) (q : ServerEnd) (syncs : ℕ) (next : Net) → s.server ≡ Some q → OnWay set number end.Server s device bytes syncs next
-    → ServerTook set number s device bytes q syncs next
-server_takes set number s device bytes q syncs next is o = by o.lines o.gives o.well
+pub server_takes : (set : Setting) (number : ℕ) (s : Session) (device : Subscription) (keeps : Keeps) (bytes : List ℕ) (q : ServerEnd) (syncs : ℕ) (next : Net) → s.server ≡ Some q → OnWay set number end.Server s device keeps bytes syncs next
+    → ServerTook set number s device keeps bytes q syncs next
+server_takes set number s device keeps bytes q syncs next is o = by o.lines o.gives o.well
   where
-    by : (lines : List LineRecord) → RelayGives set o.before o.w number end.Server (Some o.packet) lines next → TellNoCause syncs lines → ServerTook set number s device bytes q syncs next
+    by : (lines : List LineRecord) → RelayGives set o.before o.w number end.Server (Some o.packet) lines next → TellNoCause s.sub syncs lines → ServerTook set number s device keeps bytes q syncs next
     by [] gives well = absurd gives
     by (line ∷ lines) (mid, gives, relay) well =
         let w = o.w in
@@ -324,17 +319,19 @@ server_takes set number s device bytes q syncs next is o = by o.lines o.gives o.
         one_line line (record_of.Event (record { event = e; result = came set w e told })) gives.lines_are
         ∙ ap (λ (c : Came). record_of.Event (record { event = e; result = c })) came_is in
         let news : List Number = released_by asks turn.1.notes.number in
-        let moved_is : moved set w e told ≡ with_server w o.place s news turn.0 turn.1.step = ap (delivered set w end.Server told) there ∙ ap (to_server set w d told) is in
-        let spare = subst (λ (n : Notes). Spared syncs n lines) (sym notes) (spared syncs e note lines (subst (λ (l : LineRecord). TellNoCause syncs (l ∷ lines)) line_is well)) in
-        let steps : Steps w mid o.place (server_new s turn.0) end.Server (inputs_of_server turn.0) (sent_by turn.1.step) =
+        let moved_is : moved set w e told ≡ record (with_server w o.place s news turn.0 turn.1.step) { homes = homes_after set w.homes q told.seen told.notes } = ap (delivered set w end.Server told) there ∙ ap (to_server set w d told) is in
+        let spare = subst (λ (n : Notes). Spared s.sub syncs (asked_sub asks) n lines) (sym notes) (spared s.sub syncs e note lines (subst (λ (l : LineRecord). TellNoCause s.sub syncs (l ∷ lines)) line_is well)) in
+        let steps : Steps w mid o.place (server_new s turn.0) keeps end.Server (inputs_of_server turn.0) (sent_by turn.1.step) =
         record {
           sessions = ap (λ (n : Net). n.sessions) gives.leads ∙ ap (λ (n : Net). n.sessions) moved_is;
           packets = ap (λ (n : Net). n.packets) gives.leads ∙ ap (λ (n : Net). n.packets) moved_is;
           devices = ap (λ (n : Net). n.devices) gives.leads ∙ ap (λ (n : Net). n.devices) moved_is;
-          homes = ap (λ (n : Net). n.homes) gives.leads ∙ ap (λ (n : Net). n.homes) moved_is;
+          homes = ap (λ (n : Net). is_held n.homes s.sub) gives.leads ∙ ap (λ (n : Net). is_held n.homes s.sub) moved_is
+              ∙ is_held_alike w.homes (homes_after set w.homes q told.seen told.notes) s.sub (turn_subs set w.homes q told.seen told.notes);
+          stores = ap (λ (n : Net). slice_get n.stores s.device) gives.leads ∙ ap (λ (n : Net). slice_get n.stores s.device) moved_is ∙ o.stored;
         } in
-        let on : Goes set number end.Peer (server_new s turn.0) device (sent_by turn.1.step) (syncs - length (sqn_reported told.notes.usim)) next =
-        goes_on set number end.Peer end.Server o.place s (server_new s turn.0) device (syncs - length (sqn_reported told.notes.usim)) (behind o.before (line ∷ [])) w mid next
+        let on : Goes set number end.Peer (server_new s turn.0) device keeps (sent_by turn.1.step) (syncs - length (sqn_reported told.notes.usim)) next =
+        goes_on set number end.Peer end.Server o.place s (server_new s turn.0) device keeps (syncs - length (sqn_reported told.notes.usim)) (behind o.before (line ∷ [])) w mid next
         (inputs_of_server turn.0) (sent_by turn.1.step) lines o.stands refl o.card o.held steps
         (subst (λ (p : Option ℕ). RelayGives set (behind o.before (line ∷ [])) mid number end.Peer p lines next) (ap packet_of line_is) relay)
         spare.later in
@@ -344,19 +341,29 @@ server_takes set number s device bytes q syncs next is o = by o.lines o.gives o.
           are = received.1 ∙ o.are;
           homes = w.homes;
           held = o.held;
+          own = spare.own;
           centre = centre;
           given = spare.given;
           near = spare.near;
-          goes = λ other same. subst (λ (t : ServerEnd × Turn ServerWhy). Goes set number end.Peer (server_new s t.0) device (sent_by t.1.step) (syncs - length (sqn_reported told.notes.usim)) next) same on;
+          goes = λ other same. subst (λ (t : ServerEnd × Turn ServerWhy). Goes set number end.Peer (server_new s t.0) device keeps (sent_by t.1.step) (syncs - length (sqn_reported told.notes.usim)) next) same on;
         }
+
+-- the packet that the server sends is on its way to the peer
+pub server_sends : (set : Setting) (number : ℕ) (s : Session) (device : Subscription) (keeps : Keeps) (bytes : List ℕ) (q : ServerEnd) (syncs : ℕ) (next : Net)
+    (took : ServerTook set number s device keeps bytes q syncs next) (z : ServerEnd) (notes : Notes) (answer : List ℕ) (checked : Bool)
+    → server_step set took.homes q took.told.seen took.told.notes ≡ (z, record { notes = notes; step = step.Sent answer; checked = checked })
+    → OnWay set number end.Peer (server_new s z) device keeps answer syncs next
+server_sends set number s device keeps bytes q syncs next took z notes answer checked is =
+    loosen set number end.Peer (server_new s z) device keeps answer (syncs - length (sqn_reported took.told.notes.usim)) syncs next
+    (took.goes (z, record { notes = notes; step = step.Sent answer; checked = checked }) is) (omega arith)
 
 -- ---- the start
 
-pub starts : (set : Setting) (before : Before) (w next : Net) (number place : ℕ) (s : Session) (device : Subscription) (syncs : ℕ) (lines : List LineRecord) → Stands w number place s → s.server ≡ None
-    → slice_get w.devices s.device ≡ Some device → is_held w.homes s.sub ≡ true → PlainGives set before w number lines next → TellNoCause syncs lines
-    → OnWay set number end.Peer (server_new s (started s.options)) device (started s.options).last syncs next
-starts set before w next number place s device syncs [] st none card held gives well = absurd gives
-starts set before w next number place s device syncs (line ∷ lines) st none card held (mid, gives, relay) well =
+pub starts : (set : Setting) (before : Before) (w next : Net) (number place : ℕ) (s : Session) (device : Subscription) (keeps : Keeps) (syncs : ℕ) (lines : List LineRecord) → Stands w number place s → s.server ≡ None
+    → slice_get w.devices s.device ≡ Some device → slice_get w.stores s.device ≡ Some keeps → is_held w.homes s.sub ≡ true → PlainGives set before w number lines next → TellNoCause s.sub syncs lines
+    → OnWay set number end.Peer (server_new s (started s.options)) device keeps (started s.options).last syncs next
+starts set before w next number place s device keeps syncs [] st none card stored held gives well = absurd gives
+starts set before w next number place s device keeps syncs (line ∷ lines) st none card stored held (mid, gives, relay) well =
     let e : Event = event.Start number in
     let told = gives.told in
     let first = started s.options in
@@ -370,14 +377,15 @@ starts set before w next number place s device syncs (line ∷ lines) st none ca
     let does : ℕ → Session → Net = λ k t. start w k t t.server in
     let moved_is : moved set w e told ≡ with_server w place s [] first did =
     ap (at_place w does) st.numbered ∙ ap (in_session w does place) st.there ∙ ap (start w place s) none in
-    let spare = spared syncs e note lines (subst (λ (l : LineRecord). TellNoCause syncs (l ∷ lines)) line_is well) in
-    let steps : Steps w mid place (server_new s first) end.Server (inputs_of_server first) (Some first.last) =
+    let spare = spared s.sub syncs e note lines (subst (λ (l : LineRecord). TellNoCause s.sub syncs (l ∷ lines)) line_is well) in
+    let steps : Steps w mid place (server_new s first) keeps end.Server (inputs_of_server first) (Some first.last) =
     record {
       sessions = ap (λ (n : Net). n.sessions) gives.leads ∙ ap (λ (n : Net). n.sessions) moved_is;
       packets = ap (λ (n : Net). n.packets) gives.leads ∙ ap (λ (n : Net). n.packets) moved_is;
       devices = ap (λ (n : Net). n.devices) gives.leads ∙ ap (λ (n : Net). n.devices) moved_is;
-      homes = ap (λ (n : Net). n.homes) gives.leads ∙ ap (λ (n : Net). n.homes) moved_is;
+      homes = ap (λ (n : Net). is_held n.homes s.sub) gives.leads ∙ ap (λ (n : Net). is_held n.homes s.sub) moved_is;
+      stores = ap (λ (n : Net). slice_get n.stores s.device) gives.leads ∙ ap (λ (n : Net). slice_get n.stores s.device) moved_is ∙ stored;
     } in
-    goes_on set number end.Peer end.Server place s (server_new s first) device syncs (behind before (line ∷ [])) w mid next (inputs_of_server first) (Some first.last) lines st refl card held steps
+    goes_on set number end.Peer end.Server place s (server_new s first) device keeps syncs (behind before (line ∷ [])) w mid next (inputs_of_server first) (Some first.last) lines st refl card held steps
     (subst (λ (p : Option ℕ). RelayGives set (behind before (line ∷ [])) mid number end.Peer p lines next) (ap packet_of line_is) relay)
-    (subst (λ (n : ℕ). TellNoCause n lines) (omega arith) spare.later)
+    (subst (λ (n : ℕ). TellNoCause s.sub n lines) (omega arith) spare.later)

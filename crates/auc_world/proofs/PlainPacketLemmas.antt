@@ -1,12 +1,15 @@
 -- For plain sessions: a packet that was written is received as itself, with its head, and a sealed one with a right AT_MAC.
-use Rattle.std.proofs.Common.{◌≡◌, ℕ, Bool, true, false, List, [], ◌++◌, Some, None, Result, Ok, refl, sym, ap, ◌∙◌, subst, append-nil}
+use Rattle.std.proofs.Common.{◌≡◌, ℕ, ◌+◌, ◌≤◌, Bool, true, false, List, [], ◌∷◌, ◌++◌, length, take, Some, None, Result, Ok, refl, sym, ap, ◌∙◌, subst, append-nil, arith, if◌then◌else◌}
+use Rattle.std.proofs.lemmas.List.{take_all}
+use Rattle.std.proofs.lemmas.Nat.{from_be_bytes-to_be_bytes_2}
 use Rattle.std.proofs.lemmas.Slice.Eq.{bytes_eq-Decides}
 use Rattle.std.specs.List.{list_all}
-use Rattle.std.specs.Prelude.{slice_index}
+use Rattle.std.specs.Prelude.{nat_lt, slice_index}
 use Rattle.std.specs.Str.{bytes_eq}
 use Rattle.auc_attr.proofs.Facts.{frame_again}
-use Rattle.auc_attr.specs.Frame.{Ended, Frame, Message, Named, end_code, frame_at, message_code}
+use Rattle.auc_attr.specs.Frame.{Ended, Frame, Message, Named, end_code, frame_at, length_of, message_code}
 use Rattle.auc_attr.specs.Laws.{is_value}
+use Rattle.auc_attr.specs.Spelling.{spelling}
 use Rattle.auc_attr.specs.declared.frame.FrameFault.{FrameFault}
 use Rattle.auc_ident.specs.Permanent.{EachPermanentIsReadBack}
 use Rattle.auc_packet.specs.Head.{head_as, head_at, head_from, head_of_frame}
@@ -14,22 +17,27 @@ use Rattle.auc_packet.specs.Laws.{WrittenIsRead, has_values}
 use Rattle.auc_packet.specs.Packet.{ReadsPacket, method_type, subtype_number}
 use Rattle.auc_packet.specs.Received.{IsReading, IsReceived, OneReceived, Seen, is_sealed}
 use Rattle.auc_packet.specs.Sealed.{MayBeSealed, SealedIsRead, SealedIsRight, draft_mac, sealed, with_mac}
-use Rattle.auc_packet.specs.Spelling.{MayBeWritten, packet_text}
+use Rattle.auc_packet.specs.Spelling.{MayBeWritten, packet_text, whole}
 use Rattle.auc_packet.specs.declared.packet.Head.{Head}
 use Rattle.auc_packet.specs.declared.packet.Packet.{Packet}
 use Rattle.auc_packet.specs.declared.packet.Packet.TheVariants as packet
 use Rattle.auc_packet.specs.declared.received.Reading.{Reading}
 use Rattle.auc_packet.specs.declared.received.Reading.TheVariants as reading
 use Rattle.auc_packet.specs.declared.sealing.Draft.{Draft}
+use Rattle.auc_peer.specs.Attributes.{packet_in}
+use Rattle.auc_seal.specs.Laws.{EncryptedIsDecrypted, EncryptedIsWritable, OpensAsDecrypts}
 use Rattle.auc_vector.specs.Auts.{EachAutsIsReadBack}
 use Rattle.auc_vector.specs.Vector.{AutnHasTheMac}
 
--- the laws of packets, identities and vectors
+-- the laws of packets, encrypted attributes, identities and vectors
 pub record Laws : Type 0 where
   pub alike : OneReceived
   pub written : WrittenIsRead
   pub sealed_read : SealedIsRead
   pub sealed_right : SealedIsRight
+  pub may_be_hidden : EncryptedIsWritable
+  pub decrypted : EncryptedIsDecrypted
+  pub opened : OpensAsDecrypts
   pub permanent : EachPermanentIsReadBack
   pub macs : AutnHasTheMac
   pub auts : EachAutsIsReadBack
@@ -83,6 +91,26 @@ reads_sealed laws k_aut d seen may values received e =
       is_read seen (with_mac d (draft_mac k_aut [] d)) received (laws.sealed_read k_aut [] [] d seen may values received whole),
       laws.sealed_right k_aut [] [] d seen may received whole,
     )
+
+-- ---- its length
+
+whole_length : (code id : ℕ) (rest : List ℕ) → length (whole code id rest) ≤ 4096 → length_of (whole code id rest) ≡ length (whole code id rest)
+whole_length code id rest small = from_be_bytes-to_be_bytes_2 (4 + length rest) (omega (arith, small)) ∙ omega arith
+
+written_length : (p : Packet) → length (packet_text p) ≤ 4096 → length_of (packet_text p) ≡ length (packet_text p)
+written_length (packet.Success id) small = whole_length (end_code true) id [] small
+written_length (packet.Failure id) small = whole_length (end_code false) id [] small
+written_length (packet.Identity request id text) small = whole_length (message_code request) id (1 ∷ text) small
+written_length (packet.Aka request id m s list) small =
+    whole_length (message_code request) id (method_type m ∷ subtype_number s ∷ 0 ∷ 0 ∷ spelling list) small
+
+cut : (bytes : List ℕ) (short : Bool) → length_of bytes ≡ length bytes → (if short then bytes else take (length_of bytes) bytes) ≡ bytes
+cut bytes true e = refl
+cut bytes false e = take_all (length_of bytes) bytes (omega (arith, e))
+
+-- what was written of a packet is the packet in it
+pub packet_there : (p : Packet) → MayBeWritten p → packet_in (packet_text p) ≡ packet_text p
+packet_there p may = cut (packet_text p) (nat_lt (length (packet_text p)) 4) (written_length p may.size)
 
 -- ---- repetitions
 

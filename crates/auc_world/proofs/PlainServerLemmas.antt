@@ -1,6 +1,7 @@
 -- For plain sessions: the turns of a server, from the Identity response to Success.
 use Rattle.std.proofs.Common.{◌≡◌, ℕ, ◌==◌, Bool, true, false, not, if◌then◌else◌, List, [], ◌∷◌, length, Option, Some, None, slice_get, refl, sym, ap, ◌∙◌, subst, eq-eqb}
 use Rattle.std.proofs.lemmas.Slice.Eq.{bytes_eq-Decides}
+use Rattle.std.specs.Str.{bytes_eq}
 use Rattle.auc_aes.specs.Bytes.{IsBlock}
 use Rattle.auc_attr.specs.declared.attr.Attr.{Attr}
 use Rattle.auc_attr.specs.declared.attr.Attr.TheVariants as attr
@@ -14,18 +15,25 @@ use Rattle.auc_packet.specs.Messages.{is_malformed}
 use Rattle.auc_packet.specs.Packet.{method_type}
 use Rattle.auc_packet.specs.Received.{Seen, is_sealed}
 use Rattle.auc_packet.specs.Sealed.{with_mac}
-use Rattle.auc_packet.specs.Spelling.{packet_text}
+use Rattle.auc_packet.specs.Head.{head_at}
+use Rattle.auc_packet.specs.Spelling.{MayBeWritten, packet_text}
 use Rattle.auc_packet.specs.declared.packet.Packet.TheVariants as packet
 use Rattle.auc_packet.specs.declared.received.Reading.{Reading}
+use Rattle.auc_packet.specs.declared.received.Reading.TheVariants as reading
 use Rattle.auc_packet.specs.declared.subtype.Subtype.{Subtype}
 use Rattle.auc_packet.specs.declared.subtype.Subtype.TheVariants as subtype
-use Rattle.auc_peer.specs.Messages.{draft_of, identity_response, own_kdf, sync_failure}
-use Rattle.auc_server.specs.Messages.{challenge_bytes}
-use Rattle.auc_server.specs.Rows.{by_auts, if_challenged, in_state, is_expected, is_type, on_auts, on_head, on_method, on_reading, on_subscriber, read_by, server_row, subscriber_in, text_in, type_awaited}
-use Rattle.auc_server.specs.Server.{ServerEnd, started}
+use Rattle.auc_peer.specs.Messages.{draft_of, identified as identity_answer, identity_response, own_kdf, sync_failure}
+use Rattle.auc_request.specs.declared.identities.IdentityRequest.{IdentityRequest}
+use Rattle.auc_seal.specs.Checkcode.{counted}
+use Rattle.auc_server.specs.Messages.{aka_identity, challenge_bytes}
+use Rattle.auc_server.specs.Ordinals.{ordinal_given}
+use Rattle.auc_server.specs.Rounds.{checkcode, heard, packet_in}
+use Rattle.auc_server.specs.Rows.{by_auts, if_challenged, in_state, is_type, on_any, on_auts, on_first, on_full, on_head, on_method, on_permanent, on_reading, on_response, read_by, server_row, text_in, type_awaited}
+use Rattle.auc_server.specs.Server.{ServerEnd}
 use Rattle.auc_server.specs.Setting.{Setting}
 use Rattle.auc_server.specs.Steps.{asking}
-use Rattle.auc_server.specs.Table.{challenged, challenged_with, ended, identified, next_id, noted, resynchronised, resynchronising, server_does, server_step, succeeded, vector_of_row}
+use Rattle.auc_server.specs.Table.{awaiting, challenged, challenged_with, ended, first_challenge, identified, identity_asked, iv_after, name_given, next_id, noted, packets_after, resynchronised, resynchronising, server_does, server_step, silent, succeeded, vector_of_row}
+use Rattle.auc_server.specs.declared.naming.NewName.{NewName}
 use Rattle.auc_server.specs.declared.options.ServerOptions.{ServerOptions}
 use Rattle.auc_server.specs.declared.rows.Row.{Row}
 use Rattle.auc_server.specs.declared.rows.Row.TheVariants as row
@@ -49,7 +57,8 @@ use Rattle.auc_vector.specs.declared.turn.Outcome.TheVariants as outcome
 use Rattle.auc_vector.specs.declared.turn.Reason.TheVariants as reason
 use Rattle.auc_vector.specs.declared.turn.Step.TheVariants as step
 use Rattle.auc_vector.specs.declared.turn.Turn.{Turn}
-use Rattle.auc_world.proofs.PlainPacketLemmas.{Is, Laws}
+use Rattle.auc_world.proofs.PlainKeyLemmas.{AreNewNames, name_is}
+use Rattle.auc_world.proofs.PlainPacketLemmas.{Is, Laws, packet_there}
 use Rattle.auc_world.specs.Given.{IsCentreAsked, IsNumberAnswer, NumberFollows, resync_note}
 use Rattle.auc_world.specs.Plain.{is_refused, is_too_far}
 
@@ -64,89 +73,257 @@ abbrev pub keys_under : ServerOptions → List ℕ → Vector → KeySet
 keys_under o text v = keys_of o.method text v.ik v.ck
 
 -- a server that challenged a subscriber awaits the answer
-pub record Awaits (q : ServerEnd) (o : ServerOptions) (sub : ℕ) (text : List ℕ) (id : ℕ) (v : Vector) (synced : Bool) : Type 0 where
+pub record Awaits (q : ServerEnd) (o : ServerOptions) (sub : ℕ) (text : List ℕ) (id : ℕ) (v : Vector) (synced : Bool) (packets : List (List ℕ)) : Type 0 where
   pub options_are : q.options ≡ o
   pub awaits_is : q.state ≡ state.AwaitChallenge
   pub id_is : q.id ≡ id
   pub identity_is : q.identity ≡ text
   pub challenged_is : q.challenged ≡ Some (record { sub = sub; vector = v; keys = keys_under o text v })
   pub synced_is : q.synced ≡ synced
+  pub packets_are : q.packets ≡ packets
+
+-- what is sent of a number
+abbrev pub challenge_with : Setting → ServerOptions → ℕ → rows.Row → List ℕ → ℕ → ℕ → Option NewName → List (List ℕ) → List ℕ
+challenge_with set o sub home text id n given packets =
+    challenge_bytes o id (vector_for set o sub home n) (keys_under o text (vector_for set o sub home n)) given (checkcode o.method packets)
 
 -- a turn that challenges
-pub record IsChallenge (set : Setting) (o : ServerOptions) (sub : ℕ) (home : rows.Row) (text : List ℕ) (id : ℕ) (synced : Bool) (turn : ServerEnd × Turn ServerWhy) : Type 0 where
+pub record IsChallenge (set : Setting) (o : ServerOptions) (sub : ℕ) (home : rows.Row) (text : List ℕ) (id : ℕ) (synced : Bool) (packets : List (List ℕ)) (turn : ServerEnd × Turn ServerWhy) : Type 0 where
   pub n : ℕ
+  pub given : Option NewName
+  pub names : AreNewNames given
   pub q : ServerEnd
   pub notes : Notes
-  pub is : turn ≡ (q, record { notes = notes; step = step.Sent (challenge_bytes o id (vector_for set o sub home n) (keys_under o text (vector_for set o sub home n))); checked = false })
-  pub awaits : Awaits q o sub text id (vector_for set o sub home n) synced
+  pub is : turn ≡ (q, record { notes = notes; step = step.Sent (challenge_with set o sub home text id n given packets); checked = false })
+  pub awaits : Awaits q o sub text id (vector_for set o sub home n) synced packets
 
 true_false : ◌≡◌ {A = Bool} true false → ⊥
 true_false e = cc
 
 -- the centre gave a number
-challenges : (set : Setting) (s : ServerEnd) (sub : ℕ) (home : rows.Row) (resynced : Option ResyncNote) (drawn : Option NumberNote) → slice_get set.rows sub ≡ Some home → IsNumberAnswer drawn
-    → is_refused drawn ≡ false → IsChallenge set s.options sub home s.identity (next_id s.id) s.synced (challenged set s sub resynced drawn)
-challenges set s sub home resynced None there answer given = absurd answer
-challenges set s sub home resynced (Some (number.Exhausted w)) there answer given = absurd (true_false given)
-challenges set s sub home resynced (Some (number.Withheld n stop)) there answer given = absurd (true_false given)
-challenges set s sub home resynced (Some (number.Drew n)) there answer given =
+challenges : (set : Setting) (homes : List HomeRow) (s : ServerEnd) (sub : ℕ) (home : rows.Row) (resynced : Option ResyncNote) (drawn : Option NumberNote) → slice_get set.rows sub ≡ Some home → IsNumberAnswer drawn
+    → is_refused drawn ≡ false → IsChallenge set s.options sub home s.identity (next_id s.id) s.synced s.packets (challenged set homes s sub resynced drawn)
+challenges set homes s sub home resynced None there answer fine = absurd answer
+challenges set homes s sub home resynced (Some (number.Exhausted w)) there answer fine = absurd (true_false fine)
+challenges set homes s sub home resynced (Some (number.Withheld n stop)) there answer fine = absurd (true_false fine)
+challenges set homes s sub home resynced (Some (number.Drew n)) there answer fine =
     let v = vector_for set s.options sub home n in
     let notes = noted resynced (Some (number.Drew n)) in
     let keys = keys_under s.options s.identity v in
-    let bytes = challenge_bytes s.options (next_id s.id) v keys in
+    let given = name_given set homes s sub in
     record {
       n = n;
-      q = record s { state = state.AwaitChallenge; id = next_id s.id; last = bytes; challenged = Some (record { sub = sub; vector = v; keys = keys }) };
+      given = given;
+      names = name_is set s sub (ordinal_given s.options.pseudonym homes sub);
+      q = record s {
+        challenged = Some (record { sub = sub; vector = v; keys = keys });
+        next_iv = iv_after s.next_iv given;
+        state = state.AwaitChallenge;
+        id = next_id s.id;
+        last = challenge_bytes s.options (next_id s.id) v keys given (checkcode s.options.method s.packets);
+      };
       notes = notes;
-      is = ap (λ (o : Option Vector). challenged_with s sub o notes) (ap (vector_of_row set s.options sub n) there);
-      awaits = record { options_are = refl; awaits_is = refl; id_is = refl; identity_is = refl; challenged_is = refl; synced_is = refl };
+      is = ap (λ (o : Option Vector). challenged_with s sub o given notes) (ap (vector_of_row set s.options sub n) there);
+      awaits = record { options_are = refl; awaits_is = refl; id_is = refl; identity_is = refl; challenged_is = refl; synced_is = refl; packets_are = refl };
     }
 
--- ---- the Identity response
+-- by what is known of the server
+challenges_as : (set : Setting) (s : ServerEnd) (o : ServerOptions) (sub : ℕ) (home : rows.Row) (text : List ℕ) (id : ℕ) (synced : Bool) (packets : List (List ℕ)) (turn : ServerEnd × Turn ServerWhy)
+    → s.options ≡ o → s.identity ≡ text → s.id ≡ id → s.synced ≡ synced → s.packets ≡ packets
+    → IsChallenge set s.options sub home s.identity (next_id s.id) s.synced s.packets turn → IsChallenge set o sub home text (next_id id) synced packets turn
+challenges_as set s o sub home text id synced packets turn options_are identity_is id_is synced_is packets_are c =
+    let one = subst (λ (x : ServerOptions). IsChallenge set x sub home s.identity (next_id s.id) s.synced s.packets turn) options_are c in
+    let two = subst (λ (t : List ℕ). IsChallenge set o sub home t (next_id s.id) s.synced s.packets turn) identity_is one in
+    let three = subst (λ (i : ℕ). IsChallenge set o sub home text (next_id i) s.synced s.packets turn) id_is two in
+    let four = subst (λ (b : Bool). IsChallenge set o sub home text (next_id id) b s.packets turn) synced_is three in
+    subst (λ (l : List (List ℕ)). IsChallenge set o sub home text (next_id id) synced l turn) packets_are four
 
-pub identity_row : (o : ServerOptions) (set : Setting) (homes : List HomeRow) (seen : Seen) (text : List ℕ) (sub : ℕ) → Is seen (identity_response 1 text) → subscriber_in o.method set homes text ≡ Some sub
-    → server_row set homes (started o) seen ≡ row.Challenge sub
-identity_row o set homes seen text sub is held =
-    ap (on_head set homes (started o) seen) is.head ∙ ap (λ (r : Reading). on_subscriber (subscriber_in o.method set homes (text_in r))) is.packet_is ∙ ap on_subscriber held
+-- the same of a turn that is this one
+challenges_by : (set : Setting) (o : ServerOptions) (sub : ℕ) (home : rows.Row) (text : List ℕ) (id : ℕ) (synced : Bool) (packets : List (List ℕ)) (turn same : ServerEnd × Turn ServerWhy)
+    → turn ≡ same → IsChallenge set o sub home text id synced packets same → IsChallenge set o sub home text id synced packets turn
+challenges_by set o sub home text id synced packets turn same e c =
+    record { n = c.n; given = c.given; names = c.names; q = c.q; notes = c.notes; is = e ∙ c.is; awaits = c.awaits }
 
--- the subscriber whose identity it is is challenged
-pub challenges_first : (o : ServerOptions) (set : Setting) (homes : List HomeRow) (seen : Seen) (text : List ℕ) (sub : ℕ) (home : rows.Row) (notes : Notes) → Is seen (identity_response 1 text)
-    → subscriber_in o.method set homes text ≡ Some sub → slice_get set.rows sub ≡ Some home → IsCentreAsked set (asking (server_row set homes (started o) seen)) notes
-    → is_refused notes.number ≡ false → IsChallenge set o sub home text 2 false (server_step set homes (started o) seen notes)
-challenges_first o set homes seen text sub home notes is held there centre given =
-    let row_is = identity_row o set homes seen text sub is held in
+-- ---- the responses of a method
+
+-- after the Identity response each state awaits responses of the method
+record IsLater (now : ServerState) : Type 0 where
+  headed : (set : Setting) (homes : List HomeRow) (q : ServerEnd) (seen : Seen) → in_state set homes q seen now ≡ on_head set homes q seen (head_at seen.bytes)
+  typed : (m : Method) → type_awaited m now ≡ method_type m
+  read : (set : Setting) (homes : List HomeRow) (q : ServerEnd) (seen : Seen) (r : Reading) → on_reading set homes q now seen r ≡ on_method set homes q now seen r
+
+awaits_later : IsLater state.AwaitChallenge
+awaits_later = record { headed = λ set homes q seen. refl; typed = λ m. refl; read = λ set homes q seen r. refl }
+
+-- one that is received has the Identifier of the request, and the type of the method
+awaited : (set : Setting) (homes : List HomeRow) (q : ServerEnd) (seen : Seen) (o : ServerOptions) (now : ServerState) (id : ℕ) (kind : Subtype) (list : List Attr)
+    → IsLater now → q.options ≡ o → q.state ≡ now → q.id ≡ id → Is seen (packet.Aka false id o.method kind list) → server_row set homes q seen ≡ on_method set homes q now seen seen.reading
+awaited set homes q seen o now id kind list later options_are state_is id_is is =
+    let own : (id == q.id) ≡ true = ap (λ (n : ℕ). id == n) id_is ∙ eq-eqb id id refl in
+    let typed : ℕ → ServerState → Row = λ wanted st. if not (is_type wanted (Some (method_type o.method))) then row.Ignore reason.OtherType else on_reading set homes q st seen seen.reading in
+    ap (in_state set homes q seen) state_is ∙ later.headed set homes q seen ∙ ap (on_head set homes q seen) is.head
+    ∙ ap (λ (b : Bool). if not b then row.Ignore reason.NotForMe else typed (type_awaited q.options.method q.state) q.state) own
+    ∙ ap (λ (st : ServerState). typed (type_awaited q.options.method st) st) state_is
+    ∙ ap (λ (x : ServerOptions). typed (type_awaited x.method now) now) options_are
+    ∙ ap (λ (wanted : ℕ). typed wanted now) (later.typed o.method)
+    ∙ ap (λ (b : Bool). if not b then row.Ignore reason.OtherType else on_reading set homes q now seen seen.reading) (eq-eqb (method_type o.method) (method_type o.method) refl)
+    ∙ later.read set homes q seen seen.reading
+
+-- ---- an identity
+
+-- a server awaits an identity in a state
+pub record Expects (q : ServerEnd) (o : ServerOptions) (now : ServerState) (id : ℕ) (packets : List (List ℕ)) : Type 0 where
+  pub options_are : q.options ≡ o
+  pub state_is : q.state ≡ now
+  pub id_is : q.id ≡ id
+  pub packets_are : q.packets ≡ packets
+  pub synced_is : q.synced ≡ false
+
+-- the row of an identity in a state
+abbrev pub identity_row : ServerState → ServerOptions → Setting → List HomeRow → List ℕ → Row
+identity_row state.AwaitIdentity o set homes text = on_first o set homes text
+identity_row state.AwaitAny o set homes text = on_any o.method set homes text
+identity_row state.AwaitFull o set homes text = on_full o.method set homes text
+identity_row state.AwaitPermanent o set homes text = on_permanent o.method set homes text
+identity_row other o set homes text = row.Ignore reason.Unexpected
+
+-- it came, and these are the AKA-Identity packets after it
+pub record Comes (set : Setting) (homes : List HomeRow) (q : ServerEnd) (seen : Seen) (o : ServerOptions) (now : ServerState) (text : List ℕ) (id : ℕ) (packets : List (List ℕ)) : Type 0 where
+  pub options_are : q.options ≡ o
+  pub id_is : q.id ≡ id
+  pub synced_is : q.synced ≡ false
+  pub row_is : server_row set homes q seen ≡ identity_row now o set homes text
+  pub text_is : text_in seen.reading ≡ text
+  pub heard_is : heard q.packets seen.bytes seen.reading ≡ packets
+
+-- that of EAP's own Identity round
+pub first_comes : (set : Setting) (homes : List HomeRow) (q : ServerEnd) (seen : Seen) (o : ServerOptions) (text : List ℕ) (id : ℕ) (packets : List (List ℕ)) → Expects q o state.AwaitIdentity id packets
+    → Is seen (identity_response id text) → Comes set homes q seen o state.AwaitIdentity text id packets
+first_comes set homes q seen o text id packets w is =
+    let own : (id == q.id) ≡ true = ap (λ (n : ℕ). id == n) w.id_is ∙ eq-eqb id id refl in
+    let typed : ServerState → Row = λ st. if not (is_type (type_awaited q.options.method st) (Some 1)) then row.Ignore reason.OtherType else on_reading set homes q st seen seen.reading in
+    record {
+      options_are = w.options_are;
+      id_is = w.id_is;
+      synced_is = w.synced_is;
+      row_is = ap (in_state set homes q seen) w.state_is ∙ ap (on_head set homes q seen) is.head
+          ∙ ap (λ (b : Bool). if not b then row.Ignore reason.NotForMe else typed q.state) own ∙ ap typed w.state_is
+          ∙ ap (λ (x : ServerOptions). on_first x set homes (text_in seen.reading)) w.options_are ∙ ap (λ (r : Reading). on_first o set homes (text_in r)) is.packet_is;
+      text_is = ap text_in is.packet_is;
+      heard_is = ap (heard q.packets seen.bytes) is.packet_is ∙ w.packets_are;
+    }
+
+-- in a state of an AKA-Identity round
+pub record IsRound (now : ServerState) : Type 0 where
+  later : IsLater now
+  answers : (set : Setting) (homes : List HomeRow) (q : ServerEnd) (seen : Seen) (id : ℕ) (m : Method) (text : List ℕ)
+      → on_method set homes q now seen (reading.Read (identity_answer m id text)) ≡ identity_row now q.options set homes text
+
+pub any_round : IsRound state.AwaitAny
+any_round = record {
+  later = record { headed = λ set homes q seen. refl; typed = λ m. refl; read = λ set homes q seen r. refl };
+  answers = λ set homes q seen id m text. refl;
+}
+
+pub full_round : IsRound state.AwaitFull
+full_round = record {
+  later = record { headed = λ set homes q seen. refl; typed = λ m. refl; read = λ set homes q seen r. refl };
+  answers = λ set homes q seen id m text. refl;
+}
+
+pub permanent_round : IsRound state.AwaitPermanent
+permanent_round = record {
+  later = record { headed = λ set homes q seen. refl; typed = λ m. refl; read = λ set homes q seen r. refl };
+  answers = λ set homes q seen id m text. refl;
+}
+
+-- that of an AKA-Identity round
+pub identity_comes : (set : Setting) (homes : List HomeRow) (q : ServerEnd) (seen : Seen) (o : ServerOptions) (now : ServerState) (text : List ℕ) (id : ℕ) (packets : List (List ℕ)) → IsRound now
+    → Expects q o now id packets → MayBeWritten (identity_answer o.method id text) → Is seen (identity_answer o.method id text) → seen.bytes ≡ packet_text (identity_answer o.method id text)
+    → Comes set homes q seen o now text id (counted (packet_text (identity_answer o.method id text)) packets)
+identity_comes set homes q seen o now text id packets round w may is are =
+    let p = identity_answer o.method id text in
+    record {
+      options_are = w.options_are;
+      id_is = w.id_is;
+      synced_is = w.synced_is;
+      row_is = awaited set homes q seen o now id subtype.Identity (attr.Identity text ∷ []) round.later w.options_are w.state_is w.id_is is
+          ∙ ap (on_method set homes q now seen) is.packet_is ∙ round.answers set homes q seen id o.method text
+          ∙ ap (λ (x : ServerOptions). identity_row now x set homes text) w.options_are;
+      text_is = ap text_in is.packet_is;
+      heard_is = ap (heard q.packets seen.bytes) is.packet_is ∙ ap (λ (b : List ℕ). counted (packet_in b) q.packets) are
+          ∙ ap (λ (b : List ℕ). counted b q.packets) (packet_there p may) ∙ ap (counted (packet_text p)) w.packets_are;
+    }
+
+-- a turn that asks for another identity
+pub record IsAsk (o : ServerOptions) (id : ℕ) (kind : IdentityRequest) (packets : List (List ℕ)) (turn : ServerEnd × Turn ServerWhy) : Type 0 where
+  pub q : ServerEnd
+  pub is : turn ≡ (q, record { notes = silent; step = step.Sent (packet_text (aka_identity o.method id kind)); checked = false })
+  pub expects : Expects q o (awaiting kind) id (counted (packet_text (aka_identity o.method id kind)) packets)
+
+pub asks : (set : Setting) (homes : List HomeRow) (q : ServerEnd) (seen : Seen) (o : ServerOptions) (now : ServerState) (text : List ℕ) (id : ℕ) (packets : List (List ℕ)) (kind : IdentityRequest) (notes : Notes)
+    → Comes set homes q seen o now text id packets → identity_row now o set homes text ≡ row.Ask kind → IsAsk o (next_id id) kind packets (server_step set homes q seen notes)
+asks set homes q seen o now text id packets kind notes w ask =
+    let bytes = packet_text (aka_identity o.method (next_id id) kind) in
+    let all = heard q.packets seen.bytes seen.reading in
+    let asked_is : identity_asked q kind ≡ bytes =
+    ap (λ (x : ServerOptions). packet_text (aka_identity x.method (next_id q.id) kind)) w.options_are ∙ ap (λ (i : ℕ). packet_text (aka_identity o.method (next_id i) kind)) w.id_is in
+    let after : ServerEnd = record q {
+      identity = text_in seen.reading;
+      packets = counted (identity_asked q kind) all;
+      state = awaiting kind;
+      id = next_id q.id;
+      last = identity_asked q kind;
+    } in
+    let sends : List ℕ → ServerEnd × Turn ServerWhy = λ b. (after, record { notes = silent; step = step.Sent b; checked = false }) in
+    record {
+      q = after;
+      is = ap (λ (r : Row). server_does set homes q (text_in seen.reading) (packets_after q seen r) r notes) (w.row_is ∙ ask) ∙ ap sends asked_is;
+      expects = record {
+        options_are = w.options_are;
+        state_is = refl;
+        id_is = ap next_id w.id_is;
+        packets_are = ap (λ (b : List ℕ). counted b all) asked_is ∙ ap (counted bytes) w.heard_is;
+        synced_is = w.synced_is;
+      };
+    }
+
+-- a turn that challenges the subscriber of the identity
+pub challenges_first : (set : Setting) (homes : List HomeRow) (q : ServerEnd) (seen : Seen) (o : ServerOptions) (now : ServerState) (text : List ℕ) (id : ℕ) (packets : List (List ℕ)) (sub : ℕ) (home : rows.Row) (notes : Notes)
+    → Comes set homes q seen o now text id packets → identity_row now o set homes text ≡ row.Challenge sub → slice_get set.rows sub ≡ Some home
+    → IsCentreAsked set (asking (server_row set homes q seen)) notes → is_refused notes.number ≡ false
+    → IsChallenge set o sub home text (next_id id) false packets (server_step set homes q seen notes)
+challenges_first set homes q seen o now text id packets sub home notes w challenge there centre given =
+    let row_is = w.row_is ∙ challenge in
     let answer = subst (λ (r : Row). IsCentreAsked set (asking r) notes) row_is centre in
-    let turn : server_step set homes (started o) seen notes ≡ challenged set (identified (started o) text) sub None notes.number =
-    ap (λ (r : Row). server_does set (started o) (text_in seen.reading) r notes) row_is
-    ∙ ap (λ (r : Reading). challenged set (identified (started o) (text_in r)) sub None notes.number) is.packet_is in
-    let c = challenges set (identified (started o) text) sub home None notes.number there answer.answers given in
-    record { n = c.n; q = c.q; notes = c.notes; is = turn ∙ c.is; awaits = c.awaits }
+    let s = identified q text packets in
+    let turn : server_step set homes q seen notes ≡ challenged set homes s sub None notes.number =
+    ap (λ (r : Row). server_does set homes q (text_in seen.reading) (packets_after q seen r) r notes) row_is
+    ∙ ap (λ (t : List ℕ). first_challenge set homes q t (heard q.packets seen.bytes seen.reading) sub notes.number) w.text_is
+    ∙ ap (λ (l : List (List ℕ)). first_challenge set homes q text l sub notes.number) w.heard_is in
+    challenges_by set o sub home text (next_id id) false packets (server_step set homes q seen notes) (challenged set homes s sub None notes.number) turn
+    (challenges_as set s o sub home text id false packets (challenged set homes s sub None notes.number) w.options_are refl w.id_is w.synced_is refl
+    (challenges set homes s sub home None notes.number there answer.answers given))
 
 -- ---- a response to the challenge
 
--- it has the Identifier of the challenge, and the type of the method
-awaited : (set : Setting) (homes : List HomeRow) (s : ServerEnd) (seen : Seen) (o : ServerOptions) (sub : ℕ) (text : List ℕ) (id : ℕ) (v : Vector) (synced : Bool) (kind : Subtype) (list : List Attr)
-    → Awaits s o sub text id v synced → Is seen (packet.Aka false id o.method kind list) → server_row set homes s seen ≡ on_method set s state.AwaitChallenge seen seen.reading
-awaited set homes s seen o sub text id v synced kind list w is =
-    let own : (id == s.id) ≡ true = ap (λ (n : ℕ). id == n) w.id_is ∙ eq-eqb id id refl in
-    let typed : Method → ServerState → Row = λ m st. if not (is_type (type_awaited m st) (Some (method_type o.method))) then row.Ignore reason.OtherType else on_reading set homes s st seen seen.reading in
-    ap (in_state set homes s seen) w.awaits_is ∙ ap (on_head set homes s seen) is.head
-    ∙ ap (λ (b : Bool). if not b then row.Ignore reason.NotForMe else typed s.options.method s.state) own ∙ ap (typed s.options.method) w.awaits_is
-    ∙ ap (λ (x : ServerOptions). typed x.method state.AwaitChallenge) w.options_are
-    ∙ ap (λ (b : Bool). if not b then row.Ignore reason.OtherType else on_method set s state.AwaitChallenge seen seen.reading) (eq-eqb (method_type o.method) (method_type o.method) refl)
-
--- RES is XRES, and AT_MAC is right
-response_row : (set : Setting) (homes : List HomeRow) (s : ServerEnd) (seen : Seen) (o : ServerOptions) (sub : ℕ) (text : List ℕ) (id : ℕ) (v : Vector) (synced : Bool) (mac : List ℕ)
-    → Awaits s o sub text id v synced → Is seen (with_mac (draft_of o.method id (attr.Res v.xres ∷ attr.Checkcode [] ∷ [])) mac)
+-- RES is XRES, AT_MAC is right, and AT_CHECKCODE is of the same packets
+response_row : (set : Setting) (homes : List HomeRow) (s : ServerEnd) (seen : Seen) (o : ServerOptions) (sub : ℕ) (text : List ℕ) (id : ℕ) (v : Vector) (synced : Bool) (packets : List (List ℕ)) (mac : List ℕ)
+    → Awaits s o sub text id v synced packets → Is seen (with_mac (draft_of o.method id (attr.Res v.xres ∷ attr.Checkcode (checkcode o.method packets) ∷ [])) mac)
     → is_sealed o.method (keys_under o text v).k_aut [] seen ≡ true → server_row set homes s seen ≡ row.Success
-response_row set homes s seen o sub text id v synced mac w is right =
-    let list = attr.Res v.xres ∷ attr.Checkcode [] ∷ attr.Mac mac ∷ [] in
-    let k_aut = (keys_under o text v).k_aut in
-    awaited set homes s seen o sub text id v synced subtype.Challenge list w is ∙ ap (on_method set s state.AwaitChallenge seen) is.packet_is
+response_row set homes s seen o sub text id v synced packets mac w is right =
+    let code = checkcode o.method packets in
+    let list = attr.Res v.xres ∷ attr.Checkcode code ∷ attr.Mac mac ∷ [] in
+    let sent : Challenged = record { sub = sub; vector = v; keys = keys_under o text v } in
+    let wrong : Bool → Row = λ b. if not b then row.WrongCheckcode else row.Success in
+    let unexpected : Bool → Row = λ b. if not b then row.WrongRes else wrong (bytes_eq code code) in
+    awaited set homes s seen o state.AwaitChallenge id subtype.Challenge list awaits_later w.options_are w.awaits_is w.id_is is ∙ ap (on_method set homes s state.AwaitChallenge seen) is.packet_is
     ∙ ap (λ (c : Option Challenged). if_challenged set s c seen subtype.Challenge list) w.challenged_is
-    ∙ ap (λ (x : ServerOptions). if not (is_sealed x.method k_aut [] seen) then row.WrongMac else if not (is_expected v.xres (Some v.xres)) then row.WrongRes else row.Success) w.options_are
-    ∙ ap (λ (b : Bool). if not b then row.WrongMac else if not (is_expected v.xres (Some v.xres)) then row.WrongRes else row.Success) right
-    ∙ ap (λ (b : Bool). if not b then row.WrongRes else row.Success) ((bytes_eq-Decides v.xres v.xres).1 refl)
+    ∙ ap (λ (x : ServerOptions). on_response x.method s.packets sent seen list) w.options_are
+    ∙ ap (λ (l : List (List ℕ)). on_response o.method l sent seen list) w.packets_are
+    ∙ ap (λ (b : Bool). if not b then row.WrongMac else unexpected (bytes_eq v.xres v.xres)) right
+    ∙ ap unexpected ((bytes_eq-Decides v.xres v.xres).1 refl)
+    ∙ ap wrong ((bytes_eq-Decides code code).1 refl)
 
 pub record Wins (set : Setting) (homes : List HomeRow) (s : ServerEnd) (seen : Seen) (o : ServerOptions) (text : List ℕ) (id : ℕ) (v : Vector) (notes : Notes) : Type 0 where
   pub q : ServerEnd
@@ -154,17 +331,17 @@ pub record Wins (set : Setting) (homes : List HomeRow) (s : ServerEnd) (seen : S
   pub turn : server_step set homes s seen notes ≡ (q, record { notes = won; step = step.Ended (outcome.Success (keys_under o text v)) (packet_text (packet.Success id)); checked = true })
   pub ended_is : q.state ≡ state.Ended (outcome.Success (keys_under o text v))
 
-pub wins : (set : Setting) (homes : List HomeRow) (s : ServerEnd) (seen : Seen) (o : ServerOptions) (sub : ℕ) (text : List ℕ) (id : ℕ) (v : Vector) (synced : Bool) (mac : List ℕ) (notes : Notes)
-    → Awaits s o sub text id v synced → Is seen (with_mac (draft_of o.method id (attr.Res v.xres ∷ attr.Checkcode [] ∷ [])) mac)
+pub wins : (set : Setting) (homes : List HomeRow) (s : ServerEnd) (seen : Seen) (o : ServerOptions) (sub : ℕ) (text : List ℕ) (id : ℕ) (v : Vector) (synced : Bool) (packets : List (List ℕ)) (mac : List ℕ) (notes : Notes)
+    → Awaits s o sub text id v synced packets → Is seen (with_mac (draft_of o.method id (attr.Res v.xres ∷ attr.Checkcode (checkcode o.method packets) ∷ [])) mac)
     → is_sealed o.method (keys_under o text v).k_aut [] seen ≡ true → Wins set homes s seen o text id v notes
-wins set homes s seen o sub text id v synced mac notes w is right =
+wins set homes s seen o sub text id v synced packets mac notes w is right =
     let keys = keys_under o text v in
-    let row_is = response_row set homes s seen o sub text id v synced mac w is right in
+    let row_is = response_row set homes s seen o sub text id v synced packets mac w is right in
     let over : ℕ → ServerEnd × Turn ServerWhy = λ i. ended s (outcome.Success keys) (packet_text (packet.Success i)) true in
     record {
       q = (over id).0;
       won = (over id).1.notes;
-      turn = ap (λ (r : Row). server_does set s (text_in seen.reading) r notes) row_is ∙ ap (succeeded s) w.challenged_is ∙ ap over w.id_is;
+      turn = ap (λ (r : Row). server_does set homes s (text_in seen.reading) (packets_after s seen r) r notes) row_is ∙ ap (succeeded s) w.challenged_is ∙ ap over w.id_is;
       ended_is = refl;
     }
 
@@ -175,53 +352,49 @@ sync_sound method.Aka answer = refl
 sync_sound method.Prime answer = refl
 
 -- the first one is resynchronised
-sync_row : Laws → (set : Setting) (homes : List HomeRow) (s : ServerEnd) (seen : Seen) (o : ServerOptions) (sub : ℕ) (home : rows.Row) (text : List ℕ) (id n : ℕ) (sqn : List ℕ)
-    → Awaits s o sub text id (vector_for set o sub home n) false → slice_get set.rows sub ≡ Some home → IsBlock home.secret.k → IsBlock home.secret.opc → length sqn ≡ 6
+sync_row : Laws → (set : Setting) (homes : List HomeRow) (s : ServerEnd) (seen : Seen) (o : ServerOptions) (sub : ℕ) (home : rows.Row) (text : List ℕ) (id n : ℕ) (packets : List (List ℕ)) (sqn : List ℕ)
+    → Awaits s o sub text id (vector_for set o sub home n) false packets → slice_get set.rows sub ≡ Some home → IsBlock home.secret.k → IsBlock home.secret.opc → length sqn ≡ 6
     → Is seen (sync_failure o.method id (auts home.secret.k home.secret.opc (rand_of set.key sub n) sqn)) → server_row set homes s seen ≡ row.Resynchronise sub (seq_of sqn)
-sync_row laws set homes s seen o sub home text id n sqn w there hk ho six is =
+sync_row laws set homes s seen o sub home text id n packets sqn w there hk ho six is =
     let v = vector_for set o sub home n in
     let answer = auts home.secret.k home.secret.opc (rand_of set.key sub n) sqn in
     let list = attr.Auts answer ∷ own_kdf o.method in
     let sent : Challenged = record { sub = sub; vector = v; keys = keys_under o text v } in
     let kind = subtype.SynchronizationFailure in
-    awaited set homes s seen o sub text id v false kind list w is ∙ ap (on_method set s state.AwaitChallenge seen) is.packet_is
+    awaited set homes s seen o state.AwaitChallenge id kind list awaits_later w.options_are w.awaits_is w.id_is is ∙ ap (on_method set homes s state.AwaitChallenge seen) is.packet_is
     ∙ ap (λ (x : ServerOptions). if is_malformed kind false x.method list then row.Ignore reason.Malformed else if_challenged set s s.challenged seen kind list) w.options_are
     ∙ ap (λ (b : Bool). if b then row.Ignore reason.Malformed else if_challenged set s s.challenged seen kind list) (sync_sound o.method answer)
     ∙ ap (λ (c : Option Challenged). if_challenged set s c seen kind list) w.challenged_is
     ∙ ap (λ (b : Bool). if b then row.SecondSync else on_auts set sent (Some answer)) w.synced_is
     ∙ ap (read_by sent answer) there ∙ ap (by_auts sub) (laws.auts home.secret (rand_of set.key sub n) sqn hk ho six)
 
--- a challenge after one that was found out of range
-again : (set : Setting) (s : ServerEnd) (o : ServerOptions) (sub : ℕ) (home : rows.Row) (text : List ℕ) (id : ℕ) (v : Vector) (resynced : Option ResyncNote) (notes : Notes) → Awaits s o sub text id v false
-    → IsChallenge set s.options sub home s.identity (next_id s.id) true (challenged set (resynchronising s) sub resynced notes.number)
-    → resynchronised set s sub notes.resync notes.number ≡ challenged set (resynchronising s) sub resynced notes.number
-    → IsChallenge set o sub home text (next_id id) true (resynchronised set s sub notes.resync notes.number)
-again set s o sub home text id v resynced notes w c is =
-    let by = subst (λ (x : ServerOptions). IsChallenge set x sub home s.identity (next_id s.id) true (challenged set (resynchronising s) sub resynced notes.number)) w.options_are c in
-    let same = subst (λ (t : List ℕ). IsChallenge set o sub home t (next_id s.id) true (challenged set (resynchronising s) sub resynced notes.number)) w.identity_is by in
-    let d = subst (λ (i : ℕ). IsChallenge set o sub home text (next_id i) true (challenged set (resynchronising s) sub resynced notes.number)) w.id_is same in
-    record { n = d.n; q = d.q; notes = d.notes; is = is ∙ d.is; awaits = d.awaits }
-
 -- the centre moved its number or left it, and gave a number
-challenges_after : (set : Setting) (s : ServerEnd) (o : ServerOptions) (sub : ℕ) (home : rows.Row) (text : List ℕ) (id : ℕ) (v : Vector) (found_so : Resynchronisation) (notes : Notes) → Awaits s o sub text id v false
-    → slice_get set.rows sub ≡ Some home → notes.resync ≡ Some (resync_note found_so) → NumberFollows found_so notes.number → is_refused notes.number ≡ false → is_too_far notes.resync ≡ false
-    → IsChallenge set o sub home text (next_id id) true (resynchronised set s sub notes.resync notes.number)
-challenges_after set s o sub home text id v (found.Beyond seen seq) notes w there resynced follows given near = absurd (true_false (sym (ap is_too_far resynced) ∙ near))
-challenges_after set s o sub home text id v (found.Moved seen seq) notes w there resynced follows given near =
-    again set s o sub home text id v (Some (resync.Moved seen seq)) notes w (challenges set (resynchronising s) sub home (Some (resync.Moved seen seq)) notes.number there follows given)
-    (ap (λ (o : Option ResyncNote). resynchronised set s sub o notes.number) resynced)
-challenges_after set s o sub home text id v (found.InRange seen seq) notes w there resynced follows given near =
-    again set s o sub home text id v (Some (resync.InRange seen seq)) notes w (challenges set (resynchronising s) sub home (Some (resync.InRange seen seq)) notes.number there follows given)
-    (ap (λ (o : Option ResyncNote). resynchronised set s sub o notes.number) resynced)
+challenges_after : (set : Setting) (homes : List HomeRow) (s : ServerEnd) (o : ServerOptions) (sub : ℕ) (home : rows.Row) (text : List ℕ) (id : ℕ) (v : Vector) (packets : List (List ℕ)) (found_so : Resynchronisation) (notes : Notes)
+    → Awaits s o sub text id v false packets → slice_get set.rows sub ≡ Some home → notes.resync ≡ Some (resync_note found_so) → NumberFollows found_so notes.number
+    → is_refused notes.number ≡ false → is_too_far notes.resync ≡ false
+    → IsChallenge set o sub home text (next_id id) true packets (resynchronised set homes s sub notes.resync notes.number)
+challenges_after set homes s o sub home text id v packets (found.Beyond seen seq) notes w there resynced follows given near = absurd (true_false (sym (ap is_too_far resynced) ∙ near))
+challenges_after set homes s o sub home text id v packets (found.Moved seen seq) notes w there resynced follows given near =
+    let note : Option ResyncNote = Some (resync.Moved seen seq) in
+    challenges_by set o sub home text (next_id id) true packets (resynchronised set homes s sub notes.resync notes.number) (challenged set homes (resynchronising s) sub note notes.number)
+    (ap (λ (r : Option ResyncNote). resynchronised set homes s sub r notes.number) resynced)
+    (challenges_as set (resynchronising s) o sub home text id true packets (challenged set homes (resynchronising s) sub note notes.number) w.options_are w.identity_is w.id_is refl w.packets_are
+    (challenges set homes (resynchronising s) sub home note notes.number there follows given))
+challenges_after set homes s o sub home text id v packets (found.InRange seen seq) notes w there resynced follows given near =
+    let note : Option ResyncNote = Some (resync.InRange seen seq) in
+    challenges_by set o sub home text (next_id id) true packets (resynchronised set homes s sub notes.resync notes.number) (challenged set homes (resynchronising s) sub note notes.number)
+    (ap (λ (r : Option ResyncNote). resynchronised set homes s sub r notes.number) resynced)
+    (challenges_as set (resynchronising s) o sub home text id true packets (challenged set homes (resynchronising s) sub note notes.number) w.options_are w.identity_is w.id_is refl w.packets_are
+    (challenges set homes (resynchronising s) sub home note notes.number there follows given))
 
-pub challenges_again : Laws → (set : Setting) (homes : List HomeRow) (s : ServerEnd) (seen : Seen) (o : ServerOptions) (sub : ℕ) (home : rows.Row) (text : List ℕ) (id n : ℕ) (sqn : List ℕ) (notes : Notes)
-    → Awaits s o sub text id (vector_for set o sub home n) false → slice_get set.rows sub ≡ Some home → IsBlock home.secret.k → IsBlock home.secret.opc → length sqn ≡ 6
+pub challenges_again : Laws → (set : Setting) (homes : List HomeRow) (s : ServerEnd) (seen : Seen) (o : ServerOptions) (sub : ℕ) (home : rows.Row) (text : List ℕ) (id n : ℕ) (packets : List (List ℕ)) (sqn : List ℕ) (notes : Notes)
+    → Awaits s o sub text id (vector_for set o sub home n) false packets → slice_get set.rows sub ≡ Some home → IsBlock home.secret.k → IsBlock home.secret.opc → length sqn ≡ 6
     → Is seen (sync_failure o.method id (auts home.secret.k home.secret.opc (rand_of set.key sub n) sqn)) → IsCentreAsked set (asking (server_row set homes s seen)) notes
-    → is_refused notes.number ≡ false → is_too_far notes.resync ≡ false → IsChallenge set o sub home text (next_id id) true (server_step set homes s seen notes)
-challenges_again laws set homes s seen o sub home text id n sqn notes w there hk ho six is centre given near =
-    let row_is = sync_row laws set homes s seen o sub home text id n sqn w there hk ho six is in
+    → is_refused notes.number ≡ false → is_too_far notes.resync ≡ false → IsChallenge set o sub home text (next_id id) true packets (server_step set homes s seen notes)
+challenges_again laws set homes s seen o sub home text id n packets sqn notes w there hk ho six is centre given near =
+    let row_is = sync_row laws set homes s seen o sub home text id n packets sqn w there hk ho six is in
     let asked = subst (λ (r : Row). IsCentreAsked set (asking r) notes) row_is centre in
     let (before, resynced, follows) = asked.answers in
-    let turn : server_step set homes s seen notes ≡ resynchronised set s sub notes.resync notes.number = ap (λ (r : Row). server_does set s (text_in seen.reading) r notes) row_is in
-    let c = challenges_after set s o sub home text id (vector_for set o sub home n) (resynchronise_of before (seq_of sqn)) notes w there resynced follows given near in
-    record { n = c.n; q = c.q; notes = c.notes; is = turn ∙ c.is; awaits = c.awaits }
+    challenges_by set o sub home text (next_id id) true packets (server_step set homes s seen notes) (resynchronised set homes s sub notes.resync notes.number)
+    (ap (λ (r : Row). server_does set homes s (text_in seen.reading) (packets_after s seen r) r notes) row_is)
+    (challenges_after set homes s o sub home text id (vector_for set o sub home n) packets (resynchronise_of before (seq_of sqn)) notes w there resynced follows given near)

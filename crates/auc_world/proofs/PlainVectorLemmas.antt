@@ -17,7 +17,7 @@ byte_lt : (i n : ℕ) → byte_at i n < 256
 byte_lt zero n = omega arith
 byte_lt (suc i) n = omega arith
 
-high_first_are : (k n : ℕ) → IsBytes (bytes_high_first k n)
+pub high_first_are : (k n : ℕ) → IsBytes (bytes_high_first k n)
 high_first_are zero n i = omega arith
 high_first_are (suc k) n zero = byte_lt k n
 high_first_are (suc k) n (suc i) = high_first_are k n i
@@ -39,18 +39,22 @@ rot_block block r = number_block (rotate_left w128 (from_be_bytes w128 block) r)
 word_are : (key : List ℕ) (stream place : ℕ) → IsBytes (word_bytes key stream place)
 word_are key stream place = low_first_are 0 4 _
 
--- RAND is a block
-pub rand_block : (key : List ℕ) (sub n : ℕ) → IsBlock (rand_of key sub n)
-unfolding rand_of sixteen_at
-rand_block key sub n =
-    let w = word_bytes key sub in
-    let p = 4 * n in
+-- the bytes of four words are a block
+pub sixteen_block : (key : List ℕ) (stream p : ℕ) → IsBlock (sixteen_at key stream p)
+unfolding sixteen_at
+sixteen_block key stream p =
+    let w = word_bytes key stream in
     record {
       size = refl;
       bytes = bytes_append ((w p ++ w (p + 1)) ++ w (p + 2)) (w (p + 3))
-          (bytes_append (w p ++ w (p + 1)) (w (p + 2)) (bytes_append (w p) (w (p + 1)) (word_are key sub p) (word_are key sub (p + 1))) (word_are key sub (p + 2)))
-          (word_are key sub (p + 3));
+          (bytes_append (w p ++ w (p + 1)) (w (p + 2)) (bytes_append (w p) (w (p + 1)) (word_are key stream p) (word_are key stream (p + 1))) (word_are key stream (p + 2)))
+          (word_are key stream (p + 3));
     }
+
+-- RAND is a block
+pub rand_block : (key : List ℕ) (sub n : ℕ) → IsBlock (rand_of key sub n)
+unfolding rand_of
+rand_block key sub n = sixteen_block key sub (4 * n)
 
 -- ---- the functions
 

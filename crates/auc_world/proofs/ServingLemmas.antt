@@ -1,5 +1,5 @@
 -- For `world`: a packet that reaches a server.
-use Rattle.std.proofs.Common.{◌≡◌, ◌≤◌, ◌<◌, ◌-◌, ℕ, zero, suc, true, List, [], ◌∷◌, ◌++◌, length, get_or, Option, Some, None, Ok, Err, refl, sym, ap, ◌∙◌, subst, arith}
+use Rattle.std.proofs.Common.{◌≡◌, ◌≤◌, ◌<◌, ◌-◌, ℕ, zero, suc, List, [], ◌∷◌, ◌++◌, length, get_or, Option, Some, None, Ok, Err, refl, sym, ap, ◌∙◌, subst, arith}
 use Rattle.std.specs.Prelude.{slice_get, slice_set}
 use Rattle.std.proofs.lemmas.Option.{get_or_from_slice_get}
 use Rattle.auc_edge.specs.declared.stop.Stop.{Stop}
@@ -7,6 +7,7 @@ use Rattle.auc_history.specs.declared.entry.Entry.{Entry}
 use Rattle.auc_lines.specs.declared.part.End.TheVariants as end
 use Rattle.auc_packet.specs.declared.received.Reading.TheVariants as reading
 use Rattle.auc_packet.specs.declared.refusal.PacketRefusal.TheVariants as refusal
+use Rattle.auc_peer.specs.declared.decrypted.Decrypted.TheVariants as decrypted
 use Rattle.auc_peer.specs.declared.device.Device.{Device}
 use Rattle.auc_released.specs.declared.numbers.Number.{Number}
 use Rattle.auc_server.proofs.Facts.{IsReported, asked_is, sub_asked}
@@ -15,7 +16,7 @@ use Rattle.auc_server.specs.Rows.{server_row}
 use Rattle.auc_server.specs.Server.{ServerEnd}
 use Rattle.auc_server.specs.Setting.{Setting}
 use Rattle.auc_server.specs.Steps.{Steps, asking}
-use Rattle.auc_server.specs.Table.{silent}
+use Rattle.auc_server.specs.Table.{homes_after, silent}
 use Rattle.auc_server.specs.declared.setting.HomeRow.{HomeRow}
 use Rattle.auc_server.specs.declared.why.ServerWhy.{ServerWhy}
 use Rattle.auc_vector.specs.Notes.{Asked, Asking}
@@ -25,11 +26,12 @@ use Rattle.auc_vector.specs.declared.notes.NumberNote.TheVariants as number
 use Rattle.auc_vector.specs.declared.parts.Vector.{Vector}
 use Rattle.auc_vector.specs.declared.turn.Turn.{Turn}
 use Rattle.auc_world.proofs.ActingLemmas.{numbered}
+use Rattle.auc_world.proofs.HomeLemmas.{asked_same}
 use Rattle.auc_world.specs.Came.{AreReceived, Came, AsksAt, asked_sub, asking_at, by_server, came_at_server, packet_number, received_by, vector_sent}
 use Rattle.auc_world.specs.Happened.{Delivery, Told, breach_at, delivery_at, released_by, sent_by, server_finds, to_server, with_server}
 use Rattle.auc_world.specs.InnerWorld.{Serves, number_after, refusal_of, released_for, state_of}
 use Rattle.auc_world.specs.Net.{Net, inputs_of_server, judged, packet_at, posted}
-use Rattle.auc_world.specs.World.{WorldState}
+use Rattle.auc_world.specs.World.{AreOfSame, WorldState}
 use Rattle.auc_world.specs.declared.event.Note.{Note}
 use Rattle.auc_world.specs.declared.event.NoteStep.TheVariants as did
 use Rattle.auc_world.specs.declared.event.WorldRefusal.TheVariants as refused
@@ -40,7 +42,7 @@ use Rattle.auc_world.specs.declared.net.Session.{Session}
 
 -- what is told where nothing was received
 abbrev pub nothing_told : Told
-nothing_told = record { seen = record { bytes = []; reading = reading.Fault refusal.Short; place = None }; notes = silent; readable = true }
+nothing_told = record { seen = record { bytes = []; reading = reading.Fault refusal.Short; place = None }; notes = silent; inner = decrypted.Unreadable }
 
 -- without a finding the breach stays
 pub unjudged : (packets : List SentPacket) (broken : Option Breach) → broken ≡ judged packets broken None
@@ -129,9 +131,9 @@ module _ {S : Type 0} (goes : S → ℕ → List Entry → List (ℕ × Stop) �
   reported_of (Some request) notes before after asked = (kept before request.sub, asked.resynced)
 
   module _ (s new : ServerEnd) (turn : Turn ServerWhy) (before after : S) (bytes : List ℕ) (is : session.server ≡ Some s) (of_packet : bytes ≡ sent_packet.bytes)
-      (steps : Steps goes kept top set homes s bytes before new turn after) where
+      (later : List HomeRow) (steps : Steps goes kept top set homes s bytes before new turn later after) (alike : AreOfSame homes later) where
     abbrev told : Told
-    told = record { seen = steps.seen; notes = turn.notes; readable = true }
+    told = record { seen = steps.seen; notes = turn.notes; inner = decrypted.Unreadable }
 
     abbrev asks : Option Asking
     asks = asking (server_row set homes s steps.seen)
@@ -146,13 +148,14 @@ module _ {S : Type 0} (goes : S → ℕ → List Entry → List (ℕ × Stop) �
     -- the network after a turn
     abbrev after_turn : ServerEnd × Turn ServerWhy → Net
     after_turn x = record (with_server old.net place session (released_by asks x.1.notes.number) x.0 x.1.step) {
+      homes = homes_after set homes s steps.seen turn.notes;
       broken = judged packets broken (Some (record { checked = x.1.checked; inputs = inputs_of_server s; bytes = sent_packet.bytes; delivery = breach_at d0 end.Server }));
     }
 
     -- `read`, `looked`, `served` and `noted` are the lists as the steps of the code find them
     pub serves : (read looked packets' : List SentPacket) (sessions' : List Session) (noted released' : List Number) (served homes' : List HomeRow) (broken' : Option Breach) (inputs inputs_before : Option Inputs)
         (sent : Option (List ℕ)) (asked posted_as : Option ℕ)
-        → read ≡ packets → looked ≡ packets → noted ≡ released → served ≡ homes → homes' ≡ homes
+        → read ≡ packets → looked ≡ packets → noted ≡ released → served ≡ later → homes' ≡ later
         → inputs_before ≡ inputs_of_server s → inputs ≡ inputs_of_server new → sent ≡ sent_by turn.step → packets' ≡ posted read end.Server inputs sent → posted_as ≡ number_after read sent
         → asked ≡ asked_after set served new turn.notes.resync turn.notes.number → released' ≡ noted ++ released_for asked turn.notes.number
         → broken' ≡ judged looked broken (Some (record { checked = turn.checked; inputs = inputs_before; bytes = bytes; delivery = breach_at d0 end.Server }))
@@ -161,7 +164,8 @@ module _ {S : Type 0} (goes : S → ℕ → List Entry → List (ℕ × Stop) �
         → Serves goes kept top set old d0 before (state_of packets' sessions' released' homes' broken' devices)
         (Ok (record { notes = turn.notes; step = did.Server turn.step; packet = posted_as; asked = asked; device = None; vector = vector })) after
     serves read looked packets' sessions' noted released' served homes' broken' inputs inputs_before sent asked posted_as is_read is_looked is_noted is_served is_homes is_before is_inputs is_sent is_packets is_posted is_asked is_released is_broken is_sessions vector is_vector =
-        let for_whom : asked ≡ asked_sub asks = is_asked ∙ ap (λ (h : List HomeRow). asked_after set h new turn.notes.resync turn.notes.number) is_served ∙ asked_for in
+        let for_whom : asked ≡ asked_sub asks = is_asked ∙ ap (λ (h : List HomeRow). asked_after set h new turn.notes.resync turn.notes.number) is_served
+        ∙ asked_same set homes later new turn.notes.resync turn.notes.number alike ∙ asked_for in
         let post : posted read end.Server inputs sent ≡ posted packets end.Server (inputs_of_server new) (sent_by turn.step) = λ j. posted (is_read j) end.Server (is_inputs j) (is_sent j) in
         let out : released' ≡ released ++ released_by asks turn.notes.number =
         is_released ∙ ap (λ (all : List Number). all ++ released_for asked turn.notes.number) is_noted ∙ ap (λ (a : Option ℕ). released ++ released_for a turn.notes.number) for_whom
@@ -173,7 +177,7 @@ module _ {S : Type 0} (goes : S → ℕ → List Entry → List (ℕ × Stop) �
         let breach : broken' ≡ judged packets broken (Some (record { checked = turn.checked; inputs = inputs_of_server s; bytes = sent_packet.bytes; delivery = breach_at d0 end.Server })) =
         is_broken ∙ judge in
         let net_is : (state_of packets' sessions' released' homes' broken' devices).net ≡ after_turn (new, turn) =
-        λ j. record old.net { packets = put j; sessions = is_sessions j; released = out j; homes = is_homes j; broken = breach j } in
+        λ j. record old.net { packets = put j; sessions = is_sessions j; released = out j; homes = (is_homes ∙ steps.homes_are) j; broken = breach j } in
         let number_is : posted_as ≡ packet_number old.net (sent_by turn.step) =
         is_posted ∙ ap (λ (ps : List SentPacket). number_after ps sent) is_read ∙ ap (number_after packets) is_sent ∙ sym (numbered old.net packets (sent_by turn.step) refl) in
         let note_is : record { notes = turn.notes; step = did.Server turn.step; packet = posted_as; asked = asked; device = None; vector = vector }

@@ -4,7 +4,7 @@ use Rattle.std.specs.Prelude.{OnErr, slice_get, slice_set}
 use Rattle.std.specs.List.{position, position_or_len}
 use Rattle.std.proofs.lemmas.Bool.Decides.{nat_tests}
 use Rattle.std.proofs.lemmas.List.{length-map, map-append, set-get_or}
-use Rattle.std.proofs.lemmas.List.Elements.{All-push, All-set}
+use Rattle.std.proofs.lemmas.List.Elements.{All-push, All-set, All-weaker}
 use Rattle.std.proofs.lemmas.Option.{get_or_from_slice_get, slice_get_within}
 use Rattle.std.proofs.Math.Seq.{map-set_same}
 use Rattle.indexmap.specs.IndexMap.{set_value_at}
@@ -16,12 +16,13 @@ use Rattle.auc_server.specs.Server.{ServerEnd}
 use Rattle.auc_server.specs.Steps.{IsHome, IsServed}
 use Rattle.auc_server.specs.declared.options.ServerOptions.{ServerOptions}
 use Rattle.auc_server.specs.declared.setting.HomeRow.{HomeRow}
+use Rattle.auc_world.proofs.HomeLemmas.{held_alike}
 use Rattle.auc_world.specs.Came.{Came, came_in, came_opened, of_opening, session_at, session_of}
 use Rattle.auc_world.specs.Happened.{at_place, at_session, new_session, opened}
 use Rattle.auc_world.specs.InnerWorld.{Acts, AreNumbered, ArePlaced, IsKept, Stands, came_of, device_with, net_of, state_of, with_session}
 use Rattle.auc_subs.specs.declared.row.Row.{Row}
 use Rattle.auc_world.specs.Net.{Net, device_place, place_with, session_place}
-use Rattle.auc_world.specs.World.{HasHeld, IsName, WorldState}
+use Rattle.auc_world.specs.World.{AreOfSame, HasHeld, IsName, WorldState}
 use Rattle.auc_world.specs.declared.acting.Deed.{Deed}
 use Rattle.auc_world.specs.declared.event.WorldRefusal.TheVariants as refused
 use Rattle.auc_world.specs.declared.net.Breach.{Breach}
@@ -101,6 +102,7 @@ module _ (numbers : List ℕ) (found : DeviceKey → Option ℕ) (packets : List
   kept_session numbers' packets' sessions' released' broken' place session changed same_numbers same_sessions there same_number same_options held = record {
     world = record {
       subscriptions = refl;
+      stores = refl;
       realms = kept.world.realms;
       held = subst (All (λ s. HasHeld homes s.server)) (sym same_sessions) (All-set (λ s. HasHeld homes s.server) sessions place changed held kept.world.held);
       names = subst (All (λ s. IsName s.options.name)) (sym same_sessions)
@@ -118,6 +120,7 @@ module _ (numbers : List ℕ) (found : DeviceKey → Option ℕ) (packets : List
   kept_device place device card there same = record {
     world = record {
       subscriptions = refl;
+      stores = refl;
       realms = All-set (λ d. length d.realm ≤ 255) devices place card
           (subst (λ (realm : List ℕ). length realm ≤ 255) (ap (λ (s : Subscription). s.realm) (sym same)) (of_all (λ (d : Device). length d.realm ≤ 255) devices place device kept.world.realms there))
           kept.world.realms;
@@ -250,6 +253,7 @@ pub kept_opened : (numbers : List ℕ) (found : DeviceKey → Option ℕ) (packe
 kept_opened numbers found packets sessions released homes broken devices kept numbers' sessions' session same_numbers same_sessions none name = record {
   world = record {
     subscriptions = refl;
+    stores = refl;
     realms = kept.world.realms;
     held = subst (All (λ (s : Session). HasHeld homes s.server)) (sym same_sessions)
         (All-push (λ (s : Session). HasHeld homes s.server) sessions session kept.world.held (subst (HasHeld homes) (sym none) tt));
@@ -285,6 +289,22 @@ pub kept_homes : (numbers : List ℕ) (found : DeviceKey → Option ℕ) (packet
     → IsKept numbers found (state_of packets sessions released homes' broken devices)
 kept_homes numbers found packets sessions released homes homes' broken devices same kept =
     subst (λ (h : List HomeRow). IsKept numbers found (state_of packets sessions released h broken devices)) (sym same) kept
+
+-- or are those of the same subscribers
+pub kept_alike : (numbers : List ℕ) (found : DeviceKey → Option ℕ) (packets : List SentPacket) (sessions : List Session) (released : List Number) (homes homes' : List HomeRow)
+    (broken : Option Breach) (devices : List Device) → AreOfSame homes homes' → IsKept numbers found (state_of packets sessions released homes broken devices)
+    → IsKept numbers found (state_of packets sessions released homes' broken devices)
+kept_alike numbers found packets sessions released homes homes' broken devices same kept = record {
+  world = record {
+    subscriptions = refl;
+    stores = refl;
+    realms = kept.world.realms;
+    held = All-weaker (λ (s : Session). HasHeld homes s.server) (λ (s : Session). HasHeld homes' s.server) (λ s held. held_alike homes homes' s.server same held) sessions kept.world.held;
+    names = kept.world.names;
+  };
+  numbered = kept.numbered;
+  placed = kept.placed;
+}
 
 -- a session whose server stays
 pub same_session : (session : Session) (s new : ServerEnd) → session.server ≡ Some s → new ≡ s → record session { server = Some new } ≡ session

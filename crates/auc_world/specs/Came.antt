@@ -25,7 +25,7 @@ use Rattle.auc_vector.specs.declared.parts.Vector.{Vector}
 use Rattle.auc_vector.specs.declared.turn.Step.{Step}
 use Rattle.auc_vector.specs.declared.turn.Step.TheVariants as step
 use Rattle.auc_world.specs.Happened.{Delivery, Told, delivery_in, peer_turn, sent_by, server_turn}
-use Rattle.auc_world.specs.Net.{Net, device_place, packet_at, session_place}
+use Rattle.auc_world.specs.Net.{Net, device_place, keeps_at, packet_at, session_place}
 use Rattle.auc_world.specs.declared.event.Event.{Event}
 use Rattle.auc_world.specs.declared.event.Event.TheVariants as event
 use Rattle.auc_world.specs.declared.event.Note.{Note}
@@ -95,7 +95,7 @@ came_at_server set w told (Some s) =
 abbrev pub came_at_peer : Net → Delivery → Told → Option Subscription → Came
 came_at_peer w d told None = Err refused.NoSuchEnd
 came_at_peer w d told (Some device) =
-    let turn = peer_turn device d.session told in Ok (by_peer w turn.1.notes turn.1.step (Some d.session.sub))
+    let turn = peer_turn device (keeps_at w d.session.device) d.session told in Ok (by_peer w turn.1.notes turn.1.step (Some d.session.sub))
 
 -- the packet is looked for before the end
 abbrev pub came_delivered : Setting → Net → End → Told → Option SentPacket → Option Delivery → Came

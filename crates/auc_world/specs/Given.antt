@@ -35,7 +35,7 @@ use Rattle.auc_vector.specs.declared.notes.UsimNote.{UsimNote}
 use Rattle.auc_world.specs.Came.{AreReceived, Came, Presented, TellsNotes, asking_of, bytes_named, came, presented_by}
 use Rattle.auc_world.specs.Happened.{Told, happened}
 use Rattle.auc_world.specs.Net.{Net, other}
-use Rattle.auc_world.specs.Start.{start_of}
+use Rattle.auc_world.specs.Start.{Kept, start_of}
 use Rattle.auc_world.specs.declared.event.Event.{Event}
 use Rattle.auc_world.specs.declared.event.Event.TheVariants as event
 use Rattle.auc_world.specs.declared.record.LineRecord.{LineRecord}
@@ -211,12 +211,12 @@ UsimNotes secret past (Some challenge) None = ⊥
 UsimNotes secret past (Some challenge) (Some note) = IsAnswer secret past challenge.rand challenge.autn (answer_noted secret challenge note)
 
 -- the device of a session's subscriber received a packet: its USIM answered, by all that it had accepted; and what was
--- encrypted was readable or not
+-- decrypted is what was encrypted
 pub record AsksUsim (set : Setting) (before : Before) (p : Presented) (told : Told) : Type 0 where
   pub row : Row
   pub there : slice_get set.rows p.delivery.session.sub ≡ Some row
   pub answers : UsimNotes p.device.secret (past_before before row p.delivery.session.sub) p.challenge told.notes.usim
-  pub readable : Decrypts (decryption_noted p.device p.delivery.session.peer told.seen p.challenge told.notes.usim) told.readable
+  pub decrypts : Decrypts (decryption_noted p.device p.delivery.session.peer told.seen p.challenge told.notes.usim) told.inner
 
 abbrev pub IsUsimAsked : Setting → Before → Option Presented → Told → Type 0
 IsUsimAsked set before None told = Unit {0}
@@ -281,11 +281,11 @@ JobGives set before net (line ∷ lines) records last = (front : List LineRecord
     × (records ≡ front ++ rest) × LineGives set before net line front next × JobGives set (behind before front) next lines rest last
 
 -- what the jobs of a round give, each its own record, by the lines of earlier rounds and of earlier jobs; and the network
--- of each after its last line
-abbrev pub JobsGive : Setting → List LineRecord → List LineRecord → List (List Line) → List (List LineRecord) → List Net → Type 0
-JobsGive set early beside [] records nets = (records ≡ []) × (nets ≡ [])
-JobsGive set early beside (job ∷ jobs) [] nets = ⊥
-JobsGive set early beside (job ∷ jobs) (lines ∷ records) [] = ⊥
-JobsGive set early beside (job ∷ jobs) (lines ∷ records) (net ∷ nets) =
-    JobGives set (record { early = early; beside = beside; own = [] }) (start_of set job) job lines net
-    × JobsGive set early (beside ++ lines) jobs records nets
+-- of each after its last line. Homes and devices begin as the round before left them, since no two jobs hold one
+abbrev pub JobsGive : Setting → List LineRecord → List Kept → List LineRecord → List (List Line) → List (List LineRecord) → List Net → Type 0
+JobsGive set early kept beside [] records nets = (records ≡ []) × (nets ≡ [])
+JobsGive set early kept beside (job ∷ jobs) [] nets = ⊥
+JobsGive set early kept beside (job ∷ jobs) (lines ∷ records) [] = ⊥
+JobsGive set early kept beside (job ∷ jobs) (lines ∷ records) (net ∷ nets) =
+    JobGives set (record { early = early; beside = beside; own = [] }) (start_of set kept job) job lines net
+    × JobsGive set early kept (beside ++ lines) jobs records nets

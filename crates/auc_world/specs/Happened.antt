@@ -1,17 +1,22 @@
 -- What an event does to the network of a job's sessions.
-use Rattle.std.specs.Prelude.{ℕ, Bool, List, [], ◌∷◌, ◌++◌, Option, Some, None, slice_get, slice_set}
+use Rattle.std.specs.Prelude.{ℕ, List, [], ◌∷◌, ◌++◌, Option, Some, None, slice_get, slice_set}
 use Rattle.auc_hmac.specs.declared.keys.KeySet.{KeySet}
 use Rattle.auc_packet.specs.Received.{Seen}
+use Rattle.auc_peer.specs.Rows.{peer_row}
 use Rattle.auc_peer.specs.Subscription.{Subscription}
-use Rattle.auc_peer.specs.Table.{gave_up as peer_gave_up, new_peer, peer_step}
-use Rattle.auc_peer.specs.declared.options.PeerOptions.{PeerOptions}
+use Rattle.auc_peer.specs.Table.{gave_up as peer_gave_up, kept_by, new_peer, peer_step}
+use Rattle.auc_peer.specs.Told as peer_told
+use Rattle.auc_peer.specs.declared.decrypted.Decrypted.{Decrypted}
+use Rattle.auc_peer.specs.declared.identity.FirstIdentity.{FirstIdentity}
+use Rattle.auc_peer.specs.declared.identity.FirstIdentity.TheVariants as first
 use Rattle.auc_peer.specs.declared.peer.Peer.{Peer}
 use Rattle.auc_peer.specs.declared.why.PeerWhy.{PeerWhy}
+use Rattle.auc_reauth.specs.Device.{Keeps}
 use Rattle.auc_server.specs.Rows.{server_row}
 use Rattle.auc_server.specs.Server.{ServerEnd, started}
 use Rattle.auc_server.specs.Setting.{Setting}
 use Rattle.auc_server.specs.Steps.{asking}
-use Rattle.auc_server.specs.Table.{gave_up as server_gave_up, repeated, server_step}
+use Rattle.auc_server.specs.Table.{gave_up as server_gave_up, homes_after, repeated, server_step}
 use Rattle.auc_server.specs.declared.options.ServerOptions.{ServerOptions}
 use Rattle.auc_server.specs.declared.why.ServerWhy.{ServerWhy}
 use Rattle.auc_vector.specs.Notes.{Asking}
@@ -22,7 +27,9 @@ use Rattle.auc_vector.specs.declared.turn.Outcome.TheVariants as outcome
 use Rattle.auc_vector.specs.declared.turn.Step.{Step}
 use Rattle.auc_vector.specs.declared.turn.Step.TheVariants as step
 use Rattle.auc_vector.specs.declared.turn.Turn.{Turn}
-use Rattle.auc_world.specs.Net.{Finding, Net, device_place, inputs_of_peer, inputs_of_server, judged, packet_at, posted, session_place}
+use Rattle.auc_world.specs.Net.{Finding, Net, device_place, keeps_at, inputs_of_peer, inputs_of_server, judged, packet_at, posted, session_place}
+use Rattle.auc_lines.specs.declared.part.Identity.{Identity}
+use Rattle.auc_lines.specs.declared.part.Identity.TheVariants as identity
 use Rattle.auc_lines.specs.declared.part.SessionLine.{SessionLine}
 use Rattle.auc_lines.specs.declared.part.End.{End}
 use Rattle.auc_lines.specs.declared.part.End.TheVariants as end
@@ -33,12 +40,11 @@ use Rattle.auc_released.specs.declared.numbers.Number.{Number}
 use Rattle.auc_world.specs.declared.net.SentPacket.{SentPacket}
 use Rattle.auc_world.specs.declared.net.Session.{Session}
 
--- what is told of an event: what an end received, what the centre or the USIM answered, and whether what is encrypted was
--- readable
+-- what is told of an event: what an end received, what the centre or the USIM answered, and what was decrypted
 pub record Told : Type 0 where
   pub seen : Seen
   pub notes : Notes
-  pub readable : Bool
+  pub inner : Decrypted
 
 -- ---- what steps leave
 
@@ -100,18 +106,28 @@ delivery_in w session packet = delivery_at w packet (session_place w.sessions se
 abbrev pub server_turn : Setting → Net → ServerEnd → Told → ServerEnd × Turn ServerWhy
 server_turn set w s told = server_step set w.homes s told.seen told.notes
 
-abbrev pub peer_turn : Subscription → Session → Told → Peer × Turn PeerWhy
-peer_turn device session told = peer_step device session.peer told.seen told.notes.usim told.readable
+abbrev pub peer_turn : Subscription → Keeps → Session → Told → Peer × Turn PeerWhy
+peer_turn device keeps session told = peer_step device keeps session.peer told.seen told.notes.usim told.inner
+
+-- what the device of a session keeps after a turn of the session's peer
+abbrev pub kept_after : Keeps → Session → Told → Keeps
+kept_after keeps session told = kept_by (peer_row session.peer told.seen) session.peer keeps
 
 abbrev pub to_server : Setting → Net → Delivery → Told → Option ServerEnd → Net
 to_server set w d told None = w
 to_server set w d told (Some s) =
     let turn = server_turn set w s told in
-    with_server w d.place d.session (released_by (asking (server_row set w.homes s told.seen)) turn.1.notes.number) turn.0 turn.1.step
+    record (with_server w d.place d.session (released_by (asking (server_row set w.homes s told.seen)) turn.1.notes.number) turn.0 turn.1.step) {
+      homes = homes_after set w.homes s told.seen told.notes;
+    }
 
 abbrev pub to_peer : Net → Delivery → Told → Option Subscription → Net
 to_peer w d told None = w
-to_peer w d told (Some device) = let turn = peer_turn device d.session told in with_peer w d.place d.session turn.0 turn.1.step
+to_peer w d told (Some device) =
+    let turn = peer_turn device (keeps_at w d.session.device) d.session told in
+    record (with_peer w d.place d.session turn.0 turn.1.step) {
+      stores = slice_set w.stores d.session.device (kept_after (keeps_at w d.session.device) d.session told);
+    }
 
 abbrev pub delivered : Setting → Net → End → Told → Option Delivery → Net
 delivered set w at' told None = w
@@ -131,11 +147,11 @@ server_finds set w d told (Some s) = Some (record {
   delivery = breach_at d end.Server;
 })
 
-abbrev pub peer_finds : Delivery → Told → Option Subscription → Option Finding
-peer_finds d told None = None
-peer_finds d told (Some device) = Some (record {
-  checked = (peer_turn device d.session told).1.checked;
-  inputs = inputs_of_peer d.session.sub (peer_turn device d.session told).0;
+abbrev pub peer_finds : Net → Delivery → Told → Option Subscription → Option Finding
+peer_finds w d told None = None
+peer_finds w d told (Some device) = Some (record {
+  checked = (peer_turn device (keeps_at w d.session.device) d.session told).1.checked;
+  inputs = inputs_of_peer d.session.sub (peer_turn device (keeps_at w d.session.device) d.session told).0;
   bytes = d.bytes;
   delivery = breach_at d end.Peer;
 })
@@ -143,16 +159,35 @@ peer_finds d told (Some device) = Some (record {
 abbrev pub found_by : Setting → Net → End → Told → Option Delivery → Option Finding
 found_by set w at' told None = None
 found_by set w end.Server told (Some d) = server_finds set w d told d.session.server
-found_by set w end.Peer told (Some d) = peer_finds d told (slice_get w.devices d.session.device)
+found_by set w end.Peer told (Some d) = peer_finds w d told (slice_get w.devices d.session.device)
 
 -- ---- the other events
 
 -- what the ends of a session start with
 abbrev pub server_options : SessionLine → ServerOptions
-server_options opening = record { method = opening.method; name = opening.name; bidding = opening.bidding }
+server_options opening = record {
+  session = opening.session;
+  method = opening.method;
+  name = opening.name;
+  pseudonym = opening.pseudonym;
+  bidding = opening.bidding;
+  any = opening.any;
+}
 
-abbrev pub peer_options : SessionLine → PeerOptions
-peer_options opening = record { method = opening.method; name = opening.peer_name; has_prime = opening.has_prime }
+-- the identity that answers the Identity request of EAP
+abbrev pub first_of : Identity → FirstIdentity
+first_of identity.Held = first.Held
+first_of identity.Permanent = first.Permanent
+first_of (identity.Text text) = first.Text text
+
+abbrev pub peer_options : SessionLine → peer_told.Told
+peer_options opening = record {
+  session = opening.session;
+  method = opening.method;
+  name = opening.peer_name;
+  has_prime = opening.has_prime;
+  first = first_of opening.identity;
+}
 
 -- a session in which nothing has happened, at the device of a place
 abbrev pub new_session : SessionLine → ℕ → Session

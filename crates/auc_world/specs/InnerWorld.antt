@@ -58,6 +58,7 @@ state_of packets sessions released homes broken devices = record {
     released = released;
     homes = homes;
     devices = map subscription_of devices;
+    stores = map (λ device. device.store) devices;
     broken = broken;
   };
   devices = devices;
@@ -145,7 +146,7 @@ pub record Serves {S : Type 0} (goes : S → ℕ → List Entry → List (ℕ ×
 pub record Answers (old : WorldState) (d : Delivery) (new : WorldState) (result : Came) : Type 0 where
   pub told : Told
   pub is : result ≡ came_at_peer old.net d told (slice_get old.net.devices d.session.device)
-  pub leads : new.net ≡ record (to_peer old.net d told (slice_get old.net.devices d.session.device)) { broken = judged old.net.packets old.net.broken (peer_finds d told (slice_get old.net.devices d.session.device)) }
+  pub leads : new.net ≡ record (to_peer old.net d told (slice_get old.net.devices d.session.device)) { broken = judged old.net.packets old.net.broken (peer_finds old.net d told (slice_get old.net.devices d.session.device)) }
   pub received : AreReceived (received_by d.bytes (slice_get old.net.devices d.session.device)) told.seen
   pub notes : TellsNotes told result
   pub usims : AreHanded (presented_at d told (slice_get old.net.devices d.session.device)) told old.devices new.devices

@@ -8,6 +8,7 @@ use Rattle.auc_peer.specs.Subscription.{Subscription}
 use Rattle.auc_peer.specs.Table.{text_or_none}
 use Rattle.auc_peer.specs.declared.peer.Challenge.{Challenge}
 use Rattle.auc_peer.specs.declared.peer.Peer.{Peer}
+use Rattle.auc_reauth.specs.Device.{Keeps, nothing_kept}
 use Rattle.auc_server.specs.Server.{ServerEnd}
 use Rattle.auc_server.specs.declared.options.ServerOptions.{ServerOptions}
 use Rattle.auc_server.specs.declared.server.Challenged.{Challenged}
@@ -29,10 +30,12 @@ pub record Net : Type 0 where
   pub sessions : List Session
   -- the numbers that were released so far
   pub released : List Number
-  -- the subscribers that the servers serve
+  -- the subscribers that the servers serve, with the ordinals of their names
   pub homes : List HomeRow
   -- what the peers take from the devices
   pub devices : List Subscription
+  -- what the devices keep, in the same order
+  pub stores : List Keeps
   -- the first breach of the premise
   pub broken : Option Breach
 
@@ -134,6 +137,14 @@ judged packets None None = None
 judged packets None (Some f) = if breaks packets f then Some f.delivery else None
 
 -- ---- look-ups
+
+-- what the device of a place keeps; there is one
+abbrev pub keeps_or : Option Keeps → Keeps
+keeps_or None = nothing_kept
+keeps_or (Some keeps) = keeps
+
+abbrev pub keeps_at : Net → ℕ → Keeps
+keeps_at w place = keeps_or (slice_get w.stores place)
 
 -- the first session with a number
 abbrev pub session_place : List Session → ℕ → Option ℕ

@@ -10,7 +10,7 @@ use Rattle.auc_world.specs.Lines.{accepted}
 use Rattle.auc_world.specs.Entries.{is_reported, entries_of_lines, entries_of_jobs}
 use Rattle.auc_world.specs.Given.{JobGives, JobsGive}
 use Rattle.auc_world.specs.Net.{Net}
-use Rattle.auc_world.specs.Start.{start_of}
+use Rattle.auc_world.specs.Start.{Kept, start_of}
 use Rattle.auc_world.specs.Setting.{Setting}
 
 -- a job's lines, and the lines of the jobs that its worker served earlier in the round
@@ -46,16 +46,16 @@ IsQuiet lines job = (sub : ℕ) → holds sub job ≡ true → accepted sub line
 
 -- each job gives the lines of its piece and its network, after its worker's earlier lines, by which its USIMs have accepted
 -- nothing
-abbrev pub PiecesGive : Setting → List LineRecord → List (List Line) → List Piece → List Net → Type 0
-PiecesGive set early [] pieces nets = (pieces ≡ []) × (nets ≡ [])
-PiecesGive set early (job ∷ jobs) [] nets = ⊥
-PiecesGive set early (job ∷ jobs) (piece ∷ pieces) [] = ⊥
-PiecesGive set early (job ∷ jobs) (piece ∷ pieces) (net ∷ nets) = IsQuiet piece.earlier job
-    × JobGives set (record { early = early; beside = piece.earlier; own = [] }) (start_of set job) job piece.lines net
-    × PiecesGive set early jobs pieces nets
+abbrev pub PiecesGive : Setting → List LineRecord → List Kept → List (List Line) → List Piece → List Net → Type 0
+PiecesGive set early kept [] pieces nets = (pieces ≡ []) × (nets ≡ [])
+PiecesGive set early kept (job ∷ jobs) [] nets = ⊥
+PiecesGive set early kept (job ∷ jobs) (piece ∷ pieces) [] = ⊥
+PiecesGive set early kept (job ∷ jobs) (piece ∷ pieces) (net ∷ nets) = IsQuiet piece.earlier job
+    × JobGives set (record { early = early; beside = piece.earlier; own = [] }) (start_of set kept job) job piece.lines net
+    × PiecesGive set early kept jobs pieces nets
 
 -- if each job gives the lines of its piece after its worker's earlier lines, and no two jobs hold one USIM, then
 -- each job gives them after the lines of all earlier jobs
 abbrev pub JobsGiveAfterAllLines : Type 0
-JobsGiveAfterAllLines = (set : Setting) (early : List LineRecord) (jobs : List (List Line)) (pieces : List Piece) (nets : List Net)
-    → AllPairs AreApart jobs → PiecesGive set early jobs pieces nets → JobsGive set early [] jobs (lines_of_pieces pieces) nets
+JobsGiveAfterAllLines = (set : Setting) (early : List LineRecord) (kept : List Kept) (jobs : List (List Line)) (pieces : List Piece) (nets : List Net)
+    → AllPairs AreApart jobs → PiecesGive set early kept jobs pieces nets → JobsGive set early kept [] jobs (lines_of_pieces pieces) nets

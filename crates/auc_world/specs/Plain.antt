@@ -4,9 +4,13 @@ use Rattle.std.specs.Prelude.{◌≡◌, ℕ, ◌≤◌, ◌&&◌, Bool, true, f
 use Rattle.auc_hmac.specs.declared.keys.KeySet.{KeySet}
 use Rattle.auc_hmac.specs.declared.method.Method.{Method}
 use Rattle.auc_hmac.specs.declared.method.Method.TheVariants as method
+use Rattle.auc_lines.specs.declared.part.Identity.{Identity}
+use Rattle.auc_lines.specs.declared.part.Identity.TheVariants as identity
 use Rattle.auc_lines.specs.declared.part.SessionLine.{SessionLine}
 use Rattle.auc_peer.specs.Subscription.{Subscription}
 use Rattle.auc_peer.specs.Table.{new_peer}
+use Rattle.auc_reauth.specs.Device.{Keeps}
+use Rattle.auc_reauth.specs.Store.{entry}
 use Rattle.auc_server.specs.Rows.{is_held}
 use Rattle.auc_server.specs.Setting.{Setting}
 use Rattle.auc_subs.specs.Subscriber.{AreSubscribers}
@@ -18,7 +22,7 @@ use Rattle.auc_vector.specs.declared.notes.ResyncNote.TheVariants as resync
 use Rattle.auc_vector.specs.declared.notes.UsimNote.{UsimNote}
 use Rattle.auc_vector.specs.declared.notes.UsimNote.TheVariants as usim
 use Rattle.auc_world.specs.Came.{Came, session_of}
-use Rattle.auc_world.specs.Event.{number_in, resync_in, usim_in}
+use Rattle.auc_world.specs.Event.{asked_in, number_in, resync_in, usim_in}
 use Rattle.auc_world.specs.Given.{Before, PlainGives}
 use Rattle.auc_world.specs.Happened.{peer_options, server_options}
 use Rattle.auc_world.specs.Net.{Net}
@@ -48,15 +52,27 @@ abbrev pub EndsSuitBy : Method → List ℕ → SessionLine → Type 0
 EndsSuitBy method.Aka amf opening = opening.has_prime && opening.bidding ≡ false
 EndsSuitBy method.Prime amf opening = IsSeparated amf opening.name opening.peer_name
 
+-- the first identity is one of the device's own
+abbrev pub IsOwnIdentity : Identity → Type 0
+IsOwnIdentity identity.Held = Unit {0}
+IsOwnIdentity identity.Permanent = Unit {0}
+IsOwnIdentity (identity.Text text) = ⊥
+
 -- the options with which a session of a subscriber is opened let it end in Success
 pub record EndsSuit (row : Row) (opening : SessionLine) : Type 0 where
   pub short : IsName opening.name
   pub by : EndsSuitBy opening.method row.amf opening
+  pub own : IsOwnIdentity opening.identity
 
 -- ---- the session
 
+-- a pseudonym that a device keeps has 33 bytes (RFC 4187 §4.1.1.7 leaves its length to the server)
+abbrev pub IsPseudonym : Option (List ℕ) → Type 0
+IsPseudonym None = Unit {0}
+IsPseudonym (Some text) = length text ≡ 33
+
 -- a session was opened with such options and nothing has happened in it; its device is that of its subscriber, and its server
--- serves that subscriber
+-- serves that subscriber. Whatever pseudonym the device keeps, it may be one that the server can't resolve
 pub record IsReady (set : Setting) (net : Net) (session : ℕ) : Type 0 where
   pub own : Session
   pub is : session_of net session ≡ Some own
@@ -70,6 +86,9 @@ pub record IsReady (set : Setting) (net : Net) (session : ℕ) : Type 0 where
   pub device : Subscription
   pub there : slice_get net.devices own.device ≡ Some device
   pub subscribed : subscription_at set own.sub ≡ device ∷ []
+  pub keeps : Keeps
+  pub stored : slice_get net.stores own.device ≡ Some keeps
+  pub pseudonym : IsPseudonym (entry opening.method keeps.pseudonyms)
   pub held : is_held net.homes own.sub ≡ true
 
 -- it ended in Success at both ends under the same keys, and its verdict says so
@@ -117,9 +136,16 @@ sqn_reported (Some (usim.Accepted sqn)) = []
 sqn_reported (Some (usim.Sync sqn)) = sqn ∷ []
 sqn_reported (Some usim.WrongMac) = []
 
--- no line tells why a session fails: the centre gave each number that it was asked for, its number was never too far
--- above the SEQ that the USIM reported, and the USIM reported no more than so many synchronisation failures
-pub record TellNoCause (syncs : ℕ) (lines : List LineRecord) : Type 0 where
+-- the centre was asked for this subscriber, if it was asked
+abbrev pub IsAskedFor : ℕ → Option ℕ → Type 0
+IsAskedFor sub None = Unit {0}
+IsAskedFor sub (Some other) = other ≡ sub
+
+-- no line tells why a session of a subscriber fails: the centre was asked for that subscriber, it gave each number that it was
+-- asked for, its number was never too far above the SEQ that the USIM reported, and the USIM reported no more than so many
+-- synchronisation failures
+pub record TellNoCause (sub syncs : ℕ) (lines : List LineRecord) : Type 0 where
+  pub own : All (λ came. IsAskedFor sub (asked_in came)) (results lines)
   pub given : All (λ came. is_refused (number_in came) ≡ false) (results lines)
   pub near : All (λ came. is_too_far (resync_in came) ≡ false) (results lines)
   pub once : length (flat_map (λ came. sqn_reported (usim_in came)) (results lines)) ≤ syncs
@@ -129,4 +155,5 @@ pub record TellNoCause (syncs : ℕ) (lines : List LineRecord) : Type 0 where
 -- a plain session succeeds, if its lines tell no cause of a failure; one synchronisation failure is none
 abbrev pub EachPlainSessionSucceeds : Type 0
 EachPlainSessionSucceeds = (set : Setting) (before : Before) (net next : Net) (session : ℕ) (lines : List LineRecord) → AreSubscribers set.rows
-    → length set.realm ≤ 255 → IsReady set net session → PlainGives set before net session lines next → TellNoCause 1 lines → Succeeds next session
+    → length set.realm ≤ 255 → (ready : IsReady set net session) → PlainGives set before net session lines next
+    → TellNoCause ready.own.sub 1 lines → Succeeds next session

@@ -19,6 +19,7 @@ use Rattle.auc_world.specs.Lines.{numbers_of, withheld_of, all_lines}
 use Rattle.auc_world.specs.Net.{Net}
 use Rattle.auc_world.specs.Sessions.{AreVerdicts, job_sessions, premise_from}
 use Rattle.auc_world.specs.Setting.{Setting}
+use Rattle.auc_world.specs.Start.{Kept}
 
 -- the closing of a subscriber whose word moved from an opening to a closing, with the counts of its entries and of
 -- its vectors; there is none if the word stood
@@ -68,15 +69,15 @@ abbrev pub Withholds : Option Stop → List LineRecord → Type 0
 Withholds None lines = (sub : ℕ) → withheld_of sub lines ≡ []
 Withholds (Some stop) lines = WithholdsAbove stop lines
 
--- a round that opens each subscriber at a word and closes it at a word, after the lines of earlier rounds: its
--- records are what its jobs give, and the jobs' entries of each subscriber split a legal history from the one word
--- to the other. The reservation of numbers may have stopped in it
-pub record IsLawfulRound (set : Setting) (stop : Option Stop) (early : List LineRecord) (openings : List ℕ) (jobs : List (List Line)) (round : RoundRecord) (words : List ℕ) : Type 0 where
+-- a round that opens each subscriber at a word and closes it at a word, after the lines of earlier rounds and with what
+-- these left at homes and on devices: its records are what its jobs give, and the jobs' entries of each subscriber split a
+-- legal history from the one word to the other. The reservation of numbers may have stopped in it
+pub record IsLawfulRound (set : Setting) (stop : Option Stop) (early : List LineRecord) (kept : List Kept) (openings : List ℕ) (jobs : List (List Line)) (round : RoundRecord) (words : List ℕ) : Type 0 where
   pub sizes : length words ≡ length openings
   pub fits : (sub : ℕ) → sub < length words → slice_index words sub < 2 ^ 64
   -- the networks of the jobs' sessions after the last lines
   pub nets : List Net
-  pub given : JobsGive set early [] jobs round.jobs nets
+  pub given : JobsGive set early kept [] jobs round.jobs nets
   pub split : (sub : ℕ) → sub < length openings
       → Splits max_seq (slice_index openings sub) (slice_index words sub) (entries_of_jobs sub [] round.jobs)
   pub closings : round.closings ≡ closings_from 0 openings words round.jobs

@@ -26,6 +26,9 @@ abbrev pub keys_in : ServerState → Option KeySet
 keys_in (state.Ended (outcome.Success keys)) = Some keys
 keys_in (state.Ended (outcome.Failure why)) = None
 keys_in state.AwaitIdentity = None
+keys_in state.AwaitAny = None
+keys_in state.AwaitFull = None
+keys_in state.AwaitPermanent = None
 keys_in state.AwaitChallenge = None
 keys_in (state.Notifying why) = None
 

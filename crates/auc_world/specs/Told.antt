@@ -3,6 +3,7 @@
 use Rattle.std.specs.Prelude.{ℕ, false, List, [], map, None, Ok, Err}
 use Rattle.auc_hmac.specs.declared.keys.KeySet.{KeySet}
 use Rattle.auc_hmac.specs.declared.method.Method.TheVariants as method
+use Rattle.auc_lines.specs.declared.part.Identity.TheVariants as identity
 use Rattle.auc_lines.specs.declared.part.SessionLine.{SessionLine}
 use Rattle.auc_vector.specs.declared.turn.Outcome.{Outcome}
 use Rattle.auc_vector.specs.declared.turn.Outcome.TheVariants as outcome
@@ -51,8 +52,11 @@ told_opening session = record {
   method = method.Aka;
   name = [];
   peer_name = None;
+  pseudonym = false;
   bidding = false;
+  any = false;
   has_prime = false;
+  identity = identity.Held;
 }
 
 abbrev pub told_event : Event → Event

@@ -16,7 +16,9 @@ use Rattle.auc_world.specs.Entries.{entries_of_jobs}
 use Rattle.auc_world.specs.Limits.{greater, opened, Raises}
 use Rattle.auc_world.specs.Lines.{all_lines, numbers_of}
 use Rattle.auc_world.specs.Round.{IsLawfulRound}
+use Rattle.auc_world.specs.Net.{Net}
 use Rattle.auc_world.specs.Setting.{Setting}
+use Rattle.auc_world.specs.Start.{Kept, fresh_kept, kept_by_jobs}
 
 -- ---- from part to part
 
@@ -26,6 +28,8 @@ pub record Course : Type 0 where
   pub number : ℕ
   -- the lines of all rounds so far
   pub early : List LineRecord
+  -- what they left of each subscriber at its home and on its device
+  pub kept : List Kept
   -- the words at which the next round opens the subscribers
   pub openings : List ℕ
   -- the limits at the beginning, or of the last restart
@@ -35,18 +39,26 @@ pub record Course : Type 0 where
 
 -- at the beginning each subscriber is opened at its own number, or at what was reserved for it
 abbrev pub beginning : List Row → List ℕ → Course
-beginning rows reserved = record { number = 1; early = []; openings = opened rows reserved; limits = reserved; highs = [] }
+beginning rows reserved = record {
+  number = 1;
+  early = [];
+  kept = map (λ row. fresh_kept) rows;
+  openings = opened rows reserved;
+  limits = reserved;
+  highs = [];
+}
 
 -- the words at which the next round opens the subscribers: those at which the last one closed them, but at most the
 -- greatest number
 abbrev pub reopened : List ℕ → List ℕ
 reopened words = map (λ word. min word max_seq) words
 
--- after a round that closed the subscribers at some words
-abbrev pub after_round : Course → RoundRecord → List ℕ → Course
-after_round at round words = record {
+-- after a round that closed the subscribers at some words, with these networks of its jobs after the last lines
+abbrev pub after_round : Course → RoundRecord → List ℕ → List Net → Course
+after_round at round words nets = record {
   number = at.number + 1;
   early = at.early ++ all_lines round.jobs;
+  kept = kept_by_jobs at.kept nets;
   openings = reopened words;
   limits = at.limits;
   highs = greater words at.highs;
@@ -57,6 +69,7 @@ abbrev pub after_restart : List Row → Course → List ℕ → Course
 after_restart rows at limits = record {
   number = at.number;
   early = at.early;
+  kept = at.kept;
   openings = opened rows limits;
   limits = limits;
   highs = at.highs;
@@ -66,8 +79,8 @@ after_restart rows at limits = record {
 pub record ServesRound (set : Setting) (stop : Option Stop) (at : Course) (jobs : List (List Line)) (round : RoundRecord) (next : Course) : Type 0 where
   pub numbered : round.number ≡ at.number
   pub words : List ℕ
-  pub lawful : IsLawfulRound set stop at.early at.openings jobs round words
-  pub leads : next ≡ after_round at round words
+  pub lawful : IsLawfulRound set stop at.early at.kept at.openings jobs round words
+  pub leads : next ≡ after_round at round words lawful.nets
 
 -- a restart with some limits
 pub record Restarts (set : Setting) (at next : Course) : Type 0 where

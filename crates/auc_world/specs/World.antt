@@ -2,6 +2,7 @@
 use Rattle.std.specs.Prelude.{◌≡◌, ◌≢◌, ℕ, ◌<◌, ◌≤◌, List, length, map, All, Option, Some, None, slice_get}
 use Rattle.auc_edge.specs.declared.stop.Stop.{Stop}
 use Rattle.auc_history.specs.declared.entry.Entry.{Entry}
+use Rattle.auc_lines.specs.Part.{IsShortIdentity}
 use Rattle.auc_peer.specs.Subscription.{subscription_of}
 use Rattle.auc_peer.specs.Turn.{Asked as AsksDevice, Decrypts, decryption_noted}
 use Rattle.auc_peer.specs.declared.device.Device.{Device}
@@ -48,22 +49,27 @@ HasHeld homes (Some s) = IsHeld homes s.challenged
 abbrev pub IsName : List ℕ → Type 0
 IsName name = length name ≤ 255
 
--- a world: its network has the subscriptions of the devices, whose realms aren't too long, its servers serve the homes, and
--- its sessions are of networks with names
+-- a world: its network has the subscriptions of the devices, whose realms aren't too long, and what they keep, its servers
+-- serve the homes, and its sessions are of networks with names
 pub record IsWorld (w : WorldState) : Type 0 where
   pub subscriptions : w.net.devices ≡ map subscription_of w.devices
+  pub stores : w.net.stores ≡ map (λ device. device.store) w.devices
   pub realms : All (λ device. length device.realm ≤ 255) w.devices
   pub held : All (λ s. HasHeld w.net.homes s.server) w.net.sessions
   pub names : All (λ s. IsName s.options.name) w.net.sessions
 
--- the subscriber of a session that is opened has a row, and the network a name
+-- the subscriber of a session that is opened has a row, the network a name, and the identity isn't too long
 abbrev pub IsKnownEvent : ℕ → Event → Type 0
-IsKnownEvent count (event.Open opening) = (opening.sub < count) × IsName opening.name
+IsKnownEvent count (event.Open opening) = (opening.sub < count) × IsName opening.name × IsShortIdentity opening.identity
 IsKnownEvent count other = Unit {0}
 
 -- each home is a row of the subscribers, and a subscriber of the centre
 abbrev pub AreHomes : List Row → ℕ → (ℕ → ℕ) → List HomeRow → Type 0
 AreHomes rows subs top homes = All (λ home. IsHome rows subs top home.sub) homes
+
+-- homes of the same subscribers, in the same order
+abbrev pub AreOfSame : List HomeRow → List HomeRow → Type 0
+AreOfSame old new = map (λ home. home.sub) new ≡ map (λ home. home.sub) old
 
 -- each USIM remembers some past
 abbrev pub RememberPasts : List Device → Type 0
@@ -91,8 +97,8 @@ pub record IsHanded (p : Presented) (told : Told) (old new : List Device) : Type
   pub secret : after.usim.secret ≡ before.usim.secret
   pub others : (place : ℕ) → place ≢ p.delivery.session.device → slice_get new place ≡ slice_get old place
   pub asked : AsksDevice p.device p.challenge told.notes.usim before.usim.array after.usim.array
-  pub readable : (past : Past) → Remembers before.usim.array past
-      → Decrypts (decryption_noted p.device p.delivery.session.peer told.seen p.challenge told.notes.usim) told.readable
+  pub decrypts : (past : Past) → Remembers before.usim.array past
+      → Decrypts (decryption_noted p.device p.delivery.session.peer told.seen p.challenge told.notes.usim) told.inner
 
 abbrev pub AreHanded : Option Presented → Told → List Device → List Device → Type 0
 AreHanded None told old new = new ≡ old

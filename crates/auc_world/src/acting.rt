@@ -58,9 +58,12 @@ fn copy_options(alloc: Global, options: &ServerOptions) -> Result<ServerOptions,
     ensures { IfOk result (λ copy. copy ≡ options.now) }
 {
     Ok(ServerOptions {
+        session: options.session,
         method: options.method,
         name: copy_of(alloc, &options.name)?,
+        pseudonym: options.pseudonym,
         bidding: options.bidding,
+        any: options.any,
     })
 }
 

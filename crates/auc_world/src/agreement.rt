@@ -12,6 +12,10 @@ use auc_peer::{
     each_turn_keeps_the_keys_of_its_inputs as each_peer_keeps_its_keys,
     each_turn_keeps_what_keys_are_made_from,
 };
+use auc_seal::{
+    encrypted_attributes_are_decrypted, encrypted_attributes_may_be_written,
+    lists_open_as_they_decrypt,
+};
 use auc_server::{
     each_turn_keeps_the_challenge_or_sends_one, each_turn_keeps_the_keys_of_its_inputs,
 };
@@ -39,10 +43,12 @@ pub fn each_honest_run_agrees()
     each_autn_carries_the_sqn_of_its_number();
 }
 
-/// A plain session ends in Success at both ends under the same keys, unless one of its lines tells why not: the centre gave no
-/// number, or its number was too far above the SEQ that the USIM reported, or the USIM reported two synchronisation failures.
-/// Its options have to suit (`EndsSuit`): EAP-AKA' needs a subscriber whose AMF has the separation bit, and a peer that expects
-/// no other name; a device that has EAP-AKA' takes no bid for it in EAP-AKA (RFC 9048 §3.1 and §4, TS 33.102 Annex H).
+/// A plain session ends in Success at both ends under the same keys, unless one of its lines tells why not: the centre was
+/// asked for another subscriber, or gave no number, or its number was too far above the SEQ that the USIM reported, or the
+/// USIM reported two synchronisation failures. The device sends its pseudonym or its permanent identity, and the server may
+/// ask for other identities before the challenge (RFC 4187 §4.1). The session's options have to suit (`EndsSuit`): EAP-AKA'
+/// needs a subscriber whose AMF has the separation bit, and a peer that expects no other name; a device that has EAP-AKA'
+/// takes no bid for it in EAP-AKA (RFC 9048 §3.1 and §4, TS 33.102 Annex H).
 pub fn each_plain_session_succeeds()
     ensures { EachPlainSessionSucceeds }
 {
@@ -50,6 +56,9 @@ pub fn each_plain_session_succeeds()
     written_packets_are_read();
     sealed_messages_are_read();
     sealed_messages_are_right();
+    encrypted_attributes_may_be_written();
+    encrypted_attributes_are_decrypted();
+    lists_open_as_they_decrypt();
     permanent_identities_are_read_back();
     each_autn_has_the_mac_of_its_sqn();
     each_auts_is_read_back();

@@ -1,8 +1,11 @@
 //! Copies of the texts and names that sessions keep.
 
 ghost use Rattle.std.specs.Prelude.{◌≡◌, IfOk};
+ghost use Rattle.auc_world.specs.Happened.{first_of};
 
 use auc_edge::{NoMemory, Octets};
+use auc_lines::Identity;
+use auc_peer::FirstIdentity;
 use std::alloc::Global;
 
 /// A copy of some bytes.
@@ -19,5 +22,27 @@ pub(crate) fn copy_if_any(alloc: Global, bytes: &Option<Octets>) -> Result<Optio
     match bytes {
         Some(bytes) => Ok(Some(copy_of(alloc, bytes)?)),
         None => Ok(None),
+    }
+}
+
+/// A copy of the identity that a session's peer gives first.
+pub(crate) fn copy_identity(alloc: Global, identity: &Identity) -> Result<Identity, NoMemory>
+    ensures { IfOk result (λ copy. copy ≡ identity.now) }
+{
+    match identity {
+        Identity::Held => Ok(Identity::Held),
+        Identity::Permanent => Ok(Identity::Permanent),
+        Identity::Text(text) => Ok(Identity::Text(copy_of(alloc, text)?)),
+    }
+}
+
+/// What a peer is told of it.
+pub(crate) fn first_of(alloc: Global, identity: &Identity) -> Result<FirstIdentity, NoMemory>
+    ensures { IfOk result (λ first. first ≡ first_of identity.now) }
+{
+    match identity {
+        Identity::Held => Ok(FirstIdentity::Held),
+        Identity::Permanent => Ok(FirstIdentity::Permanent),
+        Identity::Text(text) => Ok(FirstIdentity::Text(copy_of(alloc, text)?)),
     }
 }

@@ -2,7 +2,7 @@
 
 ghost use Rattle.std.specs.Prelude.{◌≡◌, IfOk};
 
-use crate::copying::{copy_if_any, copy_of};
+use crate::copying::{copy_identity, copy_if_any, copy_of};
 use auc_edge::NoMemory;
 use auc_lines::{End, SessionLine};
 use auc_peer::PeerWhy;
@@ -30,7 +30,7 @@ pub enum Event {
 impl Event {
     ghost use Rattle.auc_world.specs.declared.event.Event.TheVariants as event;
 
-    /// The opening of a session, with copies of the names of its line.
+    /// The opening of a session, with copies of the names and the identity of its line.
     pub fn open(alloc: Global, line: &SessionLine) -> Result<Event, NoMemory>
         ensures { IfOk result (λ opening. opening ≡ event.Open line.now) }
     {
@@ -40,8 +40,11 @@ impl Event {
             method: line.method,
             name: copy_of(alloc, &line.name)?,
             peer_name: copy_if_any(alloc, &line.peer_name)?,
+            pseudonym: line.pseudonym,
             bidding: line.bidding,
+            any: line.any,
             has_prime: line.has_prime,
+            identity: copy_identity(alloc, &line.identity)?,
         }))
     }
 }

@@ -63,6 +63,13 @@ fn text(peer: &Peer) -> &[u8]
     }
 }
 
+/// The method of a peer.
+fn method_of(peer: &Peer) -> Method
+    ensures { result ≡ peer.now.options.method }
+{
+    peer.options.method
+}
+
 /// What a subscriber's peer derives its keys from.
 pub(crate) fn peer_inputs(alloc: Global, sub: u32, peer: &Peer) -> Result<Option<Inputs>, NoMemory>
     ensures { IfOk result (λ inputs. inputs ≡ inputs_of_peer sub peer.now) }
@@ -72,7 +79,7 @@ pub(crate) fn peer_inputs(alloc: Global, sub: u32, peer: &Peer) -> Result<Option
     };
     let Challenge { rand, autn } = challenge;
     Ok(Some(Inputs {
-        method: peer.options.method,
+        method: method_of(peer),
         name: copy_of(alloc, &peer.network)?,
         sub,
         rand,

@@ -7,12 +7,13 @@
 //! leads (`specs/Transcript`). The centre's answers are free within that. No definition speaks of an order
 //! between the steps of different jobs.
 //!
-//! A [`World`] is a job's network with the devices of its subscribers: its sessions of EAP-AKA and EAP-AKA', and the packets
-//! that their ends sent (`specs/Net`). [`World::apply`] makes an [`Event`] happen and answers a [`Note`]
-//! (`specs/Happened`, `specs/Came`). The premise is that each right MAC that an end finds is of a packet that an end of the other
-//! role sent with the same inputs of its keys; a [`Breach`] is the first delivery that breaks it. Laws say that a server and
-//! a peer of one challenge then agree on the keys ([`each_honest_run_agrees`]), and that a plain session, whose packets reach
-//! the other end in their order, succeeds ([`each_plain_session_succeeds`]).
+//! A [`World`] is a job's network with the homes and the devices of its subscribers: its sessions of EAP-AKA and EAP-AKA',
+//! the packets that their ends sent, the ordinals of the homes' names and what the devices keep (`specs/Net`). What the
+//! last two leave passes from round to round (`specs/Start`). [`World::apply`] makes an [`Event`] happen and answers a
+//! [`Note`] (`specs/Happened`, `specs/Came`). The premise is that each right MAC that an end finds is of a packet that an
+//! end of the other role sent with the same inputs of its keys; a [`Breach`] is the first delivery that breaks it. Laws say
+//! that a server and a peer of one challenge then agree on the keys ([`each_honest_run_agrees`]), and that a plain session,
+//! whose packets reach the other end in their order, succeeds ([`each_plain_session_succeeds`]).
 //!
 //! Two laws are about a round that several workers serve, each without the others' lines (`specs/Pieces`).
 //! Put together, the workers' pieces are what the jobs give, and their entries split the same history. Two more
@@ -39,6 +40,7 @@ mod inputs;
 mod law;
 mod net;
 mod noting;
+mod opening;
 mod places;
 mod posting;
 mod record;

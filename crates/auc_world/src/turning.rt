@@ -6,6 +6,7 @@ ghost use Rattle.auc_peer.specs.Turn.{Steps as StepsPeer};
 ghost use Rattle.auc_server.specs.Steps.{IsHeld, IsServed, Steps as StepsServer};
 ghost use Rattle.auc_world.specs.Happened.{keys_won, sent_by};
 ghost use Rattle.auc_world.specs.Net.{inputs_of_peer, inputs_of_server};
+ghost use Rattle.auc_world.specs.World.{AreOfSame};
 
 use crate::copying::{copy_if_any, copy_of};
 use crate::inputs::{network_of, peer_inputs, put_server_inputs};
@@ -13,14 +14,14 @@ use crate::net::Inputs;
 use crate::posting::{copy_sent, put_sent};
 use auc_edge::{NoMemory, Octets, Room};
 use auc_hmac::KeySet;
-use auc_peer::{Device, Last, Peer, PeerOptions, PeerWhy};
+use auc_peer::{Device, FirstIdentity, Last, Peer, PeerOptions, PeerWhy};
 use auc_server::{HomeRow, Server, ServerWhy, Setting};
 use auc_vector::{Centre, Outcome, Step, Turn};
 use std::alloc::Global;
 use std::sync::Wait;
 
-/// The greatest message that a server sends, the Challenge with a name of 255 bytes: 336 bytes.
-const MOST: usize = 336;
+/// The greatest message that a server sends, the Challenge with a name of 255 bytes, a checkcode and a pseudonym: 440 bytes.
+const MOST: usize = 440;
 
 /// A turn of an end.
 #[derive(Drop)]
@@ -44,16 +45,17 @@ pub(crate) fn serve<C: Centre, R: Wait>(
 ) -> Result<Taken<ServerWhy>, NoMemory>
     requires { IsServed set.now.rows (C.subs centre.old) (C.top centre.old) homes.old.items server.old }
 
-    ensures step { IfOk result (λ t. StepsServer C.goes C.kept C.top set.now homes.old.items server.old bytes.now centre.old server.new t.turn centre.new) }
+    ensures step { IfOk result (λ t. StepsServer C.goes C.kept C.top set.now homes.old.items server.old bytes.now centre.old server.new t.turn homes.new.items centre.new) }
     ensures inputs { IfOk result (λ t. t.inputs ≡ inputs_of_server server.new) }
     ensures sent { IfOk result (λ t. t.sent ≡ sent_by t.turn.step) }
-    ensures held { IsHeld homes.old.items server.new.challenged }
-    ensures homes { homes.new.items ≡ homes.old.items }
+    ensures held { IsHeld homes.new.items server.new.challenged }
+    ensures same { AreOfSame homes.old.items homes.new.items }
     ensures subs { C.subs centre.new ≡ C.subs centre.old }
     ensures top { (i : ℕ) → C.top centre.new i ≡ C.top centre.old i }
     ensures name { C.name centre.new ≡ C.name centre.old }
 
     ensures server { OnErr result (server.new ≡ server.old) }
+    ensures homes { OnErr result (homes.new.items ≡ homes.old.items) }
     ensures centre { OnErr result (centre.new ≡ centre.old) }
 {
     let text = Room::new(alloc, server.identity().len().max(bytes.len()))?;
@@ -76,14 +78,27 @@ fn copy_last(alloc: Global, last: &Last) -> Result<Last, NoMemory>
     })
 }
 
+/// A copy of what a peer was told of its first identity.
+fn copy_first(alloc: Global, first: &FirstIdentity) -> Result<FirstIdentity, NoMemory>
+    ensures { IfOk result (λ copy. copy ≡ first.now) }
+{
+    match first {
+        FirstIdentity::Held => Ok(FirstIdentity::Held),
+        FirstIdentity::Permanent => Ok(FirstIdentity::Permanent),
+        FirstIdentity::Text(text) => Ok(FirstIdentity::Text(copy_of(alloc, text)?)),
+    }
+}
+
 /// A copy of a peer's options.
 fn copy_options(alloc: Global, options: &PeerOptions) -> Result<PeerOptions, NoMemory>
     ensures { IfOk result (λ copy. copy ≡ options.now) }
 {
     Ok(PeerOptions {
+        session: options.session,
         method: options.method,
         name: copy_if_any(alloc, &options.name)?,
         has_prime: options.has_prime,
+        first: copy_first(alloc, &options.first)?,
     })
 }
 
@@ -102,6 +117,8 @@ fn copy(alloc: Global, peer: &Peer) -> Result<Peer, NoMemory>
         identity: copy_if_any(alloc, &peer.identity)?,
         accepted: peer.accepted,
         network: copy_of(alloc, &peer.network)?,
+        packets: peer.packets.copy(alloc)?,
+        pseudonym: peer.pseudonym,
     })
 }
 
@@ -116,8 +133,8 @@ pub(crate) fn answer(
 ) -> Result<Taken<PeerWhy>, NoMemory>
     requires { length device.old.realm ≤ 255 }
 
-    ensures step { IfOk result (λ t. StepsPeer (subscription_of device.old) peer.old bytes.now
-        device.old.usim.array peer.new t.turn device.new.usim.array) }
+    ensures step { IfOk result (λ t. StepsPeer (subscription_of device.old) device.old.store peer.old bytes.now
+        device.old.usim.array peer.new t.turn device.new.store device.new.usim.array) }
     ensures inputs { IfOk result (λ t. t.inputs ≡ inputs_of_peer sub peer.new) }
     ensures sent { IfOk result (λ t. t.sent ≡ sent_by t.turn.step) }
     ensures subscription { subscription_of device.new ≡ subscription_of device.old }

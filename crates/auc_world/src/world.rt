@@ -3,19 +3,20 @@
 ghost use Rattle.std.specs.Prelude.{◌≡◌, ◌≤◌, ◌<◌, ◌++◌, ℕ, [], Some, None, All, length, map, IfOk, IfErr, IfSome, OnErr, is_some, true, vec_capacity, vec_len};
 ghost use Rattle.auc_world.specs.Came.{came_in, came_opened, session_of, vector_sent};
 ghost use Rattle.auc_world.specs.Event.{asked_in};
-ghost use Rattle.auc_world.specs.Happened.{Delivery, at_session, delivery_at, new_session, opened};
+ghost use Rattle.auc_world.specs.Happened.{Delivery, at_session, delivery_at, opened};
 ghost use Rattle.auc_world.specs.InnerWorld.{Answers, IsReached, IsUnreached, Serves, came_of, net_of, released_for};
 ghost use Rattle.auc_world.specs.Net.{device_place, session_place};
+ghost use Rattle.auc_lines.specs.Part.{IsShortIdentity};
 ghost use Rattle.auc_peer.specs.Subscription.{subscription_of};
 ghost use Rattle.auc_subs.specs.Subscriber.{AreSubscribers};
 ghost use Rattle.auc_world.specs.Sessions.{job_sessions};
-ghost use Rattle.auc_world.specs.World.{Applies, AreHomes, Challenges, IsKnownEvent, IsName, RememberPasts, usim_of};
+ghost use Rattle.auc_world.specs.World.{Applies, AreHomes, AreOfSame, Challenges, IsKnownEvent, IsName, RememberPasts, usim_of};
 
 use crate::acting::{Came, Deed, act, note};
-use crate::copying::{copy_if_any, copy_of};
 use crate::event::{Event, Note, NoteStep, WorldRefusal};
 use crate::inputs::{judged, server_inputs};
 use crate::net::{Breach, SentPacket, Session};
+use crate::opening::new_session;
 use crate::places::{DevicePlaces, key, places};
 use crate::posting::{make_place, post};
 use crate::record::JobSessions;
@@ -23,9 +24,9 @@ use crate::turning::{Taken, answer, keys_won, serve};
 use crate::verdicts::job_verdicts;
 use auc_edge::NoMemory;
 use auc_lines::{End, SessionLine};
-use auc_peer::{Device, Peer, PeerOptions};
+use auc_peer::Device;
 use auc_released::Number;
-use auc_server::{Challenged, HomeRow, ServerOptions, Setting};
+use auc_server::{Challenged, HomeRow, Setting};
 use auc_usim::Answer;
 use auc_vector::{Centre, NumberNote, Vector};
 use indexmap::IndexMap;
@@ -33,7 +34,7 @@ use std::alloc::Global;
 use std::marker::Model;
 use std::sync::Wait;
 
-/// The subscribers whose USIMs a job holds.
+/// The subscribers whose USIMs a job holds, with the ordinals of their names.
 pub type HomeList = Vec<HomeRow>;
 
 /// Their devices, in the same order.
@@ -75,6 +76,7 @@ impl World {
             released = [];
             homes = homes.items;
             devices = map subscription_of devices.items;
+            stores = map (λ device. device.store) devices.items;
             broken = None;
           };
           devices = devices.items;
@@ -96,6 +98,7 @@ impl World {
     pub fn parts(self) -> (HomeList, DeviceList)
         ensures homes { result.0.items ≡ self.net.homes }
         ensures devices { result.1.items ≡ self.devices }
+        ensures stores { map (λ device. device.store) result.1.items ≡ self.net.stores }
     {
         let World { homes, devices, .. } = self;
         (homes, devices)
@@ -140,7 +143,7 @@ impl World {
     }
 
     /// Makes an event happen (RFC 4187 §3). A packet stays where it was sent, and may be delivered again. If memory runs
-    /// out, the network, the devices and the centre stay as they were.
+    /// out, the network with its homes, the devices and the centre stay as they were.
     pub fn apply<C: Centre, R: Wait>(
         &mut self,
         rt: &R,
@@ -155,7 +158,7 @@ impl World {
         ensures applied { IfOk result (λ came. RememberPasts self.old.devices
             → Applies C.goes C.kept C.top set.now self.old event.now centre.old self.new came centre.new) }
         ensures asked { IfOk result (λ came. IfSome (asked_in came) (λ sub. sub < length set.now.rows)) }
-        ensures homes { self.new.net.homes ≡ self.old.net.homes }
+        ensures homes { AreOfSame self.old.net.homes self.new.net.homes }
         ensures devices { self.new.net.devices ≡ self.old.net.devices }
         ensures subs { C.subs centre.new ≡ C.subs centre.old }
         ensures top { (i : ℕ) → C.top centre.new i ≡ C.top centre.old i }
@@ -190,6 +193,7 @@ impl World {
     ) -> Result<Came, NoMemory>
         requires known { opening.now.sub < length set.now.rows }
         requires name { IsName opening.now.name }
+        requires identity { IsShortIdentity opening.now.identity }
         ensures came { IfOk result (λ came. came ≡ came_opened (session_place self.old.net.sessions opening.now.session) (device_place set.now.rows self.old.net.devices opening.now.sub)) }
         ensures opened { IfOk result (λ _. self.new ≡ record self.old { net = opened self.old.net opening.now (session_place self.old.net.sessions opening.now.session) (device_place set.now.rows self.old.net.devices opening.now.sub) }) }
         ensures kept { OnErr result (self.new ≡ self.old) }
@@ -249,7 +253,7 @@ impl World {
         ensures served { IfOk result (λ came. (d : Delivery) → delivery_at self.old.net packet (Some place) ≡ Some d
             → Serves C.goes C.kept C.top set.now self.old d centre.old self.new came centre.new) }
         ensures asked { IfOk result (λ came. IfSome (asked_in came) (λ sub. sub < length set.now.rows)) }
-        ensures homes { self.new.net.homes ≡ self.old.net.homes }
+        ensures homes { AreOfSame self.old.net.homes self.new.net.homes }
         ensures devices { self.new.net.devices ≡ self.old.net.devices }
         ensures subs { C.subs centre.new ≡ C.subs centre.old }
         ensures top { (i : ℕ) → C.top centre.new i ≡ C.top centre.old i }
@@ -341,31 +345,6 @@ impl World {
             vector: None,
         }))
     }
-}
-
-/// A session in which nothing has happened, at the device of a place, with copies of the names.
-fn new_session(alloc: Global, opening: &SessionLine, device: u32) -> Result<Session, NoMemory>
-    ensures { IfOk result (λ session. session ≡ new_session opening.now device) }
-{
-    let options = ServerOptions {
-        method: opening.method,
-        name: copy_of(alloc, &opening.name)?,
-        bidding: opening.bidding,
-    };
-    let own = PeerOptions {
-        method: opening.method,
-        name: copy_if_any(alloc, &opening.peer_name)?,
-        has_prime: opening.has_prime,
-    };
-    Ok(Session {
-        number: opening.session,
-        sub: opening.sub,
-        device,
-        options,
-        server: None,
-        peer: Peer::new(own, alloc),
-        peer_keys: None,
-    })
 }
 
 /// The vector that was released: that of the challenge that a server sent, if a number was drawn.

@@ -8,7 +8,7 @@ use Rattle.auc_world.specs.declared.record.LineRecord.{LineRecord}
 use Rattle.auc_world.specs.declared.counting.Count.{Count}
 use Rattle.auc_world.specs.Counts.{AreCounted, counted_closings}
 use Rattle.auc_jobs.specs.State.{Standing}
-use Rattle.auc_jobs.proofs.RoundLemmas.{advanced_as, as_many_sessions, closes_above, lawful_round, stands_after}
+use Rattle.auc_jobs.proofs.RoundLemmas.{advanced_as, as_many_sessions, closes_above, leads_on, stands_after}
 use Rattle.auc_jobs.proofs.round.finish.Goals as goal
 
 pub closings-requires-clause-words : goal.closings-requires-clause-words
@@ -26,13 +26,13 @@ closings-requires-clause-forward c = λ k count there.
     let counts : length c.in_ok-counts.counts.items ≡ length c.args.state.now.words =
     c.in_ok-counts.ensures.size ∙ c.len.ensures ∙ ap (λ (ws : List ℕ). length ws) opened in
     rw (c.as_slice-2.ensures ∙ opened, c.as_slice-3.ensures)
-    (closes_above c.args.set.now c.requires.state.0 c.args.state.now.words c.args.done.words c.args.jobs.now c.args.done.jobs.records c.args.done.jobs.sessions c.in_ok-counts.counts.items
+    (closes_above c.args.set.now c.requires.state.0 c.args.state.now.kept c.args.state.now.words c.args.done.words c.args.jobs.now c.args.done.jobs.records c.args.done.jobs.devices c.args.done.jobs.sessions c.in_ok-counts.counts.items
     k count counts served.pieces c.requires.bound counted (subst (λ (cs : List Count). slice_get cs k ≡ Some count) c.deref.ensures.value there))
 
 pub round_premise-premise-requires : goal.round_premise-premise-requires
 round_premise-premise-requires c =
     let served = c.requires.served c.requires.state.0 c.requires.state.1 in
-    let many = as_many_sessions c.args.set.now c.requires.state.0 c.args.state.now.words c.args.done.words c.args.jobs.now c.args.done.jobs.records c.args.done.jobs.sessions served.pieces in
+    let many = as_many_sessions c.args.set.now c.requires.state.0 c.args.state.now.kept c.args.state.now.words c.args.done.words c.args.jobs.now c.args.done.jobs.records c.args.done.jobs.devices c.args.done.jobs.sessions served.pieces in
     let same = ap (λ (ss : List JobSessions). length ss) c.as_slice-5.ensures in
     omega (arith, many, same, c.requires.few)
 
@@ -46,9 +46,11 @@ returns-clause-lawful c = λ early stands.
     c.in_ok-counts.ensures.size ∙ c.len.ensures ∙ ap (λ (ws : List ℕ). length ws) opened in
     let closed : c.in_ok-closings.closings ≡ counted_closings 0 c.args.state.now.words c.args.done.words c.in_ok-counts.counts.items =
     c.in_ok-closings.ensures ∙ rw (c.as_slice-2.ensures ∙ opened, c.as_slice-3.ensures, c.deref.ensures.value) refl in
-    lawful_round c.args.set.now c.args.done.stop early c.args.state.now.words c.args.done.words c.args.jobs.now c.args.done.jobs.records c.args.done.jobs.sessions c.in_ok-counts.counts.items
-    c.args.number c.in_ok-closings.closings c.in_ok-verdicts.verdicts c.round_premise-premise.result c.requires.apart served.pieces c.requires.bound served.size counts counted closed c.requires.withholds
-    (subst (λ (js : List JobSessions). AreVerdicts js c.in_ok-verdicts.verdicts) c.as_slice-4.ensures c.in_ok-verdicts.ensures) (c.round_premise-premise.ensures ∙ ap (premise_from 1) c.as_slice-5.ensures)
+    leads_on c.args.set.now c.args.done.stop early c.args.state.now c.advance.new.self c.args.done.words c.args.jobs.now c.args.done.jobs.records c.args.done.jobs.devices c.args.done.jobs.sessions
+    c.in_ok-counts.counts.items c.args.number c.in_ok-closings.closings c.in_ok-verdicts.verdicts c.round_premise-premise.result c.requires.apart served.pieces c.requires.bound served.size counts counted closed
+    c.requires.withholds (subst (λ (js : List JobSessions). AreVerdicts js c.in_ok-verdicts.verdicts) c.as_slice-4.ensures c.in_ok-verdicts.ensures)
+    (c.round_premise-premise.ensures ∙ ap (premise_from 1) c.as_slice-5.ensures)
+    (advanced_as c.args.state.now c.args.state.now _ _ _ _ _ _ c.advance.new.self refl c.as_slice-6.ensures c.as_slice-7.ensures c.as_slice-8.ensures c.in_ok-advance.ensures.advanced)
 
 pub returns-clause-opens : goal.returns-clause-opens
 returns-clause-opens c = c.in_ok-advance.ensures.advanced.opened ∙ ap reopened c.as_slice-8.ensures

@@ -21,7 +21,7 @@ returns-clause-served g c = elim c.match-all.branch [
   | in-Ok-all w ↦
       rw w.result-is
       (subst (λ (os : List ℕ). IfOk w.close-result.result (λ done. (early : List LineRecord) → Begins c.args.round.now early
-      → AreServed c.args.round.now.set early os c.args.round.now.jobs done.jobs.records done.jobs.devices done.jobs.sessions done.words)) c.in-Ok.ensures.numbers w.close-result.ensures.served)
+      → AreServed c.args.round.now.set early c.args.round.now.stores os c.args.round.now.jobs done.jobs.records done.jobs.devices done.jobs.sessions done.words)) c.in-Ok.ensures.numbers w.close-result.ensures.served)
   | in-Err-all w ↦ rw w.result-is tt
 ]
 

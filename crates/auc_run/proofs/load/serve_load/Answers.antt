@@ -13,7 +13,7 @@ use Rattle.auc_run.proofs.load.serve_load.Goals as goal
 
 pub serve-result-requires-clause-state : goal.serve-result-requires-clause-state
 serve-result-requires-clause-state g c = λ κs within.
-    ([], c.in_ok-state.ensures.stands (record { key = c.new-rands.result; rows = c.args.subs.now; realm = c.as_slice.result.now }) refl)
+    ([], c.in_ok-state.ensures.stands (record { key = c.new-rands.result; names = c.new-names.result; rows = c.args.subs.now; realm = c.as_slice.result.now }) refl)
 
 pub serve-result-requires-clause-known : goal.serve-result-requires-clause-known
 serve-result-requires-clause-known g c = λ κs within.
@@ -35,13 +35,14 @@ serve-result-requires-clause-few g c = λ κs within.
 pub returns-in-None : goal.returns-in-None
 returns-in-None g c =
     let load = c.args.load.now in
-    let set : Setting = record { key = c.new-rands.result; rows = c.args.subs.now; realm = c.as_slice.result.now } in
+    let set : Setting = record { key = c.new-rands.result; names = c.new-names.result; rows = c.args.subs.now; realm = c.as_slice.result.now } in
     let round = c.in_ok-ran.ran.round in
+    let kept = c.in_ok-state.state.kept in
     let stands = c.in_ok-state.ensures.stands set refl in
     let served = IfOk-ok c.serve-result.result.result c.in_ok-ran.ran _ c.in_ok-ran.was c.serve-result.ensures.served [] stands in
-    let whole = subst (λ (stop : Option Stop). IsLawfulRound set stop [] c.in_ok-state.state.words c.as_slice-2.result.now round served.words) (cc c.in-None.is) served.lawful in
-    let of_jobs = subst (λ (js : List (List Line)). IsLawfulRound set None [] c.in_ok-state.state.words js round served.words)
+    let whole = subst (λ (stop : Option Stop). IsLawfulRound set stop [] kept c.in_ok-state.state.words c.as_slice-2.result.now round served.words) (cc c.in-None.is) served.lawful in
+    let of_jobs = subst (λ (js : List (List Line)). IsLawfulRound set None [] kept c.in_ok-state.state.words js round served.words)
     (c.as_slice-2.ensures ∙ c.in_ok-jobs.ensures) whole in
     let opens = c.in_ok-state.ensures.words ∙ ap (λ (rows : List Row). map (λ (row : Row). row.seq) rows) c.requires.subscribers in
-    load_round_closes load set round served.words c.requires.load
-    (subst (λ (os : List ℕ). IsLawfulRound set None [] os (load_jobs load) round served.words) opens of_jobs)
+    load_round_closes load set kept round served.words c.requires.load
+    (subst (λ (os : List ℕ). IsLawfulRound set None [] kept os (load_jobs load) round served.words) opens of_jobs)

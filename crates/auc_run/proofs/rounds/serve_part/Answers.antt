@@ -17,7 +17,7 @@ returns-in-Restart-clause-goes g c =
     c.args.stand.state c.restart-result.new.stand.state c.args.stand.journal c.restart-result.new.stand.journal c.restart-result.result c.args.stand.text c.restart-result.new.stand.text
     (g.K.Sink.written c.args.out.now) c.restart-result.ensures.kept.0 c.restart-result.ensures.kept.1
     (subst (λ (settings : Settings). OnOk c.restart-result.result (c.restart-result.new.stand.state.words ≡ opened settings.set.rows (limits_of c.args.stand.journal))) c.settings.view_is c.restart-result.ensures.opened)
-    c.restart-result.ensures.stands c.restart-result.ensures.text)
+    c.restart-result.ensures.names c.restart-result.ensures.stands c.restart-result.ensures.text)
 
 pub returns-in-Restart-clause-ends : goal.returns-in-Restart-clause-ends
 returns-in-Restart-clause-ends g c =

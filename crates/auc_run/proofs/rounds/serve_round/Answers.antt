@@ -24,9 +24,9 @@ write_round-result-requires-clause-named g c =
     let at = c.requires.stands.2 in
     let on = c.requires.stands.3 in
     let serves = IfOk-ok c.serve-journal.result.result c.in-Ok.ran _ (cc c.in-Ok.is) c.serve-journal.ensures.served at.early on.stands in
-    let lawful : IsLawfulRound set c.in-Ok.ran.stop at.early c.args.stand.state.words c.args.jobs.now round serves.words =
-    subst (λ (jobs : List (List Line)). IsLawfulRound set c.in-Ok.ran.stop at.early c.args.stand.state.words jobs round serves.words) c.as_slice.ensures serves.lawful in
-    round_named set c.in-Ok.ran.stop at.early c.args.stand.state.words c.args.jobs.now round serves.words on.stands.subscribers.size c.requires.known.known lawful
+    let lawful : IsLawfulRound set c.in-Ok.ran.stop at.early c.args.stand.state.kept c.args.stand.state.words c.args.jobs.now round serves.words =
+    subst (λ (jobs : List (List Line)). IsLawfulRound set c.in-Ok.ran.stop at.early c.args.stand.state.kept c.args.stand.state.words jobs round serves.words) c.as_slice.ensures serves.lawful in
+    round_named set c.in-Ok.ran.stop at.early c.args.stand.state.kept c.args.stand.state.words c.args.jobs.now round serves.words on.stands.subscribers.size c.requires.known.known lawful
 
 pub returns-clause-goes : goal.returns-clause-goes
 returns-clause-goes g c =

@@ -1,10 +1,10 @@
 use Rattle.std.proofs.Common.{rules, ◌<◌, length}
-use Rattle.auc_script.proofs.NameLemmas.{names_from}
+use Rattle.auc_script.proofs.NameLemmas.{texts_from}
 use Rattle.auc_script.specs.SessionLine.{SessionFields}
 use Rattle.auc_script.proofs.session_line.read_session.Goals as goal
 
 pub returns-clause-line : goal.returns-clause-line
-returns-clause-line c = λ short.
+returns-clause-line c = λ fit.
     let fields : SessionFields = record {
       session = c.in_ok-session.session.now;
       imsi = c.in_ok-session.imsi.now;
@@ -14,6 +14,6 @@ returns-clause-line c = λ short.
       options = c.in_ok-session.options.now;
       identity = c.in_ok-session.identity.now;
     } in
-    let names = names_from c.args.fields.now fields c.in_ok-method.method c.in_ok-read_name.field-0 c.in_ok-read_peer_name.field-0 c.in_ok-session.ensures c.in_ok-read_name.ensures c.in_ok-read_peer_name.ensures short in
+    let texts = texts_from c.args.fields.now fields c.in_ok-method.method c.in_ok-read_name.field-0 c.in_ok-read_peer_name.field-0 c.in_ok-read_identity.field-0 c.in_ok-session.ensures c.in_ok-read_name.ensures c.in_ok-read_peer_name.ensures fit in
     let known : c.in_ok-sub.sub < length c.args.subs.now = search rules in
-    (known, names.0, c.in_ok-session-2.ensures.within, names.1)
+    (known, texts.0, texts.2, c.in_ok-session-2.ensures.within, texts.1, texts.3)

@@ -3,7 +3,15 @@ use Rattle.auc_transcript.proofs.BreachLemmas.{each_breach_is_told, each_transcr
 use Rattle.auc_transcript.proofs.law.each_breach_is_told.Goals as goal
 
 pub returns-clause-nets : goal.returns-clause-nets
-returns-clause-nets c = each_transcript_has_its_nets (record { received = c.equal_bytes_are_received_alike.ensures; opening = c.opening_has_one_answer.ensures })
+returns-clause-nets c = each_transcript_has_its_nets (record {
+  received = c.equal_bytes_are_received_alike.ensures;
+  walk = c.bytes_have_one_reading_or_one_fault.ensures;
+  opening = c.opening_has_one_answer.ensures;
+})
 
 pub returns-clause-told : goal.returns-clause-told
-returns-clause-told c = each_breach_is_told (record { received = c.equal_bytes_are_received_alike.ensures; opening = c.opening_has_one_answer.ensures })
+returns-clause-told c = each_breach_is_told (record {
+  received = c.equal_bytes_are_received_alike.ensures;
+  walk = c.bytes_have_one_reading_or_one_fault.ensures;
+  opening = c.opening_has_one_answer.ensures;
+})

@@ -4,6 +4,10 @@ use Rattle.auc_transcript.proofs.law.each_plain_session_agrees.Goals as goal
 
 pub returns : goal.returns
 returns c = each_plain_session_agrees (record {
-  telling = record { received = c.equal_bytes_are_received_alike.ensures; opening = c.opening_has_one_answer.ensures };
+  telling = record {
+    received = c.equal_bytes_are_received_alike.ensures;
+    walk = c.bytes_have_one_reading_or_one_fault.ensures;
+    opening = c.opening_has_one_answer.ensures;
+  };
   plain = c.each_plain_session_succeeds.ensures;
 })

@@ -3,4 +3,8 @@ use Rattle.auc_transcript.proofs.OneToldLemmas.{each_told_transcript_is_one}
 use Rattle.auc_transcript.proofs.law.each_told_transcript_is_one.Goals as goal
 
 pub returns : goal.returns
-returns c = each_told_transcript_is_one (record { received = c.equal_bytes_are_received_alike.ensures; opening = c.opening_has_one_answer.ensures })
+returns c = each_told_transcript_is_one (record {
+  received = c.equal_bytes_are_received_alike.ensures;
+  walk = c.bytes_have_one_reading_or_one_fault.ensures;
+  opening = c.opening_has_one_answer.ensures;
+})

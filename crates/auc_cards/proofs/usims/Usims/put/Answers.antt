@@ -7,8 +7,8 @@ pub loop-left-preserved-in-Some : goal.loop-left-preserved-in-Some
 loop-left-preserved-in-Some c = record {
   low = search rules;
   put = put_some c.args.self.now c.loop-left.self c.set.new.self c.homes-homes.result.now c.devices-devices.result.now c.loop-left.left (c.loop-left.left - 1)
-      (get_or c.homes-homes.result.now (c.loop-left.left - 1) (record { sub = 0 })) c.in-Some.device.now (search rules)
-      (at_within c.homes-homes.result.now (c.loop-left.left - 1) (record { sub = 0 }) (search rules))
+      (get_or c.homes-homes.result.now (c.loop-left.left - 1) c.index-homes-left.result) c.in-Some.device.now (search rules)
+      (at_within c.homes-homes.result.now (c.loop-left.left - 1) c.index-homes-left.result (search rules))
       (at_within c.devices-devices.result.now (c.loop-left.left - 1) c.in-Some.device.now (search rules) ∙ ap Some (sym c.in-Some.ensures.lookup.1)) c.set.ensures c.loop-left.invariant.put;
 }
 

@@ -13,7 +13,7 @@ use Rattle.auc_jobs.proofs.round_jobs.RoundJobs.serve_at.Goals as goal
 
 pub job_world-requires-clause-known : goal.job_world-requires-clause-known
 job_world-requires-clause-known g c =
-    let inside : Shared = record { set = c.self.inside.set.now; released = c.self.inside.released.now; usims = c.self.inside.usims.now; jobs = c.self.inside.jobs.now; full = c.self.inside.full } in
+    let inside : Shared = record { set = c.self.inside.set.now; released = c.self.inside.released.now; usims = c.self.inside.usims.now; stores = c.self.inside.stores.now; jobs = c.self.inside.jobs.now; full = c.self.inside.full } in
     let servable : IsServable inside = subst IsServable (sym c.self.view_is) c.requires.servable in
     let there = job_at inside c.args.self.now c.args.job c.index-self-job.result c.as_slice-asked.result.now c.self.view_is c.requires.job c.index-self-job.is c.as_slice-asked.ensures in
     let known = known_at inside c.args.self.now c.args.job c.as_slice-asked.result.now c.self.view_is c.requires.servable there in
@@ -21,17 +21,17 @@ job_world-requires-clause-known g c =
 
 pub new-worker-requires : goal.new-worker-requires
 new-worker-requires g c =
-    let inside : Shared = record { set = c.self.inside.set.now; released = c.self.inside.released.now; usims = c.self.inside.usims.now; jobs = c.self.inside.jobs.now; full = c.self.inside.full } in
+    let inside : Shared = record { set = c.self.inside.set.now; released = c.self.inside.released.now; usims = c.self.inside.usims.now; stores = c.self.inside.stores.now; jobs = c.self.inside.jobs.now; full = c.self.inside.full } in
     let servable : IsServable inside = subst IsServable (sym c.self.view_is) c.requires.servable in
     let there = job_at inside c.args.self.now c.args.job c.index-self-job.result c.as_slice-asked.result.now c.self.view_is c.requires.job c.index-self-job.is c.as_slice-asked.ensures in
     let known = known_at inside c.args.self.now c.args.job c.as_slice-asked.result.now c.self.view_is c.requires.servable there in
     subst (AreForRows inside.set.rows (g.C.Centre.subs c.args.centre.now) (g.C.Centre.top c.args.centre.now)) (sym c.in_ok-world.ensures)
-    (starts_for_rows inside.set inside.usims c.as_slice-asked.result.now (g.C.Centre.subs c.args.centre.now) (g.C.Centre.top c.args.centre.now) servable.subscribers servable.rows known
+    (starts_for_rows inside.set inside.usims inside.stores c.as_slice-asked.result.now (g.C.Centre.subs c.args.centre.now) (g.C.Centre.top c.args.centre.now) servable.subscribers servable.rows known
     (subst (λ (s : Shared). IsCentreOf (length s.set.rows) (g.C.Centre.subs c.args.centre.now) (g.C.Centre.top c.args.centre.now)) (sym c.self.view_is) c.requires.centre))
 
 pub serve_lines-served-requires-clause-known : goal.serve_lines-served-requires-clause-known
 serve_lines-served-requires-clause-known g c =
-    let inside : Shared = record { set = c.self.inside.set.now; released = c.self.inside.released.now; usims = c.self.inside.usims.now; jobs = c.self.inside.jobs.now; full = c.self.inside.full } in
+    let inside : Shared = record { set = c.self.inside.set.now; released = c.self.inside.released.now; usims = c.self.inside.usims.now; stores = c.self.inside.stores.now; jobs = c.self.inside.jobs.now; full = c.self.inside.full } in
     let servable : IsServable inside = subst IsServable (sym c.self.view_is) c.requires.servable in
     let there = job_at inside c.args.self.now c.args.job c.index-self-job.result c.as_slice-asked.result.now c.self.view_is c.requires.job c.index-self-job.is c.as_slice-asked.ensures in
     let known = known_at inside c.args.self.now c.args.job c.as_slice-asked.result.now c.self.view_is c.requires.servable there in
@@ -39,34 +39,34 @@ serve_lines-served-requires-clause-known g c =
 
 pub serve_lines-served-requires-clause-own : goal.serve_lines-served-requires-clause-own
 serve_lines-served-requires-clause-own g c =
-    let inside : Shared = record { set = c.self.inside.set.now; released = c.self.inside.released.now; usims = c.self.inside.usims.now; jobs = c.self.inside.jobs.now; full = c.self.inside.full } in
+    let inside : Shared = record { set = c.self.inside.set.now; released = c.self.inside.released.now; usims = c.self.inside.usims.now; stores = c.self.inside.stores.now; jobs = c.self.inside.jobs.now; full = c.self.inside.full } in
     let servable : IsServable inside = subst IsServable (sym c.self.view_is) c.requires.servable in
     let there = job_at inside c.args.self.now c.args.job c.index-self-job.result c.as_slice-asked.result.now c.self.view_is c.requires.job c.index-self-job.is c.as_slice-asked.ensures in
     let known = known_at inside c.args.self.now c.args.job c.as_slice-asked.result.now c.self.view_is c.requires.servable there in
     subst (λ (w : WorkerState g.row.C.Denot). (sub : ℕ) → holds sub c.as_slice-asked.result.now ≡ true → has_usim (usim_of w.set.rows w.world) sub ≡ true) (sym c.new-worker.ensures)
-    (does_hold inside.set inside.usims c.as_slice-asked.result.now c.in_ok-world.world servable.rows servable.subscribers known c.in_ok-world.ensures)
+    (does_hold inside.set inside.usims inside.stores c.as_slice-asked.result.now c.in_ok-world.world servable.rows servable.subscribers known c.in_ok-world.ensures)
 
 pub served_job-requires : goal.served_job-requires
 served_job-requires g c =
-    let inside : Shared = record { set = c.self.inside.set.now; released = c.self.inside.released.now; usims = c.self.inside.usims.now; jobs = c.self.inside.jobs.now; full = c.self.inside.full } in
+    let inside : Shared = record { set = c.self.inside.set.now; released = c.self.inside.released.now; usims = c.self.inside.usims.now; stores = c.self.inside.stores.now; jobs = c.self.inside.jobs.now; full = c.self.inside.full } in
     let servable : IsServable inside = subst IsServable (sym c.self.view_is) c.requires.servable in
     let there = job_at inside c.args.self.now c.args.job c.index-self-job.result c.as_slice-asked.result.now c.self.view_is c.requires.job c.index-self-job.is c.as_slice-asked.ensures in
     let known = known_at inside c.args.self.now c.args.job c.as_slice-asked.result.now c.self.view_is c.requires.servable there in
     let worker : WorkerState g.row.C.Denot = c.new-worker.result in
     let set_is : worker.set ≡ inside.set = ap (λ (w : WorkerState g.row.C.Denot). w.set) c.new-worker.ensures in
     let released_is : worker.released ≡ inside.released = ap (λ (w : WorkerState g.row.C.Denot). w.released) c.new-worker.ensures in
-    let does : Does g.C.Centre.kept g.C.Centre.goes (g.C.Centre.name worker.centre) (g.C.Centre.name c.serve_lines-served.new.self.centre) worker c.serve_lines-served.new.self inside.usims c.as_slice-asked.result.now = record {
+    let does : Does g.C.Centre.kept g.C.Centre.goes (g.C.Centre.name worker.centre) (g.C.Centre.name c.serve_lines-served.new.self.centre) worker c.serve_lines-served.new.self inside.usims inside.stores c.as_slice-asked.result.now = record {
       rows = subst (λ (s : Setting). AreOfRows s.rows inside.usims) (sym set_is) servable.rows;
       subscribers = subst (λ (s : Setting). AreSubscribers s.rows) (sym set_is) servable.subscribers;
       known = subst (λ (s : Setting). AreKnown (length s.rows) c.as_slice-asked.result.now) (sym set_is) known;
       none = ap (λ (w : WorkerState g.row.C.Denot). w.lines) c.new-worker.ensures;
       begins = ap (λ (w : WorkerState g.row.C.Denot). w.world) c.new-worker.ensures ∙ c.in_ok-world.ensures
-          ∙ ap (λ (s : Setting). start_world s inside.usims c.as_slice-asked.result.now) (sym set_is);
+          ∙ ap (λ (s : Setting). start_world s inside.usims inside.stores c.as_slice-asked.result.now) (sym set_is);
       serves = c.in_ok-served.ensures.served;
       goes_on = c.in_ok-served.ensures.same;
     } in
     let (early, beside, begins) = c.requires.begins in
-    does_releasable g.C.Centre.kept g.C.Centre.goes (g.C.Centre.name worker.centre) (g.C.Centre.name c.serve_lines-served.new.self.centre) worker c.serve_lines-served.new.self inside.usims
+    does_releasable g.C.Centre.kept g.C.Centre.goes (g.C.Centre.name worker.centre) (g.C.Centre.name c.serve_lines-served.new.self.centre) worker c.serve_lines-served.new.self inside.usims inside.stores
     c.as_slice-asked.result.now inside.set c.in_ok-lines.lines (sym set_is) c.in_ok-lines.ensures.lines does (
       early,
       beside,
@@ -76,24 +76,24 @@ served_job-requires g c =
 
 pub returns-clause-served : goal.returns-clause-served
 returns-clause-served g c =
-    let inside : Shared = record { set = c.self.inside.set.now; released = c.self.inside.released.now; usims = c.self.inside.usims.now; jobs = c.self.inside.jobs.now; full = c.self.inside.full } in
+    let inside : Shared = record { set = c.self.inside.set.now; released = c.self.inside.released.now; usims = c.self.inside.usims.now; stores = c.self.inside.stores.now; jobs = c.self.inside.jobs.now; full = c.self.inside.full } in
     let servable : IsServable inside = subst IsServable (sym c.self.view_is) c.requires.servable in
     let there = job_at inside c.args.self.now c.args.job c.index-self-job.result c.as_slice-asked.result.now c.self.view_is c.requires.job c.index-self-job.is c.as_slice-asked.ensures in
     let known = known_at inside c.args.self.now c.args.job c.as_slice-asked.result.now c.self.view_is c.requires.servable there in
     let worker : WorkerState g.row.C.Denot = c.new-worker.result in
     let set_is : worker.set ≡ inside.set = ap (λ (w : WorkerState g.row.C.Denot). w.set) c.new-worker.ensures in
     let released_is : worker.released ≡ inside.released = ap (λ (w : WorkerState g.row.C.Denot). w.released) c.new-worker.ensures in
-    let does : Does g.C.Centre.kept g.C.Centre.goes (g.C.Centre.name worker.centre) (g.C.Centre.name c.serve_lines-served.new.self.centre) worker c.serve_lines-served.new.self inside.usims c.as_slice-asked.result.now = record {
+    let does : Does g.C.Centre.kept g.C.Centre.goes (g.C.Centre.name worker.centre) (g.C.Centre.name c.serve_lines-served.new.self.centre) worker c.serve_lines-served.new.self inside.usims inside.stores c.as_slice-asked.result.now = record {
       rows = subst (λ (s : Setting). AreOfRows s.rows inside.usims) (sym set_is) servable.rows;
       subscribers = subst (λ (s : Setting). AreSubscribers s.rows) (sym set_is) servable.subscribers;
       known = subst (λ (s : Setting). AreKnown (length s.rows) c.as_slice-asked.result.now) (sym set_is) known;
       none = ap (λ (w : WorkerState g.row.C.Denot). w.lines) c.new-worker.ensures;
       begins = ap (λ (w : WorkerState g.row.C.Denot). w.world) c.new-worker.ensures ∙ c.in_ok-world.ensures
-          ∙ ap (λ (s : Setting). start_world s inside.usims c.as_slice-asked.result.now) (sym set_is);
+          ∙ ap (λ (s : Setting). start_world s inside.usims inside.stores c.as_slice-asked.result.now) (sym set_is);
       serves = c.in_ok-served.ensures.served;
       goes_on = c.in_ok-served.ensures.same;
     } in
     served_result g.C.Centre.kept g.C.Centre.goes inside c.args.self.now worker c.serve_lines-served.new.self (g.C.Centre.name worker.centre) (g.C.Centre.name c.serve_lines-served.new.self.centre)
     c.args.centre.now _ c.args.job c.as_slice-asked.result.now c.in_ok-lines.lines c.in_ok-lines.world c.served_job.result c.self.view_is set_is released_is (ap (λ (w : WorkerState g.row.C.Denot). w.centre) c.new-worker.ensures) (search rules) there does
     c.in_ok-lines.ensures.lines c.in_ok-lines.ensures.world c.in_ok-lines.ensures.secrets
-    c.served_job.ensures.lines c.served_job.ensures.homes c.served_job.ensures.devices c.served_job.ensures.sessions c.served_job.ensures.vectors
+    c.served_job.ensures.lines c.served_job.ensures.homes c.served_job.ensures.devices c.served_job.ensures.stores c.served_job.ensures.sessions c.served_job.ensures.vectors

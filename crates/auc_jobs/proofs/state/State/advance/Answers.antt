@@ -1,4 +1,5 @@
-use Rattle.std.proofs.Common.{◌++◌, List, subst}
+use Rattle.std.proofs.Common.{◌∙◌, ◌++◌, List, ap, fold, subst}
+use Rattle.auc_cards.specs.Stores.{put_own}
 use Rattle.auc_world.specs.Lines.{all_lines}
 use Rattle.auc_world.specs.declared.record.LineRecord.{LineRecord}
 use Rattle.auc_jobs.specs.InnerUsims.{ArePutBack}
@@ -11,6 +12,7 @@ returns-clause-advanced c = record {
   opened = c.in_ok-openings.ensures.value;
   within = c.in_ok-openings.ensures.bound;
   put = subst (λ (s : Standing). ArePutBack s.usims c.args.devices.now c.put_back.new.self) c.self.view_is c.put_back.ensures;
+  keeps = c.put_back-2.ensures ∙ ap (λ (s : Standing). fold put_own s.kept c.args.devices.now) c.self.view_is;
   noted = subst (λ (s : Standing). (before : List LineRecord) → AreReleased s.released before → AreReleased c.note_all.new.released (before ++ all_lines c.args.records.now)) c.self.view_is
       c.in_ok-note_all.ensures.noted;
 }

@@ -1,5 +1,6 @@
-use Rattle.std.proofs.Common.{◌∙◌, ap, subst}
+use Rattle.std.proofs.Common.{◌∙◌, ap, map, subst}
 use Rattle.std.specs.Prelude.{IfOk}
+use Rattle.auc_server.specs.declared.setting.HomeRow.{HomeRow}
 use Rattle.auc_world.specs.Came.{Came}
 use Rattle.auc_world.specs.World.{Applies, RememberPasts, usim_of}
 use Rattle.auc_jobs.specs.InnerUsims.{has_usim}
@@ -57,6 +58,6 @@ returns-clause-same g c = record {
         same_top = c.apply.ensures.top;
       }) sub
       ∙ ap (λ (w : WorkerState g.row.C.Denot). has_usim (usim_of w.set.rows w.world) sub) c.self.view_is;
-  homes = c.apply.ensures.homes ∙ ap (λ (w : WorkerState g.row.C.Denot). w.world.net.homes) c.self.view_is;
+  homes = c.apply.ensures.homes ∙ ap (λ (w : WorkerState g.row.C.Denot). map (λ (home : HomeRow). home.sub) w.world.net.homes) c.self.view_is;
   devices = c.apply.ensures.devices ∙ ap (λ (w : WorkerState g.row.C.Denot). w.world.net.devices) c.self.view_is;
 }

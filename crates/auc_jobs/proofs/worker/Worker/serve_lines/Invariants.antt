@@ -1,5 +1,6 @@
 use Rattle.auc_jobs.specs.InnerUsims.{has_usim, usim_of}
 use Rattle.std.proofs.Common.{◌≡◌, ℕ, List, drop}
+use Rattle.auc_world.specs.World.{AreOfSame}
 use Rattle.auc_world.specs.declared.record.LineRecord.{LineRecord}
 use Rattle.auc_jobs.specs.InnerWorker.{WorkerStands}
 use Rattle.auc_jobs.proofs.JobLemmas.{ServingLines}
@@ -12,7 +13,7 @@ invariant-loop-line g l = record {
   set : l.self.set ≡ l.fn.self.set;
   released : l.self.released ≡ l.fn.self.released;
   keyed : (sub : ℕ) → has_usim (usim_of l.self.set.rows l.self.world) sub ≡ has_usim (usim_of l.fn.self.set.rows l.fn.self.world) sub;
-  homes : l.self.world.net.homes ≡ l.fn.self.world.net.homes;
+  homes : AreOfSame l.fn.self.world.net.homes l.self.world.net.homes;
   devices : l.self.world.net.devices ≡ l.fn.self.world.net.devices;
   serving : (early : List LineRecord) (beside : List LineRecord) → WorkerStands g.C.Centre.kept early beside l.fn.self
       → ServingLines (λ i es ws. g.C.Centre.goes l.fn.self.centre i es ws l.self.centre) l.fn.self.set early beside (g.C.Centre.kept l.self.centre) l.fn.self.released (usim_of l.fn.self.set.rows l.self.world)

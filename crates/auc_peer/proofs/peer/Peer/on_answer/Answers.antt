@@ -2,7 +2,7 @@ use Rattle.std.proofs.Common.{ℕ, List, sym, ap, ◌∙◌}
 use Rattle.auc_hmac.specs.declared.keys.KeySet.{KeySet}
 use Rattle.auc_packet.specs.Received.{seen_of}
 use Rattle.auc_peer.specs.Table.{accepted, by_answer, keys_for, text_or_none}
-use Rattle.auc_peer.specs.Turn.{was_readable}
+use Rattle.auc_peer.specs.Turn.{told}
 use Rattle.auc_usim.specs.declared.answer.Answer.{Answer}
 use Rattle.auc_peer.proofs.peer.Peer.on_answer.Goals as goal
 
@@ -10,8 +10,8 @@ pub returns-in-Accepted-clause-step : goal.returns-in-Accepted-clause-step
 returns-in-Accepted-clause-step c =
     let p = c.args.self.now in
     let seen = seen_of c.args.received.now in
-    let readable = was_readable c.on_accepted.new.self.state in
+    let inner = told c.on_accepted.new.self in
     c.on_accepted.ensures.step
-    ∙ ap (λ (keys : KeySet). accepted p seen c.args.challenge c.in-Accepted.res c.in-Accepted.sqn keys readable)
+    ∙ ap (λ (keys : KeySet). accepted p seen c.args.challenge c.in-Accepted.res c.in-Accepted.sqn keys inner)
     (c.keys_at-keys.ensures ∙ ap (λ (network : List ℕ). keys_for p.options.method network c.args.challenge (text_or_none p.identity) c.in-Accepted.ik c.in-Accepted.ck) (c.as_slice.ensures ∙ c.requires.network))
-    ∙ ap (λ (a : Answer). by_answer p seen c.args.challenge a readable) (sym c.in-Accepted.is)
+    ∙ ap (λ (a : Answer). by_answer p seen c.args.challenge a inner) (sym c.in-Accepted.is)

@@ -20,13 +20,13 @@ passes : (c : goal.After-self-2-1) → Passes c.args.subs.now c.args.self.now c.
 passes c =
     let room = both (length (c.args.self.now.sessions.all ++ option_to_list (opened_by c.in_ok-line.line))) most_sessions (c.args.self.now.sessions.packets + packets_by c.in_ok-line.line) most_packets (cc (c.has_room.ensures, c.if-not-has_room.false)) in
     record {
-      is_line = c.in_ok-line.ensures.line (cc (c.has_short_names.ensures, c.if-not-has_short_names.false));
+      is_line = c.in_ok-line.ensures.line (cc (c.has_fit_texts.ensures, c.if-not-has_fit_texts.false));
       order = sym c.in_ok-order.ensures;
       free = cc (c.is_busy.ensures, c.if-is_busy.false);
       vectors = omega (arith, c.count.ensures, c.if-asked-gt-MAX_VECTORS.false);
       sessions = room.0;
       packets = room.1;
-      names = cc (c.has_short_names.ensures, c.if-not-has_short_names.false);
+      names = cc (c.has_fit_texts.ensures, c.if-not-has_fit_texts.false);
     }
 
 pub returns-clause-becomes : goal.returns-clause-becomes

@@ -1,7 +1,7 @@
-use Rattle.std.proofs.Common.{◌∙◌, List, refl, sym, ap, subst, length}
+use Rattle.std.proofs.Common.{◌∙◌, refl, sym, ap, subst, length}
 use Rattle.std.proofs.lemmas.Option.{slice_get_read}
 use Rattle.indexmap.specs.IndexMap.{get, keys, values}
-use Rattle.auc_peer.specs.Subscription.{Subscription, subscription_of}
+use Rattle.auc_peer.specs.Subscription.{subscription_of}
 use Rattle.auc_peer.specs.declared.device.Device.{Device}
 use Rattle.std.specs.Prelude.{slice_set}
 use Rattle.auc_world.proofs.DeviceLemmas.{challenged, same_subscription}
@@ -24,7 +24,7 @@ returns-clause-answer c =
     let inside = c.self.inside in
     let device = c.in-Some-get_mut.device.now in
     let there = slice_get_read inside.devices.items (length inside.devices.items) c.in-Some.place device refl c.in-Some-get_mut.ensures.item.3.0 c.in-Some-get_mut.ensures.value in
-    let card : Device = record { imsi = device.imsi; usim = c.challenge.new.self; realm = device.realm } in
+    let card : Device = record { imsi = device.imsi; usim = c.challenge.new.self; store = device.store; realm = device.realm } in
     let new : WorldState = state_of inside.packets.items (values inside.sessions) inside.released.items inside.homes.items inside.broken (slice_set inside.devices.items c.in-Some.place card) in
     subst (λ (w : WorldState). Challenges (usim_of c.args.set.now.rows w) c.args.sub c.args.rand c.args.autn c.challenge.result (usim_of c.args.set.now.rows new)) c.self.view_is
     (challenged c.args.set.now.rows inside.devices.items c.in-Some.place c.args.sub device _ c.args.rand c.args.autn c.challenge.result
@@ -38,6 +38,7 @@ returns-clause-net c =
     let device = c.in-Some-get_mut.device.now in
     let there = slice_get_read inside.devices.items (length inside.devices.items) c.in-Some.place device refl c.in-Some-get_mut.ensures.item.3.0 c.in-Some-get_mut.ensures.value in
     let old : Net = (state_of inside.packets.items (values inside.sessions) inside.released.items inside.homes.items inside.broken inside.devices.items).net in
-    ap (λ (subs : List Subscription). record old { devices = subs })
-    (map_same subscription_of inside.devices.items c.in-Some.place device _ there (same_subscription device c.challenge.new.self c.challenge.ensures.secret))
+    let subs = map_same subscription_of inside.devices.items c.in-Some.place device _ there (same_subscription device c.challenge.new.self c.challenge.ensures.secret) in
+    let stores = map_same (λ (d : Device). d.store) inside.devices.items c.in-Some.place device (record { imsi = device.imsi; usim = c.challenge.new.self; store = device.store; realm = device.realm }) there refl in
+    (λ j. record old { devices = subs j; stores = stores j })
     ∙ ap (λ (w : WorldState). w.net) c.self.view_is

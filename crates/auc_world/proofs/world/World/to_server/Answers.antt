@@ -1,12 +1,14 @@
-use Rattle.std.proofs.Common.{◌≡◌, ℕ, ◌<◌, ◌≤◌, ◌∙◌, List, length, Some, refl, sym, ap, subst}
+use Rattle.std.proofs.Common.{◌≡◌, ℕ, ◌<◌, ◌≤◌, ◌∙◌, List, length, map, Some, refl, sym, ap, subst}
 use Rattle.std.specs.Prelude.{IfSome, Option, slice_set}
 use Rattle.auc_server.specs.Asked.{asked_after}
 use Rattle.auc_server.specs.declared.setting.HomeRow.{HomeRow}
+use Rattle.auc_server.specs.Steps.{IsHeld}
 use Rattle.auc_world.proofs.AskedLemmas.{asked_listed}
+use Rattle.auc_world.proofs.HomeLemmas.{asked_same, held_alike}
 use Rattle.indexmap.proofs.CallerLemmas.{keys-with_value_at}
 use Rattle.indexmap.specs.IndexMap.{get, keys, values}
 use Rattle.auc_world.proofs.ServingLemmas.{has_packet, packet_read, serves, serves_nobody, serves_now}
-use Rattle.auc_world.proofs.WorldLemmas.{kept_homes, kept_session, of_all, on_error, same_session, served_states, served_there, set_same, values_set}
+use Rattle.auc_world.proofs.WorldLemmas.{kept_alike, kept_homes, kept_session, of_all, on_error, same_session, served_states, served_there, set_same, values_set}
 use Rattle.auc_world.specs.Came.{vector_sent}
 use Rattle.auc_world.specs.InnerWorld.{is_key, state_of}
 use Rattle.auc_world.specs.World.{AreHomes, HasHeld, WorldState}
@@ -73,7 +75,7 @@ invariant_of-self-in_err-turn g c =
     kept_homes _ _ _ _ _ inside.homes.items _ _ _ c.in_err-turn.ensures.homes
     (kept_session (keys inside.sessions) (get is_key inside.places) inside.packets.items (values inside.sessions) inside.released.items inside.homes.items inside.broken inside.devices.items c.self.invariant
     _ _ _ _ _ c.args.place session same (keys-with_value_at inside.sessions c.args.place same) (values_set inside.sessions.entries c.args.place same) c.index_mut-session.ensures.value refl refl
-    c.in_err-turn.ensures.held)
+    (subst (λ (hs : List HomeRow). IsHeld hs c.serve.new.server.challenged) c.in_err-turn.ensures.homes c.in_err-turn.ensures.held))
 
 pub returns-in_err-turn-clause-world : goal.returns-in_err-turn-clause-world
 returns-in_err-turn-clause-world g c =
@@ -91,10 +93,10 @@ invariant_of-self-2 g c =
     let inside = c.self.inside in
     let session = c.index_mut-session.result.now in
     let new : Session = record session { server = Some c.serve.new.server } in
-    kept_homes _ _ _ _ _ inside.homes.items _ _ _ c.in_ok-turn.ensures.homes
+    kept_alike _ _ _ _ _ inside.homes.items _ _ _ c.in_ok-turn.ensures.same
     (kept_session (keys inside.sessions) (get is_key inside.places) inside.packets.items (values inside.sessions) inside.released.items inside.homes.items inside.broken inside.devices.items c.self.invariant
     _ _ _ _ _ c.args.place session new (keys-with_value_at inside.sessions c.args.place new) (values_set inside.sessions.entries c.args.place new) c.index_mut-session.ensures.value refl refl
-    c.in_ok-turn.ensures.held)
+    (held_alike c.serve.new.homes.items inside.homes.items (Some c.serve.new.server) (sym c.in_ok-turn.ensures.same) c.in_ok-turn.ensures.held))
 
 pub returns-clause-served : goal.returns-clause-served
 returns-clause-served g c =
@@ -107,10 +109,10 @@ returns-clause-served g c =
     c.args.place c.args.packet session c.index.result.now c.index_mut-session.ensures.value here c.args.self.now c.self.view_is _ c.args.centre.now c.serve.new.centre _
     (serves g.C.Centre.goes g.C.Centre.kept g.C.Centre.top c.args.set.now inside.packets.items (values inside.sessions) inside.released.items inside.homes.items inside.broken inside.devices.items
     c.args.place c.args.packet session c.index.result.now c.in-Some.server c.serve.new.server c.in_ok-turn.field-0.turn c.args.centre.now c.serve.new.centre c.as_slice-bytes.result.now
-    c.in-Some.is c.as_slice-bytes.ensures c.in_ok-turn.ensures.step
+    c.in-Some.is c.as_slice-bytes.ensures c.serve.new.homes.items c.in_ok-turn.ensures.step c.in_ok-turn.ensures.same
     c.make_place.new.packets.items c.deref.result.now c.post.new.packets.items _ c.reserve.new.self.items c.release.new.released.items c.as_slice.result.now c.serve.new.homes.items
     c.judged-self-inside.result c.in_ok-turn.field-0.inputs c.in_ok-before.before c.in_ok-turn.field-0.sent c.asked-asked.result c.post.result
-    c.in_ok-make_place.ensures.same (c.deref.ensures.value ∙ c.in_ok-make_place.ensures.same) c.in_ok-reserve.ensures.items (c.as_slice.ensures.value ∙ c.in_ok-turn.ensures.homes) c.in_ok-turn.ensures.homes
+    c.in_ok-make_place.ensures.same (c.deref.ensures.value ∙ c.in_ok-make_place.ensures.same) c.in_ok-reserve.ensures.items c.as_slice.ensures.value refl
     c.in_ok-before.ensures c.in_ok-turn.ensures.inputs c.in_ok-turn.ensures.sent c.post.ensures.posted c.post.ensures.number c.asked-asked.ensures c.release.ensures c.judged-self-inside.ensures
     (values_set inside.sessions.entries c.args.place new) c.vector_sent-vector.result (c.vector_sent-vector.ensures ∙ ap (vector_sent c.in_ok-turn.field-0.turn.notes.number) c.challenged.ensures))
 
@@ -121,6 +123,13 @@ returns-clause-asked g c =
     let homes = subst (λ (w : WorldState). AreHomes c.args.set.now.rows (g.C.Centre.subs c.args.centre.now) (g.C.Centre.top c.args.centre.now) w.net.homes) (sym c.self.view_is) c.requires.homes in
     let asked : c.asked-asked.result ≡ asked_after c.args.set.now inside.homes.items c.serve.new.server notes.resync notes.number =
     c.asked-asked.ensures
-    ∙ ap (λ (hs : List HomeRow). asked_after c.args.set.now hs c.serve.new.server notes.resync notes.number) (c.as_slice.ensures.value ∙ c.in_ok-turn.ensures.homes) in
+    ∙ ap (λ (hs : List HomeRow). asked_after c.args.set.now hs c.serve.new.server notes.resync notes.number) c.as_slice.ensures.value
+    ∙ asked_same c.args.set.now inside.homes.items c.serve.new.homes.items c.serve.new.server notes.resync notes.number c.in_ok-turn.ensures.same in
     subst (λ (o : Option ℕ). IfSome o (λ sub. sub < length c.args.set.now.rows)) (sym asked)
-    (asked_listed c.args.set.now (g.C.Centre.subs c.args.centre.now) (g.C.Centre.top c.args.centre.now) inside.homes.items c.serve.new.server notes.resync notes.number homes c.in_ok-turn.ensures.held)
+    (asked_listed c.args.set.now (g.C.Centre.subs c.args.centre.now) (g.C.Centre.top c.args.centre.now) inside.homes.items c.serve.new.server notes.resync notes.number homes
+    (held_alike c.serve.new.homes.items inside.homes.items (Some c.serve.new.server) (sym c.in_ok-turn.ensures.same) c.in_ok-turn.ensures.held))
+
+pub returns-clause-homes : goal.returns-clause-homes
+returns-clause-homes g c =
+    let inside = c.self.inside in
+    c.in_ok-turn.ensures.same ∙ ap (λ (w : WorldState). map (λ (home : HomeRow). home.sub) w.net.homes) c.self.view_is

@@ -1,6 +1,0 @@
-use Rattle.std.proofs.Common.{◌≡◌, drop}
-use Rattle.auc_peer.specs.Attributes.{first_code}
-use Rattle.auc_peer.proofs.reading.code_in.Given as goal
-
-abbrev pub invariant-loop-attr : goal.invariant-loop-attr
-invariant-loop-attr l = first_code (drop l.attr-index l.attr-items) ≡ first_code l.list

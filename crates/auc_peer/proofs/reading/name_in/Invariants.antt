@@ -1,6 +1,0 @@
-use Rattle.std.proofs.Common.{◌≡◌, drop}
-use Rattle.auc_peer.specs.Attributes.{name_in}
-use Rattle.auc_peer.proofs.reading.name_in.Given as goal
-
-abbrev pub invariant-loop-attr : goal.invariant-loop-attr
-invariant-loop-attr l = name_in (drop l.attr-index l.attr-items) ≡ name_in l.list

@@ -1,0 +1,14 @@
+//! Which identity a peer sends.
+
+use auc_edge::Octets;
+
+/// What answers the Identity request of EAP (RFC 3748 §5.1).
+#[derive(Drop)]
+pub enum FirstIdentity {
+    /// The identity that the device holds: its pseudonym if it has one, else the permanent identity.
+    Held,
+    /// The permanent identity.
+    Permanent,
+    /// This text, at most 255 bytes.
+    Text(Octets),
+}

@@ -1,0 +1,19 @@
+-- What is kept of each subscriber's names, in the subscribers' order.
+use Rattle.std.specs.Prelude.{ℕ, List, Option, Some, None, slice_get}
+use Rattle.auc_reauth.specs.Device.{Keeps, nothing_kept}
+
+-- of a subscriber: the last ordinal of its names, and what its device keeps
+abbrev pub Kept : Type 0
+Kept = ℕ × Keeps
+
+-- of a subscriber of whom no name was given
+abbrev pub fresh_kept : Kept
+fresh_kept = (0, nothing_kept)
+
+abbrev pub kept_or : Option Kept → Kept
+kept_or None = fresh_kept
+kept_or (Some one) = one
+
+-- that of a subscriber, by what is kept of all
+abbrev pub kept_of : List Kept → ℕ → Kept
+kept_of kept sub = kept_or (slice_get kept sub)

@@ -1,0 +1,17 @@
+use Rattle.std.proofs.Common.{◌≤◌, true, List, [], ◌∷◌, length, sym, subst, ap, ◌∙◌}
+use Rattle.auc_attr.specs.declared.attr.Attr.{Attr}
+use Rattle.auc_packet.specs.declared.packet.Packet.TheVariants as packet
+use Rattle.auc_packet.specs.declared.subtype.Subtype.TheVariants as subtype
+use Rattle.auc_packet.specs.Spelling.{MayBeWritten, packet_text}
+use Rattle.auc_server.proofs.MessageLemmas.{identity_may, identity_size}
+use Rattle.auc_server.proofs.messages.aka_identity.Goals as goal
+
+pub message-requires-clause-writable : goal.message-requires-clause-writable
+message-requires-clause-writable c =
+    subst (λ (list : List Attr). MayBeWritten (packet.Aka true c.args.id c.args.method subtype.Identity list))
+    (sym (c.one.ensures ∙ ap (λ (a : Attr). a ∷ []) c.id_req.ensures)) (identity_may c.args.method c.args.id c.args.kind)
+
+pub message-requires-clause-small : goal.message-requires-clause-small
+message-requires-clause-small c =
+    subst (λ (list : List Attr). length (packet_text (packet.Aka true c.args.id c.args.method subtype.Identity list)) ≤ 440)
+    (sym (c.one.ensures ∙ ap (λ (a : Attr). a ∷ []) c.id_req.ensures)) (identity_size c.args.method c.args.id c.args.kind)

@@ -1,0 +1,10 @@
+use Rattle.std.proofs.Common.{ℕ, List, ap, ◌∙◌}
+use Rattle.auc_server.specs.Rows.{on_identity, on_any}
+use Rattle.auc_server.specs.declared.rows.Row.{Row}
+use Rattle.auc_server.proofs.rows.in_any.Goals as goal
+
+pub returns-clause-row : goal.returns-clause-row
+returns-clause-row c =
+    c.on_identity.ensures.row
+    ∙ ap (λ (r : Row). on_identity r c.args.subtype c.args.attrs.now)
+    (c.on_any-answered.ensures.row ∙ ap (λ (t : List ℕ). on_any c.args.method c.args.set.now c.args.homes.now t) c.identity_in.ensures)

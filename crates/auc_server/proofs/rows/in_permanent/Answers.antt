@@ -1,0 +1,10 @@
+use Rattle.std.proofs.Common.{ℕ, List, ap, ◌∙◌}
+use Rattle.auc_server.specs.Rows.{on_identity, on_permanent}
+use Rattle.auc_server.specs.declared.rows.Row.{Row}
+use Rattle.auc_server.proofs.rows.in_permanent.Goals as goal
+
+pub returns-clause-row : goal.returns-clause-row
+returns-clause-row c =
+    c.on_identity.ensures.row
+    ∙ ap (λ (r : Row). on_identity r c.args.subtype c.args.attrs.now)
+    (c.on_permanent-answered.ensures.row ∙ ap (λ (t : List ℕ). on_permanent c.args.method c.args.set.now c.args.homes.now t) c.identity_in.ensures)

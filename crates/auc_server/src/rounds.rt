@@ -1,0 +1,98 @@
+//! The AKA-Identity packets of a session, and their checkcode.
+
+ghost use Rattle.std.specs.Prelude.{◌≡◌, IfOk, OnOk};
+ghost use Rattle.std.specs.Str.{bytes_eq};
+ghost use Rattle.auc_packet.specs.Received.{IsReceived, seen_of};
+ghost use Rattle.auc_seal.specs.Checkcode.{IsHash};
+ghost use Rattle.auc_server.specs.InnerRooms.{IsFreshCheck};
+ghost use Rattle.auc_server.specs.Rounds.{checkcode, heard, packet_in};
+ghost use Rattle.auc_server.specs.Table.{packets_after};
+
+use crate::messages::aka_identity;
+use crate::rooms::Rooms;
+use crate::rows::Row;
+use crate::server::Server;
+use auc_attr::length_of;
+use auc_edge::{NoMemory, Octets, Room};
+use auc_hmac::Method;
+use auc_packet::{Packet, Reading, Received, Subtype};
+use auc_seal::IdentityPackets;
+use std::alloc::Global;
+
+/// The value of AT_CHECKCODE (RFC 4187 §10.13, RFC 9048 §3.4.3).
+#[tactic(auto, unfolding(crate::specs::Rounds::checkcode))]
+pub(crate) fn checkcode(method: Method, packets: &IdentityPackets, room: Room) -> Octets
+    requires { IsFreshCheck room }
+    ensures value { result ≡ checkcode method packets.now }
+    ensures size { IsHash result }
+{
+    let value = packets.value(method);
+    let mut room = room;
+    room.put(value.as_slice());
+    room.into_octets()
+}
+
+/// Whether a value is that of AT_CHECKCODE.
+#[tactic(auto, unfolding(crate::specs::Rounds::checkcode))]
+pub(crate) fn is_checkcode(method: Method, packets: &IdentityPackets, value: &[u8]) -> bool
+    ensures { result ≡ bytes_eq value.now (checkcode method packets.now) }
+{
+    let right = packets.value(method);
+    value == right.as_slice()
+}
+
+/// The bytes that Length counts.
+fn packet_in(bytes: &[u8]) -> &[u8]
+    ensures { result.now ≡ packet_in bytes.now }
+{
+    if bytes.len() < 4 {
+        return bytes;
+    }
+    let size = length_of(bytes);
+    if bytes.len() <= size {
+        return bytes;
+    }
+    &bytes[..size]
+}
+
+/// Counts what was received, if it is an AKA-Identity message.
+fn hear(alloc: Global, packets: &mut IdentityPackets, received: &Received) -> Result<(), NoMemory>
+    requires { IsReceived (seen_of received.now) }
+    ensures { OnOk result (packets.new ≡ heard packets.old received.now.bytes.now received.now.reading) }
+{
+    match &received.reading {
+        Reading::Read(
+            Packet::Aka {
+                subtype: Subtype::Identity,
+                ..
+            },
+        ) => packets.add(alloc, packet_in(received.bytes)),
+        _ => Ok(()),
+    }
+}
+
+impl Server {
+    /// The AKA-Identity packets after a turn with this row.
+    pub(crate) fn packets_after(
+        &self,
+        alloc: Global,
+        received: &Received,
+        row: Row,
+    ) -> Result<IdentityPackets, NoMemory>
+        requires { IsReceived (seen_of received.now) }
+        ensures { IfOk result (λ packets. packets ≡ packets_after self.now (seen_of received.now) row) }
+    {
+        let mut packets = self.packets.copy(alloc)?;
+        hear(alloc, &mut packets, received)?;
+        match row {
+            Row::Ask(kind) => {
+                let Rooms { attrs, message, .. } = Rooms::new(alloc, &[])?;
+                let id = self.id.wrapping_add(1);
+                let request = aka_identity(self.options.method, id, kind, attrs, message);
+                packets.add(alloc, request.as_slice())?;
+                Ok(packets)
+            }
+            _ => Ok(packets),
+        }
+    }
+}

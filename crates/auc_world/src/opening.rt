@@ -1,0 +1,48 @@
+//! A session as it is opened.
+
+ghost use Rattle.std.specs.Prelude.{◌≡◌, IfOk};
+ghost use Rattle.auc_lines.specs.Part.{IsShortIdentity};
+ghost use Rattle.auc_world.specs.Happened.{new_session};
+
+use crate::copying::{copy_if_any, copy_of, first_of};
+use crate::net::Session;
+use auc_edge::NoMemory;
+use auc_lines::SessionLine;
+use auc_peer::{Peer, PeerOptions};
+use auc_server::ServerOptions;
+use std::alloc::Global;
+
+/// A session in which nothing has happened, at the device of a place, with copies of the names and the identity.
+pub(crate) fn new_session(
+    alloc: Global,
+    opening: &SessionLine,
+    device: u32,
+) -> Result<Session, NoMemory>
+    requires { IsShortIdentity opening.now.identity }
+    ensures { IfOk result (λ session. session ≡ new_session opening.now device) }
+{
+    let options = ServerOptions {
+        session: opening.session,
+        method: opening.method,
+        name: copy_of(alloc, &opening.name)?,
+        pseudonym: opening.pseudonym,
+        bidding: opening.bidding,
+        any: opening.any,
+    };
+    let own = PeerOptions {
+        session: opening.session,
+        method: opening.method,
+        name: copy_if_any(alloc, &opening.peer_name)?,
+        has_prime: opening.has_prime,
+        first: first_of(alloc, &opening.identity)?,
+    };
+    Ok(Session {
+        number: opening.session,
+        sub: opening.sub,
+        device,
+        options,
+        server: None,
+        peer: Peer::new(own, alloc),
+        peer_keys: None,
+    })
+}
