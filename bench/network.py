@@ -5,9 +5,11 @@ shares nothing with the crates, and needs Python's `cryptography`.
 `World(TEXT).output()` is what `run` prints of a scenario that `is_readable`: one job a round, and in it lines of sessions
 alone. No subscriber's last number may be drawn.
 """
+import hashlib
 import hmac
 import struct
 import sys
+from collections import namedtuple
 
 from cryptography.hazmat.primitives.ciphers import Cipher, algorithms, modes
 
@@ -15,12 +17,14 @@ from measure import TOP
 
 sys.path.append(str(TOP / "tools"))
 from eap_rows import KDF, MAX_SEQ, REACH, REQUEST, RESPONSE, Head, Keys
-from eap_rows import aes, attr, checkcode, hidden, is_sealed, message, packet, read_message, res_attr, sealed, shown, sixteen
-from eap_rows import sqn_of, text_attr, turned, xor
+from eap_rows import Fault, aes, attr, checkcode, g, hidden, is_sealed, mac, message, packet, read_message, res_attr, sealed
+from eap_rows import shown, sixteen, sqn_of, text_attr, turned, xor
 
 TYPES = {"aka": 23, "prime": 50}
-# The leading digits of permanent identities and of pseudonyms.
-PERMANENT, PSEUDONYM = {23: b"0", 50: b"6"}, {23: b"2", 50: b"7"}
+# The leading digits of permanent identities, and by the kind of a name those of pseudonyms and re-authentication identities.
+PERMANENT, PSEUDONYM, RENEWAL = {23: b"0", 50: b"6"}, 1, 2
+DIGITS = {PSEUDONYM: {23: b"2", 50: b"7"}, RENEWAL: {23: b"4", 50: b"8"}}
+LAST_COUNTER = 65535
 NAMES_STREAM, SESSIONS_STREAM, LAST_ORDINAL = 2**40, 2**32, 2**48 - 1
 ANY, FULLAUTH, PERMANENT_ID = 13, 17, 10
 HEADER, EVENTS = {"randkey", "print", "realm", "subscriber"}, {"session", "start", "deliver", "repeat", "giveup", "plain"}
@@ -74,13 +78,60 @@ def prime_keys(name, autn, f):
     return both[:16], both[16:]
 
 
+# ---- fast re-authentication
+
+# What a full authentication leaves: the master key is MK or K_re.
+Context = namedtuple("Context", "identity encr aut master counter")
+
+
+def context_of(kind, text, keys, identity, both):
+    """The context of a name, from the keys of an identity, and CK and IK."""
+    master = hashlib.sha1(identity + both[1] + both[0]).digest() if kind == 23 else keys.words[2]
+    return Context(text, keys.encr, keys.aut, master, 1)
+
+
+class Renewed:
+    """The keys of a re-authentication (RFC 4187 §7, RFC 9048 §3.3)."""
+
+    def __init__(self, kind, context, identity, counter, nonce):
+        self.encr, self.aut = context.encr, context.aut
+        given = identity + counter.to_bytes(2) + nonce
+        stream = block = b""
+        if kind == 23:
+            key = int.from_bytes(hashlib.sha1(given + context.master).digest())
+            for _ in range(7):
+                word = g(key.to_bytes(20))
+                key, stream = (1 + key + int.from_bytes(word)) % 2**160, stream + word
+        else:
+            for i in range(1, 5):
+                block = hmac.digest(context.master, block + b"EAP-AKA' re-auth" + given + bytes([i]), "sha256")
+                stream += block
+        k_re = bytes(32) if kind == 23 else context.master
+        self.words = [self.encr, self.aut + bytes(32 - len(self.aut)), k_re, stream[:64], stream[64:128]]
+
+    text = Keys.text
+
+
+def sealed_over(kind, key, code, identifier, attrs, nonce):
+    """A Reauthentication, of which AT_MAC covers NONCE_S too."""
+    front = message(kind, code, identifier, 13, attrs + sixteen(11, bytes(16)))
+    return front[:-16] + mac(kind, key, front + nonce)
+
+
+def is_sealed_over(kind, key, data, nonce):
+    at = 8
+    while data[at] != 11:
+        at += 4 * data[at + 1]
+    return mac(kind, key, data[:at + 4] + bytes(16) + data[at + 20:] + nonce) == data[at + 4:at + 20]
+
+
 class Subscriber:
-    """A row of the centre, its USIM, and what is kept of its names."""
+    """A row of the centre, its USIM, and what is kept of its names and contexts at its home and on its device."""
 
     def __init__(self, place, fields):
         self.place, (self.imsi, k, _, opc, amf, seq, usim) = place, fields
         self.k, self.opc, self.amf = (bytes.fromhex(it) for it in (k, opc, amf))
-        self.number, self.ordinal, self.names = int(seq), 0, {}
+        self.number, self.ordinal, self.names, self.contexts, self.device = int(seq), 0, {}, {}, {}
         self.entries = [max((n for n in range(1, int(usim) + 1) if n % 32 == ind), default=0) for ind in range(32)]
 
     def challenge(self, rand, autn):
@@ -99,17 +150,17 @@ class Subscriber:
 
 
 class Names:
-    """The pseudonyms under a key of random bytes."""
+    """The pseudonyms and re-authentication identities under a key of random bytes."""
 
     def __init__(self, key):
         self.key = sixteen_of(key, NAMES_STREAM, 0)
 
-    def text(self, kind, place, ordinal):
-        block = bytes([1, kind]) + place.to_bytes(4) + ordinal.to_bytes(6) + bytes(4)
-        return PSEUDONYM[kind] + aes(block, self.key).hex().encode()
+    def text(self, kind, place, ordinal, of=PSEUDONYM):
+        block = bytes([of, kind]) + place.to_bytes(4) + ordinal.to_bytes(6) + bytes(4)
+        return DIGITS[of][kind] + aes(block, self.key).hex().encode()
 
-    def place(self, kind, text):
-        """The subscriber of a pseudonym of a method, if it is one."""
+    def place(self, kind, text, of=PSEUDONYM):
+        """The subscriber of a name of a method, if it is one."""
         try:
             block = bytes.fromhex(username(text)[1:].decode("ascii"))
         except ValueError:
@@ -118,7 +169,7 @@ class Names:
             return None
         plain = Cipher(algorithms.AES(self.key), modes.ECB()).decryptor().update(block)
         place, ordinal = int.from_bytes(plain[2:6]), int.from_bytes(plain[6:12])
-        return place if self.text(kind, place, ordinal) == username(text) else None
+        return place if self.text(kind, place, ordinal, of) == username(text) else None
 
 
 # ---- what the ends share
@@ -129,6 +180,7 @@ class End:
     def __init__(self, session):
         self.session, self.world, self.kind = session, session.job.world, session.kind
         self.ended, self.inputs, self.packets, self.keys, self.won = False, None, [], None, False
+        self.left = None
 
     def turn(self, data):
         self.notes, self.checked, self.vector = [], False, None
@@ -140,6 +192,11 @@ class End:
 
     def code(self):
         return checkcode(self.kind, self.packets)
+
+    def random_bytes(self):
+        """The next sixteen random bytes of this end: a server has the even indices, and a peer the odd ones."""
+        self.next_iv += 2
+        return sixteen_of(self.world.key, SESSIONS_STREAM + self.session.number, 4 * (self.next_iv - 2))
 
     def has_other_code(self, attrs):
         return 134 in attrs and attr(134, b"\0\0" + attrs[134][2:]) != self.code()
@@ -200,6 +257,9 @@ class Server(End):
         """What follows an identity, by the state in which it came."""
         if self.state == "identity" and "a" in self.session.options:
             return self.ask(ANY)
+        renewed = self.renewed() if self.state in ("identity", "any") else None
+        if renewed:
+            return self.resume(renewed)
         found = self.permanent() if self.state == "permanent" else self.known()
         if found:
             return self.challenge(found)
@@ -207,14 +267,62 @@ class Server(End):
             return self.notify("unknownidentity")
         return self.ask(PERMANENT_ID if self.state == "full" else FULLAUTH)
 
-    def next_name(self, sub):
-        """AT_IV and AT_ENCR_DATA with the next pseudonym, if one is given."""
-        if "p" not in self.session.options or sub.ordinal == LAST_ORDINAL:
-            return b""
+    def renewed(self):
+        """The subscriber whose context the identity names."""
+        place = self.world.names.place(self.kind, self.identity, RENEWAL)
+        sub = self.held(lambda sub: sub.place == place)
+        context = sub and sub.contexts.get(self.kind)
+        return sub if context and context.identity == username(self.identity) else None
+
+    def name(self, sub, option, of):
+        """The next name of a kind, if the option asks for it and an ordinal is left."""
+        if option not in self.session.options or sub.ordinal == LAST_ORDINAL:
+            return None
         sub.ordinal += 1
-        iv = sixteen_of(self.world.key, SESSIONS_STREAM + self.session.number, 4 * self.next_iv)
-        self.next_iv += 2
-        return hidden(self.keys.encr, iv, text_attr(132, self.world.names.text(self.kind, sub.place, sub.ordinal)))
+        return self.world.names.text(self.kind, sub.place, sub.ordinal, of)
+
+    def name_attr(self, name):
+        return text_attr(133, name + (b"@" + self.world.realm if self.world.realm else b"")) if name else b""
+
+    def next_names(self, sub, both):
+        """AT_IV and AT_ENCR_DATA with the next names, if some are given."""
+        pseudonym, name = self.name(sub, "p", PSEUDONYM), self.name(sub, "r", RENEWAL)
+        self.left = context_of(self.kind, name, self.keys, self.identity, both) if name else None
+        attrs = (text_attr(132, pseudonym) if pseudonym else b"") + self.name_attr(name)
+        return hidden(self.keys.encr, self.random_bytes(), attrs) if attrs else b""
+
+    def resume(self, sub):
+        context = sub.contexts.pop(self.kind)
+        self.notes.append(f"resumed {context.counter}")
+        self.sub, iv, self.nonce = sub, self.random_bytes(), self.random_bytes()
+        self.keys = Renewed(self.kind, context, self.identity, context.counter, self.nonce)
+        self.inputs, self.counter = (self.kind, sub.place, self.identity, *context[1:4]), context.counter
+        name = self.name(sub, "r", RENEWAL) if context.counter < LAST_COUNTER else None
+        self.left = context._replace(identity=name, counter=context.counter + 1) if name else None
+        inner = attr(19, context.counter.to_bytes(2)) + sixteen(21, self.nonce) + self.name_attr(name)
+        attrs = hidden(context.encr, iv, inner) + self.code()
+        return self.send("renewal", lambda it: sealed(self.kind, context.aut, REQUEST, it, 13, attrs))
+
+    def win(self):
+        if self.left:
+            self.sub.contexts[self.kind] = self.left
+        return self.end("success", packet(3, self.identifier, b""))
+
+    def judge_renewal(self, attrs, data):
+        if not {129, 130, 11} <= attrs.keys():
+            return self.ignore("missing")
+        if not is_sealed_over(self.kind, self.keys.aut, data, self.nonce):
+            return self.notify("wrongmac")
+        self.checked = True
+        try:
+            inner = shown(self.keys.encr, attrs)
+        except Fault:
+            inner = {}
+        if inner.get(19) != self.counter.to_bytes(2):
+            return self.notify("wrongcounter")
+        if 20 in inner:
+            return self.challenge(self.sub)
+        return self.notify("wrongcheckcode") if self.has_other_code(attrs) else self.win()
 
     def challenge(self, sub):
         if sub.number >= MAX_SEQ:
@@ -234,7 +342,7 @@ class Server(End):
             attrs += text_attr(23, name) + KDF
         elif "b" in self.session.options:
             attrs += attr(136, b"\x80\0")
-        attrs += self.next_name(sub) + self.code()
+        attrs += self.next_names(sub, keys) + self.code()
         return self.send("challenge", lambda it: sealed(self.kind, self.keys.aut, REQUEST, it, 1, attrs))
 
     def on_bytes(self, data):
@@ -250,7 +358,8 @@ class Server(End):
             return self.by_identity()
         subtype, attrs = read_message(head)
         row = {("challenge", 1): self.judge, ("challenge", 4): self.sync, ("challenge", 2): self.reject,
-               ("challenge", 14): self.client, ("notifying", 12): self.notified}.get((self.state, subtype))
+               ("challenge", 14): self.client, ("renewal", 13): self.judge_renewal, ("renewal", 14): self.client,
+               ("notifying", 12): self.notified}.get((self.state, subtype))
         if self.state in ("any", "full", "permanent"):
             row = {5: self.identify, 14: self.client}.get(subtype)
         return row(attrs, head.data) if row else self.ignore("unexpected")
@@ -266,9 +375,7 @@ class Server(End):
         self.checked = True
         if attrs[3] != self.f.res:
             return self.notify("wrongres")
-        if self.has_other_code(attrs):
-            return self.notify("wrongcheckcode")
-        return self.end("success", packet(3, self.identifier, b""))
+        return self.notify("wrongcheckcode") if self.has_other_code(attrs) else self.win()
 
     def sync(self, attrs, data):
         if self.synced:
@@ -302,7 +409,8 @@ class Peer(End):
     def __init__(self, session):
         super().__init__(session)
         self.sub, self.state, self.identity, self.next_name = session.sub, "waiting", None, None
-        self.identifier = self.asked = self.answered = None
+        self.identifier = self.asked = self.answered = self.used = None
+        self.next_iv = 1
 
     def with_realm(self, name):
         return name + (b"@" + self.world.realm if self.world.realm else b"")
@@ -310,9 +418,13 @@ class Peer(End):
     def permanent(self):
         return self.with_realm(PERMANENT[self.kind] + self.sub.imsi.encode())
 
-    def held(self):
+    def full(self):
         name = self.sub.names.get(self.kind)
         return self.with_realm(name) if name else self.permanent()
+
+    def held(self):
+        context = self.sub.device.get(self.kind)
+        return self.with_realm(context.identity) if context else self.full()
 
     def send(self, head, data, answer, state="waiting"):
         self.state, self.identifier, self.asked, self.answered = state, head.identifier, data, answer
@@ -341,7 +453,7 @@ class Peer(End):
         if head.kind == 1:
             return self.first(head, data) if self.state == "waiting" else self.ignore("unexpected")
         subtype, attrs = read_message(head)
-        rows = {("waiting", 5): self.identify, ("waiting", 1): self.challenge,
+        rows = {("waiting", 5): self.identify, ("waiting", 1): self.challenge, ("waiting", 13): self.renew,
                 ("waiting", 12): self.notified, ("answered", 12): self.notified}
         row = rows.get((self.state, subtype))
         return row(head, data, attrs) if row else self.ignore("unexpected")
@@ -353,7 +465,19 @@ class Peer(End):
             return self.end(self.why if self.state == "refusing" else "failurereceived")
         if self.next_name:
             self.sub.names[self.kind] = self.next_name
+        self.adopt()
         return self.end("success")
+
+    def adopt(self):
+        """What becomes of the device's context: the new one's, or the next name's if it still has the one that was used."""
+        context = self.sub.device.get(self.kind)
+        if self.used and context and context.identity == self.used:
+            del self.sub.device[self.kind]
+            self.left = self.left and context._replace(identity=self.left)
+        elif self.used:
+            self.left = None
+        if self.left:
+            self.sub.device[self.kind] = self.left
 
     def first(self, head, data):
         word = self.session.identity
@@ -361,7 +485,7 @@ class Peer(End):
         return self.send(head, data, packet(RESPONSE, head.identifier, b"\x01" + self.identity))
 
     def identify(self, head, data, attrs):
-        self.identity = self.permanent() if PERMANENT_ID in attrs else self.held()
+        self.identity = {PERMANENT_ID: self.permanent, FULLAUTH: self.full, ANY: self.held}[min(attrs)]()
         answer = self.message(head, 5, text_attr(14, self.identity))
         self.count(head.data)
         self.count(answer)
@@ -397,10 +521,51 @@ class Peer(End):
         self.checked, self.inputs = True, (self.kind, name, self.sub.place, rand, autn, self.identity or b"")
         if self.has_other_code(attrs):
             return self.refuse(head, data, "wrongcheckcode")
-        next_name = username(shown(keys.encr, attrs).get(132, b""))
-        self.keys, self.next_name = keys, next_name if len(next_name) == 33 else None
+        inner, both = shown(keys.encr, attrs), (f.ck, f.ik) if self.kind == 23 else prime_keys(name, autn, f)
+        self.keys, self.next_name, self.used, text = keys, name_in(inner, 132), None, name_in(inner, 133)
+        self.left = context_of(self.kind, text, keys, self.identity or b"", both) if text else None
         answer = res_attr(f.res) + (self.code() if 134 in attrs else b"")
         return self.send(head, data, sealed(self.kind, keys.aut, RESPONSE, head.identifier, 1, answer), "answered")
+
+    def renew(self, head, data, attrs):
+        context = self.sub.device.get(self.kind)
+        if not context or self.identity is None or username(self.identity) != context.identity:
+            return self.ignore("nocontext")
+        if not {129, 130, 11} <= attrs.keys():
+            return self.refuse(head, data, "missing")
+        if not is_sealed(self.kind, context.aut, head.data):
+            return self.refuse(head, data, "wrongmac")
+        self.checked, self.inputs = True, (self.kind, self.sub.place, self.identity, *context[1:4])
+        if self.has_other_code(attrs):
+            return self.refuse(head, data, "wrongcheckcode")
+        try:
+            inner = shown(context.encr, attrs)
+        except Fault:
+            inner = {}
+        if not {19, 21} <= inner.keys():
+            return self.refuse(head, data, "undecryptable")
+        return self.count_up(head, data, attrs, context, inner)
+
+    def count_up(self, head, data, attrs, context, inner):
+        counter, nonce, iv = int.from_bytes(inner[19]), inner[21][2:], self.random_bytes()
+        is_small = counter < context.counter
+        self.notes.append(f"{'small' if is_small else 'counter'} {counter}")
+        answer = hidden(context.encr, iv, attr(19, inner[19]) + (attr(20, b"\0\0") if is_small else b""))
+        answer = sealed_over(self.kind, context.aut, RESPONSE, head.identifier, answer + (self.code() if 134 in attrs else b""), nonce)
+        if is_small:
+            return self.send(head, data, answer)
+        self.sub.device[self.kind] = context._replace(counter=counter + 1)
+        if counter == LAST_COUNTER:
+            del self.sub.device[self.kind]
+        self.keys = Renewed(self.kind, context, self.identity, counter, nonce)
+        self.next_name, self.used, self.left = name_in(inner, 132), context.identity, name_in(inner, 133)
+        return self.send(head, data, answer, "answered")
+
+
+def name_in(inner, kind):
+    """The name in an attribute, if it is one."""
+    name = username(inner.get(kind, b""))
+    return name if len(name) == 33 else None
 
 
 # ---- the network of a job, and the scenario

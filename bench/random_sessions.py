@@ -4,8 +4,8 @@
     bench/random_sessions.py [PROGRAM [COUNT [FIRST]]]      PROGRAM: crates/auc_cli/out/auc_cli, unless it is given
 
 There are COUNT scenarios, 200 unless it is given, from the seed FIRST on, 0 unless it is given. A scenario has up to three
-rounds, up to three subscribers, some of which share their keys, and up to four sessions a round, of both methods, with any
-options and identities, among them pseudonyms that weren't given. Its packets are lost, repeated and crossed, and half of
+rounds, up to three subscribers, some of which share their keys, and up to five sessions a round, of both methods, with any
+options and identities, among them pseudonyms and re-authentication identities that weren't given. Its packets are lost, repeated and crossed, and half of
 the scenarios print all bytes. Before that the examples that network.py can read are compared with their expected outputs.
 
 The seed of each scenario whose output differs is printed with the first line that does; the exit status is 1 if there is
@@ -18,7 +18,7 @@ import tempfile
 from pathlib import Path
 
 from measure import TOP, program
-from network import Names, World, is_readable
+from network import Job, Names, Peer, World, is_readable
 
 # ---- scenarios
 
@@ -36,46 +36,85 @@ def scenario(seed):
     for place, imsi in enumerate(imsis):
         secret, amf = SECRETS[0 if are_alike else place % 2], choose.choice(["8000", "8000", "0000"])
         lines.append(f"subscriber {imsi} {secret} {amf} {choose.choice([0, 0, 5])} {choose.choice([0, 0, 0, 3, 40])}")
-    opened = 0
+    # Half of the scenarios lean towards re-authentications of one device.
+    leans, opened, world = choose.random() < 0.5, 0, World("".join(line + "\n" for line in lines))
+    for sub in world.subs:
+        sub.drawn = sub.skipped = 0
     for _ in range(choose.randint(1, 3)):
-        sessions = range(opened + 1, opened + 1 + choose.randint(1, 4))
+        sessions = range(opened + 1, opened + 1 + choose.randint(2 if leans else 1, 5 if leans else 4))
         opened = sessions[-1]
-        lines += ["round", "job", *[session_line(choose, number, imsis, Names(key)) for number in sessions]]
-        lines += events(choose, sessions)
+        lines += ["round", "job"]
+        openings = [session_line(choose, number, imsis[:1] if leans else imsis, Names(key), leans) for number in sessions]
+        job = Job(world, [line.split() for line in openings])
+        job.run()
+        lines += openings + events(choose, sessions, job, leans)
     return "".join(line + "\n" for line in lines)
 
 
-def session_line(choose, number, imsis, names):
-    method = choose.choice(["aka", "aka", "prime"])
+def session_line(choose, number, imsis, names, leans):
+    method = choose.choice(["aka"] * (9 if leans else 2) + ["prime"])
     both = "- -" if method == "aka" else choose.choice(["WLAN WLAN", "WLAN *", "A B"])
-    options = "".join(choose.sample("pabd", choose.randint(0, 4))) or choose.choice(["-", "p"])
-    name = names.text(choose.choice([23, 50]), choose.randrange(3), choose.randrange(4)).decode()
+    options = "".join(choose.sample("prabd", choose.randint(0, 5))) or choose.choice(["-", "p", "r"])
+    if leans and choose.random() < 0.9:
+        options = choose.choice(["r", "r", "pr", "ar", "r", "pra"])
+    name = names.text(choose.choice([23, 50]), choose.randrange(3), choose.randrange(5), choose.choice([1, 2])).decode()
     texts = ["=nobody", f"=0{choose.choice(imsis)}", f"=6{choose.choice(imsis)}@r", f"={name}", f"={name}@q"]
-    identity = choose.choice(["held"] * 5 + ["permanent", *texts])
+    identity = choose.choice(["held"] * (40 if leans else 5) + ["permanent", *texts])
     return f"session {number} {choose.choice(imsis)} {method} {both} {options} {identity}"
 
 
-def events(choose, sessions):
-    """Events of sessions. How many packets there are is guessed, so that some numbers are those of no packet."""
-    started, packets = set(), 0
+def events(choose, sessions, job, leans):
+    """Events of sessions, each of which happens in a job at once: packets go mostly to an end of the other role."""
+    lines, left = [], list(sessions)
+
+    def happen(line):
+        word, *fields = line.split()
+        getattr(job, word)(*fields)
+        lines.append(line)
+
+    if leans and len(left) >= 3:
+        race(choose, left, job.packets, happen)
     for _ in range(choose.randint(2, 30)):
-        number, kind = choose.choice(sessions), choose.random()
-        if kind < 0.12 and number not in started:
-            started.add(number)
-            packets += 1
-            yield f"start {number}"
-        elif kind < 0.24:
-            packets += 6
-            yield f"plain {number}"
-        elif kind < 0.28:
-            packets += 1
-            yield f"repeat {number}"
-        elif kind < 0.3:
-            yield f"giveup {number} {choose.choice(['peer', 'server'])}"
-        else:
-            late, any_packet = max(0, packets - choose.randint(0, 3)), choose.randint(0, packets + 1)
-            packets += choose.random() < 0.5
-            yield f"deliver {number} {choose.choice(['peer', 'server'])} {choose.choice([late, any_packet])}"
+        happen(event(choose, sessions, left, job.packets))
+    return lines
+
+
+def race(choose, left, packets, happen):
+    """After a plain session two more of one device, which answers in both of them to the request that the one server makes."""
+    if choose.random() < 0.8:
+        happen(f"plain {left[0]}")
+    one, other = left[1:3]
+    for number in one, other:
+        left.remove(number)
+        happen(f"start {number}")
+        happen(f"deliver {number} peer {len(packets)}")
+    answers = {one: len(packets) - 2, other: len(packets)}
+    happen(f"deliver {one} server {answers[one]}")
+    asked = len(packets)
+    if choose.random() < 0.5:
+        happen(f"deliver {other} server {answers[other]}")
+    for number in choose.sample([one, other], 2):
+        happen(f"deliver {number} peer {asked}")
+        happen(f"deliver {choose.choice([one, one, other])} server {len(packets)}")
+
+
+def event(choose, sessions, left, packets):
+    number, kind = choose.choice(sessions), choose.random()
+    if kind < 0.15 and number in left:
+        left.remove(number)
+        return f"start {number}"
+    if kind < 0.22:
+        return f"plain {number}"
+    if kind < 0.25:
+        return f"repeat {number}"
+    if kind < 0.26:
+        return f"giveup {number} {choose.choice(['peer', 'server'])}"
+    late, any_packet = max(0, len(packets) - choose.randint(0, 3)), choose.randint(0, len(packets) + 1)
+    at = choose.choice([late, late, late, any_packet])
+    ends = ["peer", "server"]
+    if 1 <= at <= len(packets) and choose.random() < 0.9:
+        ends.remove("peer" if packets[at - 1][1] is Peer else "server")
+    return f"deliver {number} {choose.choice(ends)} {at}"
 
 
 # ---- comparing

@@ -4,14 +4,16 @@
     tools/eap_rows.py stdin|stdout
 
 It has Milenage (TS 35.206), the USIM's array (TS 33.102 Annex C), the messages, keys and both state machines of EAP-AKA
-(RFC 4187) and EAP-AKA' (RFC 9048) with permanent identities and pseudonyms, and shares nothing with the crates. The rows go
-through each state of a server and of a peer: first, in one session, each message that is ignored there; then each other
-message in a session of its own. AES and ChaCha20 are those of Python's `cryptography`; hashes are Python's own.
+(RFC 4187) and EAP-AKA' (RFC 9048) with permanent identities, pseudonyms and re-authentications, and shares nothing with the
+crates. The rows go through each state of a server and of a peer: first, in one session, each message that is ignored there;
+then each other message in a session of its own. AES and ChaCha20 are those of Python's `cryptography`; hashes are Python's own.
 """
+import copy
 import hashlib
 import hmac
 import struct
 import sys
+from types import SimpleNamespace
 from cryptography.hazmat.primitives.ciphers import Cipher, algorithms, modes
 
 MAX_SEQ = 2**43 - 1
@@ -68,9 +70,15 @@ def rand_of(n):
     return sixteen_of(0, 4 * n)
 
 
-def iv_of(session, index):
-    """The sixteen bytes of an index of a session."""
-    return sixteen_of(2**32 + session, 4 * index)
+class Draws:
+    """The sixteen bytes at every second index of a session: the even ones for a server, the odd ones for a peer."""
+
+    def __init__(self, session, index):
+        self.session, self.index = session, index
+
+    def next(self):
+        self.index += 2
+        return sixteen_of(2**32 + self.session, 4 * (self.index - 2))
 
 
 def sqn_of(n):
@@ -134,41 +142,64 @@ def g(value):
     return b"".join(((x + y) & 0xFFFFFFFF).to_bytes(4) for x, y in zip(start, (a, b, c, d, e)))
 
 
-def aka_stream(identity, ck, ik):
-    """The key string of EAP-AKA, with a K_re of zeros (RFC 4187 section 7)."""
-    key = int.from_bytes(hashlib.sha1(identity + ik + ck).digest())
-    stream = b""
+def generated(seed):
+    """The 160 bytes that a seed of 20 bytes gives (FIPS 186-2 with its first change notice; RFC 4187, Appendix A)."""
+    key, stream = int.from_bytes(seed), b""
     for _ in range(8):
         word = g(key.to_bytes(20))
         key = (1 + key + int.from_bytes(word)) % 2**160
         stream += word
-    return stream[:32] + bytes(48) + stream[32:]
-
-
-def prime_stream(identity, name, autn, ck, ik):
-    """The key string of EAP-AKA' (RFC 9048 section 3.3)."""
-    message = b"\x20" + name + len(name).to_bytes(2) + autn[:6] + b"\0\6"
-    both = hmac.digest(ck + ik, message, "sha256")
-    stream = block = b""
-    for i in range(1, 8):
-        block = hmac.digest(both[16:] + both[:16], block + b"EAP-AKA'" + identity + bytes([i]), "sha256")
-        stream += block
     return stream
+
+
+def expanded(key, text, size):
+    """The first bytes of PRF' (RFC 9048 section 3.4)."""
+    stream = block = b""
+    while len(stream) < size:
+        block = hmac.digest(key, block + text + bytes([len(stream) // 32 + 1]), "sha256")
+        stream += block
+    return stream[:size]
 
 
 class Keys:
     """The keys by the method, whose type this is; the name is the network's."""
 
     def __init__(self, kind, name, identity, autn, f):
+        self.kind = kind
         if kind == 23:
-            stream = aka_stream(identity, f.ck, f.ik)
+            self.master = hashlib.sha1(identity + f.ik + f.ck).digest()
+            stream = generated(self.master)
+            stream = stream[:32] + bytes(48) + stream[32:]
         else:
-            stream = prime_stream(identity, name, autn, f.ck, f.ik)
+            message = b"\x20" + name + len(name).to_bytes(2) + autn[:6] + b"\0\6"
+            both = hmac.digest(f.ck + f.ik, message, "sha256")
+            stream = expanded(both[16:] + both[:16], b"EAP-AKA'" + identity, 208)
+            self.master = stream[48:80]
         self.encr, self.aut = stream[:16], stream[16:32] if kind == 23 else stream[16:48]
         self.words = [stream[:16], stream[16:48], stream[48:80], stream[80:144], stream[144:208]]
 
+    def again(self, identity, counter, nonce):
+        """The keys of a re-authentication (RFC 4187 section 7, RFC 9048 section 3.3)."""
+        given, keys = identity + counter.to_bytes(2) + nonce, copy.copy(self)
+        if self.kind == 23:
+            pair = generated(hashlib.sha1(given + self.master).digest())
+        else:
+            pair = expanded(self.master, b"EAP-AKA' re-auth" + given, 128)
+        keys.words = [*self.words[:3], pair[:64], pair[64:128]]
+        return keys
+
     def text(self):
         return "keys " + " ".join(word.hex() for word in self.words)
+
+
+class Context:
+    """What a re-authentication needs. The counter is a server's next one, and a peer's least one that is open."""
+
+    def __init__(self, identity, keys, counter):
+        self.identity, self.keys, self.counter = identity, keys, counter
+
+    def is_of(self, text):
+        return text.partition(b"@")[0] == self.identity
 
 
 # ---- names
@@ -178,9 +209,14 @@ LAST_ORDINAL = 2**48 - 1
 
 
 def name_of(kind, ordinal, subscriber=0, digits=b"27", of=1):
-    """The pseudonym of a subscriber's ordinal, by the method's type. Names of re-authentications have other digits and 2."""
+    """The pseudonym of a subscriber's ordinal, by the method's type."""
     block = bytes([of, kind]) + subscriber.to_bytes(4) + ordinal.to_bytes(6) + bytes(4)
     return digits[kind == 50:][:1] + aes(block, NAMES_KEY).hex().encode()
+
+
+def again_name(kind, ordinal, subscriber=0, digits=b"48"):
+    """The re-authentication identity of a subscriber's ordinal."""
+    return name_of(kind, ordinal, subscriber, digits, of=2)
 
 
 def is_name(kind, text):
@@ -235,10 +271,10 @@ def mac(kind, key, data):
     return hmac.digest(key, data, "sha1" if kind == 23 else "sha256")[:16]
 
 
-def sealed(kind, key, code, identifier, subtype, attrs):
-    """A message with its AT_MAC last."""
+def sealed(kind, key, code, identifier, subtype, attrs, extra=b""):
+    """A message with its AT_MAC last, which is over the message and more bytes."""
     front = message(kind, code, identifier, subtype, attrs + sixteen(11, bytes(16)))
-    return front[:-16] + mac(kind, key, front)
+    return front[:-16] + mac(kind, key, front + extra)
 
 
 def hidden(key, iv, data):
@@ -267,6 +303,14 @@ def shown(key, attrs):
     if 129 not in attrs or not data or len(data) % 16:
         raise Fault
     return read_attrs(Cipher(algorithms.AES(key), modes.CBC(attrs[129][2:])).decryptor().update(data))
+
+
+def shown_or_none(key, attrs):
+    """The encrypted attributes of a message, none if they can't be read."""
+    try:
+        return shown(key, attrs)
+    except Fault:
+        return {}
 
 
 def read_attrs(data):
@@ -329,29 +373,36 @@ def read_message(head):
     return subtype, attrs
 
 
-def is_sealed(kind, key, data):
-    """Whether AT_MAC, which has to be there, is right."""
+def is_sealed(kind, key, data, extra=b""):
+    """Whether AT_MAC, which has to be there, is right, over the message and more bytes."""
     at = 8
     while data[at] != 11:
         at += 4 * data[at + 1]
     value = data[at + 4:at + 20]
-    return mac(kind, key, data[:at + 4] + bytes(16) + data[at + 20:]) == value
+    return mac(kind, key, data[:at + 4] + bytes(16) + data[at + 20:] + extra) == value
+
+
+def is_right(attrs, code):
+    """Whether AT_CHECKCODE is this one, or isn't there."""
+    return 134 not in attrs or attrs[134][2:] == code[4:]
 
 
 # ---- the server
 
 class Home:
-    """What passes from session to session of a server: the last number and the last ordinal of its one subscriber."""
+    """What passes from session to session of a server: the last number and the last ordinal of its one subscriber, and the
+    context of each method's type."""
 
     def __init__(self, word, is_held):
-        self.word, self.is_held, self.ordinal, self.sessions = word, is_held, 0, 0
+        self.word, self.is_held, self.ordinal, self.sessions, self.contexts = word, is_held, 0, 0, {}
 
 
 class Server:
-    def __init__(self, home, kind=23, name=b"", bidding=False, gives=False, asks_any=False):
+    def __init__(self, home, kind=23, name=b"", bidding=False, gives=False, renews=False, asks_any=False):
         home.sessions += 1
-        self.home, self.session, self.next_iv = home, home.sessions, 0
-        self.kind, self.name, self.bidding, self.gives, self.asks_any = kind, name, bidding, gives, asks_any
+        self.home, self.draws = home, Draws(home.sessions, 0)
+        self.kind, self.name, self.bidding, self.asks_any = kind, name, bidding, asks_any
+        self.gives, self.renews, self.context = gives, renews, None
         self.state, self.identifier, self.synced, self.packets = "identity", 1, False, []
         self.last = packet(REQUEST, 1, b"\x01")
         self.answer = f"sent {self.last.hex()}"
@@ -383,18 +434,39 @@ class Server:
             return self.ask(13)
         if self.state == "permanent":
             return self.challenge() if self.is_permanent() else self.notify("unknownidentity")
+        if self.state != "full" and self.kind in self.home.contexts and self.home.contexts[self.kind].is_of(self.identity):
+            return self.resume()
         if self.is_known():
             return self.challenge()
         return self.ask(10 if self.state == "full" else 17)
 
-    def next_name(self):
-        """AT_IV and AT_ENCR_DATA with the next pseudonym."""
-        if not self.gives or self.home.ordinal == LAST_ORDINAL:
-            return b""
+    def next_name(self, kind, make, is_given):
+        """An attribute with the next name, if it is given and there is one left; and the name."""
+        if not is_given or self.home.ordinal == LAST_ORDINAL:
+            return b"", None
         self.home.ordinal += 1
-        iv = iv_of(self.session, self.next_iv)
-        self.next_iv += 2
-        return hidden(self.keys.encr, iv, text_attr(132, name_of(self.kind, self.home.ordinal)))
+        name = make(self.kind, self.home.ordinal)
+        return text_attr(kind, name), name
+
+    def names(self):
+        """AT_IV and AT_ENCR_DATA with the next pseudonym and the next re-authentication identity."""
+        pseudonym, _ = self.next_name(132, name_of, self.gives)
+        identity, self.next_identity = self.next_name(133, again_name, self.renews)
+        names = pseudonym + identity
+        return hidden(self.keys.encr, self.draws.next(), names) if names else b""
+
+    def put(self, keys, counter):
+        if self.next_identity:
+            self.home.contexts[self.kind] = Context(self.next_identity, keys, counter)
+
+    def resume(self):
+        self.context = self.home.contexts.pop(self.kind)
+        counter, iv, self.nonce = self.context.counter, self.draws.next(), self.draws.next()
+        identity, self.next_identity = self.next_name(133, again_name, self.renews and counter < 65535)
+        inner = attr(19, counter.to_bytes(2)) + sixteen(21, self.nonce) + identity
+        attrs = hidden(self.context.keys.encr, iv, inner) + checkcode(self.kind, self.packets)
+        return f"resumed {counter} " + self.send(
+            "again", lambda it: sealed(self.kind, self.context.keys.aut, REQUEST, it, 13, attrs))
 
     def notify(self, why):
         self.why = why
@@ -416,11 +488,9 @@ class Server:
             attrs += text_attr(23, self.name) + KDF
         elif self.bidding:
             attrs += attr(136, b"\x80\0")
-        attrs += self.next_name() + checkcode(self.kind, self.packets)
-        return f"drew {self.n} " + self.send("challenge", lambda it: self.sealed(REQUEST, it, 1, attrs))
-
-    def sealed(self, code, identifier, subtype, attrs):
-        return sealed(self.kind, self.keys.aut, code, identifier, subtype, attrs)
+        attrs += self.names() + checkcode(self.kind, self.packets)
+        return f"drew {self.n} " + self.send(
+            "challenge", lambda it: sealed(self.kind, self.keys.aut, REQUEST, it, 1, attrs))
 
     def deliver(self, data):
         if self.state == "ended":
@@ -449,6 +519,8 @@ class Server:
         if self.state == "challenge":
             rows = {"challenge": ({3, 11}, self.judge), "sync": ({4}, self.sync), "reject": (set(), self.reject),
                     "client": ({22}, self.client)}
+        if self.state == "again":
+            rows = {"reauthentication": ({129, 130, 11}, self.judge_again), "client": ({22}, self.client)}
         if name not in rows:
             return "ignored unexpected"
         needed, row = rows[name]
@@ -464,9 +536,24 @@ class Server:
             return self.notify("wrongmac")
         if attrs[3] != self.f.res:
             return self.notify("wrongres")
-        if 134 in attrs and attr(134, b"\0\0" + attrs[134][2:]) != checkcode(self.kind, self.packets):
+        if not is_right(attrs, checkcode(self.kind, self.packets)):
             return self.notify("wrongcheckcode")
+        self.put(self.keys, 1)
         return self.end(3, "success") + " " + self.keys.text()
+
+    def judge_again(self, attrs, data):
+        keys, counter = self.context.keys, self.context.counter
+        if not is_sealed(self.kind, keys.aut, data, self.nonce):
+            return self.notify("wrongmac")
+        inner = shown_or_none(keys.encr, attrs)
+        if inner.get(19) != counter.to_bytes(2):
+            return self.notify("wrongcounter")
+        if 20 in inner:
+            return self.challenge()
+        if not is_right(attrs, checkcode(self.kind, self.packets)):
+            return self.notify("wrongcheckcode")
+        self.put(keys, counter + 1)
+        return self.end(3, "success") + " " + keys.again(self.identity, counter, self.nonce).text()
 
     def client(self, attrs, data):
         return self.end(4, f"failure clienterror {int.from_bytes(attrs[22])}")
@@ -503,24 +590,35 @@ class Server:
 # ---- the peer
 
 class Device:
-    """What passes from session to session of a peer: the USIM, and the pseudonym of each method's type."""
+    """What passes from session to session of a peer: the USIM, and the pseudonym and the context of each method's type."""
 
     def __init__(self, opening):
-        self.usim, self.names = Usim(opening), {}
+        self.usim, self.names, self.contexts, self.sessions = Usim(opening), {}, {}, 0
+
+
+def given(inner, kind):
+    """A name that was given, if it has the size of one."""
+    name = inner.get(kind, b"").partition(b"@")[0]
+    return name if len(name) == 33 else None
 
 
 class Peer:
     def __init__(self, device, kind=23, name=None, has_prime=False, first=None, realm=b""):
         self.kind, self.name, self.has_prime, self.first, self.realm = kind, name, has_prime, first, realm
-        self.device, self.state, self.identifier = device, "waiting", None
-        self.asked = self.answered = self.next_name = None
+        device.sessions += 1
+        self.device, self.draws, self.state, self.identifier = device, Draws(device.sessions, 1), "waiting", None
+        self.asked = self.answered = self.adopt = None
         self.sent_identity, self.packets = b"", []
 
     def permanent(self):
         return IDENTITIES[self.kind] + self.realm
 
-    def held(self):
+    def full(self):
         return self.device.names.get(self.kind, IDENTITIES[self.kind]) + self.realm
+
+    def held(self):
+        context = self.device.contexts.get(self.kind)
+        return context.identity + self.realm if context else self.full()
 
     def first_identity(self):
         if self.first is None:
@@ -568,8 +666,7 @@ class Peer:
             if self.state != "answered":
                 return "ignored unexpected"
             self.state = "ended"
-            if self.next_name:
-                self.device.names[self.kind] = self.next_name
+            self.adopt()
             return "ended success " + self.keys.text()
         why = self.why if self.state == "refusing" else "failurereceived"
         self.state = "ended"
@@ -589,7 +686,7 @@ class Peer:
             return self.challenge(head, data, attrs)
         if subtype == 12:
             return self.notification(head, data, attrs)
-        return self.identify(head, data, attrs) if subtype == 5 else "ignored nocontext"
+        return self.identify(head, data, attrs) if subtype == 5 else self.authenticate_again(head, data, attrs)
 
     def count(self, data):
         if data not in self.packets:
@@ -599,7 +696,7 @@ class Peer:
         asked = {10, 13, 17} & set(attrs)
         if len(asked) != 1:
             return self.client(head, data, "missing")
-        self.sent_identity = self.permanent() if asked == {10} else self.held()
+        self.sent_identity = {10: self.permanent, 13: self.held, 17: self.full}[asked.pop()]()
         answer = self.message(head, 5, text_attr(14, self.sent_identity))
         self.count(head.data)
         self.count(answer)
@@ -646,20 +743,68 @@ class Peer:
         return None if attrs[2][2:][6] & 0x80 else "noseparation"
 
     def accepted(self, head, data, attrs, f):
-        self.keys = Keys(self.kind, attrs.get(23, b""), self.sent_identity, attrs[2][2:], f)
-        if not is_sealed(self.kind, self.keys.aut, head.data):
-            return self.client(head, data, "wrongmac")
+        keys = self.keys = Keys(self.kind, attrs.get(23, b""), self.sent_identity, attrs[2][2:], f)
         code = checkcode(self.kind, self.packets)
-        if 134 in attrs and attr(134, b"\0\0" + attrs[134][2:]) != code:
+        if not is_sealed(self.kind, keys.aut, head.data):
+            return self.client(head, data, "wrongmac")
+        if not is_right(attrs, code):
             return self.client(head, data, "wrongcheckcode")
         try:
-            name = shown(self.keys.encr, attrs).get(132, b"").partition(b"@")[0]
+            inner = shown(keys.encr, attrs)
         except Fault:
             return self.client(head, data, "undecryptable")
-        self.next_name = name if len(name) == 33 else None
+        self.adopt = lambda: self.adopt_names(keys, given(inner, 132), given(inner, 133))
         answer = res_attr(f.res) + (code if 134 in attrs else b"")
-        answer = sealed(self.kind, self.keys.aut, RESPONSE, head.identifier, 1, answer)
+        answer = sealed(self.kind, keys.aut, RESPONSE, head.identifier, 1, answer)
         return self.send(head, data, answer, "answered")
+
+    def adopt_names(self, keys, name, identity):
+        if name:
+            self.device.names[self.kind] = name
+        if identity:
+            self.device.contexts[self.kind] = Context(identity, keys, 1)
+
+    def authenticate_again(self, head, data, attrs):
+        context = self.device.contexts.get(self.kind)
+        if not context or not context.is_of(self.sent_identity):
+            return "ignored nocontext"
+        if not {129, 130, 11} <= set(attrs):
+            return self.client(head, data, "missing")
+        code = checkcode(self.kind, self.packets)
+        if not is_sealed(self.kind, context.keys.aut, head.data):
+            return self.client(head, data, "wrongmac")
+        if not is_right(attrs, code):
+            return self.client(head, data, "wrongcheckcode")
+        inner = shown_or_none(context.keys.encr, attrs)
+        if not {19, 21} <= set(inner):
+            return self.client(head, data, "undecryptable")
+        counter, nonce = int.from_bytes(inner[19]), inner[21][2:]
+        is_small = counter < context.counter
+        answer = attr(19, counter.to_bytes(2)) + (attr(20, b"\0\0") if is_small else b"")
+        answer = hidden(context.keys.encr, self.draws.next(), answer) + (code if 134 in attrs else b"")
+        answer = sealed(self.kind, context.keys.aut, RESPONSE, head.identifier, 13, answer, nonce)
+        if is_small:
+            return f"small {counter} {self.send(head, data, answer)}"
+        self.open_from(context, counter + 1)
+        self.keys = context.keys.again(self.sent_identity, counter, nonce)
+        self.adopt = lambda: self.adopt_identity(context.identity, given(inner, 132), given(inner, 133))
+        return f"counter {counter} {self.send(head, data, answer, 'answered')}"
+
+    def open_from(self, context, counter):
+        """The context's counters from this one on are open; it is gone if none is left."""
+        context.counter = counter
+        if counter == 65536:
+            del self.device.contexts[self.kind]
+
+    def adopt_identity(self, answered, name, identity):
+        """After a re-authentication the context has the next identity, or is gone; if it still has the one that answered."""
+        if name:
+            self.device.names[self.kind] = name
+        context = self.device.contexts.get(self.kind)
+        if context and context.identity == answered:
+            del self.device.contexts[self.kind]
+            if identity:
+                self.device.contexts[self.kind] = Context(identity, context.keys, context.counter)
 
     def give_up(self):
         if self.state == "ended":
@@ -705,6 +850,7 @@ NAME = b"WLAN"
 BIDDING = " bidding", {"bidding": True}
 HAS_PRIME = " hasprime", {"has_prime": True}
 GIVES = " pseudonym", {"gives": True}
+RENEWS = " reauth", {"renews": True}
 ASKS_ANY = " any", {"asks_any": True}
 PERMANENT = " permanent", {"first": b"permanent"}
 SOMEBODY = " =somebody@home", {"first": b"=somebody@home"}
@@ -758,6 +904,12 @@ def through(title, make_session, messages, more=()):
             session.bytes(last(session.end))
         yield f"# {title}: {name}", f"# {title}: {name}"
         yield from session.rows
+
+
+def story(title, make_session):
+    """A session as it is."""
+    yield f"# {title}", f"# {title}"
+    yield from make_session().rows
 
 
 # Messages for a server. A state without keys gets codes of zero bytes.
@@ -842,7 +994,15 @@ IDENTIFYING = [
     ("a pseudonym of one digit more", identity(lambda kind: name_of(kind, 1) + b"0")),
     ("a pseudonym of another subscriber", identity(lambda kind: name_of(kind, 1, subscriber=1))),
     ("digits that hide no name", identity(b"2" + b"00" * 16)),
-    ("a name of a re-authentication", identity(lambda kind: name_of(kind, 1, digits=b"48", of=2))),
+    ("a name of a re-authentication", identity(lambda kind: again_name(kind, 1))),
+]
+CHECKED = [
+    ("a checkcode", lambda end: right_response(end, more=CHECKCODE)),
+    ("a checkcode and a wrong AT_RES", lambda end: right_response(end, res=b"r" * 8, more=CHECKCODE)),
+    ("the right checkcode", lambda end: right_response(end, more=own_checkcode(end))),
+    ("an empty checkcode", lambda end: right_response(end, more=EMPTY_CHECKCODE)),
+    ("the checkcode of the last packet alone",
+     lambda end: right_response(end, more=checkcode(end.kind, end.packets[-1:]))),
 ]
 ANSWERING = [
     ("the right answer", right_response),
@@ -852,12 +1012,7 @@ ANSWERING = [
     ("a wrong AT_RES", lambda end: right_response(end, res=b"r" * 8)),
     ("the first half of AT_RES", lambda end: right_response(end, res=res_of(end)[:4])),
     ("both wrong", lambda end: right_response(end, res=b"r" * 8, key=b"k" * len(key_of(end)))),
-    ("a checkcode", lambda end: right_response(end, more=CHECKCODE)),
-    ("a checkcode and a wrong AT_RES", lambda end: right_response(end, res=b"r" * 8, more=CHECKCODE)),
-    ("the right checkcode", lambda end: right_response(end, more=own_checkcode(end))),
-    ("an empty checkcode", lambda end: right_response(end, more=EMPTY_CHECKCODE)),
-    ("the checkcode of the last packet alone",
-     lambda end: right_response(end, more=checkcode(end.kind, end.packets[-1:]))),
+    *CHECKED,
 ]
 TO_SERVER = NO_PACKETS + IDENTIFYING + ANSWERING + [
     ("a request", lambda end: packet(REQUEST, end.identifier, b"\x01")),
@@ -888,17 +1043,92 @@ TO_SERVER = NO_PACKETS + IDENTIFYING + ANSWERING + [
     ("an AUTS with AT_KDF", sync(500, more=KDF)),
 ]
 
+# Messages about re-authentications, for a server and for a peer.
+IV = bytes(range(0x80, 0x90))
+NONCE = sixteen(21, bytes(range(0x90, 0xA0)))
+TOO_SMALL = attr(20, b"\0\0")
+# The context of an end that has none.
+BLANK = Context(b"", SimpleNamespace(encr=bytes(16), aut=b""), 1)
+
+
+def counted(counter):
+    return attr(19, counter.to_bytes(2))
+
+
+def again_response(count=0, more=b"", inner=None, top=None, key=None, encr=None, nonce=None, late=b""):
+    """The answer to a re-authentication: its counter and a number, and more that isn't encrypted; or another list that is
+    encrypted, or other attributes in the place of AT_IV and AT_ENCR_DATA."""
+    def make(end):
+        context = end.context or BLANK
+        within = counted(context.counter + count) + late if inner is None else inner
+        attrs = hidden(context.keys.encr if encr is None else encr, IV, within) if top is None else top
+        over = (end.nonce if end.context else b"") if nonce is None else nonce
+        right = context.keys.aut if key is None else key
+        return sealed(end.kind, right, RESPONSE, end.identifier, 13, attrs + more, over)
+    return make
+
+
+def again_identity(ordinal, more=b"", change=lambda name: name, **options):
+    """The re-authentication identity of an ordinal."""
+    return identity(lambda kind: change(again_name(kind, ordinal, **options)) + more)
+
+
+# Encrypted attributes that can't be read, for the counter 1.
+UNREADABLE = [
+    ("AT_COUNTER twice", {"inner": NONCE + counted(1) * 2}),
+    ("AT_PADDING with a byte that isn't zero", {"inner": NONCE + counted(1) + attr(6, b"\0\1")}),
+    ("an encrypted attribute past the end", {"inner": NONCE + counted(1) + b"\x85\x09\0\x21"}),
+    ("encrypted attributes under another key", {"encr": b"e" * 16}),
+    ("encrypted attributes of no block", {"top": sixteen(129, IV) + attr(130, b"\0\0")}),
+    ("encrypted attributes of 20 bytes", {"top": sixteen(129, IV) + attr(130, b"\0\0" + bytes(20))}),
+]
+CHECKED_AGAIN = [
+    ("a checkcode in it", again_response(more=CHECKCODE)),
+    ("a checkcode and another counter", again_response(1, more=CHECKCODE)),
+    ("an empty checkcode in it", again_response(more=EMPTY_CHECKCODE)),
+    ("the right checkcode in it", lambda end: again_response(more=own_checkcode(end))(end)),
+    ("the checkcode of the last packet alone in it",
+     lambda end: again_response(more=checkcode(end.kind, end.packets[-1:]))(end)),
+]
+ANSWERING_AGAIN = [
+    ("the right answer", again_response()),
+    ("the right answer, unknown attributes in both places and bytes past Length",
+     lambda end: again_response(more=UNKNOWN, late=UNKNOWN)(end) + b"past"),
+    ("the right answer and an encrypted AT_NONCE_S", again_response(late=NONCE)),
+    ("no AT_IV", again_response(top=attr(130, b"\0\0" + bytes(16)))),
+    ("no AT_ENCR_DATA", again_response(top=sixteen(129, IV))),
+    ("no AT_MAC in it", response(13, hidden(bytes(16), IV, counted(1)))),
+    ("AT_COUNTER beside AT_ENCR_DATA", again_response(more=counted(1))),
+    ("AT_COUNTER_TOO_SMALL beside AT_ENCR_DATA", again_response(more=TOO_SMALL)),
+    ("a wrong AT_MAC", again_response(key=b"k" * 16)),
+    ("AT_MAC without NONCE_S", again_response(nonce=b"")),
+    ("AT_MAC over another NONCE_S", again_response(nonce=bytes(16))),
+    ("a wrong AT_MAC and another counter", again_response(1, key=b"k" * 16)),
+    ("a higher counter", again_response(1)),
+    ("a lower counter", again_response(-1)),
+    ("a counter that differs in its first byte", again_response(256)),
+    ("no AT_COUNTER", again_response(inner=UNKNOWN)),
+    ("AT_COUNTER_TOO_SMALL", again_response(late=TOO_SMALL)),
+    ("AT_COUNTER_TOO_SMALL and another counter", again_response(1, late=TOO_SMALL)),
+    ("AT_COUNTER_TOO_SMALL without AT_COUNTER", again_response(inner=TOO_SMALL)),
+    ("AT_COUNTER_TOO_SMALL and a checkcode", again_response(late=TOO_SMALL, more=CHECKCODE)),
+    *CHECKED_AGAIN,
+    *((title, again_response(**options)) for title, options in UNREADABLE),
+]
+
+
+SERVER_ENDS, PEER_ENDS = ["repeat", "giveup", "repeat", "giveup"], ["giveup", "giveup"]
+
 
 def server_rows():
     known, unknown, error = permanent(), identity(b"somebody"), response(2)
     refused = unknown, unknown, unknown
-    ends = ["repeat", "giveup", "repeat", "giveup"]
-    yield from through("server, awaiting the identity", server, TO_SERVER, ends)
+    yield from through("server, awaiting the identity", server, TO_SERVER, SERVER_ENDS)
     yield from through("server, the subscriber isn't held", lambda: server(0, "none"), [("its identity", known)])
-    yield from through("server, awaiting the challenge", lambda: server(0, "held", known), TO_SERVER, ends)
-    yield from through("server, challenged again", lambda: server(0, "held", known, sync(500)), TO_SERVER, ends)
-    yield from through("server, notifying", lambda: server(0, "held", *refused), TO_SERVER, ends)
-    yield from through("server, ended", lambda: server(0, "held", known, error), TO_SERVER, ends)
+    yield from through("server, awaiting the challenge", lambda: server(0, "held", known), TO_SERVER, SERVER_ENDS)
+    yield from through("server, challenged again", lambda: server(0, "held", known, sync(500)), TO_SERVER, SERVER_ENDS)
+    yield from through("server, notifying", lambda: server(0, "held", *refused), TO_SERVER, SERVER_ENDS)
+    yield from through("server, ended", lambda: server(0, "held", known, error), TO_SERVER, SERVER_ENDS)
     yield from through("server, the last number", lambda: server(MAX_SEQ - 1), [("its identity", known)])
     yield from through("server, no number left", lambda: server(MAX_SEQ), [("its identity", known)])
     far = REACH + 500
@@ -907,23 +1137,24 @@ def server_rows():
     yield from through("server, no number left after the AUTS", lambda: server(5, "held", known), [("", sync(MAX_SEQ))])
     yield from through("server that bids", lambda: server(0, "held", known, options=BIDDING),
                        [("the right answer", right_response)])
-    yield from through("server of EAP-AKA', awaiting the identity", lambda: server(options=PRIME), TO_SERVER, ends)
+    yield from through("server of EAP-AKA', awaiting the identity", lambda: server(options=PRIME), TO_SERVER, SERVER_ENDS)
     yield from through("server of EAP-AKA', awaiting the challenge", lambda: server(0, "held", known, options=PRIME),
-                       TO_SERVER, ends)
+                       TO_SERVER, SERVER_ENDS)
     yield from through("server of EAP-AKA', challenged again", lambda: server(0, "held", known, sync(500), options=PRIME),
-                       TO_SERVER, ends)
-    yield from through("server of EAP-AKA', notifying", lambda: server(0, "held", *refused, options=PRIME), TO_SERVER, ends)
+                       TO_SERVER, SERVER_ENDS)
+    yield from through("server of EAP-AKA', notifying", lambda: server(0, "held", *refused, options=PRIME),
+                       TO_SERVER, SERVER_ENDS)
     yield from through("server of EAP-AKA' with a long name", lambda: server(0, "held", known, options=LONG),
                        [("the right answer", right_response)])
     for title, options in ("server", PLAIN), ("server of EAP-AKA'", PRIME):
         any_first = both(ASKS_ANY, options)
         messages = TO_SERVER if options is PLAIN else IDENTIFYING
         yield from through(f"{title}, awaiting any identity", lambda: server(0, "held", known, options=any_first),
-                           messages, ends)
+                           messages, SERVER_ENDS)
         yield from through(f"{title}, awaiting an identity for full authentication",
-                           lambda: server(0, "held", unknown, options=options), messages, ends)
+                           lambda: server(0, "held", unknown, options=options), messages, SERVER_ENDS)
         yield from through(f"{title}, awaiting the permanent identity",
-                           lambda: server(0, "held", unknown, unknown, options=options), messages, ends)
+                           lambda: server(0, "held", unknown, unknown, options=options), messages, SERVER_ENDS)
         yield from through(f"{title}, which gives pseudonyms, awaiting the challenge after three identities", lambda: server(
             0, "held", known, unknown, unknown, known, options=both(GIVES, any_first)), ANSWERING)
         yield from through(f"{title}, which gives pseudonyms, challenged again",
@@ -942,6 +1173,61 @@ def server_rows():
                        [("its identity", known)])
     yield from through("server that gives pseudonyms, no number left",
                        lambda: server(MAX_SEQ, "held", options=GIVES), [("its identity", known)])
+    yield from again_server_rows()
+
+
+def again_server_rows():
+    """The rows of servers that give re-authentication identities and resume them."""
+    known, unknown, wrong = permanent(), identity(b"somebody"), lambda end: right_response(end, res=b"r" * 8)
+    right, again, small = right_response, again_response(), again_response(late=TOO_SMALL)
+    first, second, third = (again_identity(ordinal) for ordinal in (1, 2, 3))
+    for title, options, other in ("server", PLAIN, PRIME), ("server of EAP-AKA'", PRIME, PLAIN):
+        renews, any_first = both(RENEWS, options), both(ASKS_ANY, options)
+        strangers = [known, again_identity(2), again_identity(3), identity(lambda kind: again_name(73 - kind, 1)),
+                     identity(lambda kind: name_of(kind, 1, of=2)), again_identity(1, change=bytes.upper),
+                     again_identity(1, change=lambda name: name[:32]), again_identity(1, b"0"), again_identity(1, subscriber=1)]
+        full, resumed = (known, right), (known, right, renews, first)
+
+        # Each end is made anew for each message, so what it is made of is bound here.
+        def made(*before, of=renews):
+            return lambda: server(0, "held", *before, options=of)
+
+        gave = f"{title} that gave an identity"
+        yield from story(f"{gave}, other identities and then this one", made(
+            *full, *(step for stranger in strangers for step in (renews, stranger)),
+            renews, again_identity(1, b"@home@there"), again))
+        yield from story(f"{gave}, and gets it later in a session", made(
+            *full, options, unknown, first, first, any_first, first, unknown, any_first, known, first))
+        yield from story(f"{gave}, but got no right answer", made(
+            known, renews, first, renews, known, wrong, renews, second))
+        yield from story(f"{gave} in two challenges", made(
+            known, sync(500), right, renews, first, renews, second))
+        yield from story(f"{gave}, and then another", made(*full, renews, *full, renews, first, renews, second))
+        yield from story(f"{gave}, and then none", made(*full, options, *full, options, first, again, options, first))
+        yield from story(f"{gave}, and a pseudonym", made(
+            *full, options, identity(lambda kind: name_of(kind, 1)), right, options, second, of=both(GIVES, renews)))
+        yield from story(f"{gave} of each method", made(
+            *full, other, identity(lambda kind: again_name(73 - kind, 1)), both(RENEWS, other), *full,
+            renews, first, again, other, second, again, renews, third))
+        yield from through(f"{title}, awaiting the answer to a re-authentication", made(*resumed),
+                           ANSWERING_AGAIN + (TO_SERVER if options is PLAIN else ANSWERING[:1]), SERVER_ENDS)
+        yield from through(f"{title}, awaiting the answer to a re-authentication, after two identities",
+                           made(*full, both(GIVES, any_first), known, again_identity(1, b"@home")),
+                           ANSWERING_AGAIN[:1] + CHECKED_AGAIN)
+        yield from through(f"{title}, challenged after a counter that was too small", made(*resumed, small), [
+            *ANSWERING[:1], *ANSWERING[2:4], *CHECKED, *ANSWERING_AGAIN[:1], ("too small again", small),
+            ("a rejection", response(2)), ("an AUTS above the number", sync(500))])
+        yield from story(f"{title}, challenged again after a counter that was too small", made(*resumed, small, sync(500), right))
+        yield from story(f"{title}, challenged after a synchronisation failure and a counter that was too small", made(
+            known, sync(500), right, renews, second, small, sync(600), sync(700)))
+        yield from story(f"{title}, four re-authentications and a counter that was too small", made(
+            *resumed, again, renews, first, renews, second, again, both(GIVES, renews), third, again,
+            renews, again_identity(4), small, right, renews, again_identity(5), renews, again_identity(6), again))
+        for name, answer in ("a wrong counter", again_response(1)), ("an error", response(14, attr(22, b"\0\0"))):
+            yield from story(f"{title}, a re-authentication that ended in {name}",
+                             made(*resumed, answer, renews, first, renews, second))
+        yield from through(f"{title}, a re-authentication and no number left", lambda: server(
+            MAX_SEQ - 1, "held", *resumed, options=renews), [("the right answer", again), ("AT_COUNTER_TOO_SMALL", small)])
 
 
 # Messages for a peer. The challenge is that of number `n`, for the identity last sent.
@@ -995,9 +1281,10 @@ def asks(*kinds, more=b""):
     return request(5, b"".join(attr(kind, b"\0\0") for kind in kinds) + more)
 
 
-IV = bytes(range(0x80, 0x90))
 FRESH = b"2" + b"0123456789abcdef" * 2
 LATER = b"7" + b"fedcba9876543210" * 2
+AGAIN = b"4" + b"00112233445566778899aabbccddeeff"
+NEXT = b"8" + b"ffeeddccbbaa99887766554433221100"
 ASK = lambda end: packet(REQUEST, next_id(end), b"\x01")
 RAND_AND_AUTN = sixteen(1, rand_of(1)) + sixteen(2, autn_of(1, rand_of(1)))
 CHALLENGING = [
@@ -1101,35 +1388,87 @@ TO_PRIME = [
 ]
 
 
+def again_request(counter=1, more=None, inner=None, late=b"", top=None, key=None, encr=None, over=b""):
+    """A re-authentication under the context of the peer's device, with the right checkcode if no other attributes are given;
+    the counter, a nonce and more are encrypted, or another list, or there are other attributes."""
+    def make(end):
+        keys = end.device.contexts.get(end.kind, BLANK).keys
+        within = counted(counter) + NONCE + late if inner is None else inner
+        attrs = hidden(keys.encr if encr is None else encr, IV, within) if top is None else top
+        attrs += own_checkcode(end) if more is None else more
+        return sealed(end.kind, keys.aut if key is None else key, REQUEST, next_id(end), 13, attrs, over)
+    return make
+
+
+def renews(text, counter=1, **options):
+    """A re-authentication that gives the next identity."""
+    return again_request(counter, late=text_attr(133, text), **options)
+
+
+CHECKED_ASKING = [
+    ("a checkcode in it", again_request(more=CHECKCODE)),
+    ("an empty checkcode in it", again_request(more=EMPTY_CHECKCODE)),
+    ("the checkcode of the last packet alone in it",
+     lambda end: again_request(more=checkcode(end.kind, end.packets[-1:]))(end)),
+    ("a checkcode and no AT_COUNTER", again_request(inner=NONCE, more=CHECKCODE)),
+    ("a checkcode and a counter that isn't open", again_request(0, more=CHECKCODE)),
+]
+ASKING_AGAIN = [
+    ("the right re-authentication", again_request()),
+    ("an identity of a re-authentication", renews(NEXT)),
+    ("a counter that isn't open", again_request(0)),
+    ("a higher counter", again_request(7)),
+    ("the last counter", again_request(65535)),
+    ("no checkcode, unknown attributes in both places, bytes past Length",
+     lambda end: again_request(more=UNKNOWN, late=UNKNOWN)(end) + b"past"),
+    ("a counter that isn't open, and no checkcode", again_request(0, more=b"")),
+    ("a re-authentication with an encrypted AT_COUNTER_TOO_SMALL", again_request(late=TOO_SMALL)),
+    ("no AT_IV", again_request(top=attr(130, b"\0\0" + bytes(16)))),
+    ("no AT_ENCR_DATA", again_request(top=sixteen(129, IV))),
+    ("no AT_MAC in it", request(13, hidden(bytes(16), IV, counted(1) + NONCE))),
+    ("no AT_IV and a wrong AT_MAC", again_request(top=attr(130, b"\0\0" + bytes(16)), key=b"k")),
+    ("AT_COUNTER beside AT_ENCR_DATA", again_request(more=counted(1))),
+    ("AT_NONCE_S beside AT_ENCR_DATA", again_request(more=NONCE)),
+    ("a wrong AT_MAC of it", again_request(key=b"k")),
+    ("AT_MAC over AT_NONCE_S too", again_request(over=NONCE[4:])),
+    ("a wrong AT_MAC and a checkcode", again_request(key=b"k", more=CHECKCODE)),
+    ("a wrong AT_MAC and a counter that isn't open", again_request(0, key=b"k")),
+    *CHECKED_ASKING,
+    ("no AT_COUNTER", again_request(inner=NONCE)),
+    ("no AT_NONCE_S", again_request(inner=counted(1))),
+    ("no AT_NONCE_S and a counter that isn't open", again_request(inner=counted(0))),
+    *((title, again_request(**options)) for title, options in UNREADABLE),
+]
+
+
 def peer_rows():
-    ends = ["giveup", "giveup"]
-    yield from through("peer, waiting for its first request", peer, TO_PEER, ends)
-    yield from through("peer, asked for its identity", lambda: peer(0, ASK), TO_PEER, ends)
+    yield from through("peer, waiting for its first request", peer, TO_PEER, PEER_ENDS)
+    yield from through("peer, asked for its identity", lambda: peer(0, ASK), TO_PEER, PEER_ENDS)
     yield from through("peer, after a synchronisation failure", lambda: peer(500, ASK, challenge()),
-                       TO_PEER + [("the number after its greatest", challenge(501))], ends)
-    yield from through("peer, answered", lambda: peer(0, ASK, challenge()), TO_PEER, ends)
-    yield from through("peer, refusing", lambda: peer(0, ASK, request(9)), TO_PEER, ends)
-    yield from through("peer, ended", lambda: peer(0, ASK, request(9), plain(4)), TO_PEER, ends)
+                       TO_PEER + [("the number after its greatest", challenge(501))], PEER_ENDS)
+    yield from through("peer, answered", lambda: peer(0, ASK, challenge()), TO_PEER, PEER_ENDS)
+    yield from through("peer, refusing", lambda: peer(0, ASK, request(9)), TO_PEER, PEER_ENDS)
+    yield from through("peer, ended", lambda: peer(0, ASK, request(9), plain(4)), TO_PEER, PEER_ENDS)
     yield from through("peer with EAP-AKA'", lambda: peer(0, ASK, options=HAS_PRIME), TO_PEER[-2:] + [
         ("AT_BIDDING with D set, an SQN that is too far", challenge(REACH + 1, attr(136, b"\x80\0"))),
-        ("the right challenge", challenge())], ends)
+        ("the right challenge", challenge())], PEER_ENDS)
     yield from through("peer, attributes of EAP-AKA'", lambda: peer(0, ASK), [
         ("AT_KDF", challenge(more=KDF)), ("AT_KDF_INPUT", challenge(more=text_attr(23, NAME)))])
-    yield from through("peer of EAP-AKA', waiting for its first request", lambda: peer(options=PRIME), TO_PEER, ends)
+    yield from through("peer of EAP-AKA', waiting for its first request", lambda: peer(options=PRIME), TO_PEER, PEER_ENDS)
     yield from through("peer of EAP-AKA', asked for its identity", lambda: peer(0, ASK, options=PRIME),
-                       TO_PEER + TO_PRIME, ends)
-    yield from through("peer of EAP-AKA' without a name", lambda: peer(0, ASK, options=ANY_NAME), TO_PRIME, ends)
+                       TO_PEER + TO_PRIME, PEER_ENDS)
+    yield from through("peer of EAP-AKA' without a name", lambda: peer(0, ASK, options=ANY_NAME), TO_PRIME, PEER_ENDS)
     yield from through("peer of EAP-AKA', after a synchronisation failure",
                        lambda: peer(500, ASK, challenge(), options=PRIME),
-                       TO_PEER + [("the number after its greatest", challenge(501))], ends)
-    yield from through("peer of EAP-AKA', answered", lambda: peer(0, ASK, challenge(), options=PRIME), TO_PEER, ends)
-    yield from through("peer of EAP-AKA', refusing", lambda: peer(0, ASK, request(9), options=PRIME), TO_PEER, ends)
+                       TO_PEER + [("the number after its greatest", challenge(501))], PEER_ENDS)
+    yield from through("peer of EAP-AKA', answered", lambda: peer(0, ASK, challenge(), options=PRIME), TO_PEER, PEER_ENDS)
+    yield from through("peer of EAP-AKA', refusing", lambda: peer(0, ASK, request(9), options=PRIME), TO_PEER, PEER_ENDS)
     identities = [("an Identity request", ASK)] + [(f"a request {it}", asks(it)) for it in (10, 13, 17)]
     challenges = [("a challenge", challenge(2)), ("a challenge with a pseudonym", gives(LATER, n=2))]
     early = lambda end: message(end.kind, REQUEST, 2, 5, attr(13, b"\0\0"))
     for title, method in ("peer", PLAIN), ("peer of EAP-AKA'", PRIME):
         yield from through(f"{title}, asked for three identities",
-                           lambda: peer(0, ASK, asks(13), asks(17), asks(10), options=method), CHALLENGING, ends)
+                           lambda: peer(0, ASK, asks(13), asks(17), asks(10), options=method), CHALLENGING, PEER_ENDS)
         yield from through(f"{title}, asked for any identity alone", lambda: peer(0, asks(13), options=method),
                            [("the last request again", again), ("an Identity request", ASK), ("the right challenge", challenge())])
         yield from through(f"{title}, a request again after a synchronisation failure",
@@ -1156,6 +1495,66 @@ def peer_rows():
                        lambda: peer(0, ASK, gives(FRESH), plain(3), PRIME), identities)
     yield from through("peer with pseudonyms of both methods", lambda: peer(
         0, ASK, gives(FRESH), plain(3), PRIME, ASK, gives(LATER, n=2), plain(3), PLAIN), identities)
+    yield from again_peer_rows()
+
+
+def again_peer_rows():
+    """The rows of peers that are given re-authentication identities and asked under them."""
+    right, small = again_request(), again_request(0)
+    for title, options, other in ("peer", PLAIN, PRIME), ("peer of EAP-AKA'", PRIME, PLAIN):
+        # Each end is made anew for each message, so what it is made of is bound here.
+        def made(*before, of=options):
+            return lambda: peer(0, *before, options=of)
+
+        def naming(text, n=1, *more):
+            return ASK, challenge(n, inner=text_attr(133, text) + b"".join(more)), plain(3)
+
+        held = *naming(AGAIN), options
+        asked = *held, ASK
+        known = f"{title} with a context"
+        yield from story(f"{known}, its identities", made(*held, right, asks(13), asks(17), right, asks(10), right, ASK, right))
+        yield from through(f"{known}, asked for its identity", made(*asked), ASKING_AGAIN, PEER_ENDS)
+        yield from through(f"{known}, asked for three identities", made(*held, ASK, asks(17), asks(13)),
+                           ASKING_AGAIN[:3] + CHECKED_ASKING + [("a challenge", challenge(2))])
+        yield from through(f"{known}, after a counter that isn't open", made(*asked, small), [
+            ("the last request again", again), *ASKING_AGAIN[:4], ("a challenge", challenge(2)),
+            ("a challenge that gives an identity", challenge(2, inner=text_attr(133, NEXT))),
+            ("a challenge that was sent before", challenge()), ("a Success", plain(3)), ("a Failure", plain(4)),
+            ("a Notification", notification(16384)), ("a request for any identity", asks(13))])
+        yield from through(f"{known}, answered", made(*asked, right),
+                           (TO_PEER if options is PLAIN else CHALLENGING[:1] + TO_PEER[5:12]) + ASKING_AGAIN[:4])
+        yield from story(f"{known}, refusing a re-authentication", made(
+            *asked, again_request(key=b"k"), right, again, challenge(2), plain(3), plain(4)))
+        yield from story(f"{known} of the other method",
+                         made(*naming(AGAIN), other, ASK, right, asks(13), challenge(2), plain(3)))
+        yield from story(f"{title} with contexts of both methods", made(
+            *naming(AGAIN), other, *naming(NEXT, 2), options, ASK, right, plain(3), other, ASK, renews(AGAIN), plain(3),
+            options, ASK, other, ASK, again_request(2), plain(3)))
+        for text in b"permanent", b"=" + AGAIN + b"@home", b"=" + AGAIN[:32], b"=" + AGAIN + b"0", b"=" + AGAIN.upper():
+            first = f" {text.decode()}", {"first": text}
+            yield from story(f"{known}, whose first identity is {text.decode()}", made(
+                *held[:-1], both(first, options), ASK, right, asks(13), again_request(2)))
+        for name, before in [
+                ("a re-authentication that gave an identity", (*asked, renews(NEXT), plain(3))),
+                ("a re-authentication that gave none", (*asked, right, plain(3))),
+                ("a re-authentication that gave an identity with a realm", (*asked, renews(NEXT + b"@home"), plain(3))),
+                ("a re-authentication that gave an identity of one digit less", (*asked, renews(NEXT[:32]), plain(3))),
+                ("a re-authentication that gave a pseudonym", (*asked, again_request(late=text_attr(132, FRESH)), plain(3))),
+                ("a re-authentication without Success", (*asked, renews(NEXT))),
+                ("a re-authentication with Failure", (*asked, renews(NEXT), plain(4))),
+                ("a counter that isn't open, and Failure", (*asked, small, plain(4))),
+                ("a counter that isn't open, and a challenge that gave an identity",
+                 (*held[:-1], options, ASK, renews(NEXT), plain(3), options, ASK, right, *naming(AGAIN, 2)[1:])),
+                ("the last counter", (*asked, renews(NEXT, 65535), plain(3))),
+                ("the last counter without Success", (*asked, renews(NEXT, 65535))),
+                ("the last two counters",
+                 (*asked, renews(NEXT, 65534), plain(3), options, ASK, again_request(65534), renews(AGAIN, 65535), plain(3))),
+                ("a session that gave another identity", (*held, *naming(NEXT, 2))),
+                ("a session that gave none", (*held, ASK, challenge(2), plain(3))),
+                ("a session that gave an identity of one digit more", naming(AGAIN + b"0")),
+                ("a session that gave a pseudonym too", naming(AGAIN + b"@home", 1, text_attr(132, FRESH)))]:
+            yield from story(f"{title}, after {name}", made(
+                *before, options, asks(17), asks(13), right, again_request(2), again_request(65535), plain(3)))
 
 
 def main():

@@ -17,6 +17,7 @@ TOOLS = Path(__file__).resolve().parent
 EXAMPLES = TOOLS.parent / "examples"
 FULL = EXAMPLES / "session-full-print.expected"
 PSEUDONYMS = EXAMPLES / "pseudonyms-full-print.expected"
+AGAIN = EXAMPLES / "re-authentication-full-print.expected"
 
 
 def loaded(name):
@@ -177,11 +178,11 @@ class Identities(unittest.TestCase):
     @unittest.skipIf(transcript.Cipher is None, "Python's cryptography is missing")
     def test_pseudonym_that_a_challenge_gives_is_the_next_one_that_is_sent(self):
         packets = self.packets()
-        given = {it.number: transcript.pseudonym_in(it) for it in packets}
+        given = {it.number: transcript.shown_in(it) for it in packets}
         told = {it.number: transcript.identity_in(it) for it in packets}
         for challenge, answers in ((3, (7, 9)), (15, (19, 21))):
             for answer in answers:
-                self.assertEqual(told[answer], given[challenge].encode() + b"@example.org", answer)
+                self.assertEqual(given[challenge], [f"AT_NEXT_PSEUDONYM {told[answer].decode().partition('@')[0]}"], answer)
 
     @unittest.skipIf(transcript.Cipher is None, "Python's cryptography is missing")
     def test_capture_tells_each_pseudonym_that_is_given(self):
@@ -191,9 +192,54 @@ class Identities(unittest.TestCase):
         challenge = self.packets()[2]
         for key in (None, bytes(16)):
             challenge.session.k_encr = key
-            self.assertEqual((transcript.pseudonym_in(challenge), transcript.marks_of(challenge)), (None, ["AT_ENCR_DATA"]))
+            self.assertEqual((transcript.shown_in(challenge), transcript.marks_of(challenge)), ([], ["AT_ENCR_DATA"]))
         with mock.patch.object(transcript, "Cipher", None):
             self.assertEqual(self.comments(), [])
+
+
+class Reauthentications(unittest.TestCase):
+    def packets(self):
+        return [packet for session in transcript.sessions_in(AGAIN.read_text()) for packet in session.packets]
+
+    def test_message_is_marked_by_what_it_says_of_identities(self):
+        marks = [(packet.number, transcript.name_of(packet.data), transcript.marks_of(packet)) for packet in self.packets()]
+        self.assertEqual([it for it in marks if it[0] in (7, 8, 9, 13, 14, 24, 25)], [
+            (7, "Response/Identity", ["re-authentication"]),
+            (8, "Request/AKA-Reauthentication", ["AT_ENCR_DATA"]), (9, "Response/AKA-Reauthentication", ["AT_ENCR_DATA"]),
+            (13, "Request/AKA-Identity", ["AT_ANY_ID_REQ"]), (14, "Response/AKA-Identity", ["re-authentication"]),
+            (24, "Response/Identity", ["re-authentication"]), (25, "Request/AKA'-Reauthentication", ["AT_ENCR_DATA"]),
+        ])
+
+    def test_each_counter_stands_at_its_end(self):
+        for number, server, peer in (2, "resumed 1", "counter 1"), (3, "resumed 2", "counter 2"):
+            session = next(it for it in transcript.sessions_in(AGAIN.read_text()) if it.number == number)
+            words = [(row.to, row.words) for row in chart.ladder_of(session).rows if isinstance(row, chart.Arrow)]
+            self.assertIn(("server", server), words)
+            self.assertIn(("peer", peer), words)
+
+    def test_small_counter_is_drawn(self):
+        session = next(it for it in transcript.sessions_in((EXAMPLES / "small-counter.expected").read_text()) if it.number == 3)
+        words = [row.words for row in chart.ladder_of(session).rows if isinstance(row, chart.Arrow)]
+        self.assertIn("small 1", words)
+
+    @unittest.skipIf(transcript.Cipher is None, "Python's cryptography is missing")
+    def test_capture_tells_what_each_message_has_encrypted(self):
+        shown = {it.number: [" ".join(text.split()[:2]) if "COUNTER" in text else text.split()[0]
+                             for text in transcript.shown_in(it)] for it in self.packets()}
+        self.assertEqual({number: texts for number, texts in shown.items() if texts}, {
+            3: ["AT_NEXT_PSEUDONYM", "AT_NEXT_REAUTH_ID"],
+            8: ["AT_COUNTER 1", "AT_NONCE_S", "AT_NEXT_REAUTH_ID"], 9: ["AT_COUNTER 1"],
+            15: ["AT_COUNTER 2", "AT_NONCE_S", "AT_NEXT_REAUTH_ID"], 16: ["AT_COUNTER 2"],
+            20: ["AT_NEXT_REAUTH_ID"], 25: ["AT_COUNTER 1", "AT_NONCE_S"], 26: ["AT_COUNTER 1"],
+        })
+
+    @unittest.skipIf(transcript.Cipher is None, "Python's cryptography is missing")
+    def test_identity_that_is_given_is_the_next_one_that_is_sent(self):
+        packets = self.packets()
+        given = {it.number: transcript.shown_in(it)[-1] for it in packets if transcript.shown_in(it)}
+        told = {it.number: transcript.identity_in(it) for it in packets}
+        for giving, answer in (3, 7), (8, 12), (8, 14), (20, 24):
+            self.assertEqual(given[giving], f"AT_NEXT_REAUTH_ID {told[answer].decode()}", answer)
 
 
 class Inputs(unittest.TestCase):

@@ -14,7 +14,7 @@ except ImportError:
 
 # How many words follow the first one of a note, and the ends that they come from.
 CENTRE_NOTES = {"moved": 2, "inrange": 2, "beyond": 2, "drew": 1, "exhausted": 1, "withheld": 2}
-OWN_NOTES = {"badauts": 0, "accepted": 1, "sync": 1, "wrongmac": 0}
+OWN_NOTES = {"badauts": 0, "resumed": 1, "accepted": 1, "sync": 1, "wrongmac": 0, "counter": 1, "small": 1}
 # The first words of the lines that tell nothing of a session's packets.
 OTHER_LINES = {"restart", "vector", "bytes", "withheld", "exhausted", "sync", "give", "closed"}
 # Of an event's line, the words before its notes.
@@ -30,8 +30,17 @@ METHODS = {23: "AKA", 50: "AKA'"}
 # Attributes by their types (RFC 4187 §10).
 ASKED = {10: "AT_PERMANENT_ID_REQ", 13: "AT_ANY_ID_REQ", 17: "AT_FULLAUTH_ID_REQ"}
 AT_IDENTITY, AT_IV, AT_ENCR_DATA, AT_NEXT_PSEUDONYM = 14, 129, 130, 132
-# What an identity is, by the form of its username (RFC 4187 §4.1.1.6 and §4.1.1.7, RFC 9048 §5.1).
-FORMS = {"permanent": rb"[06][0-9]{6,15}", "pseudonym": rb"[27][0-9a-f]{32}"}
+# What an identity is, by the form of its username (RFC 4187 §4.1.1.6 to §4.1.1.8, RFC 9048 §5.1).
+FORMS = {"permanent": rb"[06][0-9]{6,15}", "pseudonym": rb"[27][0-9a-f]{32}", "re-authentication": rb"[48][0-9a-f]{32}"}
+# How the value of an encrypted attribute is shown.
+ENCRYPTED = {
+    19: lambda value: f"AT_COUNTER {int.from_bytes(value)}",
+    20: lambda value: "AT_COUNTER_TOO_SMALL",
+    21: lambda value: f"AT_NONCE_S {value[2:].hex()}",
+    AT_NEXT_PSEUDONYM: lambda value: f"AT_NEXT_PSEUDONYM {text_in(value).decode(errors='replace')}",
+    133: lambda value: f"AT_NEXT_REAUTH_ID {text_in(value).decode(errors='replace')}",
+}
+AT_PADDING = 6
 
 
 class Unreadable(Exception):
@@ -72,7 +81,8 @@ class Session:
     events: list = field(default_factory=list)
     packets: list = field(default_factory=list)
     verdict: str = ""
-    # The key of what the server's last challenge has encrypted, if the server succeeded in a full print.
+    # The key of what is encrypted in the session since its last challenge or resumption, if the server succeeded in a full
+    # print.
     k_encr: bytes | None = None
 
 
@@ -133,13 +143,19 @@ def decrypted(key, iv, data):
     return decryptor.update(data) + decryptor.finalize()
 
 
-def pseudonym_in(packet):
-    """The pseudonym that a challenge gives, if its session's keys are known and there is Python's `cryptography`."""
+def encrypted_in(packet):
+    """The attributes that a message has encrypted, as `attributes_in` has them, if their key is known and there is Python's
+    `cryptography`. Under the key of another challenge they don't read as any."""
     found, key = attributes_of(packet), packet.session.k_encr
     if Cipher is None or key is None or len(found.get(AT_IV, b"")) != 18 or len(found.get(AT_ENCR_DATA, b"")) % 16 != 2:
-        return None
-    value = attributes_in(decrypted(key, found[AT_IV][2:], found[AT_ENCR_DATA][2:])).get(AT_NEXT_PSEUDONYM)
-    return None if value is None else text_in(value).decode(errors="replace")
+        return {}
+    inner = attributes_in(decrypted(key, found[AT_IV][2:], found[AT_ENCR_DATA][2:]))
+    return inner if inner.keys() <= ENCRYPTED.keys() | {AT_PADDING} else {}
+
+
+def shown_in(packet):
+    """What a message has encrypted, an attribute a line."""
+    return [ENCRYPTED[kind](value) for kind, value in encrypted_in(packet).items() if kind != AT_PADDING]
 
 
 def marks_of(packet):

@@ -17,7 +17,7 @@ use Rattle.auc_subs.specs.declared.row.Row.{Row}
 use Rattle.auc_usim.specs.Usim.{Memory}
 use Rattle.auc_cards.specs.Known.{IsKnownLine}
 use Rattle.auc_cards.specs.Devices.{devices_of, device_of, home_of, usim_among, usim_in}
-use Rattle.auc_cards.specs.Stores.{Kept, put_back}
+use Rattle.auc_cards.specs.Stores.{Kept, kept_now, put_back}
 use Rattle.auc_cards.specs.Usims.{put_at, ArePut}
 
 -- ---- whose they are
@@ -246,10 +246,10 @@ nothing_back old homes devices n is =
     sym (ap (λ (hs : List HomeRow). put_back old hs (drop n devices)) (ap (λ (m : ℕ). drop m homes) is ∙ drop_all (length homes) homes (omega arith)))
 
 pub some_back : (old mid new : List Kept) (homes : List HomeRow) (devices : List Device) (left k : ℕ) (home : HomeRow) (device : Device) → left ≡ suc k
-    → slice_get homes k ≡ Some home → slice_get devices k ≡ Some device → new ≡ slice_set mid home.sub (home.ordinals, device.store)
+    → slice_get homes k ≡ Some home → slice_get devices k ≡ Some device → new ≡ slice_set mid home.sub (kept_now home device)
     → mid ≡ put_back old (drop left homes) (drop left devices) → new ≡ put_back old (drop k homes) (drop k devices)
 some_back old mid new homes devices left k home device next at there is put =
-    is ∙ ap (λ (m : List Kept). slice_set m home.sub (home.ordinals, device.store)) (put ∙ ap (λ (n : ℕ). put_back old (drop n homes) (drop n devices)) next)
+    is ∙ ap (λ (m : List Kept). slice_set m home.sub (kept_now home device)) (put ∙ ap (λ (n : ℕ). put_back old (drop n homes) (drop n devices)) next)
     ∙ sym (ap (λ (hs : List HomeRow). put_back old hs (drop k devices)) (drop_from homes k home at)
     ∙ ap (λ (ds : List Device). put_back old (home ∷ drop (suc k) homes) ds) (drop_from devices k device there))
 

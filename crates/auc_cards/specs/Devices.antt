@@ -28,7 +28,7 @@ has_usim usims sub = is_some (usims sub)
 -- ---- the devices with which a job begins
 
 abbrev pub home_of : List Kept → ℕ → HomeRow
-home_of kept sub = record { sub = sub; ordinals = (kept_of kept sub).0 }
+home_of kept sub = record { sub = sub; ordinals = (kept_of kept sub).ordinals; store = (kept_of kept sub).home }
 
 -- a subscriber's device, with its row's identity, the realm of the home network, its USIM as it stands, and what it keeps
 abbrev pub device_with : Setting → Option Row → Option Memory → Keeps → List Device
@@ -37,7 +37,7 @@ device_with set (Some row) None keeps = []
 device_with set (Some row) (Some usim) keeps = record { imsi = row.imsi; usim = usim; store = keeps; realm = set.realm } ∷ []
 
 abbrev pub device_of : Setting → List Memory → List Kept → ℕ → List Device
-device_of set usims kept sub = device_with set (slice_get set.rows sub) (slice_get usims sub) (kept_of kept sub).1
+device_of set usims kept sub = device_with set (slice_get set.rows sub) (slice_get usims sub) (kept_of kept sub).device
 
 abbrev pub devices_of : Setting → List Memory → List Kept → List ℕ → OwnDevices
 devices_of set usims kept subs = record { homes = map (home_of kept) subs; devices = flat_map (device_of set usims kept) subs }

@@ -78,14 +78,18 @@ impl JobDevices {
         }) }
     {
         let row = set.subs.row(sub);
-        let (ordinals, store) = stores.of(sub);
+        let kept = stores.of(sub);
         let device = Device {
             imsi: row.imsi,
             usim: usims.of(sub),
-            store,
+            store: kept.device,
             realm: Octets::copied_from(alloc, set.realm)?,
         };
-        self.homes.push(HomeRow { sub, ordinals })?;
+        self.homes.push(HomeRow {
+            sub,
+            ordinals: kept.ordinals,
+            store: kept.home,
+        })?;
         self.devices.push(device)?;
         Ok(())
     }

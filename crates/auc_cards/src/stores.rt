@@ -1,21 +1,23 @@
 //! What homes and devices keep of the subscribers' names.
 
 ghost use Rattle.std.specs.Prelude.{◌≡◌, ◌<◌, Some, fold, length, map, slice_get, slice_set, IfOk};
-ghost use Rattle.auc_cards.specs.Stores.{Kept, fresh_kept, put_back, put_own};
+ghost use Rattle.auc_cards.specs.Stores.{Kept, fresh_kept, kept_now, put_back, put_own};
 
 use crate::devices::JobDevices;
 use auc_edge::NoMemory;
 use auc_ident::Ordinals;
-use auc_reauth::DeviceStore;
+use auc_peer::Device;
+use auc_reauth::{DeviceStore, Kept, ServerStore};
+use auc_server::HomeRow;
 use auc_subs::Subscribers;
 use std::alloc::Global;
 use std::marker::Model;
 
-/// What homes and devices keep of the subscribers' names, in the subscribers' order: the ordinals of a home, and the
-/// pseudonyms of a device (RFC 4187 §4.1.1.7). Contracts see the list of both.
+/// What homes and devices keep of the subscribers' names, in the subscribers' order: the ordinals and contexts of a home, and
+/// the pseudonyms and contexts of a device (RFC 4187 §4.1.1.7 and §5.1). Contracts see the list of both.
 #[derive(Drop)]
 pub struct Stores {
-    all: Vec<(Ordinals, DeviceStore)>,
+    all: Vec<Kept>,
 }
 
 impl Model for Stores {
@@ -34,13 +36,13 @@ impl Stores {
     {
         let mut all = Vec::new(alloc);
         for _sub in 0..subs.len() {
-            all.push((Ordinals::at(0), DeviceStore::new()))?;
+            all.push(fresh_kept())?;
         }
         Ok(Stores { all })
     }
 
     /// Those of a subscriber.
-    pub fn of(&self, sub: u32) -> (Ordinals, DeviceStore)
+    pub fn of(&self, sub: u32) -> Kept
         requires { sub < length self.now }
         ensures { slice_get self.now sub ≡ Some result }
     {
@@ -48,7 +50,7 @@ impl Stores {
     }
 
     /// Puts what is kept of a subscriber in its place, if there is one.
-    fn set(&mut self, sub: u32, kept: (Ordinals, DeviceStore))
+    fn set(&mut self, sub: u32, kept: Kept)
         ensures { self.new ≡ slice_set self.old sub kept }
     {
         let place = sub as usize;
@@ -68,7 +70,7 @@ impl Stores {
             left -= 1;
             if let Some(device) = devices.get(left) {
                 let home = &homes[left];
-                self.set(home.sub, (home.ordinals, device.store));
+                self.set(home.sub, kept_now(home, device));
             }
         }
     }
@@ -80,5 +82,27 @@ impl Stores {
         for own in jobs {
             self.put(own);
         }
+    }
+}
+
+/// What is kept of a subscriber of whom no name was given.
+fn fresh_kept() -> Kept
+    ensures { result ≡ fresh_kept }
+{
+    Kept {
+        ordinals: Ordinals::at(0),
+        home: ServerStore::new(),
+        device: DeviceStore::new(),
+    }
+}
+
+/// What is kept of a subscriber, by its home and its device.
+fn kept_now(home: &HomeRow, device: &Device) -> Kept
+    ensures { result ≡ kept_now home.now device.now }
+{
+    Kept {
+        ordinals: home.ordinals,
+        home: home.store,
+        device: device.store,
     }
 }

@@ -180,6 +180,7 @@ fn server_options(alloc: Global, session: u32, options: &str) -> Result<ServerOp
         method,
         name: Octets::copied_from(alloc, name)?,
         pseudonym: has(options, "pseudonym"),
+        reauth: has(options, "reauth"),
         bidding: has(options, "bidding"),
         any: has(options, "any"),
     })

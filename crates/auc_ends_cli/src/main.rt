@@ -15,6 +15,7 @@
 //! | Option | What it says |
 //! |---|---|
 //! | `pseudonym` | the server gives pseudonyms |
+//! | `reauth` | the server gives re-authentication identities |
 //! | `any` | the server asks for any identity first |
 //! | `bidding` | the server of EAP-AKA bids for EAP-AKA' |
 //! | `hasprime` | the device of the peer has EAP-AKA' |

@@ -3,10 +3,12 @@
 ghost use Rattle.std.specs.Prelude.{◌≤◌, length};
 ghost use Rattle.auc_sqn.specs.Number.{max_seq};
 
+use crate::server_end::random_key;
 use crate::text::{peer_step, peer_turn};
 use auc_edge::{Imsi, Octets};
 use auc_milenage::Secret;
 use auc_peer::{Device, Peer, PeerOptions};
+use auc_random::Rands;
 use auc_reauth::DeviceStore;
 use auc_usim::Usim;
 use std::alloc::{AllocError, Global};
@@ -14,6 +16,7 @@ use std::alloc::{AllocError, Global};
 /// A peer with its device.
 #[derive(Drop)]
 pub struct PeerEnd {
+    rands: Rands,
     peer: Peer,
     device: Device,
     sessions: u32,
@@ -29,6 +32,7 @@ impl PeerEnd {
         let usim = Usim::new(secret(), word);
         let realm = Octets::new(alloc);
         Some(PeerEnd {
+            rands: Rands::new(random_key()),
             peer: Peer::new(options, alloc),
             device: Device {
                 imsi,
@@ -53,7 +57,8 @@ impl PeerEnd {
 
     /// What is printed of received bytes.
     pub fn receive(&mut self, alloc: Global, bytes: &[u8]) -> Result<String, AllocError> {
-        match self.peer.on_bytes(alloc, &mut self.device, bytes) {
+        let device = &mut self.device;
+        match self.peer.on_bytes(alloc, &self.rands, device, bytes) {
             Ok(turn) => peer_turn(alloc, &turn),
             Err(_) => Err(AllocError),
         }

@@ -6,6 +6,7 @@ ghost use Rattle.auc_sqn.specs.Number.{max_seq};
 use crate::text::{server_step, server_turn};
 use auc_ident::{Names, Ordinals};
 use auc_random::Rands;
+use auc_reauth::ServerStore;
 use auc_server::{HomeRow, Server, ServerOptions, Setting};
 use auc_subs::Subscribers;
 use auc_vector::Centre;
@@ -60,6 +61,7 @@ impl<C: Centre + Drop> ServerEnd<C> {
             homes.push(HomeRow {
                 sub: 0,
                 ordinals: Ordinals::at(0),
+                store: ServerStore::new(),
             })?;
         }
         let Ok((server, first)) = Server::start(options, alloc) else {
@@ -140,7 +142,7 @@ fn first_request(alloc: Global, bytes: &[u8]) -> Result<String, AllocError> {
 }
 
 /// The key 00 01 .. 1f of the random bytes.
-fn random_key() -> [u8; 32] {
+pub fn random_key() -> [u8; 32] {
     let mut key = [0; 32];
     for i in 0..32 {
         key[i] = i as u8;

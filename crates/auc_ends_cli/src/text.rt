@@ -4,7 +4,9 @@ use auc_edge::{Octets, Stop};
 use auc_hmac::KeySet;
 use auc_peer::PeerWhy;
 use auc_server::ServerWhy;
-use auc_vector::{Notes, NumberNote, Outcome, Reason, ResyncNote, Step, Turn, UsimNote};
+use auc_vector::{
+    CounterNote, Notes, NumberNote, Outcome, Reason, ResyncNote, Step, Turn, UsimNote,
+};
 use std::alloc::{AllocError, Global};
 
 /// A turn of a server.
@@ -97,8 +99,10 @@ fn failure(alloc: Global, why: &str, bytes: &Octets) -> Result<String, AllocErro
 fn text_of_notes(alloc: Global, notes: &Notes) -> Result<String, AllocError> {
     let resync = text_of_resync(alloc, notes.resync)?;
     let number = text_of_number(alloc, notes.number)?;
+    let resumed = text_of_resumed(alloc, notes.resumed)?;
     let usim = text_of_usim(alloc, notes.usim)?;
-    format!(in alloc; "{resync}{number}{usim}")
+    let counter = text_of_counter(alloc, notes.counter)?;
+    format!(in alloc; "{resync}{number}{resumed}{usim}{counter}")
 }
 
 fn text_of_resync(alloc: Global, note: Option<ResyncNote>) -> Result<String, AllocError> {
@@ -139,6 +143,21 @@ fn text_of_usim(alloc: Global, note: Option<UsimNote>) -> Result<String, AllocEr
     }
 }
 
+fn text_of_resumed(alloc: Global, counter: Option<u16>) -> Result<String, AllocError> {
+    match counter {
+        None => Ok(String::new(alloc)),
+        Some(counter) => format!(in alloc; "resumed {counter} "),
+    }
+}
+
+fn text_of_counter(alloc: Global, note: Option<CounterNote>) -> Result<String, AllocError> {
+    match note {
+        None => Ok(String::new(alloc)),
+        Some(CounterNote::Taken(counter)) => format!(in alloc; "counter {counter} "),
+        Some(CounterNote::Small(counter)) => format!(in alloc; "small {counter} "),
+    }
+}
+
 fn text_of_sqn(alloc: Global, word: &str, sqn: [u8; 6]) -> Result<String, AllocError> {
     let sqn = hex::encode(alloc, sqn)?;
     format!(in alloc; "{word} {sqn} ")
@@ -150,6 +169,7 @@ fn text_of_server_why(alloc: Global, why: ServerWhy) -> Result<String, AllocErro
         ServerWhy::WrongMac => String::from_str(alloc, "wrongmac"),
         ServerWhy::WrongRes => String::from_str(alloc, "wrongres"),
         ServerWhy::WrongCheckcode => String::from_str(alloc, "wrongcheckcode"),
+        ServerWhy::WrongCounter => String::from_str(alloc, "wrongcounter"),
         ServerWhy::SecondSync => String::from_str(alloc, "secondsync"),
         ServerWhy::BadAuts => String::from_str(alloc, "badauts"),
         ServerWhy::Beyond(seen, seq) => format!(in alloc; "beyond {seen} {seq}"),

@@ -13,7 +13,7 @@ use Rattle.auc_lines.specs.declared.part.End.TheVariants as end
 use Rattle.auc_lines.specs.Part.{is_that}
 use Rattle.auc_peer.specs.Rows.{peer_row}
 use Rattle.auc_peer.specs.Subscription.{Subscription}
-use Rattle.auc_peer.specs.Turn.{asked}
+use Rattle.auc_peer.specs.Turn.{asked, decryption_made}
 use Rattle.auc_server.specs.Rows.{server_row, text_in}
 use Rattle.auc_server.specs.Server.{ServerEnd}
 use Rattle.auc_server.specs.Steps.{AsksAsNeeded, asking, challenges_again}
@@ -62,7 +62,7 @@ pub record Agrees (set : Setting) (w : Net) (told : Told) (c : Came) (a : Option
   pub silent : a ≡ None → number_in c ≡ None
   pub reaches : device_in c ≡ presented_sub p
   pub needs : Needs → (request : Asking) → a ≡ Some request → (r : Row) × (asking r ≡ Some request) × AsksAsNeeded r told.notes
-  pub turn : TellsNotes told c → (q : Presented) → p ≡ Some q → told.notes.usim ≡ (peer_turn q.device (keeps_at w q.delivery.session.device) q.delivery.session told).1.notes.usim
+  pub turn : TellsNotes told c → (q : Presented) → p ≡ Some q → told.notes.usim ≡ (peer_turn set q.device (keeps_at w q.delivery.session.device) q.delivery.session told).1.notes.usim
   pub hands : (q : Presented) → p ≡ Some q → q.challenge ≡ asked (peer_row q.delivery.session.peer told.seen)
 
 no_request : (request : Asking) → ◌≡◌ {A = Option Asking} None (Some request) → ⊥
@@ -94,35 +94,35 @@ at_server : (set : Setting) (w : Net) (told : Told) (o : Option ServerEnd) (d : 
 at_server set w told None d Needs is from = quiet set w told (came_at_server set w told None) Needs refl refl refl
 at_server set w told (Some s) d Needs is from = record {
   asks = refl;
-  silent = λ e. server_silent set w.homes s (text_in told.seen.reading) (packets_after s told.seen (server_row set w.homes s told.seen)) (server_row set w.homes s told.seen) told.notes e;
+  silent = λ e. server_silent set w.homes s (text_in told.seen.reading) (packets_after s told.seen (server_row set w.homes s told.seen told.reply)) (server_row set w.homes s told.seen told.reply) told.notes e;
   reaches = refl;
-  needs = λ n request e. (server_row set w.homes s told.seen, e, needed (d.session.server) is (from n));
+  needs = λ n request e. (server_row set w.homes s told.seen told.reply, e, needed (d.session.server) is (from n));
   turn = λ tells q e. absurd (no_presented q e);
   hands = λ q e. absurd (no_presented q e);
 }
   where
-    needed : (o : Option ServerEnd) → o ≡ Some s → AsksIn set w end.Server told (Some (record d { session = record d.session { server = o } })) → AsksAsNeeded (server_row set w.homes s told.seen) told.notes
+    needed : (o : Option ServerEnd) → o ≡ Some s → AsksIn set w end.Server told (Some (record d { session = record d.session { server = o } })) → AsksAsNeeded (server_row set w.homes s told.seen told.reply) told.notes
     needed None e asks = absurd (cc)
-    needed (Some t) e asks = subst (λ (u : ServerEnd). AsksAsNeeded (server_row set w.homes u told.seen) told.notes) (one t s e) asks
+    needed (Some t) e asks = subst (λ (u : ServerEnd). AsksAsNeeded (server_row set w.homes u told.seen told.reply) told.notes) (one t s e) asks
       where
         one : (a b : ServerEnd) → Some a ≡ Some b → a ≡ b
         one a b e = cc
 
 -- a delivery to a peer
 at_peer : (set : Setting) (w : Net) (told : Told) (d : Delivery) (o : Option Subscription) (Needs : Type 0)
-    → Agrees set w told (came_at_peer w d told o) None (presented_at d told o) Needs
-at_peer set w told d None Needs = quiet set w told (came_at_peer w d told None) Needs refl refl refl
+    → Agrees set w told (came_at_peer set w d told o) None (presented_at w d told o) Needs
+at_peer set w told d None Needs = quiet set w told (came_at_peer set w d told None) Needs refl refl refl
 at_peer set w told d (Some device) Needs = record {
   asks = refl;
-  silent = λ e. peer_silent device (keeps_at w d.session.device) d.session.peer told.seen (peer_row d.session.peer told.seen) told.notes.usim told.inner;
+  silent = λ e. peer_silent set.key device (keeps_at w d.session.device) d.session.peer told.seen (peer_row d.session.peer told.seen) told.notes.usim told.inner;
   reaches = refl;
   needs = λ n request e. absurd (no_request request e);
-  turn = λ tells q e. subst (λ (r : Presented). told.notes.usim ≡ (peer_turn r.device (keeps_at w r.delivery.session.device) r.delivery.session told).1.notes.usim) (one (presented device) q e) (ap (λ (n : Notes). n.usim) tells);
+  turn = λ tells q e. subst (λ (r : Presented). told.notes.usim ≡ (peer_turn set r.device (keeps_at w r.delivery.session.device) r.delivery.session told).1.notes.usim) (one (presented device) q e) (ap (λ (n : Notes). n.usim) tells);
   hands = λ q e. subst (λ (r : Presented). r.challenge ≡ asked (peer_row r.delivery.session.peer told.seen)) (one (presented device) q e) refl;
 }
   where
     presented : Subscription → Presented
-    presented s = record { delivery = d; device = s; challenge = asked (peer_row d.session.peer told.seen) }
+    presented s = record { delivery = d; device = s; challenge = asked (peer_row d.session.peer told.seen); decryption = decryption_made s (keeps_at w d.session.device) d.session.peer told.seen (peer_row d.session.peer told.seen) told.notes.usim }
 
     one : (a b : Presented) → Some a ≡ Some b → a ≡ b
     one a b e = cc
@@ -244,6 +244,14 @@ centre_answers (row.Resynchronise sub seq) request kept notes e needs report num
   where
     one : (a b : Asking) → Some a ≡ Some b → a ≡ b
     one a b e = cc
+centre_answers (row.TooSmall sub) request kept notes e needs report number =
+    subst (λ (a : Asking). CentreAnswers a.reported notes) (one (record { sub = sub; reported = None }) request e) (number_answers kept notes.number needs number)
+  where
+    one : (a b : Asking) → Some a ≡ Some b → a ≡ b
+    one a b e = cc
+centre_answers (row.Resume sub) request kept notes e needs report number = absurd (no_request request e)
+centre_answers row.WrongCounter request kept notes e needs report number = absurd (no_request request e)
+centre_answers row.Reauthenticated request kept notes e needs report number = absurd (no_request request e)
 centre_answers (row.Ignore cause) request kept notes e needs report number = absurd (no_request request e)
 centre_answers (row.Ask kind) request kept notes e needs report number = absurd (no_request request e)
 centre_answers row.UnknownIdentity request kept notes e needs report number = absurd (no_request request e)

@@ -4,13 +4,14 @@ use Rattle.std.proofs.Common.{◌≡◌, ◌≢◌, ℕ, ◌⊎◌, not, Bool, t
 use Rattle.std.specs.Prelude.{Option, Some, None, slice_get, if◌then◌else◌}
 use Rattle.std.proofs.lemmas.List.Sums.{fold_push}
 use Rattle.auc_hmac.specs.declared.keys.KeySet.{KeySet}
+use Rattle.auc_hmac.specs.declared.keys.Master.{Master}
 use Rattle.auc_lines.specs.Part.{is_that}
 use Rattle.auc_packet.specs.Received.{Seen, is_sealed}
 use Rattle.auc_peer.specs.Asking.{answer_noted, note_of}
 use Rattle.auc_peer.specs.Attributes.{checkcode, differs}
 use Rattle.auc_peer.specs.Rows.{peer_row}
 use Rattle.auc_peer.specs.Subscription.{Subscription}
-use Rattle.auc_peer.specs.Table.{accepted as accepted_turn, accepting, by_answer, client, genuine, keys_at, opened, own_code, peer_does}
+use Rattle.auc_peer.specs.Table.{accepted as accepted_turn, accepting, by_answer, client, genuine, keys_at, master_at, opened, own_code, peer_does}
 use Rattle.auc_peer.specs.Turn.{Asked as AsksDevice, asked}
 use Rattle.auc_peer.specs.declared.decrypted.Decrypted.{Decrypted}
 use Rattle.auc_peer.specs.declared.decrypted.Decrypted.TheVariants as decrypted
@@ -57,18 +58,18 @@ if_note false x y n first second = second
 noted_is : (p : Peer) (seen : Seen) (c : Challenge) (a : Answer) (inner : Decrypted) → (by_answer p seen c a inner).1.notes.usim ≡ Some (note_of a)
 noted_is p seen c answer.WrongMac inner = refl
 noted_is p seen c (answer.SyncFailure auts sqn) inner = refl
-noted_is p seen c (answer.Accepted res ck ik ak amf sqn) inner = with_keys (keys_at p seen c ik ck)
+noted_is p seen c (answer.Accepted res ck ik ak amf sqn) inner = with_keys (keys_at p seen c ik ck) (master_at p seen c ik ck)
   where
-    opened_note : (q : Peer) (keys : KeySet) (d : Decrypted) → (opened q seen res sqn keys d).1.notes.usim ≡ Some (note.Accepted sqn)
-    opened_note q keys decrypted.Unreadable = refl
-    opened_note q keys (decrypted.Attributes next) = refl
+    opened_note : (q : Peer) (keys : KeySet) (m : Master) (d : Decrypted) → (opened q seen res sqn keys m d).1.notes.usim ≡ Some (note.Accepted sqn)
+    opened_note q keys m decrypted.Unreadable = refl
+    opened_note q keys m (decrypted.Attributes next) = refl
 
-    with_keys : (keys : KeySet) → (accepted_turn p seen c res sqn keys inner).1.notes.usim ≡ Some (note.Accepted sqn)
-    with_keys keys =
-        if_note (not (is_sealed p.options.method keys.k_aut [] seen)) (client p seen why.WrongMac (Some (note.Accepted sqn)) false) (genuine (accepting p seen c) seen res sqn keys inner)
+    with_keys : (keys : KeySet) (m : Master) → (accepted_turn p seen c res sqn keys m inner).1.notes.usim ≡ Some (note.Accepted sqn)
+    with_keys keys m =
+        if_note (not (is_sealed p.options.method keys.k_aut [] seen)) (client p seen why.WrongMac (Some (note.Accepted sqn)) false) (genuine (accepting p seen c) seen res sqn keys m inner)
         (Some (note.Accepted sqn)) refl
-        (if_note (differs (own_code (accepting p seen c)) (checkcode seen)) (client (accepting p seen c) seen why.WrongCheckcode (Some (note.Accepted sqn)) true) (opened (accepting p seen c) seen res sqn keys inner)
-        (Some (note.Accepted sqn)) refl (opened_note (accepting p seen c) keys inner))
+        (if_note (differs (own_code (accepting p seen c)) (checkcode seen)) (client (accepting p seen c) seen why.WrongCheckcode (Some (note.Accepted sqn)) true) (opened (accepting p seen c) seen res sqn keys m inner)
+        (Some (note.Accepted sqn)) refl (opened_note (accepting p seen c) keys m inner))
 
 -- the row of a challenge that is handed to the USIM
 challenged_row : (r : PeerRow) (c : Challenge) → asked r ≡ Some c → r ≡ row.Challenged c
@@ -83,20 +84,21 @@ challenged_row (row.Identity kind) c e = absurd (cc)
 challenged_row (row.Client cause) c e = absurd (cc)
 challenged_row (row.Reject cause) c e = absurd (cc)
 challenged_row (row.Notified code) c e = absurd (cc)
+challenged_row row.Reauthentication c e = absurd (cc)
 challenged_row row.Success c e = absurd (cc)
 challenged_row (row.Failure cause) c e = absurd (cc)
 
-turn_note : (s : Subscription) (keeps : Keeps) (p : Peer) (seen : Seen) (r : PeerRow) (c : Challenge) (n : UsimNote) (inner : Decrypted) → r ≡ row.Challenged c
-    → (peer_does s keeps p seen r (Some n) inner).1.notes.usim ≡ Some (note_of (answer_noted s.secret c n))
-turn_note s keeps p seen r c n inner is =
-    ap (λ (x : PeerRow). (peer_does s keeps p seen x (Some n) inner).1.notes.usim) is ∙ noted_is p seen c (answer_noted s.secret c n) inner
+turn_note : (key : List ℕ) (s : Subscription) (keeps : Keeps) (p : Peer) (seen : Seen) (r : PeerRow) (c : Challenge) (n : UsimNote) (inner : Decrypted) → r ≡ row.Challenged c
+    → (peer_does key s keeps p seen r (Some n) inner).1.notes.usim ≡ Some (note_of (answer_noted s.secret c n))
+turn_note key s keeps p seen r c n inner is =
+    ap (λ (x : PeerRow). (peer_does key s keeps p seen x (Some n) inner).1.notes.usim) is ∙ noted_is p seen c (answer_noted s.secret c n) inner
 
 -- so the told note is the one of its answer
-told_note : (told : Told) (keeps : Keeps) (p : Presented) (c : Challenge) (n : UsimNote) → told.notes.usim ≡ Some n → p.challenge ≡ Some c → p.challenge ≡ asked (peer_row p.delivery.session.peer told.seen)
-    → told.notes.usim ≡ (peer_turn p.device keeps p.delivery.session told).1.notes.usim → told.notes.usim ≡ Some (note_of (answer_noted p.device.secret c n))
-told_note told keeps p c n is handed row_is turn =
-    turn ∙ ap (λ (o : Option UsimNote). (peer_does p.device keeps p.delivery.session.peer told.seen (peer_row p.delivery.session.peer told.seen) o told.inner).1.notes.usim) is
-    ∙ turn_note p.device keeps p.delivery.session.peer told.seen (peer_row p.delivery.session.peer told.seen) c n told.inner
+told_note : (set : Setting) (told : Told) (keeps : Keeps) (p : Presented) (c : Challenge) (n : UsimNote) → told.notes.usim ≡ Some n → p.challenge ≡ Some c → p.challenge ≡ asked (peer_row p.delivery.session.peer told.seen)
+    → told.notes.usim ≡ (peer_turn set p.device keeps p.delivery.session told).1.notes.usim → told.notes.usim ≡ Some (note_of (answer_noted p.device.secret c n))
+told_note set told keeps p c n is handed row_is turn =
+    turn ∙ ap (λ (o : Option UsimNote). (peer_does set.key p.device keeps p.delivery.session.peer told.seen (peer_row p.delivery.session.peer told.seen) o told.inner).1.notes.usim) is
+    ∙ turn_note set.key p.device keeps p.delivery.session.peer told.seen (peer_row p.delivery.session.peer told.seen) c n told.inner
     (challenged_row (peer_row p.delivery.session.peer told.seen) c (sym row_is ∙ handed))
 
 -- the past after an answer, by its note
@@ -109,13 +111,14 @@ past_noted opening sqns (answer.Accepted res ck ik ak amf sqn) = fold_push (λ (
 
 -- what an event that reaches a device says of its USIM
 pub record Hands (rows : List Row) (w new : WorldState) (told : Told) (c : Came) (p : Presented) : Type 0 where
+  pub set : Setting
   pub at : device_place rows w.net.devices p.delivery.session.sub ≡ Some p.delivery.session.device
   pub same : new.net.devices ≡ w.net.devices
   pub subscribers : AreSubscribers rows
   pub handed : IsHanded p told w.devices new.devices
   pub reaches : device_in c ≡ Some p.delivery.session.sub
   pub usim : usim_in c ≡ told.notes.usim
-  pub turn : told.notes.usim ≡ (peer_turn p.device (keeps_at w.net p.delivery.session.device) p.delivery.session told).1.notes.usim
+  pub turn : told.notes.usim ≡ (peer_turn set p.device (keeps_at w.net p.delivery.session.device) p.delivery.session told).1.notes.usim
   pub hands : p.challenge ≡ asked (peer_row p.delivery.session.peer told.seen)
 
 module _ (rows : List Row) (w new : WorldState) (told : Told) (c : Came) (p : Presented) (h : Hands rows w new told c p) where
@@ -148,7 +151,7 @@ module _ (rows : List Row) (w new : WorldState) (told : Told) (c : Came) (p : Pr
   remembers (Some challenge) None row lines handed is asks past = absurd asks
   remembers (Some challenge) (Some n) row lines handed is asks past =
       subst (λ (x : Past). Remembers h.handed.after.usim.array x)
-      (sym (ap (λ (o : Option UsimNote). past_of row.usim (accepted p.delivery.session.sub lines ++ sqn_accepted o)) (told_note told (keeps_at w.net p.delivery.session.device) p challenge n is handed h.hands h.turn)
+      (sym (ap (λ (o : Option UsimNote). past_of row.usim (accepted p.delivery.session.sub lines ++ sqn_accepted o)) (told_note h.set told (keeps_at w.net p.delivery.session.device) p challenge n is handed h.hands h.turn)
       ∙ past_noted row.usim (accepted p.delivery.session.sub lines) (answer_noted p.device.secret challenge n)))
       (asks (past_of row.usim (accepted p.delivery.session.sub lines)) past).1
 

@@ -84,6 +84,7 @@ module _ {S : Type 0} (goes : S → ℕ → List Entry → List (ℕ × Stop) �
   hands a p is =
       let reaches : device_in c ≡ Some p.delivery.session.sub = ap device_in a.applies.is ∙ (agreed a).reaches ∙ ap presented_sub is in
       record {
+        set = set;
         at = subst (λ (o : Option Presented). IsPresentedAt Place o) is (presented_is_at Place w.net e a.applies.told a.placed);
         same = a.same;
         subscribers = a.subscribers;
@@ -168,6 +169,7 @@ module _ {S : Type 0} (goes : S → ℕ → List Entry → List (ℕ × Stop) �
         leads = a.applies.leads;
         received = a.applies.received;
         notes = a.applies.notes;
+        replies = a.applies.replies;
         centre = asked_after a most known;
         usim = handed_after a (before_at early beside own) stands.pasts;
       };

@@ -20,7 +20,7 @@ use Rattle.auc_world.specs.Given.{past_of}
 use Rattle.auc_world.specs.Lines.{accepted, all_lines}
 use Rattle.auc_world.specs.Net.{Net}
 use Rattle.auc_world.specs.Pieces.{IsQuiet}
-use Rattle.auc_world.specs.Start.{Kept, kept_by_jobs, kept_with, put_back}
+use Rattle.auc_world.specs.Start.{Kept, kept_by_jobs, kept_now, kept_with, put_back}
 use Rattle.auc_world.proofs.Facts.{accepted-append}
 use Rattle.auc_jobs.specs.Usims.{AreOfRows, AreBehind}
 use Rattle.auc_jobs.specs.InnerRound.{IsSettled, AreSettled, left_in, left_on}
@@ -100,7 +100,7 @@ placed_jobs rows early front old new (job ∷ jobs) (lines ∷ records) (usims �
 same_back : (stores : List Kept) (homes : List HomeRow) (devices : List Device) → put_devices stores homes devices ≡ put_back stores homes (map (λ (device : Device). device.store) devices)
 same_back stores [] devices = refl
 same_back stores (home ∷ homes) [] = refl
-same_back stores (home ∷ homes) (device ∷ devices) = ap (λ (ks : List Kept). slice_set ks home.sub (home.ordinals, device.store)) (same_back stores homes devices)
+same_back stores (home ∷ homes) (device ∷ devices) = ap (λ (ks : List Kept). slice_set ks home.sub (kept_now home device.store)) (same_back stores homes devices)
 
 put_alike : (stores : List Kept) (own : OwnDevices) (net : Net) → left_on own ≡ left_in net → put_own stores own ≡ kept_with stores net
 put_alike stores own net left = same_back stores own.homes own.devices ∙ ap (λ (l : List HomeRow × List Keeps). put_back stores l.0 l.1) left
@@ -119,7 +119,7 @@ put_all_alike stores (first ∷ own) (net ∷ nets) left =
 length-put_back : (stores : List Kept) (homes : List HomeRow) (devices : List Device) → length (put_devices stores homes devices) ≡ length stores
 length-put_back stores [] devices = refl
 length-put_back stores (home ∷ homes) [] = refl
-length-put_back stores (home ∷ homes) (device ∷ devices) = length-set (put_devices stores homes devices) home.sub (home.ordinals, device.store) ∙ length-put_back stores homes devices
+length-put_back stores (home ∷ homes) (device ∷ devices) = length-set (put_devices stores homes devices) home.sub (kept_now home device.store) ∙ length-put_back stores homes devices
 
 pub length-put_all : (stores : List Kept) (own : List OwnDevices) → length (fold put_own stores own) ≡ length stores
 length-put_all stores [] = refl

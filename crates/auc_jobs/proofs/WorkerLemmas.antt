@@ -53,7 +53,7 @@ starts_copies set usims stores job sub are size known =
 pub realms_fit : (set : Setting) (usims : List Memory) (stores : List Kept) (subs : List ℕ) → length set.realm ≤ 255 → All (λ (d : Device). length d.realm ≤ 255) (flat_map (device_of set usims stores) subs)
 realms_fit set usims stores [] short = All-nil (λ (d : Device). length d.realm ≤ 255)
 realms_fit set usims stores (s ∷ subs) short =
-    All-append (λ (d : Device). length d.realm ≤ 255) (device_of set usims stores s) (flat_map (device_of set usims stores) subs) (by (slice_get set.rows s) (slice_get usims s) (kept_of stores s).1) (realms_fit set usims stores subs short)
+    All-append (λ (d : Device). length d.realm ≤ 255) (device_of set usims stores s) (flat_map (device_of set usims stores) subs) (by (slice_get set.rows s) (slice_get usims s) (kept_of stores s).device) (realms_fit set usims stores subs short)
   where
     by : (row : Option Row) (usim : Option Memory) (keeps : Keeps) → All (λ (d : Device). length d.realm ≤ 255) (device_with set row usim keeps)
     by None usim keeps = All-nil (λ (d : Device). length d.realm ≤ 255)

@@ -1,6 +1,6 @@
 //! What serves a job.
 
-ghost use Rattle.std.specs.Prelude.{◌≡◌, [], length, IfOk};
+ghost use Rattle.std.specs.Prelude.{◌≡◌, ◌≤◌, [], length, IfOk};
 ghost use Rattle.auc_jobs.specs.InnerUsims.{usim_of};
 ghost use Rattle.auc_jobs.specs.InnerWorker.{WorkerState, AreForRows};
 ghost use Rattle.auc_jobs.specs.Usims.{HaveSecrets};
@@ -27,6 +27,7 @@ pub(crate) struct Worker<'a, C: Centre> {
 }
 
 impl<'a, C: Centre> Model for Worker<'a, C> {
+    ghost use Rattle.std.specs.Prelude.{◌≤◌, length};
     ghost use Rattle.auc_jobs.specs.InnerWorker.{WorkerState, AreForRows};
 
     ghost Value = { WorkerState C };
@@ -40,7 +41,8 @@ impl<'a, C: Centre> Model for Worker<'a, C> {
       lines = w.lines;
     } };
 
-    ghost invariant = { λ w. AreForRows w.set.now.rows (C.subs w.centre.now) (C.top w.centre.now) w.world };
+    ghost invariant = { λ w. AreForRows w.set.now.rows (C.subs w.centre.now) (C.top w.centre.now) w.world
+        × (length w.set.now.realm ≤ 255) };
 }
 
 impl<'a, C: Centre> Worker<'a, C> {
@@ -52,7 +54,8 @@ impl<'a, C: Centre> Worker<'a, C> {
         released: &'a Numbers,
         world: World,
     ) -> Worker<'a, C>
-        requires { AreForRows set.now.rows (C.subs centre.old) (C.top centre.old) world }
+        requires rows { AreForRows set.now.rows (C.subs centre.old) (C.top centre.old) world }
+        requires realm { length set.now.realm ≤ 255 }
         ensures { result ≡ record {
           centre = centre.old;
           lent = centre.entry.ghost_name;

@@ -15,8 +15,8 @@ pub enum End {
 /// The identity that a session's peer gives first (RFC 3748 §5.1).
 #[derive(Drop)]
 pub enum Identity {
-    /// The one that the device holds: the pseudonym of the session's method if it has one, else the permanent identity
-    /// (RFC 4187 §4.1).
+    /// The one that the device holds: the re-authentication identity of the session's method if it has one, else the
+    /// pseudonym, else the permanent identity (RFC 4187 §4.1).
     Held,
     /// The permanent identity.
     Permanent,
@@ -39,6 +39,8 @@ pub struct SessionLine {
     pub peer_name: Option<Octets>,
     /// Whether the server offers pseudonyms (RFC 4187 §4.1.1.7).
     pub pseudonym: bool,
+    /// Whether the server offers re-authentication identities (RFC 4187 §4.1.1.8).
+    pub reauth: bool,
     /// Whether the server of EAP-AKA tells that it would rather have used EAP-AKA' (RFC 9048 §4).
     pub bidding: bool,
     /// Whether the server asks for any identity (RFC 4187 §10.3) before it looks at one.

@@ -1,6 +1,8 @@
 pub mod Facts
 mod AskingLemmas
+mod ReauthLemmas
 mod MessageLemmas
+mod CounterLemmas
 mod OptionLemmas
 mod LawLemmas
 mod FitsLemmas
@@ -10,3 +12,4 @@ mod NetworkLemmas
 mod TurnLemmas
 mod AdoptLemmas
 mod StepLemmas
+mod PlaceLemmas

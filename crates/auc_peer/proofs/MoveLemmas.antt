@@ -1,6 +1,7 @@
 -- What a turn does to the inputs of a peer's keys.
 use Rattle.std.proofs.Common.{◌≡◌, ◌⊎◌, ℕ, ◌==◌, ◌||◌, ◌&&◌, nat_le, nat_lt, Bool, true, false, cond, not, List, [], Option, Some, None, refl, ap, ◌∙◌, inl, inr}
 use Rattle.auc_hmac.specs.declared.keys.KeySet.{KeySet}
+use Rattle.auc_hmac.specs.declared.keys.Master.{Master}
 use Rattle.auc_hmac.specs.declared.method.Method.{Method}
 use Rattle.auc_packet.specs.Head.{head_at}
 use Rattle.auc_packet.specs.Messages.{is_malformed}
@@ -17,7 +18,7 @@ use Rattle.auc_peer.specs.Attributes.{checkcode, differs}
 use Rattle.auc_peer.specs.Laws.{EachTurnMoves}
 use Rattle.auc_peer.specs.Rows.{is_last, late, notified_or, of_kind, on_failure, on_success, peer_row, repeats, requested, row_headed, row_in}
 use Rattle.auc_peer.specs.Subscription.{Subscription}
-use Rattle.auc_peer.specs.Table.{accepted, accepting, again, by_answer, challenged, client, genuine, keys_at, opened, own_code, peer_does, succeeded}
+use Rattle.auc_peer.specs.Table.{accepted, accepting, again, by_answer, challenged, client, genuine, keys_at, master_at, opened, own_code, peer_does, reauthenticated, succeeded, with_inner}
 use Rattle.auc_peer.specs.declared.decrypted.Decrypted.{Decrypted}
 use Rattle.auc_peer.specs.declared.decrypted.Decrypted.TheVariants as decrypted
 use Rattle.auc_reauth.specs.Device.{Keeps}
@@ -38,16 +39,18 @@ use Rattle.auc_vector.specs.declared.turn.Outcome.TheVariants as outcome
 use Rattle.auc_vector.specs.declared.turn.Reason.TheVariants as reason
 use Rattle.auc_vector.specs.declared.turn.Step.TheVariants as step
 use Rattle.auc_vector.specs.declared.turn.Turn.{Turn}
-use Rattle.auc_peer.proofs.LawLemmas.{again_none, challenged_none, row_success}
+use Rattle.auc_peer.proofs.LawLemmas.{again_none, challenged_none, reauth_none, row_success}
 use Rattle.auc_peer.proofs.OptionLemmas.{on_cond, row_options}
+use Rattle.auc_peer.proofs.ReauthLemmas.{on_reauth}
 
 -- ---- which rows are a waiting peer's
 
--- an identity is sent, and a challenge taken, by a waiting peer
-abbrev Waits : Peer → Row → Type 0
+-- an identity is sent, a challenge taken and a context resumed by a waiting peer
+abbrev pub Waits : Peer → Row → Type 0
 Waits p row.First = p.state ≡ state.Waiting
 Waits p (row.Identity asked) = p.state ≡ state.Waiting
 Waits p (row.Challenged c) = p.state ≡ state.Waiting
+Waits p row.Reauthentication = p.state ≡ state.Waiting
 Waits p other = Unit {0}
 
 picked : (P : Row → Type 0) (b : Bool) (x y : Row) → P x → P y → P (cond b x y)
@@ -58,6 +61,7 @@ any_waits : (p : Peer) (r : Row) → p.state ≡ state.Waiting → Waits p r
 any_waits p row.First e = e
 any_waits p (row.Identity asked) e = e
 any_waits p (row.Challenged c) e = e
+any_waits p row.Reauthentication e = e
 any_waits p (row.Ignore cause) e = tt
 any_waits p row.Again e = tt
 any_waits p (row.Client cause) e = tt
@@ -115,7 +119,7 @@ headed_waits p s last seen (Some head) e =
     picked (Waits p) (head.code == 2) (row.Ignore reason.NotForMe) (cond (repeats last seen.bytes) row.Again (of_kind p.options s last seen head head.kind)) tt
     (picked (Waits p) (repeats last seen.bytes) row.Again (of_kind p.options s last seen head head.kind) tt (kind_waits p s last seen head head.kind e))
 
-in_waits : (p : Peer) (s : PeerState) (last : Option Last) (seen : Seen) → p.state ≡ s → Waits p (row_in p.options s last seen)
+pub in_waits : (p : Peer) (s : PeerState) (last : Option Last) (seen : Seen) → p.state ≡ s → Waits p (row_in p.options s last seen)
 in_waits p state.Ended last seen e = tt
 in_waits p state.Waiting last seen e = headed_waits p state.Waiting last seen (head_at seen.bytes) e
 in_waits p (state.Answered keys) last seen e = headed_waits p (state.Answered keys) last seen (head_at seen.bytes) e
@@ -136,17 +140,18 @@ succeeded_keeps p state.Waiting = inr (refl, refl)
 succeeded_keeps p (state.Refusing cause) = inr (refl, refl)
 succeeded_keeps p state.Ended = inr (refl, refl)
 
-row_keeps : (s : Subscription) (keeps : Keeps) (p : Peer) (seen : Seen) (r : Row) (n : Option UsimNote) (inner : Decrypted) → Waits p r → Stays p (peer_does s keeps p seen r n inner)
-row_keeps s keeps p seen (row.Ignore cause) n inner w = inr (refl, refl)
-row_keeps s keeps p seen row.Again n inner w = again_keeps p p.last
-row_keeps s keeps p seen row.First n inner w = inl w
-row_keeps s keeps p seen (row.Identity asked) n inner w = inl w
-row_keeps s keeps p seen (row.Client cause) n inner w = inr (refl, refl)
-row_keeps s keeps p seen (row.Reject cause) n inner w = inr (refl, refl)
-row_keeps s keeps p seen (row.Notified code) n inner w = inr (refl, refl)
-row_keeps s keeps p seen (row.Challenged c) n inner w = inl w
-row_keeps s keeps p seen row.Success n inner w = succeeded_keeps p p.state
-row_keeps s keeps p seen (row.Failure cause) n inner w = inr (refl, refl)
+row_keeps : (key : List ℕ) (s : Subscription) (keeps : Keeps) (p : Peer) (seen : Seen) (r : Row) (n : Option UsimNote) (inner : Decrypted) → Waits p r → Stays p (peer_does key s keeps p seen r n inner)
+row_keeps key s keeps p seen (row.Ignore cause) n inner w = inr (refl, refl)
+row_keeps key s keeps p seen row.Again n inner w = again_keeps p p.last
+row_keeps key s keeps p seen row.First n inner w = inl w
+row_keeps key s keeps p seen (row.Identity asked) n inner w = inl w
+row_keeps key s keeps p seen (row.Client cause) n inner w = inr (refl, refl)
+row_keeps key s keeps p seen (row.Reject cause) n inner w = inr (refl, refl)
+row_keeps key s keeps p seen (row.Notified code) n inner w = inr (refl, refl)
+row_keeps key s keeps p seen (row.Challenged c) n inner w = inl w
+row_keeps key s keeps p seen row.Reauthentication n inner w = inl w
+row_keeps key s keeps p seen row.Success n inner w = succeeded_keeps p p.state
+row_keeps key s keeps p seen (row.Failure cause) n inner w = inr (refl, refl)
 
 -- the name of the network stays, unless a waiting peer takes a challenge
 abbrev KeepsNetwork : Peer → Peer × Turn PeerWhy → Type 0
@@ -162,17 +167,45 @@ succeeded_network p state.Waiting = inr refl
 succeeded_network p (state.Refusing cause) = inr refl
 succeeded_network p state.Ended = inr refl
 
-row_network : (s : Subscription) (keeps : Keeps) (p : Peer) (seen : Seen) (r : Row) (n : Option UsimNote) (inner : Decrypted) → Waits p r → KeepsNetwork p (peer_does s keeps p seen r n inner)
-row_network s keeps p seen (row.Ignore cause) n inner w = inr refl
-row_network s keeps p seen row.Again n inner w = again_network p p.last
-row_network s keeps p seen row.First n inner w = inr refl
-row_network s keeps p seen (row.Identity asked) n inner w = inr refl
-row_network s keeps p seen (row.Client cause) n inner w = inr refl
-row_network s keeps p seen (row.Reject cause) n inner w = inr refl
-row_network s keeps p seen (row.Notified code) n inner w = inr refl
-row_network s keeps p seen (row.Challenged c) n inner w = inl w
-row_network s keeps p seen row.Success n inner w = succeeded_network p p.state
-row_network s keeps p seen (row.Failure cause) n inner w = inr refl
+row_network : (key : List ℕ) (s : Subscription) (keeps : Keeps) (p : Peer) (seen : Seen) (r : Row) (n : Option UsimNote) (inner : Decrypted) → Waits p r → KeepsNetwork p (peer_does key s keeps p seen r n inner)
+row_network key s keeps p seen (row.Ignore cause) n inner w = inr refl
+row_network key s keeps p seen row.Again n inner w = again_network p p.last
+row_network key s keeps p seen row.First n inner w = inr refl
+row_network key s keeps p seen (row.Identity asked) n inner w = inr refl
+row_network key s keeps p seen (row.Client cause) n inner w = inr refl
+row_network key s keeps p seen (row.Reject cause) n inner w = inr refl
+row_network key s keeps p seen (row.Notified code) n inner w = inr refl
+row_network key s keeps p seen (row.Challenged c) n inner w = inl w
+row_network key s keeps p seen row.Reauthentication n inner w = inl w
+row_network key s keeps p seen row.Success n inner w = succeeded_network p p.state
+row_network key s keeps p seen (row.Failure cause) n inner w = inr refl
+
+-- so does the context that was resumed, and what was decrypted
+abbrev KeepsInner : Peer → Peer × Turn PeerWhy → Type 0
+KeepsInner p t = (p.state ≡ state.Waiting) ⊎ ((t.0.resumed ≡ p.resumed) × (t.0.inner ≡ p.inner))
+
+again_inner : (p : Peer) (last : Option Last) → KeepsInner p (again p last)
+again_inner p None = inr (refl, refl)
+again_inner p (Some last) = inr (refl, refl)
+
+succeeded_inner : (p : Peer) (s : PeerState) → KeepsInner p (succeeded p s)
+succeeded_inner p (state.Answered keys) = inr (refl, refl)
+succeeded_inner p state.Waiting = inr (refl, refl)
+succeeded_inner p (state.Refusing cause) = inr (refl, refl)
+succeeded_inner p state.Ended = inr (refl, refl)
+
+row_inner : (key : List ℕ) (s : Subscription) (keeps : Keeps) (p : Peer) (seen : Seen) (r : Row) (n : Option UsimNote) (inner : Decrypted) → Waits p r → KeepsInner p (peer_does key s keeps p seen r n inner)
+row_inner key s keeps p seen (row.Ignore cause) n inner w = inr (refl, refl)
+row_inner key s keeps p seen row.Again n inner w = again_inner p p.last
+row_inner key s keeps p seen row.First n inner w = inr (refl, refl)
+row_inner key s keeps p seen (row.Identity asked) n inner w = inr (refl, refl)
+row_inner key s keeps p seen (row.Client cause) n inner w = inr (refl, refl)
+row_inner key s keeps p seen (row.Reject cause) n inner w = inr (refl, refl)
+row_inner key s keeps p seen (row.Notified code) n inner w = inr (refl, refl)
+row_inner key s keeps p seen (row.Challenged c) n inner w = inl w
+row_inner key s keeps p seen row.Reauthentication n inner w = inl w
+row_inner key s keeps p seen row.Success n inner w = succeeded_inner p p.state
+row_inner key s keeps p seen (row.Failure cause) n inner w = inr (refl, refl)
 
 -- ---- keys come with a right AT_MAC
 
@@ -185,21 +218,21 @@ refused keys w e = cc
 client_checks : (p : Peer) (seen : Seen) (w : PeerWhy) (n : Option UsimNote) (checked : Bool) (keys : KeySet) → Checks keys (client p seen w n checked)
 client_checks p seen w n checked keys = λ e. absurd (refused keys w e)
 
-opened_checks : (p : Peer) (seen : Seen) (res sqn : List ℕ) (k : KeySet) (inner : Decrypted) (keys : KeySet) → Checks keys (opened p seen res sqn k inner)
-opened_checks p seen res sqn k (decrypted.Attributes next) keys = λ e. refl
-opened_checks p seen res sqn k decrypted.Unreadable keys = client_checks p seen why.Undecryptable (Some (note.Accepted sqn)) true keys
+opened_checks : (p : Peer) (seen : Seen) (res sqn : List ℕ) (k : KeySet) (m : Master) (inner : Decrypted) (keys : KeySet) → Checks keys (opened p seen res sqn k m inner)
+opened_checks p seen res sqn k m (decrypted.Attributes next) keys = λ e. refl
+opened_checks p seen res sqn k m decrypted.Unreadable keys = client_checks (with_inner p decrypted.Unreadable) seen why.Undecryptable (Some (note.Accepted sqn)) true keys
 
-accepted_checks : (p : Peer) (seen : Seen) (c : Challenge) (res sqn : List ℕ) (k : KeySet) (inner : Decrypted) (keys : KeySet) → Checks keys (accepted p seen c res sqn k inner)
-accepted_checks p seen c res sqn k inner keys =
-    on_cond (Checks keys) (not (is_sealed p.options.method k.k_aut [] seen)) (client p seen why.WrongMac (Some (note.Accepted sqn)) false) (genuine (accepting p seen c) seen res sqn k inner)
+accepted_checks : (p : Peer) (seen : Seen) (c : Challenge) (res sqn : List ℕ) (k : KeySet) (m : Master) (inner : Decrypted) (keys : KeySet) → Checks keys (accepted p seen c res sqn k m inner)
+accepted_checks p seen c res sqn k m inner keys =
+    on_cond (Checks keys) (not (is_sealed p.options.method k.k_aut [] seen)) (client p seen why.WrongMac (Some (note.Accepted sqn)) false) (genuine (accepting p seen c) seen res sqn k m inner)
     (client_checks p seen why.WrongMac (Some (note.Accepted sqn)) false keys)
-    (on_cond (Checks keys) (differs (own_code p) (checkcode seen)) (client (accepting p seen c) seen why.WrongCheckcode (Some (note.Accepted sqn)) true) (opened (accepting p seen c) seen res sqn k inner)
-    (client_checks (accepting p seen c) seen why.WrongCheckcode (Some (note.Accepted sqn)) true keys) (opened_checks (accepting p seen c) seen res sqn k inner keys))
+    (on_cond (Checks keys) (differs (own_code p) (checkcode seen)) (client (accepting p seen c) seen why.WrongCheckcode (Some (note.Accepted sqn)) true) (opened (accepting p seen c) seen res sqn k m inner)
+    (client_checks (accepting p seen c) seen why.WrongCheckcode (Some (note.Accepted sqn)) true keys) (opened_checks (accepting p seen c) seen res sqn k m inner keys))
 
 answer_checks : (p : Peer) (seen : Seen) (c : Challenge) (a : Answer) (inner : Decrypted) (keys : KeySet) → Checks keys (by_answer p seen c a inner)
 answer_checks p seen c answer.WrongMac inner keys = λ e. absurd cc
 answer_checks p seen c (answer.SyncFailure auts sqn) inner keys = λ e. absurd cc
-answer_checks p seen c (answer.Accepted res ck ik ak amf sqn) inner keys = accepted_checks p seen c res sqn (keys_at p seen c ik ck) inner keys
+answer_checks p seen c (answer.Accepted res ck ik ak amf sqn) inner keys = accepted_checks p seen c res sqn (keys_at p seen c ik ck) (master_at p seen c ik ck) inner keys
 
 abbrev Right : KeySet → Peer → Peer × Turn PeerWhy → Type 0
 Right keys p t = (p.state ≡ state.Answered keys) ⊎ (t.1.checked ≡ true)
@@ -219,18 +252,32 @@ succeeded_checks p state.Waiting keys e = inl e
 succeeded_checks p (state.Refusing cause) keys e = inl e
 succeeded_checks p state.Ended keys e = inl e
 
-row_checks : (s : Subscription) (keeps : Keeps) (p : Peer) (seen : Seen) (r : Row) (n : Option UsimNote) (inner : Decrypted) (keys : KeySet)
-    → (peer_does s keeps p seen r n inner).0.state ≡ state.Answered keys → Right keys p (peer_does s keeps p seen r n inner)
-row_checks s keeps p seen (row.Ignore cause) n inner keys e = inl e
-row_checks s keeps p seen row.Again n inner keys e = again_checks p p.last keys e
-row_checks s keeps p seen row.First n inner keys e = absurd cc
-row_checks s keeps p seen (row.Identity asked) n inner keys e = absurd cc
-row_checks s keeps p seen (row.Client cause) n inner keys e = absurd cc
-row_checks s keeps p seen (row.Reject cause) n inner keys e = absurd (refused keys cause e)
-row_checks s keeps p seen (row.Notified code) n inner keys e = absurd cc
-row_checks s keeps p seen (row.Challenged c) n inner keys e = challenged_checks s p seen c n inner keys e
-row_checks s keeps p seen row.Success n inner keys e = succeeded_checks p p.state keys e
-row_checks s keeps p seen (row.Failure cause) n inner keys e = absurd cc
+reauth_checks : (key : List ℕ) (keeps : Keeps) (p : Peer) (seen : Seen) (inner : Decrypted) (keys : KeySet)
+    → (reauthenticated key keeps p seen inner).0.state ≡ state.Answered keys → Right keys p (reauthenticated key keeps p seen inner)
+reauth_checks key keeps p seen inner keys =
+    on_reauth (λ t. t.0.state ≡ state.Answered keys → Right keys p t) key keeps p seen inner (λ e. inl e)
+    (λ c here. record {
+      missing = λ e. absurd (refused keys why.Missing e);
+      wrong = λ e. absurd (refused keys why.WrongMac e);
+      other = λ e. inr refl;
+      hidden = λ e. inr refl;
+      accepts = λ given counter nonce is e. inr refl;
+      refuses = λ given counter nonce e. inr refl;
+    })
+
+row_checks : (key : List ℕ) (s : Subscription) (keeps : Keeps) (p : Peer) (seen : Seen) (r : Row) (n : Option UsimNote) (inner : Decrypted) (keys : KeySet)
+    → (peer_does key s keeps p seen r n inner).0.state ≡ state.Answered keys → Right keys p (peer_does key s keeps p seen r n inner)
+row_checks key s keeps p seen (row.Ignore cause) n inner keys e = inl e
+row_checks key s keeps p seen row.Again n inner keys e = again_checks p p.last keys e
+row_checks key s keeps p seen row.First n inner keys e = absurd cc
+row_checks key s keeps p seen (row.Identity asked) n inner keys e = absurd cc
+row_checks key s keeps p seen (row.Client cause) n inner keys e = absurd cc
+row_checks key s keeps p seen (row.Reject cause) n inner keys e = absurd (refused keys cause e)
+row_checks key s keeps p seen (row.Notified code) n inner keys e = absurd cc
+row_checks key s keeps p seen (row.Challenged c) n inner keys e = challenged_checks s p seen c n inner keys e
+row_checks key s keeps p seen row.Reauthentication n inner keys e = reauth_checks key keeps p seen inner keys e
+row_checks key s keeps p seen row.Success n inner keys e = succeeded_checks p p.state keys e
+row_checks key s keeps p seen (row.Failure cause) n inner keys e = absurd cc
 
 -- ---- the end of a session
 
@@ -243,29 +290,32 @@ succeeded_ends p state.Waiting keys bytes e = absurd cc
 succeeded_ends p (state.Refusing cause) keys bytes e = absurd cc
 succeeded_ends p state.Ended keys bytes e = absurd cc
 
-row_ends : (s : Subscription) (keeps : Keeps) (p : Peer) (seen : Seen) (r : Row) (n : Option UsimNote) (inner : Decrypted) (keys : KeySet) (bytes : List ℕ)
-    → Succeeds keys bytes (peer_does s keeps p seen r n inner) → (peer_does s keeps p seen r n inner).0.state ≡ state.Ended
-row_ends s keeps p seen (row.Ignore cause) n inner keys bytes e = absurd cc
-row_ends s keeps p seen row.Again n inner keys bytes e = absurd (again_none p p.last keys bytes e)
-row_ends s keeps p seen row.First n inner keys bytes e = absurd cc
-row_ends s keeps p seen (row.Identity asked) n inner keys bytes e = absurd cc
-row_ends s keeps p seen (row.Client cause) n inner keys bytes e = absurd cc
-row_ends s keeps p seen (row.Reject cause) n inner keys bytes e = absurd cc
-row_ends s keeps p seen (row.Notified code) n inner keys bytes e = absurd cc
-row_ends s keeps p seen (row.Challenged c) n inner keys bytes e = absurd (challenged_none s p seen c n keys bytes inner e)
-row_ends s keeps p seen row.Success n inner keys bytes e = succeeded_ends p p.state keys bytes e
-row_ends s keeps p seen (row.Failure cause) n inner keys bytes e = refl
+row_ends : (key : List ℕ) (s : Subscription) (keeps : Keeps) (p : Peer) (seen : Seen) (r : Row) (n : Option UsimNote) (inner : Decrypted) (keys : KeySet) (bytes : List ℕ)
+    → Succeeds keys bytes (peer_does key s keeps p seen r n inner) → (peer_does key s keeps p seen r n inner).0.state ≡ state.Ended
+row_ends key s keeps p seen (row.Ignore cause) n inner keys bytes e = absurd cc
+row_ends key s keeps p seen row.Again n inner keys bytes e = absurd (again_none p p.last keys bytes e)
+row_ends key s keeps p seen row.First n inner keys bytes e = absurd cc
+row_ends key s keeps p seen (row.Identity asked) n inner keys bytes e = absurd cc
+row_ends key s keeps p seen (row.Client cause) n inner keys bytes e = absurd cc
+row_ends key s keeps p seen (row.Reject cause) n inner keys bytes e = absurd cc
+row_ends key s keeps p seen (row.Notified code) n inner keys bytes e = absurd cc
+row_ends key s keeps p seen (row.Challenged c) n inner keys bytes e = absurd (challenged_none s p seen c n keys bytes inner e)
+row_ends key s keeps p seen row.Reauthentication n inner keys bytes e = absurd (reauth_none key keeps p seen inner keys bytes e)
+row_ends key s keeps p seen row.Success n inner keys bytes e = succeeded_ends p p.state keys bytes e
+row_ends key s keeps p seen (row.Failure cause) n inner keys bytes e = refl
 
 -- each turn
 pub each_turn_moves : EachTurnMoves
-each_turn_moves s keeps p seen n inner = record {
-  options = row_options s keeps p seen (peer_row p seen) n inner;
-  network = row_network s keeps p seen (peer_row p seen) n inner (in_waits p p.state p.last seen refl);
-  keeps = row_keeps s keeps p seen (peer_row p seen) n inner (in_waits p p.state p.last seen refl);
-  keys = λ keys e. row_checks s keeps p seen (peer_row p seen) n inner keys e;
+each_turn_moves key s keeps p seen n inner = record {
+  options = row_options key s keeps p seen (peer_row p seen) n inner;
+  network = row_network key s keeps p seen (peer_row p seen) n inner (in_waits p p.state p.last seen refl);
+  keeps = row_keeps key s keeps p seen (peer_row p seen) n inner (in_waits p p.state p.last seen refl);
+  resumed = elim (row_inner key s keeps p seen (peer_row p seen) n inner (in_waits p p.state p.last seen refl)) [ inl h ↦ inl h | inr h ↦ inr h.0 ];
+  inner = elim (row_inner key s keeps p seen (peer_row p seen) n inner (in_waits p p.state p.last seen refl)) [ inl h ↦ inl h | inr h ↦ inr h.1 ];
+  keys = λ keys e. row_checks key s keeps p seen (peer_row p seen) n inner keys e;
   success = λ keys bytes e. (
-    row_success s keeps p seen (peer_row p seen) n inner keys bytes e,
-    row_ends s keeps p seen (peer_row p seen) n inner keys bytes e,
+    row_success key s keeps p seen (peer_row p seen) n inner keys bytes e,
+    row_ends key s keeps p seen (peer_row p seen) n inner keys bytes e,
   );
-  ended = λ e. ap (λ (st : PeerState). (peer_does s keeps p seen (row_in p.options st p.last seen) n inner).0.state) e ∙ e;
+  ended = λ e. ap (λ (st : PeerState). (peer_does key s keeps p seen (row_in p.options st p.last seen) n inner).0.state) e ∙ e;
 }

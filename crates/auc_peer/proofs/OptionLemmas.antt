@@ -1,11 +1,12 @@
 -- No turn changes a peer's options.
 use Rattle.std.proofs.Common.{◌≡◌, ℕ, Bool, true, false, cond, not, List, [], Option, Some, None, refl}
 use Rattle.auc_hmac.specs.declared.keys.KeySet.{KeySet}
+use Rattle.auc_hmac.specs.declared.keys.Master.{Master}
 use Rattle.auc_packet.specs.Received.{Seen, is_sealed}
 use Rattle.auc_peer.specs.Asking.{answer_noted}
 use Rattle.auc_peer.specs.Attributes.{checkcode, differs}
 use Rattle.auc_peer.specs.Subscription.{Subscription}
-use Rattle.auc_peer.specs.Table.{accepted, accepting, again, by_answer, challenged, client, gave_up, genuine, keys_at, opened, own_code, peer_does, succeeded}
+use Rattle.auc_peer.specs.Table.{accepted, accepting, again, by_answer, challenged, client, gave_up, genuine, keys_at, master_at, opened, own_code, peer_does, succeeded}
 use Rattle.auc_peer.specs.declared.decrypted.Decrypted.{Decrypted}
 use Rattle.auc_peer.specs.declared.decrypted.Decrypted.TheVariants as decrypted
 use Rattle.auc_reauth.specs.Device.{Keeps}
@@ -23,6 +24,7 @@ use Rattle.auc_usim.specs.declared.answer.Answer.TheVariants as answer
 use Rattle.auc_vector.specs.declared.notes.UsimNote.{UsimNote}
 use Rattle.auc_vector.specs.declared.notes.UsimNote.TheVariants as note
 use Rattle.auc_vector.specs.declared.turn.Turn.{Turn}
+use Rattle.auc_peer.proofs.ReauthLemmas.{on_reauth}
 
 -- what holds of two turns holds of the one of them that a test picks
 pub on_cond : (P : Peer × Turn PeerWhy → Type 0) (b : Bool) (x y : Peer × Turn PeerWhy) → P x → P y → P (cond b x y)
@@ -32,20 +34,20 @@ on_cond P false x y f g = g
 abbrev Same : Peer → Peer × Turn PeerWhy → Type 0
 Same p t = t.0.options ≡ p.options
 
-opened_options : (p : Peer) (seen : Seen) (res sqn : List ℕ) (k : KeySet) (inner : Decrypted) → Same p (opened p seen res sqn k inner)
-opened_options p seen res sqn k (decrypted.Attributes next) = refl
-opened_options p seen res sqn k decrypted.Unreadable = refl
+opened_options : (p : Peer) (seen : Seen) (res sqn : List ℕ) (k : KeySet) (m : Master) (inner : Decrypted) → Same p (opened p seen res sqn k m inner)
+opened_options p seen res sqn k m (decrypted.Attributes next) = refl
+opened_options p seen res sqn k m decrypted.Unreadable = refl
 
-accepted_options : (p : Peer) (seen : Seen) (c : Challenge) (res sqn : List ℕ) (k : KeySet) (inner : Decrypted) → Same p (accepted p seen c res sqn k inner)
-accepted_options p seen c res sqn k inner =
-    on_cond (Same p) (not (is_sealed p.options.method k.k_aut [] seen)) (client p seen why.WrongMac (Some (note.Accepted sqn)) false) (genuine (accepting p seen c) seen res sqn k inner) refl
-    (on_cond (Same p) (differs (own_code p) (checkcode seen)) (client (accepting p seen c) seen why.WrongCheckcode (Some (note.Accepted sqn)) true) (opened (accepting p seen c) seen res sqn k inner) refl
-    (opened_options (accepting p seen c) seen res sqn k inner))
+accepted_options : (p : Peer) (seen : Seen) (c : Challenge) (res sqn : List ℕ) (k : KeySet) (m : Master) (inner : Decrypted) → Same p (accepted p seen c res sqn k m inner)
+accepted_options p seen c res sqn k m inner =
+    on_cond (Same p) (not (is_sealed p.options.method k.k_aut [] seen)) (client p seen why.WrongMac (Some (note.Accepted sqn)) false) (genuine (accepting p seen c) seen res sqn k m inner) refl
+    (on_cond (Same p) (differs (own_code p) (checkcode seen)) (client (accepting p seen c) seen why.WrongCheckcode (Some (note.Accepted sqn)) true) (opened (accepting p seen c) seen res sqn k m inner) refl
+    (opened_options (accepting p seen c) seen res sqn k m inner))
 
 answer_options : (p : Peer) (seen : Seen) (c : Challenge) (a : Answer) (inner : Decrypted) → Same p (by_answer p seen c a inner)
 answer_options p seen c answer.WrongMac inner = refl
 answer_options p seen c (answer.SyncFailure auts sqn) inner = refl
-answer_options p seen c (answer.Accepted res ck ik ak amf sqn) inner = accepted_options p seen c res sqn (keys_at p seen c ik ck) inner
+answer_options p seen c (answer.Accepted res ck ik ak amf sqn) inner = accepted_options p seen c res sqn (keys_at p seen c ik ck) (master_at p seen c ik ck) inner
 
 challenged_options : (s : Subscription) (p : Peer) (seen : Seen) (c : Challenge) (n : Option UsimNote) (inner : Decrypted) → Same p (challenged s p seen c n inner)
 challenged_options s p seen c None inner = refl
@@ -62,17 +64,20 @@ succeeded_options p (state.Refusing cause) = refl
 succeeded_options p state.Ended = refl
 
 -- each row
-pub row_options : (s : Subscription) (keeps : Keeps) (p : Peer) (seen : Seen) (r : Row) (n : Option UsimNote) (inner : Decrypted) → Same p (peer_does s keeps p seen r n inner)
-row_options s keeps p seen (row.Ignore cause) n inner = refl
-row_options s keeps p seen row.Again n inner = again_options p p.last
-row_options s keeps p seen row.First n inner = refl
-row_options s keeps p seen (row.Identity asked) n inner = refl
-row_options s keeps p seen (row.Client cause) n inner = refl
-row_options s keeps p seen (row.Reject cause) n inner = refl
-row_options s keeps p seen (row.Notified code) n inner = refl
-row_options s keeps p seen (row.Challenged c) n inner = challenged_options s p seen c n inner
-row_options s keeps p seen row.Success n inner = succeeded_options p p.state
-row_options s keeps p seen (row.Failure cause) n inner = refl
+pub row_options : (key : List ℕ) (s : Subscription) (keeps : Keeps) (p : Peer) (seen : Seen) (r : Row) (n : Option UsimNote) (inner : Decrypted) → Same p (peer_does key s keeps p seen r n inner)
+row_options key s keeps p seen (row.Ignore cause) n inner = refl
+row_options key s keeps p seen row.Again n inner = again_options p p.last
+row_options key s keeps p seen row.First n inner = refl
+row_options key s keeps p seen (row.Identity asked) n inner = refl
+row_options key s keeps p seen (row.Client cause) n inner = refl
+row_options key s keeps p seen (row.Reject cause) n inner = refl
+row_options key s keeps p seen (row.Notified code) n inner = refl
+row_options key s keeps p seen (row.Challenged c) n inner = challenged_options s p seen c n inner
+row_options key s keeps p seen row.Reauthentication n inner =
+    on_reauth (Same p) key keeps p seen inner refl
+    (λ c e. record { missing = refl; wrong = refl; other = refl; hidden = refl; accepts = λ given counter nonce is. refl; refuses = λ given counter nonce. refl })
+row_options key s keeps p seen row.Success n inner = succeeded_options p p.state
+row_options key s keeps p seen (row.Failure cause) n inner = refl
 
 -- a peer that gives up
 pub gave_options : (p : Peer) (s : PeerState) → (gave_up p s).0.options ≡ p.options

@@ -1,5 +1,7 @@
 -- Inner facts: what only private contracts of this crate cite. Memory for a turn, and messages that fit into it.
-use Rattle.std.specs.Prelude.{◌≡◌, ℕ, ◌+◌, ◌≤◌, List, [], length}
+use Rattle.std.specs.Prelude.{◌≡◌, ℕ, ◌+◌, ◌≤◌, Bool, List, [], length}
+use Rattle.auc_aes.specs.Cbc.{cbc_encrypted}
+use Rattle.auc_attr.specs.Spelling.{spelling}
 use Rattle.auc_attr.specs.declared.attr.Attr.{Attr}
 use Rattle.auc_edge.specs.Reserved.{Reserved}
 use Rattle.auc_hmac.specs.Mac.{no_mac}
@@ -7,8 +9,10 @@ use Rattle.auc_packet.specs.Sealed.{with_mac}
 use Rattle.auc_packet.specs.Spelling.{MayBeWritten, packet_text}
 use Rattle.auc_packet.specs.declared.packet.Packet.{Packet}
 use Rattle.auc_packet.specs.declared.sealing.Draft.{Draft}
+use Rattle.auc_peer.specs.Messages.{counter_attrs}
 use Rattle.auc_peer.specs.declared.rows.Row.{Row}
 use Rattle.auc_peer.specs.declared.rows.Row.TheVariants as row
+use Rattle.auc_seal.specs.Encrypted.{padded}
 
 -- memory for so many bytes, none of which is written
 pub record HasRoom (room : Reserved ℕ) (size : ℕ) : Type 0 where
@@ -19,6 +23,16 @@ pub record HasRoom (room : Reserved ℕ) (size : ℕ) : Type 0 where
 pub record HasPlaces (places : Reserved Attr) : Type 0 where
   pub empty : places.written ≡ []
   pub left : places.left ≡ 2
+
+-- places for the attributes of a Reauthentication response before AT_MAC
+pub record HasThreePlaces (places : Reserved Attr) : Type 0 where
+  pub empty : places.written ≡ []
+  pub left : places.left ≡ 3
+
+-- an initialisation vector is a block, and the ciphertext of a counter has one
+pub record IsOneBlock (k_encr iv : List ℕ) (counter : ℕ) (small : Bool) : Type 0 where
+  pub block : length iv ≡ 16
+  pub ciphertext : length (cbc_encrypted k_encr iv (spelling (padded (counter_attrs counter small)))) ≡ 16
 
 -- a message may be written, in at most 76 bytes
 pub record IsShort (p : Packet) : Type 0 where

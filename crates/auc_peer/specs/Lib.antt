@@ -8,4 +8,5 @@ pub mod Messages
 pub mod Table
 pub mod Turn
 pub mod Laws
+pub mod Places
 pub mod InnerRooms

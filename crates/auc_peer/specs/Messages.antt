@@ -1,5 +1,5 @@
 -- The messages that a peer sends, by its method (RFC 4187 §9, RFC 9048 §3).
-use Rattle.std.specs.Prelude.{ℕ, Bool, true, false, List, [], ◌∷◌}
+use Rattle.std.specs.Prelude.{ℕ, Bool, true, false, List, [], ◌∷◌, ◌++◌}
 use Rattle.auc_attr.specs.declared.attr.Attr.{Attr}
 use Rattle.auc_attr.specs.declared.attr.Attr.TheVariants as attr
 use Rattle.auc_hmac.specs.declared.method.Method.{Method}
@@ -10,6 +10,7 @@ use Rattle.auc_packet.specs.declared.packet.Packet.TheVariants as packet
 use Rattle.auc_packet.specs.declared.sealing.Draft.{Draft}
 use Rattle.auc_packet.specs.declared.subtype.Subtype.{Subtype}
 use Rattle.auc_packet.specs.declared.subtype.Subtype.TheVariants as subtype
+use Rattle.auc_seal.specs.Encrypted.{encrypted}
 
 -- a response of a method
 abbrev pub response : Method → ℕ → Subtype → List Attr → Packet
@@ -62,3 +63,24 @@ draft_of m id list = record {
 -- the bytes of the Challenge response (§9.4): AT_RES, AT_CHECKCODE and AT_MAC
 unfoldable pub response_bytes : Method → ℕ → List ℕ → List ℕ → Bool → List ℕ → List ℕ
 response_bytes m id k_aut res has own = sealed k_aut [] (draft_of m id (attr.Res res ∷ own_checkcode has own))
+
+-- ---- fast re-authentication
+
+-- what a Reauthentication response encrypts: AT_COUNTER, and AT_COUNTER_TOO_SMALL if the counter is (§10.16 and §10.17)
+abbrev pub counter_attrs : ℕ → Bool → List Attr
+counter_attrs counter true = attr.Counter counter ∷ attr.CounterTooSmall ∷ []
+counter_attrs counter false = attr.Counter counter ∷ []
+
+-- a Reauthentication response, to which AT_MAC is added
+abbrev pub reauth_draft : Method → ℕ → List ℕ → List ℕ → ℕ → Bool → Bool → List ℕ → Draft
+reauth_draft m id k_encr iv counter small has own = record {
+  method = m;
+  request = false;
+  id = id;
+  subtype = subtype.Reauthentication;
+  attrs = encrypted k_encr iv (counter_attrs counter small) ++ own_checkcode has own;
+}
+
+-- the bytes of the Reauthentication response (§9.8), whose AT_MAC authenticates NONCE_S besides (§10.15)
+unfoldable pub reauth_bytes : Method → ℕ → List ℕ → List ℕ → List ℕ → List ℕ → ℕ → Bool → Bool → List ℕ → List ℕ
+reauth_bytes m id k_encr k_aut iv nonce counter small has own = sealed k_aut nonce (reauth_draft m id k_encr iv counter small has own)

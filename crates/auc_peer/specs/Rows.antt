@@ -86,10 +86,10 @@ on_notification list = notified_or (row.Client why.Missing) (first_code list)
 abbrev pub on_identity : List Attr → Row
 on_identity list = if is_missing subtype.Identity true list then row.Client why.Missing else row.Identity (request_in list)
 
--- the peer has no context of a fast re-authentication
+-- the tests of a fast re-authentication need the device's context, so they are part of what is done
 abbrev pub on_sound : Told → Subtype → List Attr → Row
 on_sound o subtype.Challenge list = on_challenge o list
-on_sound o subtype.Reauthentication list = row.Ignore reason.NoContext
+on_sound o subtype.Reauthentication list = row.Reauthentication
 on_sound o subtype.Notification list = on_notification list
 on_sound o subtype.Identity list = on_identity list
 on_sound o other list = row.Ignore reason.Unexpected

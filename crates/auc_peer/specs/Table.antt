@@ -1,22 +1,29 @@
 -- The peer's table: what each row does. The second part of a row's pair is its turn.
-use Rattle.std.specs.Prelude.{ℕ, not, Bool, true, false, List, [], Option, Some, None, if◌then◌else◌}
+use Rattle.std.specs.Prelude.{ℕ, ◌+◌, ◌%◌, ◌^◌, not, Bool, true, false, List, [], ◌∷◌, Option, Some, None, if◌then◌else◌}
+use Rattle.std.specs.Int.{w64, from_be_bytes}
 use Rattle.auc_attr.specs.declared.attr.Attr.{Attr}
 use Rattle.auc_hmac.specs.declared.keys.KeySet.{KeySet}
+use Rattle.auc_hmac.specs.declared.keys.Master.{Master}
 use Rattle.auc_hmac.specs.declared.method.Method.{Method}
 use Rattle.auc_hmac.specs.declared.method.Method.TheVariants as method
+use Rattle.auc_ident.specs.Permanent.{username}
+use Rattle.auc_packet.specs.Messages.{is_missing}
 use Rattle.auc_packet.specs.Received.{Seen, is_sealed}
 use Rattle.auc_packet.specs.Spelling.{packet_text}
+use Rattle.auc_packet.specs.declared.subtype.Subtype.TheVariants as subtype
 use Rattle.auc_peer.specs.Asking.{answer_noted}
 use Rattle.auc_peer.specs.Attributes.{attrs_in, checkcode, differs, id_of, is_there, packet_in}
 use Rattle.auc_request.specs.Request.{name_in}
 pub use Rattle.auc_request.specs.Request.{text_or_none}
 use Rattle.auc_peer.specs.Identities.{adopted, asked_text, first_text}
-use Rattle.auc_peer.specs.Messages.{client_error, identified as identity_message, identity_response, notified, reject, response_bytes, sync_failure}
+use Rattle.auc_peer.specs.Messages.{client_error, identified as identity_message, identity_response, notified, reauth_bytes, reject, response_bytes, sync_failure}
 use Rattle.auc_peer.specs.Rows.{peer_row}
 use Rattle.auc_peer.specs.Subscription.{Subscription}
 use Rattle.auc_peer.specs.declared.decrypted.Decrypted.{Decrypted}
 use Rattle.auc_peer.specs.declared.decrypted.Decrypted.TheVariants as decrypted
 use Rattle.auc_peer.specs.Told.{Told}
+use Rattle.auc_peer.specs.declared.next.NextContext.{NextContext}
+use Rattle.auc_peer.specs.declared.next.NextContext.TheVariants as next
 use Rattle.auc_peer.specs.declared.peer.Challenge.{Challenge}
 use Rattle.auc_peer.specs.declared.peer.Last.{Last}
 use Rattle.auc_peer.specs.declared.peer.Peer.{Peer}
@@ -26,11 +33,17 @@ use Rattle.auc_peer.specs.declared.rows.Row.{Row}
 use Rattle.auc_peer.specs.declared.rows.Row.TheVariants as row
 use Rattle.auc_peer.specs.declared.why.PeerWhy.{PeerWhy}
 use Rattle.auc_peer.specs.declared.why.PeerWhy.TheVariants as why
-use Rattle.auc_reauth.specs.Device.{Keeps}
+use Rattle.auc_random.specs.Random.{nonce_of}
+use Rattle.auc_reauth.specs.Device.{Keeps, is_open, with_accepted}
+use Rattle.auc_reauth.specs.Server.{if_named}
+use Rattle.auc_reauth.specs.Store.{entry}
+use Rattle.auc_reauth.specs.declared.context.Context.{Context}
 use Rattle.auc_seal.specs.Checkcode.{checkcode_of, counted, value_bytes}
 use Rattle.auc_usim.specs.declared.answer.Answer.{Answer}
 use Rattle.auc_usim.specs.declared.answer.Answer.TheVariants as answer
-use Rattle.auc_vector.specs.Keys.{ck_by, ik_by, keys_of}
+use Rattle.auc_vector.specs.Keys.{ck_by, ik_by, keys_of, master_of, reauth_keys_of}
+use Rattle.auc_vector.specs.declared.notes.CounterNote.{CounterNote}
+use Rattle.auc_vector.specs.declared.notes.CounterNote.TheVariants as counts
 use Rattle.auc_vector.specs.declared.notes.Notes.{Notes}
 use Rattle.auc_vector.specs.declared.notes.UsimNote.{UsimNote}
 use Rattle.auc_vector.specs.declared.notes.UsimNote.TheVariants as note
@@ -52,7 +65,10 @@ new_peer o = record {
   accepted = None;
   network = [];
   packets = [];
-  pseudonym = None;
+  inner = decrypted.Unreadable;
+  resumed = None;
+  next = next.Same;
+  next_iv = 1;
 }
 
 -- a peer in another state
@@ -84,12 +100,16 @@ succeeded p other = ignored p reason.Unexpected
 abbrev pub last_of : Seen → List ℕ → Last
 last_of seen bytes = record { id = id_of seen; request = seen.bytes; answer = bytes }
 
--- a request is answered, and both are kept
-abbrev pub answered : Peer → Seen → PeerState → List ℕ → Option UsimNote → Bool → Peer × Turn PeerWhy
-answered p seen s bytes n checked = (
+-- a request is answered with some notes, and both are kept
+abbrev pub answered_noting : Peer → Seen → PeerState → List ℕ → Notes → Bool → Peer × Turn PeerWhy
+answered_noting p seen s bytes notes checked = (
   record p { state = s; last = Some (last_of seen bytes) },
-  record { notes = noted n; step = step.Sent bytes; checked = checked },
+  record { notes = notes; step = step.Sent bytes; checked = checked },
 )
+
+-- a request is answered with the USIM's note
+abbrev pub answered : Peer → Seen → PeerState → List ℕ → Option UsimNote → Bool → Peer × Turn PeerWhy
+answered p seen s bytes n checked = answered_noting p seen s bytes (noted n) checked
 
 -- the peer refuses by Client-Error (RFC 4187 §6.3.1)
 abbrev pub client : Peer → Seen → PeerWhy → Option UsimNote → Bool → Peer × Turn PeerWhy
@@ -156,69 +176,191 @@ network_in p seen = network_of p.options.method (attrs_in seen.reading)
 abbrev pub keys_at : Peer → Seen → Challenge → List ℕ → List ℕ → KeySet
 keys_at p seen c ik ck = keys_for p.options.method (network_in p seen) c (text_or_none p.identity) ik ck
 
-abbrev pub accepting : Peer → Seen → Challenge → Peer
-accepting p seen c = record p { accepted = Some c; network = network_in p seen }
+-- the master key of a received Challenge, from which the keys of later re-authentications are derived
+abbrev pub master_at : Peer → Seen → Challenge → List ℕ → List ℕ → Master
+master_at p seen c ik ck =
+    let m = p.options.method in
+    master_of m (text_or_none p.identity) (ik_by m (network_in p seen) c.autn ck ik) (ck_by m (network_in p seen) c.autn ck ik)
 
--- the pseudonym that is adopted at Success
-abbrev pub with_next : Peer → Option (List ℕ) → Peer
-with_next p next = record p { pseudonym = next }
+abbrev pub accepting : Peer → Seen → Challenge → Peer
+accepting p seen c = record p { accepted = Some c; network = network_in p seen; resumed = None }
+
+-- what was decrypted
+abbrev pub with_inner : Peer → Decrypted → Peer
+with_inner p inner = record p { inner = inner }
+
+-- what becomes of the device's context at Success
+abbrev pub with_next : Peer → NextContext → Peer
+with_next p following = record p { next = following }
+
+-- an SQN of 6 bytes as a number
+abbrev pub origin_of : List ℕ → ℕ
+origin_of sqn = from_be_bytes w64 (0 ∷ 0 ∷ sqn)
+
+-- the context that a Challenge leaves if it gives the next identity: the counters from 1 on are open (RFC 4187 §5.1)
+abbrev pub context_from : KeySet → Master → List ℕ → Option (List ℕ) → NextContext
+context_from keys m sqn None = next.Same
+context_from keys m sqn (Some identity) = next.New (record {
+  origin = origin_of sqn;
+  identity = identity;
+  k_encr = keys.k_encr;
+  k_aut = keys.k_aut;
+  master = m;
+  counter = 1;
+})
 
 -- RES is sent, if what is encrypted decrypts to attributes
-abbrev pub opened : Peer → Seen → List ℕ → List ℕ → KeySet → Decrypted → Peer × Turn PeerWhy
-opened p seen res sqn keys decrypted.Unreadable = client p seen why.Undecryptable (Some (note.Accepted sqn)) true
-opened p seen res sqn keys (decrypted.Attributes next) =
-    answered (with_next p next) seen (state.Answered keys)
+abbrev pub opened : Peer → Seen → List ℕ → List ℕ → KeySet → Master → Decrypted → Peer × Turn PeerWhy
+opened p seen res sqn keys m decrypted.Unreadable =
+    client (with_inner p decrypted.Unreadable) seen why.Undecryptable (Some (note.Accepted sqn)) true
+opened p seen res sqn keys m (decrypted.Attributes given) =
+    answered (with_next (with_inner p (decrypted.Attributes given)) (context_from keys m sqn given.identity)) seen (state.Answered keys)
     (response_bytes p.options.method (id_of seen) keys.k_aut res (is_there (checkcode seen)) (own_code p)) (Some (note.Accepted sqn)) true
 
 -- AT_MAC was right, and AT_CHECKCODE is tested
-abbrev pub genuine : Peer → Seen → List ℕ → List ℕ → KeySet → Decrypted → Peer × Turn PeerWhy
-genuine p seen res sqn keys inner =
+abbrev pub genuine : Peer → Seen → List ℕ → List ℕ → KeySet → Master → Decrypted → Peer × Turn PeerWhy
+genuine p seen res sqn keys m inner =
     if differs (own_code p) (checkcode seen) then client p seen why.WrongCheckcode (Some (note.Accepted sqn)) true
-    else opened p seen res sqn keys inner
+    else opened p seen res sqn keys m inner
 
 -- the USIM accepted, and AT_MAC is tested
-abbrev pub accepted : Peer → Seen → Challenge → List ℕ → List ℕ → KeySet → Decrypted → Peer × Turn PeerWhy
-accepted p seen c res sqn keys inner =
+abbrev pub accepted : Peer → Seen → Challenge → List ℕ → List ℕ → KeySet → Master → Decrypted → Peer × Turn PeerWhy
+accepted p seen c res sqn keys m inner =
     if not (is_sealed p.options.method keys.k_aut [] seen) then client p seen why.WrongMac (Some (note.Accepted sqn)) false
-    else genuine (accepting p seen c) seen res sqn keys inner
+    else genuine (accepting p seen c) seen res sqn keys m inner
 
 abbrev pub by_answer : Peer → Seen → Challenge → Answer → Decrypted → Peer × Turn PeerWhy
 by_answer p seen c answer.WrongMac inner = rejected p seen why.WrongAutn (Some note.WrongMac)
 by_answer p seen c (answer.SyncFailure auts sqn) inner =
     answered p seen state.Waiting (packet_text (sync_failure p.options.method (id_of seen) auts)) (Some (note.Sync sqn)) false
 by_answer p seen c (answer.Accepted res ck ik ak amf sqn) inner =
-    accepted p seen c res sqn (keys_at p seen c ik ck) inner
+    accepted p seen c res sqn (keys_at p seen c ik ck) (master_at p seen c ik ck) inner
 
 abbrev pub challenged : Subscription → Peer → Seen → Challenge → Option UsimNote → Decrypted → Peer × Turn PeerWhy
 challenged s p seen c None inner = ignored p reason.Unexpected
 challenged s p seen c (Some n) inner = by_answer p seen c (answer_noted s.secret c n) inner
 
+-- ---- a fast re-authentication (RFC 4187 §5 and §9.7)
+
+-- a context, if an identity that was sent is the context's, up to its first `@`
+abbrev pub context_named : Option (List ℕ) → Option Context → Option Context
+context_named None c = None
+context_named (Some text) c = if_named (username text) c
+
+-- the device's context of the method, if the identity that the peer sent last is the context's
+abbrev pub context_of : Keeps → Peer → Option Context
+context_of keeps p = context_named p.identity (entry p.options.method keeps.contexts)
+
+abbrev pub resuming : Peer → Context → Peer
+resuming p c = record p { resumed = Some c }
+
+-- the index of the next initialisation vector; the indices count modulo 2^32
+abbrev pub iv_after : ℕ → ℕ
+iv_after k = (k + 2) % 2 ^ 32
+
+abbrev pub iv_used : Peer → Peer
+iv_used p = record p { next_iv = iv_after p.next_iv }
+
+-- the response to a counter, which may be too small
+abbrev pub counter_bytes : List ℕ → Peer → Seen → Context → List ℕ → ℕ → Bool → List ℕ
+counter_bytes key p seen c nonce counter small =
+    reauth_bytes p.options.method (id_of seen) c.k_encr c.k_aut (nonce_of key p.options.session p.next_iv) nonce counter small
+    (is_there (checkcode seen)) (own_code p)
+
+abbrev pub counter_noted : CounterNote → Notes
+counter_noted n = record { resync = None; number = None; resumed = None; usim = None; counter = Some n }
+
+-- a counter was accepted: the peer has the keys of the re-authentication
+abbrev pub taken : List ℕ → Peer → Seen → Context → Option (List ℕ) → ℕ → List ℕ → Peer × Turn PeerWhy
+taken key p seen c identity counter nonce =
+    answered_noting (with_next (iv_used p) (next.Renamed c.identity identity)) seen
+    (state.Answered (reauth_keys_of c.k_encr c.k_aut c.master (text_or_none p.identity) counter nonce))
+    (counter_bytes key p seen c nonce counter false) (counter_noted (counts.Taken counter)) true
+
+-- a counter was too small: the peer says so, and waits for a Challenge (RFC 4187 §5.5)
+abbrev pub small : List ℕ → Peer → Seen → Context → ℕ → List ℕ → Peer × Turn PeerWhy
+small key p seen c counter nonce =
+    answered_noting (iv_used p) seen state.Waiting (counter_bytes key p seen c nonce counter true) (counter_noted (counts.Small counter)) true
+
+-- the counter is accepted if it is open
+abbrev pub by_counter : List ℕ → Keeps → Peer → Seen → Context → Option (List ℕ) → Option ℕ → Option (List ℕ) → Peer × Turn PeerWhy
+by_counter key keeps p seen c identity (Some counter) (Some nonce) =
+    if is_open counter (entry p.options.method keeps.contexts) then taken key p seen c identity counter nonce
+    else small key p seen c counter nonce
+by_counter key keeps p seen c identity _ _ = client p seen why.Undecryptable None true
+
+-- what is encrypted has to have AT_COUNTER and AT_NONCE_S
+abbrev pub disclosed : List ℕ → Keeps → Peer → Seen → Context → Decrypted → Peer × Turn PeerWhy
+disclosed key keeps p seen c decrypted.Unreadable = client p seen why.Undecryptable None true
+disclosed key keeps p seen c (decrypted.Attributes given) = by_counter key keeps p seen c given.identity given.counter given.nonce
+
+-- AT_MAC was right, and AT_CHECKCODE is tested
+abbrev pub sound : List ℕ → Keeps → Peer → Seen → Context → Decrypted → Peer × Turn PeerWhy
+sound key keeps p seen c inner =
+    if differs (own_code p) (checkcode seen) then client p seen why.WrongCheckcode None true
+    else disclosed key keeps (with_inner p inner) seen c inner
+
+-- the peer has a context: what the message must have is looked for, and AT_MAC is tested
+abbrev pub resumes : List ℕ → Keeps → Peer → Seen → Context → Decrypted → Peer × Turn PeerWhy
+resumes key keeps p seen c inner =
+    if is_missing subtype.Reauthentication true (attrs_in seen.reading) then client p seen why.Missing None false
+    else if not (is_sealed p.options.method c.k_aut [] seen) then client p seen why.WrongMac None false
+    else sound key keeps (resuming p c) seen c inner
+
+abbrev pub resumed_by : List ℕ → Keeps → Peer → Seen → Option Context → Decrypted → Peer × Turn PeerWhy
+resumed_by key keeps p seen None inner = ignored p reason.NoContext
+resumed_by key keeps p seen (Some c) inner = resumes key keeps p seen c inner
+
+-- a Reauthentication
+abbrev pub reauthenticated : List ℕ → Keeps → Peer → Seen → Decrypted → Peer × Turn PeerWhy
+reauthenticated key keeps p seen inner = resumed_by key keeps p seen (context_of keeps p) inner
+
 -- ---- the table
 
--- what a row does, by what the device keeps, the USIM's note and what was decrypted
-abbrev pub peer_does : Subscription → Keeps → Peer → Seen → Row → Option UsimNote → Decrypted → Peer × Turn PeerWhy
-peer_does s keeps p seen (row.Ignore cause) n inner = ignored p cause
-peer_does s keeps p seen row.Again n inner = again p p.last
-peer_does s keeps p seen row.First n inner = first p seen (first_text p.options.method s keeps p.options.first)
-peer_does s keeps p seen (row.Identity asked) n inner = identified p seen (asked_text p.options.method s keeps asked)
-peer_does s keeps p seen (row.Client cause) n inner = client p seen cause None false
-peer_does s keeps p seen (row.Reject cause) n inner = rejected p seen cause None
-peer_does s keeps p seen (row.Notified code) n inner = notify p seen code
-peer_does s keeps p seen (row.Challenged c) n inner = challenged s p seen c n inner
-peer_does s keeps p seen row.Success n inner = succeeded p p.state
-peer_does s keeps p seen (row.Failure cause) n inner = ended p (outcome.Failure cause)
+-- what a row does, by the key of the random bytes, what the device keeps, the USIM's note and what was decrypted
+abbrev pub peer_does : List ℕ → Subscription → Keeps → Peer → Seen → Row → Option UsimNote → Decrypted → Peer × Turn PeerWhy
+peer_does key s keeps p seen (row.Ignore cause) n inner = ignored p cause
+peer_does key s keeps p seen row.Again n inner = again p p.last
+peer_does key s keeps p seen row.First n inner = first p seen (first_text p.options.method s keeps p.options.first)
+peer_does key s keeps p seen (row.Identity asked) n inner = identified p seen (asked_text p.options.method s keeps asked)
+peer_does key s keeps p seen (row.Client cause) n inner = client p seen cause None false
+peer_does key s keeps p seen (row.Reject cause) n inner = rejected p seen cause None
+peer_does key s keeps p seen (row.Notified code) n inner = notify p seen code
+peer_does key s keeps p seen (row.Challenged c) n inner = challenged s p seen c n inner
+peer_does key s keeps p seen row.Reauthentication n inner = reauthenticated key keeps p seen inner
+peer_does key s keeps p seen row.Success n inner = succeeded p p.state
+peer_does key s keeps p seen (row.Failure cause) n inner = ended p (outcome.Failure cause)
 
-abbrev pub peer_step : Subscription → Keeps → Peer → Seen → Option UsimNote → Decrypted → Peer × Turn PeerWhy
-peer_step s keeps p seen n inner = peer_does s keeps p seen (peer_row p seen) n inner
+abbrev pub peer_step : List ℕ → Subscription → Keeps → Peer → Seen → Option UsimNote → Decrypted → Peer × Turn PeerWhy
+peer_step key s keeps p seen n inner = peer_does key s keeps p seen (peer_row p seen) n inner
 
--- what the device keeps after a row: a pseudonym is adopted when the session ends in Success, and not before
+-- ---- what the device keeps
+
+-- the pseudonym that was given
+abbrev pub pseudonym_given : Decrypted → Option (List ℕ)
+pseudonym_given decrypted.Unreadable = None
+pseudonym_given (decrypted.Attributes given) = given.pseudonym
+
+-- names and contexts are adopted when the session ends in Success, and not before
 abbrev pub taken_up : PeerState → Peer → Keeps → Keeps
-taken_up (state.Answered keys) p keeps = adopted p.options.method p.pseudonym keeps
+taken_up (state.Answered keys) p keeps = adopted p.options.method (pseudonym_given p.inner) p.next keeps
 taken_up other p keeps = keeps
 
-abbrev pub kept_by : Row → Peer → Keeps → Keeps
-kept_by row.Success p keeps = taken_up p.state p keeps
-kept_by other p keeps = keeps
+-- a counter came, and was accepted or not
+abbrev pub counted_by : Method → ℕ → Bool → Keeps → Keeps
+counted_by m counter true keeps = with_accepted m counter keeps
+counted_by m counter false keeps = keeps
+
+-- a counter that was accepted is never open again
+abbrev pub counted_up : Method → Option CounterNote → Keeps → Keeps
+counted_up m (Some (counts.Taken counter)) keeps = with_accepted m counter keeps
+counted_up m other keeps = keeps
+
+-- what the device keeps after a row, by the note of the counter
+abbrev pub kept_by : Row → Peer → Option CounterNote → Keeps → Keeps
+kept_by row.Success p n keeps = taken_up p.state p keeps
+kept_by row.Reauthentication p n keeps = counted_up p.options.method n keeps
+kept_by other p n keeps = keeps
 
 -- a peer gives up
 abbrev pub gave_up : Peer → PeerState → Peer × Step PeerWhy

@@ -1,24 +1,25 @@
 -- A turn of a peer: what was received, what the USIM was asked, what was decrypted, and that the rest is the table's.
-use Rattle.std.specs.Prelude.{◌≡◌, ℕ, not, List, [], Option, Some, None, Ok, Err, if◌then◌else◌}
+use Rattle.std.specs.Prelude.{◌≡◌, ℕ, true, not, List, [], Option, Some, None, Ok, Err, if◌then◌else◌}
 use Rattle.auc_attr.specs.declared.attr.Attr.{Attr}
 use Rattle.auc_hmac.specs.declared.keys.KeySet.{KeySet}
+use Rattle.auc_packet.specs.Messages.{is_missing}
 use Rattle.auc_packet.specs.Received.{Seen, IsReceived, is_sealed}
+use Rattle.auc_packet.specs.declared.subtype.Subtype.TheVariants as subtype
 use Rattle.auc_peer.specs.Asking.{answer_noted}
 use Rattle.auc_peer.specs.Attributes.{attrs_in, checkcode, differs}
 use Rattle.auc_peer.specs.Rows.{peer_row}
 use Rattle.auc_peer.specs.Subscription.{Subscription}
 use Rattle.auc_request.specs.Request.{Gives}
-use Rattle.auc_peer.specs.Table.{keys_at, kept_by, own_code, peer_step}
+use Rattle.auc_peer.specs.Table.{context_of, keys_at, kept_by, own_code, peer_step}
 use Rattle.auc_peer.specs.declared.decrypted.Decrypted.{Decrypted}
 use Rattle.auc_peer.specs.declared.decrypted.Decrypted.TheVariants as decrypted
 use Rattle.auc_peer.specs.declared.peer.Challenge.{Challenge}
 use Rattle.auc_peer.specs.declared.peer.Peer.{Peer}
-use Rattle.auc_peer.specs.declared.peer.PeerState.{PeerState}
-use Rattle.auc_peer.specs.declared.peer.PeerState.TheVariants as state
 use Rattle.auc_peer.specs.declared.rows.Row.{Row}
 use Rattle.auc_peer.specs.declared.rows.Row.TheVariants as row
 use Rattle.auc_peer.specs.declared.why.PeerWhy.{PeerWhy}
 use Rattle.auc_reauth.specs.Device.{Keeps}
+use Rattle.auc_reauth.specs.declared.context.Context.{Context}
 use Rattle.auc_seal.specs.Encrypted.{Opens}
 use Rattle.auc_seal.specs.declared.refusal.SealRefusal.{SealRefusal}
 use Rattle.auc_sqn.specs.Past.{Past, Remembers}
@@ -49,14 +50,14 @@ Asked s (Some c) (Some n) old new = (past : Past) → Remembers old past
 -- what the encrypted attributes of a list are
 abbrev pub IsInner : List ℕ → List Attr → Decrypted → Type 0
 IsInner k_encr list decrypted.Unreadable = (refused : SealRefusal) × Opens k_encr list (Err refused)
-IsInner k_encr list (decrypted.Attributes pseudonym) = (bytes : List ℕ) × Opens k_encr list (Ok bytes) × Gives bytes pseudonym
+IsInner k_encr list (decrypted.Attributes given) = (bytes : List ℕ) × Opens k_encr list (Ok bytes) × Gives bytes given
 
 -- a decryption: under which key, and of which attributes
 pub record Decryption : Type 0 where
   pub k_encr : List ℕ
   pub list : List Attr
 
--- the decryption that a row makes: of a Challenge that the USIM accepted, with a right AT_MAC and AT_CHECKCODE
+-- the decryption of a Challenge that the USIM accepted, with a right AT_MAC and AT_CHECKCODE
 abbrev pub decryption_under : Peer → Seen → KeySet → Option Decryption
 decryption_under p seen keys =
     if not (is_sealed p.options.method keys.k_aut [] seen) then None
@@ -71,30 +72,41 @@ abbrev pub decryption_noted : Subscription → Peer → Seen → Option Challeng
 decryption_noted s p seen (Some c) (Some n) = decryption_by p seen c (answer_noted s.secret c n)
 decryption_noted s p seen c n = None
 
+-- the decryption of a Reauthentication that has what it must have, with a right AT_MAC and AT_CHECKCODE
+abbrev pub decryption_resumed : Peer → Seen → Option Context → Option Decryption
+decryption_resumed p seen None = None
+decryption_resumed p seen (Some c) =
+    if is_missing subtype.Reauthentication true (attrs_in seen.reading) then None
+    else if not (is_sealed p.options.method c.k_aut [] seen) then None
+    else if differs (own_code p) (checkcode seen) then None
+    else Some (record { k_encr = c.k_encr; list = attrs_in seen.reading })
+
+-- the decryption that a row makes
+abbrev pub decryption_made : Subscription → Keeps → Peer → Seen → Row → Option UsimNote → Option Decryption
+decryption_made s keeps p seen (row.Challenged c) n = decryption_noted s p seen (Some c) n
+decryption_made s keeps p seen row.Reauthentication n = decryption_resumed p seen (context_of keeps p)
+decryption_made s keeps p seen other n = None
+
 -- what a decryption gives; without one nothing is said
 abbrev pub Decrypts : Option Decryption → Decrypted → Type 0
 Decrypts None inner = Unit {0}
 Decrypts (Some d) inner = IsInner d.k_encr d.list inner
 
--- what was decrypted: the peer's new state tells it
-abbrev pub told_in : PeerState → Option (List ℕ) → Decrypted
-told_in (state.Answered keys) pseudonym = decrypted.Attributes pseudonym
-told_in other pseudonym = decrypted.Unreadable
-
+-- what was decrypted: the peer keeps it
 abbrev pub told : Peer → Decrypted
-told new = told_in new.state new.pseudonym
+told new = new.inner
 
 -- ---- the turn
 
--- bytes were received as something; if the USIM remembers some past, the turn is the table's; the USIM was asked what
--- the row says, and answered as the note tells; what the row decrypted was as the new state tells; and the device keeps
--- what the row says
-pub record Steps (s : Subscription) (keeps : Keeps) (old : Peer) (bytes before : List ℕ) (new : Peer) (turn : Turn PeerWhy) (kept : Keeps) (after : List ℕ) : Type 0 where
+-- under a key of the random bytes, bytes were received as something; if the USIM remembers some past, the turn is the
+-- table's; the USIM was asked what the row says, and answered as the note tells; what the row decrypted was as the new peer
+-- tells; and the device keeps what the row says
+pub record Steps (key : List ℕ) (s : Subscription) (keeps : Keeps) (old : Peer) (bytes before : List ℕ) (new : Peer) (turn : Turn PeerWhy) (kept : Keeps) (after : List ℕ) : Type 0 where
   pub seen : Seen
   pub received : IsReceived seen
   pub of : seen.bytes ≡ bytes
-  pub same : (past : Past) → Remembers before past → (new, turn) ≡ peer_step s keeps old seen turn.notes.usim (told new)
+  pub same : (past : Past) → Remembers before past → (new, turn) ≡ peer_step key s keeps old seen turn.notes.usim (told new)
   pub usim : Asked s (asked (peer_row old seen)) turn.notes.usim before after
   pub decrypts : (past : Past) → Remembers before past
-      → Decrypts (decryption_noted s old seen (asked (peer_row old seen)) turn.notes.usim) (told new)
-  pub stored : kept ≡ kept_by (peer_row old seen) old keeps
+      → Decrypts (decryption_made s keeps old seen (peer_row old seen) turn.notes.usim) (told new)
+  pub stored : kept ≡ kept_by (peer_row old seen) old turn.notes.counter keeps

@@ -8,31 +8,66 @@ ghost use Rattle.auc_sqn.specs.Past.{Past, Remembers};
 ghost use Rattle.auc_peer.specs.Asking.{note_of as note_by};
 ghost use Rattle.auc_peer.specs.Attributes.{attrs_in};
 ghost use Rattle.auc_peer.specs.Subscription.{subscription_of};
-ghost use Rattle.auc_peer.specs.Table.{accepted, by_answer, challenged, keys_for, network_in, opened, own_code, text_or_none};
+ghost use Rattle.auc_peer.specs.Table.{accepted, by_answer, challenged, context_from, keys_for, network_in, opened, origin_of, own_code, text_or_none};
+ghost use Rattle.auc_vector.specs.Keys.{ck_by, ik_by, master_of as master_by_method};
 ghost use Rattle.auc_peer.specs.Turn.{Asked, Decrypts, IsInner, decryption_by, decryption_noted, decryption_under, told};
 
 use crate::asking::ask;
 use crate::decrypted::Decrypted;
 use crate::device::Device;
 use crate::messages::{challenge_response, sync_failure, value};
+use crate::next::NextContext;
 use crate::peer::{Challenge, Peer, PeerState};
 use crate::reading::{differs, has_checkcode, id_of, inner_in};
 use crate::rooms::Rooms;
+use crate::turns::noted;
 use crate::why::PeerWhy;
 use auc_edge::{Octets, Room};
-use auc_hmac::{KeySet, Method};
+use auc_hmac::{KeySet, Master, Method};
 use auc_packet::{Received, is_sealed};
+use auc_reauth::Context;
 use auc_seal::CheckValue;
 use auc_usim::Answer;
-use auc_vector::{Turn, UsimNote, keys_by, keys_of};
+use auc_vector::{Turn, UsimNote, keys_by, keys_of, master_of};
 
 /// The identity that was sent last, or the empty text.
-fn text_of(identity: &Option<Octets>) -> &[u8]
+pub(crate) fn text_of(identity: &Option<Octets>) -> &[u8]
     ensures { result.now ≡ text_or_none identity.now }
 {
     match identity {
         None => &[],
         Some(text) => text.as_slice(),
+    }
+}
+
+/// An SQN as a number.
+fn origin_of(sqn: [u8; 6]) -> u64
+    ensures { result ≡ origin_of sqn }
+{
+    let [a, b, c, d, e, f] = sqn;
+    u64::from_be_bytes([0, 0, a, b, c, d, e, f])
+}
+
+/// The context that a Challenge leaves, if it gives the next identity.
+fn context_from(
+    keys: KeySet,
+    master: Master,
+    sqn: [u8; 6],
+    identity: Option<[u8; 33]>,
+) -> NextContext
+    ensures { result ≡ context_from keys master sqn identity }
+{
+    let KeySet { k_encr, k_aut, .. } = keys;
+    match identity {
+        None => NextContext::Same,
+        Some(identity) => NextContext::New(Context {
+            origin: origin_of(sqn),
+            identity,
+            k_encr,
+            k_aut,
+            master,
+            counter: 1,
+        }),
     }
 }
 
@@ -45,6 +80,18 @@ impl Peer {
         let method = self.options.method;
         let (ck, ik) = keys_by(method, network, challenge.autn, ck, ik);
         keys_of(method, text_of(&self.identity), ik, ck)
+    }
+
+    /// The master key of a received challenge.
+    fn master_at(&self, network: &[u8], challenge: Challenge, ik: [u8; 16], ck: [u8; 16]) -> Master
+        requires { length network.now ≤ 65535 }
+        ensures { result ≡ master_by_method self.now.options.method (text_or_none self.now.identity)
+            (ik_by self.now.options.method network.now challenge.autn ck ik)
+            (ck_by self.now.options.method network.now challenge.autn ck ik) }
+    {
+        let method = self.options.method;
+        let (ck, ik) = keys_by(method, network, challenge.autn, ck, ik);
+        master_of(method, text_of(&self.identity), ik, ck)
     }
 
     /// Hands a Challenge to the USIM, and does what its answer says.
@@ -128,7 +175,7 @@ impl Peer {
                     PeerState::Waiting,
                     bytes,
                     kept,
-                    note,
+                    noted(note),
                     false,
                 )
             }
@@ -140,8 +187,9 @@ impl Peer {
                 ..
             } => {
                 let keys = self.keys_at(network.as_slice(), challenge, ik, ck);
+                let master = self.master_at(network.as_slice(), challenge, ik, ck);
                 self.on_accepted(
-                    received, request, network, inner, challenge, res, sqn, keys, rooms,
+                    received, request, network, inner, challenge, res, sqn, keys, master, rooms,
                 )
             }
         }
@@ -158,6 +206,7 @@ impl Peer {
         res: [u8; 8],
         sqn: [u8; 6],
         keys: KeySet,
+        master: Master,
         rooms: Rooms,
     ) -> Turn<PeerWhy>
         requires is { IsReceived (seen_of received.now) }
@@ -168,7 +217,7 @@ impl Peer {
         requires room { length (ciphertext_of (attrs_in received.now.reading)) ≤ inner.left }
 
         ensures step { (self.new, result) ≡ accepted self.old (seen_of received.now) challenge res sqn keys
-            (told self.new) }
+            master (told self.new) }
         ensures note { result.notes.usim ≡ Some (UsimNote.Accepted sqn) }
         ensures decrypts { Decrypts (decryption_under self.old (seen_of received.now) keys) (told self.new) }
     {
@@ -178,6 +227,7 @@ impl Peer {
         }
         self.accepted = Some(challenge);
         self.network = network;
+        self.resumed = None;
         if differs(self.own_code().as_slice(), &received.reading) {
             return self.client(
                 received,
@@ -188,7 +238,7 @@ impl Peer {
                 rooms,
             );
         }
-        self.opened(received, request, inner, res, sqn, keys, rooms)
+        self.opened(received, request, inner, res, sqn, keys, master, rooms)
     }
 
     /// Takes a Challenge whose AT_MAC and AT_CHECKCODE are right.
@@ -200,6 +250,7 @@ impl Peer {
         res: [u8; 8],
         sqn: [u8; 6],
         keys: KeySet,
+        master: Master,
         rooms: Rooms,
     ) -> Turn<PeerWhy>
         requires request { request ≡ (seen_of received.now).bytes }
@@ -208,13 +259,15 @@ impl Peer {
         requires room { length (ciphertext_of (attrs_in received.now.reading)) ≤ inner.left }
 
         ensures step { (self.new, result) ≡ opened self.old (seen_of received.now) res sqn keys
-            (told self.new) }
+            master (told self.new) }
         ensures note { result.notes.usim ≡ Some (UsimNote.Accepted sqn) }
         ensures decrypts { IsInner keys.k_encr (attrs_in received.now.reading) (told self.new) }
     {
         let note = Some(UsimNote::Accepted(sqn));
-        let pseudonym = match inner_in(keys.k_encr, &received.reading, &rooms.no_attrs, inner) {
-            Decrypted::Attributes(pseudonym) => pseudonym,
+        let decrypted = inner_in(keys.k_encr, &received.reading, &rooms.no_attrs, inner);
+        self.inner = decrypted;
+        let given = match decrypted {
+            Decrypted::Attributes(given) => given,
             Decrypted::Unreadable => {
                 return self.client(received, request, PeerWhy::Undecryptable, note, true, rooms);
             }
@@ -241,13 +294,13 @@ impl Peer {
             places,
             bytes,
         );
-        self.pseudonym = pseudonym;
+        self.next = context_from(keys, master, sqn, given.identity);
         let state = PeerState::Answered(keys);
-        self.answer(received, request, state, bytes, kept, note, true)
+        self.answer(received, request, state, bytes, kept, noted(note), true)
     }
 
     /// The value of AT_CHECKCODE for the AKA-Identity packets that the peer has counted.
-    fn own_code(&self) -> CheckValue
+    pub(crate) fn own_code(&self) -> CheckValue
         ensures { value_bytes result ≡ own_code self.now }
     {
         self.packets.value(self.options.method)

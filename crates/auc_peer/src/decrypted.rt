@@ -1,11 +1,12 @@
-//! What a Challenge has encrypted.
+//! What a request has encrypted.
 
-/// What the encrypted attributes of a Challenge are (RFC 4187 §10.12).
+use auc_request::Enclosed;
+
+/// What the encrypted attributes of a request are (RFC 4187 §10.12).
 #[derive(Clone, Copy, Debug, PartialEq, Eq)]
 pub enum Decrypted {
     /// They don't decrypt to attributes.
     Unreadable,
-    /// They decrypt to attributes, or there are none: with this pseudonym among them (§10.10), without its realm, if there
-    /// is one.
-    Attributes(Option<[u8; 33]>),
+    /// They decrypt to attributes, which give this, or there are none.
+    Attributes(Enclosed),
 }

@@ -1,15 +1,19 @@
 //! The device of a subscriber.
 
 ghost use Rattle.std.specs.Prelude.{◌≡◌, ◌≤◌, length, IfOk};
-ghost use Rattle.auc_peer.specs.Identities.{adopted, asked_text, first_text, held_text};
+ghost use Rattle.auc_reauth.specs.Device.{is_open, with_context};
+ghost use Rattle.auc_reauth.specs.Store.{entry, method_of};
+ghost use Rattle.auc_peer.specs.Identities.{adopted, asked_text, first_text, full_text, held_text, renamed, under, with_next_context, with_next_pseudonym};
 ghost use Rattle.auc_peer.specs.Subscription.{identity_text, subscription_of, with_realm};
+ghost use Rattle.auc_peer.specs.Table.{counted_by};
 
 use crate::identity::FirstIdentity;
+use crate::next::NextContext;
 use crate::options::PeerOptions;
 use auc_edge::{Imsi, NoMemory, Octets};
-use auc_hmac::Method;
+use auc_hmac::{Master, Method};
 use auc_ident::permanent;
-use auc_reauth::DeviceStore;
+use auc_reauth::{Context, DeviceStore};
 use auc_request::IdentityRequest;
 use auc_usim::Usim;
 use std::alloc::Global;
@@ -21,7 +25,7 @@ pub struct Device {
     pub imsi: Imsi,
     /// The USIM.
     pub usim: Usim,
-    /// The pseudonyms that it was given (RFC 4187 §4.1.1.7).
+    /// The pseudonyms that it was given (RFC 4187 §4.1.1.7), and its contexts (RFC 4187 §5.1).
     pub store: DeviceStore,
     /// The realm of the subscriber's identities (RFC 4187 §4.1.1.5), at most 255 bytes; empty if there is none.
     pub realm: Octets,
@@ -73,15 +77,28 @@ impl Device {
     {
         match asked {
             IdentityRequest::Any => self.held(alloc, method),
-            IdentityRequest::Fullauth => self.held(alloc, method),
+            IdentityRequest::Fullauth => self.full(alloc, method),
             IdentityRequest::Permanent => self.identity(alloc, method),
         }
     }
 
-    /// The identity that the device holds of a method: its pseudonym if it has one, else the permanent identity.
+    /// The identity that the device holds of a method: that of its context if it has one, else the one for a full
+    /// authentication.
     fn held(&self, alloc: Global, method: Method) -> Result<Octets, NoMemory>
         requires { length self.now.realm ≤ 255 }
         ensures text { IfOk result (λ text. text ≡ held_text method (subscription_of self.now) self.now.store) }
+        ensures size { IfOk result (λ text. length text ≤ 289) }
+    {
+        match self.store.context(method) {
+            None => self.full(alloc, method),
+            Some(context) => self.with_realm(alloc, &context.identity),
+        }
+    }
+
+    /// The identity for a full authentication of a method: the pseudonym if the device has one, else the permanent identity.
+    fn full(&self, alloc: Global, method: Method) -> Result<Octets, NoMemory>
+        requires { length self.now.realm ≤ 255 }
+        ensures text { IfOk result (λ text. text ≡ full_text method (subscription_of self.now) self.now.store) }
         ensures size { IfOk result (λ text. length text ≤ 289) }
     {
         match self.store.pseudonym(method) {
@@ -114,14 +131,78 @@ impl Device {
         Ok(text)
     }
 
-    /// Adopts a pseudonym of a method, if there is one.
-    pub(crate) fn adopt(&mut self, method: Method, pseudonym: Option<[u8; 33]>)
-        ensures store { self.new.store ≡ adopted method pseudonym self.old.store }
+    /// Adopts what a session of a method gave.
+    pub(crate) fn adopt(&mut self, method: Method, pseudonym: Option<[u8; 33]>, next: NextContext)
+        ensures store { self.new.store ≡ adopted method pseudonym next self.old.store }
         ensures subscription { subscription_of self.new ≡ subscription_of self.old }
         ensures usim { self.new.usim ≡ self.old.usim }
     {
-        if let Some(pseudonym) = pseudonym {
-            self.store.set_pseudonym(method, pseudonym);
-        }
+        adopt_pseudonym(&mut self.store, method, pseudonym);
+        adopt_context(&mut self.store, method, next);
+    }
+
+    /// Accepts a counter of a method, if it is open.
+    pub(crate) fn count(&mut self, method: Method, counter: u16) -> bool
+        ensures answer { result ≡ is_open counter (entry method self.old.store.contexts) }
+        ensures store { self.new.store ≡ counted_by method counter result self.old.store }
+        ensures subscription { subscription_of self.new ≡ subscription_of self.old }
+        ensures usim { self.new.usim ≡ self.old.usim }
+    {
+        self.store.accept_counter(method, counter)
+    }
+}
+
+/// Adopts a pseudonym of a method, if there is one.
+fn adopt_pseudonym(store: &mut DeviceStore, method: Method, pseudonym: Option<[u8; 33]>)
+    ensures { store.new ≡ with_next_pseudonym method pseudonym store.old }
+{
+    if let Some(pseudonym) = pseudonym {
+        store.set_pseudonym(method, pseudonym);
+    }
+}
+
+/// Adopts the next context.
+fn adopt_context(store: &mut DeviceStore, method: Method, next: NextContext)
+    ensures { store.new ≡ with_next_context method next store.old }
+{
+    match next {
+        NextContext::Same => {}
+        NextContext::New(context) => store.set_context(method_of(context.master), Some(context)),
+        NextContext::Renamed(from, to) => rename(store, method, from, to),
+    }
+}
+
+/// The method that a master key is of.
+fn method_of(master: Master) -> Method
+    ensures { result ≡ method_of master }
+{
+    match master {
+        Master::Aka(_) => Method::Aka,
+        Master::Prime(_) => Method::Prime,
+    }
+}
+
+/// Gives the context of a method its next identity, or drops it if there is none; unless it has another identity than it had.
+fn rename(store: &mut DeviceStore, method: Method, from: [u8; 33], to: Option<[u8; 33]>)
+    ensures { store.new ≡ renamed method from to (entry method store.old.contexts) store.old }
+{
+    let Some(context) = store.context(method) else {
+        return;
+    };
+    if context.identity == from {
+        store.set_context(method, under(to, context));
+    }
+}
+
+/// A context under its next identity, or none if there is none.
+fn under(to: Option<[u8; 33]>, context: Context) -> Option<Context>
+    ensures { result ≡ under to context }
+{
+    match to {
+        None => None,
+        Some(identity) => Some(Context {
+            identity,
+            ..context
+        }),
     }
 }

@@ -10,6 +10,7 @@ use crate::device::Device;
 use crate::messages::identified;
 use crate::peer::{Peer, PeerState};
 use crate::reading::{id_of, packet_in};
+use crate::turns::noted;
 use crate::why::PeerWhy;
 use auc_edge::{NoMemory, Octets, Places, Room};
 use auc_packet::Received;
@@ -49,7 +50,7 @@ impl Peer {
             PeerState::Waiting,
             bytes,
             kept,
-            None,
+            noted(None),
             false,
         ))
     }

@@ -5,7 +5,7 @@ use auc_edge::Octets;
 /// What answers the Identity request of EAP (RFC 3748 §5.1).
 #[derive(Drop)]
 pub enum FirstIdentity {
-    /// The identity that the device holds: its pseudonym if it has one, else the permanent identity.
+    /// The identity that the device holds: that of its context if it has one, else its pseudonym, else the permanent identity.
     Held,
     /// The permanent identity.
     Permanent,

@@ -1,4 +1,4 @@
-//! The peer of EAP-AKA (RFC 4187) and EAP-AKA' (RFC 9048) with permanent identities and pseudonyms: the end of a session
+//! The peer of EAP-AKA (RFC 4187) and EAP-AKA' (RFC 9048) with pseudonyms and fast re-authentication: the end of a session
 //! that has the USIM. [`PeerOptions`] say which method it takes, of which network, and which identity it sends first.
 //!
 //! A [`Peer`] takes the packets that it receives by [`Peer::on_bytes`], at the [`Device`] of its subscriber, and gives
@@ -18,9 +18,11 @@ mod identities;
 mod identity;
 mod law;
 mod messages;
+mod next;
 mod options;
 mod peer;
 mod reading;
+mod reauth;
 mod rooms;
 mod rows;
 mod turns;
@@ -30,10 +32,13 @@ pub use decrypted::Decrypted;
 pub use device::Device;
 pub use identity::FirstIdentity;
 pub use law::{
-    each_turn_accepts_its_own_network, each_turn_adopts_at_success_alone,
+    each_accepted_counter_is_of_the_context, each_turn_accepts_its_own_network,
+    each_turn_adopts_at_success_alone, each_turn_keeps_contexts_of_the_method,
     each_turn_keeps_the_keys_of_its_inputs, each_turn_keeps_what_keys_are_made_from,
-    equal_turns_are_one, success_needs_a_right_mac,
+    each_turn_leaves_the_other_method, each_turn_moves_at_most_one_context, equal_turns_are_one,
+    success_needs_a_right_mac,
 };
+pub use next::NextContext;
 pub use options::PeerOptions;
 pub use peer::{Challenge, Last, Peer, PeerState};
 pub use rows::Row;

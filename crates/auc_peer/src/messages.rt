@@ -1,16 +1,21 @@
 //! The messages of a peer.
 
 ghost use Rattle.std.specs.Prelude.{◌≡◌, ◌≤◌, ◌+◌, [], ◌∷◌, length};
+ghost use Rattle.auc_aes.specs.Bytes.{IsBlock};
+ghost use Rattle.auc_attr.specs.Laws.{AreBytes};
+ghost use Rattle.auc_attr.specs.Spelling.{spelling};
 ghost use Rattle.auc_packet.specs.Sealed.{sealed};
 ghost use Rattle.auc_packet.specs.Spelling.{packet_text, MayBeWritten};
 ghost use Rattle.auc_seal.specs.Checkcode.{IsHash};
-ghost use Rattle.auc_peer.specs.InnerRooms.{HasPlaces, IsShort, IsShortDraft};
-ghost use Rattle.auc_peer.specs.Messages.{client_error, draft_of, identified, identity_response, notified, own_kdf, reject, response, response_bytes, sync_failure};
+ghost use Rattle.auc_seal.specs.Encrypted.{MayBeEncrypted, encrypted};
+ghost use Rattle.auc_peer.specs.InnerRooms.{HasPlaces, HasThreePlaces, IsOneBlock, IsShort, IsShortDraft};
+ghost use Rattle.auc_peer.specs.Messages.{client_error, counter_attrs, draft_of, identified, identity_response, notified, own_kdf, reauth_bytes, reauth_draft, reject, response, response_bytes, sync_failure};
 
 use auc_attr::{Attr, AttrList};
 use auc_edge::{Octets, Places, Room};
 use auc_hmac::Method;
 use auc_packet::{Draft, Packet, Subtype, put_packet, put_sealed};
+use auc_seal::{EncryptionRoom, encrypted_attributes_may_be_written, put_encrypted};
 
 /// The bytes of a packet.
 fn put(packet: &Packet, room: Room) -> Octets
@@ -216,6 +221,128 @@ fn sealed_response(method: Method, id: u8, k_aut: &[u8; 32], attrs: AttrList, ro
     };
     let mut room = room;
     put_sealed(&draft, k_aut, &[], &mut room);
+    room.into_octets()
+}
+
+/// What a Reauthentication response encrypts: AT_COUNTER, and AT_COUNTER_TOO_SMALL if the counter is (RFC 4187 §10.16 and
+/// §10.17).
+fn counter_attrs(counter: u16, small: bool, places: Places<Attr>) -> AttrList
+    requires { HasPlaces places }
+    ensures { result ≡ counter_attrs counter small }
+{
+    let mut places = places;
+    places.put(Attr::Counter(counter));
+    if small {
+        places.put(Attr::CounterTooSmall);
+    }
+    AttrList::from_places(places)
+}
+
+/// The list of a counter may be encrypted.
+fn counter_may(counter: u16, small: bool, list: &AttrList)
+    requires { list.now ≡ counter_attrs counter small }
+    ensures { MayBeEncrypted list.now }
+{}
+
+/// Key and initialisation vector are blocks, and the spelling of a counter is bytes.
+fn are_blocks(k_encr: [u8; 16], iv: [u8; 16], counter: u16, small: bool)
+    ensures key { IsBlock k_encr }
+    ensures iv { IsBlock iv }
+    ensures bytes { AreBytes (spelling (counter_attrs counter small)) }
+{}
+
+/// The ciphertext of a counter has one block.
+fn counter_is_one_block(k_encr: [u8; 16], iv: [u8; 16], counter: u16, small: bool)
+    ensures { IsOneBlock k_encr iv counter small }
+{
+    are_blocks(k_encr, iv, counter, small);
+    encrypted_attributes_may_be_written();
+}
+
+/// A counter in a Reauthentication response, and how it is encrypted.
+#[derive(Clone, Copy)]
+pub(crate) struct Hidden {
+    pub(crate) k_encr: [u8; 16],
+    pub(crate) iv: [u8; 16],
+    pub(crate) counter: u16,
+    pub(crate) small: bool,
+}
+
+/// AT_IV and AT_ENCR_DATA with the counter (RFC 4187 §10.12).
+fn put_counter(
+    hidden: Hidden,
+    counter: Places<Attr>,
+    encryption: EncryptionRoom,
+    places: Places<Attr>,
+) -> Places<Attr>
+    requires places { HasThreePlaces places }
+    requires counter { HasPlaces counter }
+    ensures written { result.written ≡ encrypted hidden.k_encr hidden.iv (counter_attrs hidden.counter hidden.small) }
+    ensures left { 1 ≤ result.left }
+{
+    let list = counter_attrs(hidden.counter, hidden.small, counter);
+    counter_may(hidden.counter, hidden.small, &list);
+    let mut places = places;
+    put_encrypted(hidden.k_encr, hidden.iv, &list, encryption, &mut places);
+    places
+}
+
+/// A Reauthentication response, but for its AT_MAC.
+fn reauth_draft(
+    method: Method,
+    id: u8,
+    hidden: Hidden,
+    has: bool,
+    own: Octets,
+    places: Places<Attr>,
+    counter: Places<Attr>,
+    encryption: EncryptionRoom,
+) -> Draft
+    requires places { HasThreePlaces places }
+    requires counter { HasPlaces counter }
+    ensures { result ≡ reauth_draft method id hidden.k_encr hidden.iv hidden.counter hidden.small has own }
+{
+    let mut places = put_counter(hidden, counter, encryption, places);
+    if has {
+        places.put(Attr::Checkcode(own));
+    }
+    Draft {
+        method,
+        request: false,
+        id,
+        subtype: Subtype::Reauthentication,
+        attrs: AttrList::from_places(places),
+    }
+}
+
+/// The Reauthentication response (RFC 4187 §9.8): AT_IV and AT_ENCR_DATA with the counter, AT_CHECKCODE if the request had it,
+/// and AT_MAC, which authenticates NONCE_S besides.
+#[tactic(auto, unfolding(crate::specs::Messages::reauth_bytes))]
+pub(crate) fn reauth_response(
+    method: Method,
+    id: u8,
+    hidden: Hidden,
+    k_aut: &[u8; 32],
+    nonce: &[u8; 16],
+    has: bool,
+    own: Octets,
+    places: Places<Attr>,
+    counter: Places<Attr>,
+    encryption: EncryptionRoom,
+    room: Room,
+) -> Octets
+    requires own { IsHash own }
+    requires places { HasThreePlaces places }
+    requires counter { HasPlaces counter }
+    requires empty { room.written ≡ [] }
+    requires left { 104 ≤ room.left }
+    ensures bytes { result ≡ reauth_bytes method id hidden.k_encr k_aut.now hidden.iv nonce.now hidden.counter hidden.small has own }
+    ensures size { length result ≤ 104 }
+{
+    counter_is_one_block(hidden.k_encr, hidden.iv, hidden.counter, hidden.small);
+    let draft = reauth_draft(method, id, hidden, has, own, places, counter, encryption);
+    let mut room = room;
+    put_sealed(&draft, k_aut, nonce, &mut room);
     room.into_octets()
 }
 

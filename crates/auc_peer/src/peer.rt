@@ -5,7 +5,9 @@ ghost use Rattle.auc_peer.specs.Subscription.{subscription_of};
 ghost use Rattle.auc_peer.specs.Table.{gave_up, new_peer};
 ghost use Rattle.auc_peer.specs.Turn.{Steps};
 
+use crate::decrypted::Decrypted;
 use crate::device::Device;
+use crate::next::NextContext;
 use crate::options::PeerOptions;
 use crate::reading::ciphertext_in;
 use crate::rooms::{Copies, Rooms, room_for};
@@ -14,6 +16,8 @@ use crate::why::PeerWhy;
 use auc_edge::{NoMemory, Octets, Room};
 use auc_hmac::KeySet;
 use auc_packet::receive;
+use auc_random::Rands;
+use auc_reauth::Context;
 use auc_seal::IdentityPackets;
 use auc_vector::{Outcome, Reason, Step, Turn};
 use std::alloc::Global;
@@ -32,7 +36,7 @@ pub struct Challenge {
 pub enum PeerState {
     /// It waits for a request.
     Waiting,
-    /// It has answered a Challenge whose AT_MAC was right, and has these keys.
+    /// It has answered a Challenge or a Reauthentication whose AT_MAC was right, and has these keys.
     Answered(KeySet),
     /// It has refused for this cause, and waits for EAP-Failure.
     Refusing(PeerWhy),
@@ -68,8 +72,16 @@ pub struct Peer {
     pub network: Octets,
     /// The AKA-Identity packets that it received and sent, of which AT_CHECKCODE is the hash (RFC 4187 §10.13).
     pub packets: IdentityPackets,
-    /// The pseudonym in the Challenge that it answered, which the device adopts when the session ends in Success.
-    pub pseudonym: Option<[u8; 33]>,
+    /// What it decrypted last, from a request with a right AT_MAC. The device adopts its pseudonym when the session ends in
+    /// Success.
+    pub inner: Decrypted,
+    /// The context under which AT_MAC of a Reauthentication was right, as it was then, if that was after the last challenge
+    /// that was accepted.
+    pub resumed: Option<Context>,
+    /// What becomes of the device's context when the session ends in Success.
+    pub next: NextContext,
+    /// The index of the next initialisation vector: the odd ones are the peer's.
+    pub next_iv: u32,
 }
 
 impl Peer {
@@ -85,22 +97,26 @@ impl Peer {
             accepted: None,
             network: Octets::new(alloc),
             packets: IdentityPackets::new(alloc),
-            pseudonym: None,
+            inner: Decrypted::Unreadable,
+            resumed: None,
+            next: NextContext::Same,
+            next_iv: 1,
         }
     }
 
     /// Takes a packet at the subscriber's device: answers it, ends or ignores it, by the table of `specs/Rows` and
-    /// `specs/Table`. The USIM is asked at most once, and only after all memory is taken: if memory runs out, peer and
-    /// device stay as they were.
+    /// `specs/Table`. The USIM is asked at most once, and a counter accepted, only after all memory is taken: if memory runs
+    /// out, peer and device stay as they were.
     pub fn on_bytes(
         &mut self,
         alloc: Global,
+        rands: &Rands,
         device: &mut Device,
         bytes: &[u8],
     ) -> Result<Turn<PeerWhy>, NoMemory>
         requires { length device.old.realm ≤ 255 }
 
-        ensures step { IfOk result (λ turn. Steps (subscription_of device.old) device.old.store self.old bytes.now
+        ensures step { IfOk result (λ turn. Steps rands.now (subscription_of device.old) device.old.store self.old bytes.now
             device.old.usim.array self.new turn device.new.store device.new.usim.array) }
         ensures subscription { subscription_of device.new ≡ subscription_of device.old }
         ensures peer { OnErr result (self.new ≡ self.old) }
@@ -110,6 +126,9 @@ impl Peer {
         let row = self.row(&received);
         if let Row::Identity(asked) = row {
             return self.on_identity(alloc, device, &received, asked);
+        }
+        if let Row::Reauthentication = row {
+            return self.on_reauthentication(alloc, rands, device, &received);
         }
         let identity = device.first_identity(alloc, &self.options)?;
         let rooms = Rooms::new(alloc, room_for(row, identity.len()))?;

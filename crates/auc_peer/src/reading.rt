@@ -1,9 +1,11 @@
 //! What a received packet has.
 
-ghost use Rattle.std.specs.Prelude.{◌≡◌, ◌≤◌, [], length, Some};
+ghost use Rattle.std.specs.Prelude.{◌≡◌, ◌≤◌, true, [], length, Some};
 ghost use Rattle.std.specs.Option.{option_copied};
 ghost use Rattle.auc_attr.specs.Laws.{AreBytes};
+ghost use Rattle.auc_packet.specs.Messages.{is_missing};
 ghost use Rattle.auc_packet.specs.Received.{IsReceived, seen_of};
+ghost use Rattle.auc_packet.specs.declared.subtype.Subtype.TheVariants as subtype;
 ghost use Rattle.auc_seal.specs.Encrypted.{ciphertext_of};
 ghost use Rattle.auc_request.specs.Request.{checkcode_of, first_value, name_in};
 ghost use Rattle.auc_peer.specs.Attributes.{attrs_in, differs, id_of, is_there, packet_in};
@@ -14,8 +16,10 @@ use crate::decrypted::Decrypted;
 use auc_attr::{AttrList, length_of};
 use auc_edge::{Octets, Room};
 use auc_hmac::Method;
-use auc_packet::{Packet, Reading, Received, head, read_packets_may_be_written};
-use auc_request::{checkcode_in, name_in, pseudonym_in};
+use auc_packet::{
+    Packet, Reading, Received, Subtype, head, is_missing, read_packets_may_be_written,
+};
+use auc_request::{checkcode_in, enclosed_in, name_in};
 use auc_seal::{ciphertext_size, open_attrs};
 
 /// The network's name in a received Challenge, empty for EAP-AKA.
@@ -96,6 +100,18 @@ pub(crate) fn differs(own: &[u8], reading: &Reading) -> bool
     }
 }
 
+/// Whether a Reauthentication lacks an attribute that it must have (RFC 4187 §9.7).
+pub(crate) fn lacks_reauthentication(reading: &Reading) -> bool
+    ensures { result ≡ is_missing subtype.Reauthentication true (attrs_in reading.now) }
+{
+    match reading {
+        Reading::Read(Packet::Aka { attrs, .. }) => {
+            is_missing(Subtype::Reauthentication, true, attrs)
+        }
+        _ => true,
+    }
+}
+
 /// The packet at the front of received bytes, as long as Length says.
 pub(crate) fn packet_in(bytes: &[u8]) -> &[u8]
     ensures { result.now ≡ packet_in bytes.now }
@@ -144,7 +160,7 @@ fn decrypted(k_encr: [u8; 16], list: &AttrList, room: Room) -> Decrypted
     ensures { IsInner k_encr list.now result }
 {
     match open_attrs(k_encr, list, room) {
-        Ok(bytes) => Decrypted::Attributes(pseudonym_in(bytes.as_slice())),
+        Ok(bytes) => Decrypted::Attributes(enclosed_in(bytes.as_slice())),
         Err(_) => Decrypted::Unreadable,
     }
 }

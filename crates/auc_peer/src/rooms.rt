@@ -11,6 +11,7 @@ use crate::rows::Row;
 use auc_attr::{Attr, AttrList};
 use auc_edge::{NoMemory, Octets, Places, Room};
 use auc_packet::Received;
+use auc_seal::EncryptionRoom;
 use std::alloc::Global;
 use std::marker::Model;
 
@@ -59,6 +60,41 @@ impl Rooms {
             code: Room::new(alloc, 32)?,
             none: Octets::new(alloc),
             no_attrs: AttrList::new(alloc),
+        })
+    }
+}
+
+/// The size of a Reauthentication response with AT_IV, AT_ENCR_DATA of one block, AT_CHECKCODE of 32 bytes and AT_MAC.
+const REAUTHENTICATION: usize = 104;
+
+/// Memory for the answer to a Reauthentication. Contracts see no value of it.
+#[derive(Drop)]
+pub(crate) struct ReauthRooms {
+    pub(crate) rooms: Rooms,
+    pub(crate) places: Places<Attr>,
+    pub(crate) counter: Places<Attr>,
+    pub(crate) encryption: EncryptionRoom,
+}
+
+impl Model for ReauthRooms {
+    ghost use Rattle.std.specs.Prelude.{◌≡◌};
+    ghost use Rattle.auc_peer.specs.InnerRooms.{HasPlaces, HasThreePlaces};
+
+    ghost Value = { Unit {0} };
+
+    ghost view = { λ _. tt };
+
+    ghost invariant = { λ r. (r.rooms ≡ 104) × HasThreePlaces r.places × HasPlaces r.counter };
+}
+
+impl ReauthRooms {
+    /// Memory for the answer to a Reauthentication.
+    pub(crate) fn new(alloc: Global) -> Result<ReauthRooms, NoMemory> {
+        Ok(ReauthRooms {
+            rooms: Rooms::new(alloc, REAUTHENTICATION)?,
+            places: Places::new(alloc, 3)?,
+            counter: Places::new(alloc, 2)?,
+            encryption: EncryptionRoom::new(alloc)?,
         })
     }
 }

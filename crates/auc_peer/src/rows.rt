@@ -37,6 +37,8 @@ pub enum Row {
     Notified(u16),
     /// The USIM is asked.
     Challenged(Challenge),
+    /// A fast re-authentication is tried, with the device's context.
+    Reauthentication,
     /// The session ends in Success.
     Success,
     /// The session ends in Failure, for this cause.
@@ -186,7 +188,7 @@ fn on_sound(options: &PeerOptions, subtype: Subtype, list: &AttrList) -> Row
 {
     match subtype {
         Subtype::Challenge => on_challenge(options, list),
-        Subtype::Reauthentication => Row::Ignore(Reason::NoContext),
+        Subtype::Reauthentication => Row::Reauthentication,
         Subtype::Notification => on_notification(list),
         Subtype::Identity => on_identity(list),
         _ => Row::Ignore(Reason::Unexpected),

@@ -1,6 +1,6 @@
 //! What each row does without the USIM.
 
-ghost use Rattle.std.specs.Prelude.{◌≡◌, ◌≢◌, ◌≤◌, ◌+◌, ℕ, [], length, None};
+ghost use Rattle.std.specs.Prelude.{◌≡◌, ◌≢◌, ◌≤◌, ◌+◌, ℕ, List, [], length, None};
 ghost use Rattle.auc_packet.specs.Received.{IsReceived, seen_of};
 ghost use Rattle.auc_seal.specs.Encrypted.{ciphertext_of};
 ghost use Rattle.auc_sqn.specs.Past.{Past, Remembers};
@@ -10,9 +10,10 @@ ghost use Rattle.auc_peer.specs.Rows.{peer_row};
 ghost use Rattle.auc_request.specs.declared.identities.IdentityRequest.{IdentityRequest};
 ghost use Rattle.auc_peer.specs.Identities.{first_text};
 ghost use Rattle.auc_peer.specs.Subscription.{subscription_of};
-ghost use Rattle.auc_peer.specs.Table.{again, answer_or_none, answered, client, ended, first, ignored, kept_by, network_in, noted, notify, peer_step, rejected, succeeded, taken_up};
-ghost use Rattle.auc_peer.specs.Turn.{Asked, Decrypts, asked, decryption_noted, told};
+ghost use Rattle.auc_peer.specs.Table.{again, answer_or_none, answered_noting, client, ended, first, ignored, kept_by, network_in, noted, notify, peer_step, pseudonym_given, rejected, succeeded, taken_up};
+ghost use Rattle.auc_peer.specs.Turn.{Asked, Decrypts, asked, decryption_made, told};
 
+use crate::decrypted::Decrypted;
 use crate::device::Device;
 use crate::messages::{client_error, identity_response, notified, reject};
 use crate::peer::{Last, Peer, PeerState};
@@ -25,7 +26,7 @@ use auc_packet::Received;
 use auc_vector::{Notes, Outcome, Reason, Step, Turn, UsimNote};
 
 /// The notes of a turn in which the USIM answered so, or wasn't asked.
-fn noted(usim: Option<UsimNote>) -> Notes
+pub(crate) fn noted(usim: Option<UsimNote>) -> Notes
     ensures { result ≡ noted usim }
 {
     Notes {
@@ -34,6 +35,16 @@ fn noted(usim: Option<UsimNote>) -> Notes
         resumed: None,
         usim,
         counter: None,
+    }
+}
+
+/// The pseudonym that was given.
+fn pseudonym_given(inner: Decrypted) -> Option<[u8; 33]>
+    ensures { result ≡ pseudonym_given inner }
+{
+    match inner {
+        Decrypted::Unreadable => None,
+        Decrypted::Attributes(given) => given.pseudonym,
     }
 }
 
@@ -55,21 +66,22 @@ impl Peer {
         requires identity { copies.identity ≡ first_text self.old.options.method (subscription_of device.old) device.old.store
             self.old.options.first }
         requires other { (asked : IdentityRequest) → row ≢ Row.Identity asked }
+        requires full { row ≢ Row.Reauthentication }
         requires again { copies.again ≡ answer_or_none self.old.last }
         requires network { copies.network ≡ network_in self.old (seen_of received.now) }
         requires name { length copies.network ≤ 65535 }
         requires empty { copies.inner.written ≡ [] }
         requires room { length (ciphertext_of (attrs_in received.now.reading)) ≤ copies.inner.left }
 
-        ensures step { (past : Past) → Remembers device.old.usim.array past
-            → (self.new, result) ≡ peer_step (subscription_of device.old) device.old.store self.old (seen_of received.now)
+        ensures step { (key : List ℕ) (past : Past) → Remembers device.old.usim.array past
+            → (self.new, result) ≡ peer_step key (subscription_of device.old) device.old.store self.old (seen_of received.now)
             result.notes.usim (told self.new) }
         ensures usim { Asked (subscription_of device.old) (asked row) result.notes.usim
             device.old.usim.array device.new.usim.array }
         ensures decrypts { (past : Past) → Remembers device.old.usim.array past
-            → Decrypts (decryption_noted (subscription_of device.old) self.old (seen_of received.now) (asked row)
+            → Decrypts (decryption_made (subscription_of device.old) device.old.store self.old (seen_of received.now) row
             result.notes.usim) (told self.new) }
-        ensures stored { device.new.store ≡ kept_by row self.old device.old.store }
+        ensures stored { device.new.store ≡ kept_by row self.old result.notes.counter device.old.store }
         ensures subscription { subscription_of device.new ≡ subscription_of device.old }
     {
         let Copies {
@@ -90,13 +102,14 @@ impl Peer {
                 self.on_challenge(device, received, request, network, inner, challenge, rooms)
             }
             Row::Identity(_) => unreachable!(),
+            Row::Reauthentication => unreachable!(),
             Row::Success => self.succeed(device, rooms.none),
             Row::Failure(why) => self.end(Outcome::Failure(why), rooms.none),
         }
     }
 
     /// Ignores what was received.
-    fn ignore(&self, why: Reason) -> Turn<PeerWhy>
+    pub(crate) fn ignore(&self, why: Reason) -> Turn<PeerWhy>
         ensures { (self.now, result) ≡ ignored self.now why }
     {
         Turn {
@@ -119,7 +132,7 @@ impl Peer {
         }
     }
 
-    /// Ends the session in Success. The device adopts the pseudonym that it was given.
+    /// Ends the session in Success. The device adopts what it was given.
     fn succeed(&mut self, device: &mut Device, none: Octets) -> Turn<PeerWhy>
         requires { none ≡ [] }
         ensures step { (self.new, result) ≡ succeeded self.old self.old.state }
@@ -130,7 +143,7 @@ impl Peer {
     {
         match self.state {
             PeerState::Answered(keys) => {
-                device.adopt(self.options.method, self.pseudonym);
+                device.adopt(self.options.method, pseudonym_given(self.inner), self.next);
                 self.end(Outcome::Success(keys), none)
             }
             _ => self.ignore(Reason::Unexpected),
@@ -145,13 +158,13 @@ impl Peer {
         state: PeerState,
         bytes: Octets,
         kept: Room,
-        usim: Option<UsimNote>,
+        notes: Notes,
         checked: bool,
     ) -> Turn<PeerWhy>
         requires request { request ≡ (seen_of received.now).bytes }
         requires empty { kept.written ≡ [] }
         requires left { length bytes ≤ kept.left }
-        ensures { (self.new, result) ≡ answered self.old (seen_of received.now) state bytes usim checked }
+        ensures { (self.new, result) ≡ answered_noting self.old (seen_of received.now) state bytes notes checked }
     {
         let mut kept = kept;
         kept.put(bytes.as_slice());
@@ -162,7 +175,7 @@ impl Peer {
             answer: kept.into_octets(),
         });
         Turn {
-            notes: noted(usim),
+            notes,
             step: Step::Sent(bytes),
             checked,
         }
@@ -190,7 +203,7 @@ impl Peer {
         } = rooms;
         let bytes = client_error(self.options.method, id_of(received), places, bytes);
         let state = PeerState::Refusing(why);
-        self.answer(received, request, state, bytes, kept, usim, checked)
+        self.answer(received, request, state, bytes, kept, noted(usim), checked)
     }
 
     /// Refuses by Authentication-Reject.
@@ -214,7 +227,7 @@ impl Peer {
         } = rooms;
         let bytes = reject(self.options.method, id_of(received), places, bytes);
         let state = PeerState::Refusing(why);
-        self.answer(received, request, state, bytes, kept, usim, false)
+        self.answer(received, request, state, bytes, kept, noted(usim), false)
     }
 
     /// Answers a notification of failure.
@@ -237,7 +250,7 @@ impl Peer {
         } = rooms;
         let bytes = notified(self.options.method, id_of(received), places, bytes);
         let state = PeerState::Refusing(PeerWhy::Notified(code));
-        self.answer(received, request, state, bytes, kept, None, false)
+        self.answer(received, request, state, bytes, kept, noted(None), false)
     }
 
     /// Sends the last answer again.
@@ -284,7 +297,7 @@ impl Peer {
             PeerState::Waiting,
             bytes,
             kept,
-            None,
+            noted(None),
             false,
         )
     }

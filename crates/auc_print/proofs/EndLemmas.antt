@@ -57,16 +57,16 @@ at_server : (set : Setting) (w : Net) (told : Told) (s : Option ServerEnd) → C
 at_server set w told None = tt
 at_server set w told (Some s) = tt
 
-at_peer : (w : Net) (d : Delivery) (told : Told) (device : Option Subscription) → CameAt (Some end.Peer) (came_at_peer w d told device)
-at_peer w d told None = tt
-at_peer w d told (Some device) = tt
+at_peer : (set : Setting) (w : Net) (d : Delivery) (told : Told) (device : Option Subscription) → CameAt (Some end.Peer) (came_at_peer set w d told device)
+at_peer set w d told None = tt
+at_peer set w d told (Some device) = tt
 
 delivered_at : (set : Setting) (w : Net) (at' : End) (told : Told) (sent : Option SentPacket) (d : Option Delivery)
     → CameAt (Some at') (came_delivered set w at' told sent d)
 delivered_at set w at' told None d = tt
 delivered_at set w at' told (Some sent) None = tt
 delivered_at set w end.Server told (Some sent) (Some d) = at_server set w told d.session.server
-delivered_at set w end.Peer told (Some sent) (Some d) = at_peer w d told _
+delivered_at set w end.Peer told (Some sent) (Some d) = at_peer set w d told _
 
 in_session : (at' : Option End) (does : Session → Came) → ((s : Session) → CameAt at' (does s)) → (found : Option Session) → CameAt at' (came_in does found)
 in_session at' does each None = tt

@@ -406,33 +406,36 @@ server_of_word word =
     else if bytes_eq word (codes "wrongmac") then 1
     else if bytes_eq word (codes "wrongres") then 2
     else if bytes_eq word (codes "wrongcheckcode") then 3
-    else if bytes_eq word (codes "secondsync") then 4
-    else if bytes_eq word (codes "badauts") then 5
-    else if bytes_eq word (codes "beyond") then 6
-    else if bytes_eq word (codes "exhausted") then 7
-    else if bytes_eq word (codes "stopped") then 8
-    else if bytes_eq word (codes "rejected") then 9
-    else if bytes_eq word (codes "clienterror") then 10 else 11
+    else if bytes_eq word (codes "wrongcounter") then 4
+    else if bytes_eq word (codes "secondsync") then 5
+    else if bytes_eq word (codes "badauts") then 6
+    else if bytes_eq word (codes "beyond") then 7
+    else if bytes_eq word (codes "exhausted") then 8
+    else if bytes_eq word (codes "stopped") then 9
+    else if bytes_eq word (codes "rejected") then 10
+    else if bytes_eq word (codes "clienterror") then 11 else 12
 
 abbrev server_number : ServerWhy → ℕ
 server_number server_why.UnknownIdentity = 0
 server_number server_why.WrongMac = 1
 server_number server_why.WrongRes = 2
 server_number server_why.WrongCheckcode = 3
-server_number server_why.SecondSync = 4
-server_number server_why.BadAuts = 5
-server_number (server_why.Beyond a0 a1) = 6
-server_number (server_why.Exhausted a0) = 7
-server_number (server_why.Stopped a0 a1) = 8
-server_number server_why.Rejected = 9
-server_number (server_why.ClientError a0) = 10
-server_number server_why.GivenUp = 11
+server_number server_why.WrongCounter = 4
+server_number server_why.SecondSync = 5
+server_number server_why.BadAuts = 6
+server_number (server_why.Beyond a0 a1) = 7
+server_number (server_why.Exhausted a0) = 8
+server_number (server_why.Stopped a0 a1) = 9
+server_number server_why.Rejected = 10
+server_number (server_why.ClientError a0) = 11
+server_number server_why.GivenUp = 12
 
 server_is : (a : ServerWhy) → server_number a ≡ server_of_word (word_at (server_words a) 0)
 server_is server_why.UnknownIdentity = refl
 server_is server_why.WrongMac = refl
 server_is server_why.WrongRes = refl
 server_is server_why.WrongCheckcode = refl
+server_is server_why.WrongCounter = refl
 server_is server_why.SecondSync = refl
 server_is server_why.BadAuts = refl
 server_is (server_why.Beyond a0 a1) = refl
@@ -447,6 +450,7 @@ server_injective server_why.UnknownIdentity server_why.UnknownIdentity e = refl
 server_injective server_why.WrongMac server_why.WrongMac e = refl
 server_injective server_why.WrongRes server_why.WrongRes e = refl
 server_injective server_why.WrongCheckcode server_why.WrongCheckcode e = refl
+server_injective server_why.WrongCounter server_why.WrongCounter e = refl
 server_injective server_why.SecondSync server_why.SecondSync e = refl
 server_injective server_why.BadAuts server_why.BadAuts e = refl
 server_injective (server_why.Beyond a0 a1) (server_why.Beyond b0 b1) e =

@@ -239,6 +239,7 @@ server_words_are server_why.UnknownIdentity = no_more (codes "unknownidentity") 
 server_words_are server_why.WrongMac = no_more (codes "wrongmac") refl
 server_words_are server_why.WrongRes = no_more (codes "wrongres") refl
 server_words_are server_why.WrongCheckcode = no_more (codes "wrongcheckcode") refl
+server_words_are server_why.WrongCounter = no_more (codes "wrongcounter") refl
 server_words_are server_why.SecondSync = no_more (codes "secondsync") refl
 server_words_are server_why.BadAuts = no_more (codes "badauts") refl
 server_words_are (server_why.Beyond seen seq_ms) = two_numbers (codes "beyond") seen seq_ms refl

@@ -243,6 +243,7 @@ fn print_server_why(why: ServerWhy, out: &mut Octets) -> Result<(), NoMemory>
         ServerWhy::WrongMac => print_word(b"wrongmac", out),
         ServerWhy::WrongRes => print_word(b"wrongres", out),
         ServerWhy::WrongCheckcode => print_word(b"wrongcheckcode", out),
+        ServerWhy::WrongCounter => print_word(b"wrongcounter", out),
         ServerWhy::SecondSync => print_word(b"secondsync", out),
         ServerWhy::BadAuts => print_word(b"badauts", out),
         ServerWhy::Beyond(seen, seq_ms) => print_pair(b"beyond", seen, seq_ms, out),

@@ -1,3 +1,6 @@
 mod ServerLemmas
 mod IdentityLemmas
 mod DeviceLemmas
+mod PlaceLemmas
+mod MachineLemmas
+mod NameLemmas

@@ -3,3 +3,4 @@ pub mod Server
 pub mod Device
 pub mod Kept
 pub mod Laws
+pub mod Machine

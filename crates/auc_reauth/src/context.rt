@@ -5,6 +5,9 @@ use auc_hmac::Master;
 /// What a fast re-authentication starts from (RFC 4187 §5.1).
 #[derive(Clone, Copy, Debug, PartialEq, Eq)]
 pub struct Context {
+    /// Which of the subscriber's full authentications it comes from: at a server the number of the vector; on a device the
+    /// SQN that its USIM accepted, as a number.
+    pub origin: u64,
     /// The identity of the next re-authentication, without its realm (RFC 4187 §5.3).
     pub identity: [u8; 33],
     /// K_encr of the full authentication, which the re-authentications use again.

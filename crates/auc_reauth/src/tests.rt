@@ -15,6 +15,7 @@ fn context(identity: [u8; 33], counter: u16) -> Context
     ensures { method_of result.master ≡ methods.Aka }
 {
     Context {
+        origin: 1,
         identity,
         k_encr: [1; 16],
         k_aut: [2; 32],

@@ -1,5 +1,6 @@
 -- What a peer looks for in a message (RFC 4187 §10, RFC 9048 §3 and §4).
 use Rattle.std.specs.Prelude.{◌≡◌, ℕ, ◌==◌, ◌&&◌, nat_le, Bool, true, false, if◌then◌else◌, List, [], ◌∷◌, length, slice_index, Option, Some, None}
+use Rattle.std.specs.Int.{w16, from_be_bytes}
 use Rattle.std.specs.List.{list_any}
 use Rattle.std.specs.Str.{bytes_eq}
 pub use Rattle.auc_attr.specs.First.{first_value}
@@ -8,6 +9,7 @@ use Rattle.auc_attr.specs.Value.{IsValueIn}
 use Rattle.auc_attr.specs.declared.attr.Attr.{Attr}
 use Rattle.auc_attr.specs.declared.attr.Attr.TheVariants as attr
 use Rattle.auc_ident.specs.Permanent.{username}
+use Rattle.auc_request.specs.declared.enclosed.Enclosed.{Enclosed}
 use Rattle.auc_request.specs.declared.identities.IdentityRequest.{IdentityRequest}
 use Rattle.auc_request.specs.declared.identities.IdentityRequest.TheVariants as request
 
@@ -103,13 +105,32 @@ is_separated autn = nat_le 128 (slice_index autn 6)
 abbrev pub request_in : List Attr → IdentityRequest
 request_in list = if has list 10 then request.Permanent else if has list 17 then request.Fullauth else request.Any
 
--- the pseudonym in the value of AT_NEXT_PSEUDONYM: its username, if that has 33 bytes
-abbrev pub pseudonym_in : Option (List ℕ) → Option (List ℕ)
-pseudonym_in None = None
-pseudonym_in (Some text) = if length (username text) == 33 then Some (username text) else None
+-- ---- what is encrypted
 
--- the attributes that were decrypted have this pseudonym
-pub record Gives (bytes : List ℕ) (pseudonym : Option (List ℕ)) : Type 0 where
+-- the name in the value of AT_NEXT_PSEUDONYM or AT_NEXT_REAUTH_ID: its username, if that has 33 bytes
+abbrev pub next_name : Option (List ℕ) → Option (List ℕ)
+next_name None = None
+next_name (Some text) = if length (username text) == 33 then Some (username text) else None
+
+-- the number in the value of AT_COUNTER
+abbrev pub number_in : Option (List ℕ) → Option ℕ
+number_in None = None
+number_in (Some value) = if length value == 2 then Some (from_be_bytes w16 value) else None
+
+-- the sixteen bytes in the value of AT_NONCE_S
+abbrev pub block_in : Option (List ℕ) → Option (List ℕ)
+block_in None = None
+block_in (Some value) = if length value == 16 then Some value else None
+
+-- bytes that are attributes have this in the value of a type, as it is read
+pub record Has {X : Type 0} (read : Option (List ℕ) → Option X) (kind : ℕ) (bytes : List ℕ) (found : Option X) : Type 0 where
   pub value : Option (List ℕ)
-  pub there : IsValueIn 132 bytes value
-  pub same : pseudonym ≡ pseudonym_in value
+  pub there : IsValueIn kind bytes value
+  pub same : found ≡ read value
+
+-- the attributes that were decrypted give this (RFC 4187 §10.10, §10.11, §10.16 and §10.18)
+pub record Gives (bytes : List ℕ) (given : Enclosed) : Type 0 where
+  pub pseudonym : Has next_name 132 bytes given.pseudonym
+  pub identity : Has next_name 133 bytes given.identity
+  pub counter : Has number_in 19 bytes given.counter
+  pub nonce : Has block_in 21 bytes given.nonce

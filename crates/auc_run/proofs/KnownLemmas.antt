@@ -13,12 +13,13 @@ use Rattle.auc_lines.specs.declared.part.Part.TheVariants.{Round, Restart}
 use Rattle.auc_script.specs.declared.script.Script.{Script}
 use Rattle.auc_subs.specs.Subscriber.{AreSubscribers}
 use Rattle.auc_subs.specs.declared.row.Row.{Row}
+use Rattle.auc_world.specs.Agreement.{IsRealm}
 use Rattle.auc_run.specs.Inner.{IsKnownPart}
 
--- subscribers, a realm that isn't too long, and parts that can be served
+-- subscribers, a realm, and parts that can be served
 pub record Known (rows : List Row) (script : Script) : Type 0 where
   pub subscribers : AreSubscribers rows
-  pub realm : length script.realm ≤ 255
+  pub realm : IsRealm script.realm
   pub parts : All (IsKnownPart (length rows)) script.parts
 
 -- a line
@@ -50,7 +51,7 @@ known_parts rows (Round jobs ∷ parts) each few =
     (known_parts rows parts (All-tail (IsPart rows) (Round jobs) parts each) (omega (arith, cut)))
 
 -- those of a script that was read
-pub known : (rows : List Row) (script : Script) → IsWithin rows script → Known rows script
-known rows script within =
+pub known : (rows : List Row) (script : Script) → IsWithin rows script → IsRealm script.realm → Known rows script
+known rows script within realm =
     let jobs = within.parts.jobs in
-    record { subscribers = within.subscribers; realm = within.realm; parts = known_parts rows script.parts within.parts.each (omega (arith, jobs)) }
+    record { subscribers = within.subscribers; realm = realm; parts = known_parts rows script.parts within.parts.each (omega (arith, jobs)) }

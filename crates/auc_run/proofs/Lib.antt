@@ -6,6 +6,7 @@ mod OpeningLemmas
 mod StepLemmas
 mod OutputLemmas
 mod KnownLemmas
+mod HeldLemmas
 mod OutcomeLemmas
 mod RefusalLemmas
 mod TopLemmas

@@ -1,6 +1,6 @@
 -- For the rounds: the lines of a lawful round name subscribers alone.
 use Rattle.std.proofs.Common.{◌≡◌, ℕ, zero, suc, ◌<◌, List, [], ◌∷◌, ◌++◌, length, All, Option, Some, None, arith}
-use Rattle.std.specs.Prelude.{◌+◌, slice_get}
+use Rattle.std.specs.Prelude.{slice_get}
 use Rattle.std.proofs.lemmas.List.Elements.{All-nil, All-cons, All-append, All-same}
 use Rattle.auc_jobs.specs.Serving.{IsKnownLine, AreAllKnown}
 use Rattle.auc_lines.specs.declared.part.End.{End}
@@ -81,16 +81,16 @@ server_below : (set : Setting) (w : Net) (told : Told) (server : Option ServerEn
 server_below set w told None asks = tt
 server_below set w told (Some s) asks = asked_below set (asking_at set w told (Some s)) told.notes asks
 
-peer_below : (count : ℕ) (w : Net) (d : Delivery) (told : Told) (device : Option Subscription) → IsBelow count (asked_in (came_at_peer w d told device))
-peer_below count w d told None = tt
-peer_below count w d told (Some device) = tt
+peer_below : (set : Setting) (w : Net) (d : Delivery) (told : Told) (device : Option Subscription) → IsBelow (length set.rows) (asked_in (came_at_peer set w d told device))
+peer_below set w d told None = tt
+peer_below set w d told (Some device) = tt
 
 delivered_below : (set : Setting) (w : Net) (at' : End) (told : Told) (packet : Option SentPacket) (d : Option Delivery)
     → IsCentreAsked set (asking_in set w at' told d) told.notes → IsBelow (length set.rows) (asked_in (came_delivered set w at' told packet d))
 delivered_below set w at' told None d asks = tt
 delivered_below set w at' told (Some sent) None asks = tt
 delivered_below set w end.Server told (Some sent) (Some d) asks = server_below set w told d.session.server asks
-delivered_below set w end.Peer told (Some sent) (Some d) asks = peer_below (length set.rows) w d told (slice_get w.devices d.session.device)
+delivered_below set w end.Peer told (Some sent) (Some d) asks = peer_below set w d told (slice_get w.devices d.session.device)
 
 opened_below : (count : ℕ) (first place : Option ℕ) → IsBelow count (asked_in (came_opened first place))
 opened_below count (Some first) place = tt

@@ -1,5 +1,5 @@
 -- For the top call: what was written is the text of exactly one lawful transcript.
-use Rattle.std.proofs.Common.{◌≡◌, ℕ, ◌≤◌, List, [], ◌∷◌, ◌++◌, length, All, Option, refl, sym, subst}
+use Rattle.std.proofs.Common.{◌≡◌, ℕ, List, [], ◌∷◌, ◌++◌, length, All, Option, refl, sym, subst}
 use Rattle.std.proofs.lemmas.List.Elements.{All-nil, All-cons, All-head, All-tail}
 use Rattle.auc_edge.specs.Shelf.{File}
 use Rattle.auc_edge.specs.declared.stop.Stop.{Stop}
@@ -11,11 +11,13 @@ use Rattle.auc_script.specs.declared.script.Script.{Script}
 use Rattle.auc_subs.specs.Subscriber.{AreSubscribers}
 use Rattle.auc_subs.specs.declared.row.Row.{Row}
 use Rattle.auc_transcript.proofs.Facts.{keeps_numbers_apart, accepts_none_twice, each_failure_is_by_place}
-use Rattle.auc_transcript.specs.Completeness.{EachPlainSessionAgrees}
+use Rattle.auc_transcript.specs.Completeness.{EachPlainSessionAgrees, EachResumedSessionAgrees}
+use Rattle.auc_transcript.specs.Counters.{EachTranscriptKeepsContexts}
 use Rattle.auc_transcript.specs.Keys.{EachAuthenticationAgrees, EachBreachIsTold, EachTranscriptHasItsNets}
 use Rattle.auc_transcript.specs.OneTold.{EachToldTranscriptIsOne}
 use Rattle.auc_transcript.specs.Presented.{EachFailureInSessionsIsByPlace, EachPresentedVectorHasARightMac}
-use Rattle.auc_world.proofs.Facts.{length-opened}
+use Rattle.auc_world.proofs.Facts.{length-opened, sixteen_block}
+use Rattle.auc_world.specs.Agreement.{IsRealm}
 use Rattle.auc_world.specs.Transcript.{Course, Leads, beginning}
 use Rattle.auc_world.specs.declared.record.PartRecord.{PartRecord}
 use Rattle.auc_run.specs.Crash.{IsKept, MayLeave, limits_in}
@@ -24,6 +26,7 @@ use Rattle.auc_run.specs.Outcome.{RunsFiles}
 use Rattle.auc_run.specs.Output.{IsOutput, IsTranscript, setting_of, text_of}
 use Rattle.auc_run.specs.Words.{Files}
 use Rattle.auc_run.specs.declared.status.Status.{Status}
+use Rattle.auc_run.proofs.HeldLemmas.{held_apart}
 use Rattle.auc_run.proofs.KnownLemmas.{Known}
 use Rattle.auc_run.proofs.PrintableLemmas.{parts_named}
 
@@ -35,12 +38,14 @@ pub record Laws : Type 0 where
   pub breaches : EachBreachIsTold
   pub in_sessions : EachFailureInSessionsIsByPlace
   pub macs : EachPresentedVectorHasARightMac
+  pub contexts : EachTranscriptKeepsContexts
   pub plain : EachPlainSessionAgrees
+  pub resumed : EachResumedSessionAgrees
 
--- subscribers, a realm that isn't too long, and parts that can be served
+-- subscribers, a realm, and parts that can be served
 record Fits (rows : List Row) (script : Script) (parts : List Part) : Type 0 where
   subscribers : AreSubscribers rows
-  realm : length script.realm ≤ 255
+  realm : IsRealm script.realm
   known : All (IsKnownPart (length rows)) parts
 
 -- a lawful transcript is printable, if the SQNs in its answers of USIMs consist of bytes
@@ -73,6 +78,8 @@ is_output : Laws → (rows : List Row) (script : Script) (reserved : List ℕ) (
 is_output laws rows script reserved stop parts records end fits fit leads =
     let set = setting_of rows script in
     let own = laws.nets set reserved stop parts records (end, leads) in
+    let names = sixteen_block script.key 1099511627776 0 in
+    let apart = held_apart (length rows) parts fits.known in
     record {
       transcript = records;
       leads = leads;
@@ -85,9 +92,11 @@ is_output laws rows script reserved stop parts records end fits fit leads =
       finds_right_macs = laws.macs set reserved stop parts records fits.subscribers (end, leads);
       nets = own.0;
       are_nets = own.1;
-      keys = laws.keys set reserved stop parts records own.0 fits.subscribers (end, leads) own.1;
+      keys = laws.keys set reserved stop parts records own.0 fits.subscribers fits.realm names apart (end, leads) own.1;
       breaches = laws.breaches set reserved stop parts records own.0 (end, leads) own.1;
+      contexts = laws.contexts set reserved stop parts records own.0 fits.subscribers names apart (end, leads) own.1;
       plain = laws.plain set reserved stop parts records own.0 fits.subscribers fits.realm (end, leads) own.1;
+      resumed = laws.resumed set reserved stop parts records own.0 fits.subscribers fits.realm (end, leads) own.1;
     }
 
 -- what holds of some parts holds of the first of them

@@ -1,5 +1,5 @@
 -- What a run of a scenario writes.
-use Rattle.std.specs.Prelude.{◌≡◌, ℕ, Option, List, [], length}
+use Rattle.std.specs.Prelude.{◌≡◌, ℕ, Option, List, length}
 use Rattle.auc_edge.specs.declared.stop.Stop.{Stop}
 use Rattle.auc_ident.specs.Names.{names_key}
 use Rattle.auc_lines.specs.declared.part.Part.{Part}
@@ -7,7 +7,8 @@ use Rattle.auc_print.specs.Text.{transcript_text}
 use Rattle.auc_script.specs.declared.script.Script.{Script}
 use Rattle.auc_subs.specs.declared.row.Row.{Row}
 use Rattle.auc_world.specs.Setting.{Setting}
-use Rattle.auc_transcript.specs.Completeness.{PlainSessionsAgree}
+use Rattle.auc_transcript.specs.Completeness.{PlainSessionsAgree, ResumedSessionsAgree}
+use Rattle.auc_transcript.specs.Counters.{KeepsContexts}
 use Rattle.auc_transcript.specs.Headline.{VectorsDiffer, AcceptsNoneTwice, FailsExactlyByPlace}
 use Rattle.auc_transcript.specs.Keys.{AreNets, BreachesAreTold, EndsAgree}
 use Rattle.auc_transcript.specs.Presented.{FailsExactlyByPlaceInSessions, FindsRightMacs}
@@ -31,11 +32,12 @@ text_of rows script records = transcript_text (setting_of rows script) script.fu
 -- a text is that of exactly one lawful transcript of some parts of a script, in which no two vectors of a subscriber carry
 -- the same SQN, no USIM accepts an SQN twice, and between resynchronisations and restarts a released vector gets a
 -- synchronisation failure exactly if it, or one drawn a positive multiple of 32 places later, was accepted before, whether a
--- `give` line or a session presents it; a USIM to which a session presents it finds its MAC right. A server and a peer of one
--- method that ended in Success over one challenge, of EAP-AKA' with one name of the network, have equal keys, if no delivery
--- broke the premise in their jobs, and each round tells of a breach exactly if one did. A session that has its plain line and
--- no other event line ends in Success at both ends, and its round says that they agree, unless a record of it tells why not,
--- or its line gives a text for the first identity or has options that keep the peer from accepting a challenge
+-- `give` line or a session presents it; a USIM to which a session presents it finds its MAC right. A server and a peer that
+-- ended in Success over one challenge or in one fast re-authentication have equal keys, if no delivery broke the premise in their
+-- jobs, and each round tells of a breach exactly if one did. No counter is used twice under the keys of one full
+-- authentication. A session that has its plain line and no other event line ends in Success at both ends, and its round says that
+-- they agree, unless a record of it tells why not, or its line gives a text for the first identity or has options that keep the
+-- peer from accepting a challenge; and so does one whose server takes up a context again that its device has with the same counter
 pub record IsOutput (rows : List Row) (script : Script) (reserved : List ℕ) (stop : Option Stop) (parts : List Part) (end : Course) (text : List ℕ) : Type 0 where
   pub transcript : List PartRecord
   -- it is lawful, and this is where it ends
@@ -52,4 +54,7 @@ pub record IsOutput (rows : List Row) (script : Script) (reserved : List ℕ) (s
   pub are_nets : AreNets (setting_of rows script) parts transcript nets
   pub keys : EndsAgree nets
   pub breaches : BreachesAreTold transcript nets
+  -- no counter is used twice, no identity is resumed twice, and each acceptance is of the device's own context
+  pub contexts : KeepsContexts nets
   pub plain : PlainSessionsAgree rows parts transcript nets
+  pub resumed : ResumedSessionsAgree (setting_of rows script) parts transcript nets

@@ -5,8 +5,10 @@
 //! If the status is [`Status::Done`], the bytes written are the text of exactly one lawful transcript of the
 //! scenario. Within this run no two vectors of a subscriber have the same SQN, no USIM accepts an SQN twice, and
 //! a vector gets a synchronisation failure exactly if its place says so, whether a `give` line or a session presents it. A
-//! server and a peer that succeed over one challenge have equal keys if no delivery of their jobs broke the premise, and a
-//! session that has its `plain` line alone succeeds at both ends unless a line tells why not.
+//! server and a peer that succeed over one challenge or in one fast re-authentication have equal keys if no delivery of their
+//! jobs broke the premise. No counter is used twice under the keys of one full authentication, and no identity is resumed twice.
+//! A session that has its `plain` line alone succeeds at both ends unless a line tells why not, or if its server takes up a
+//! context again that its device has with the same counter.
 //!
 //! With every status a crash leaves a journal that reserves each number that was written as released, so the next run draws
 //! none of them (`specs/Crash`). Each other status except want of memory has its cause, and each cause its status; the

@@ -1,6 +1,6 @@
 //! The top call.
 
-ghost use Rattle.std.specs.Prelude.{◌≡◌, ◌≢◌, ◌⊎◌, ℕ, true, false, Option, List, [], Some, None, Ok, Err, OnOk, IfOk, IfErr, IsErrOf};
+ghost use Rattle.std.specs.Prelude.{◌≡◌, ◌≢◌, ◌≤◌, ◌⊎◌, ℕ, length, true, false, Option, List, [], Some, None, Ok, Err, OnOk, IfOk, IfErr, IsErrOf};
 ghost use Rattle.auc_edge.specs.Faults.{Rose};
 ghost use Rattle.auc_edge.specs.Shelf.{File};
 ghost use Rattle.auc_edge.specs.Sink.{Appends};
@@ -11,9 +11,11 @@ ghost use Rattle.auc_journal.specs.Image.{Frame, Reading, read_image};
 ghost use Rattle.auc_load.specs.Words.{load_named};
 ghost use Rattle.auc_load.specs.declared.words.LoadWords.{LoadWords};
 ghost use Rattle.auc_script.specs.Limits.{IsWithin};
+ghost use Rattle.auc_script.specs.Numbers.{longest_realm};
 ghost use Rattle.auc_script.specs.Reading.{script_of};
 ghost use Rattle.auc_script.specs.declared.script.Script.{Script};
 ghost use Rattle.auc_subs.specs.declared.row.Row.{Row};
+ghost use Rattle.auc_world.specs.Agreement.{IsRealm};
 ghost use Rattle.auc_run.specs.Crash.{IsFound, IsFull, MayLeave};
 ghost use Rattle.auc_run.specs.Inner.{FilesLeave, FilesStop, InputStops, IsBeforeJournal, IsRead, IsSilent, OutputStops, ReadingStops, ReservedStops, Stops, files_seen, status_in};
 ghost use Rattle.auc_run.specs.Outcome.{AreRead, EndsBefore, EndsLoad, IsCause, IsQuiet, IsReadNext, IsStop, MayPrint, MayRun, MayTell, NeedsNoJournal, PrintsAlgorithm, PrintsReserved, Refuses, RunsFiles, RunsLoad, RunsScenario};
@@ -36,7 +38,8 @@ use auc_script::Script;
 use auc_subs::Subscribers;
 use auc_transcript::{
     each_authentication_agrees, each_breach_is_told, each_failure_in_sessions_is_by_place,
-    each_plain_session_agrees, each_told_transcript_is_one,
+    each_plain_session_agrees, each_resumed_session_agrees, each_told_transcript_is_one,
+    each_transcript_keeps_contexts,
 };
 use std::alloc::Global;
 use std::sync::Wait;
@@ -249,7 +252,10 @@ fn run_input<R: Threads + Wait + Sync, K: Sink, D: Disk + Drop + Send, G: Gate +
             each_authentication_agrees();
             each_breach_is_told();
             each_failure_in_sessions_is_by_place();
+            each_transcript_keeps_contexts();
             each_plain_session_agrees();
+            each_resumed_session_agrees();
+            is_realm(input.script.realm.as_slice());
             serve_parts(rt, alloc, &input.script, &input.subs, journal, out, gate)
         }
         Err(OpenRefused { disk, why }) => Performed {
@@ -258,6 +264,12 @@ fn run_input<R: Threads + Wait + Sync, K: Sink, D: Disk + Drop + Send, G: Gate +
         },
     }
 }
+
+/// At most 255 bytes are a realm.
+fn is_realm(realm: &[u8])
+    requires { length realm.now ≤ longest_realm }
+    ensures { IsRealm realm.now }
+{}
 
 /// The subscribers and the script of the files of a run.
 #[derive(Drop)]

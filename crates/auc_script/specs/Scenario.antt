@@ -305,7 +305,7 @@ word_line s (word.OfJob which) fields = of_job_line s which fields
 -- a line that begins with a word
 abbrev pub served_line : Scenario → List ℕ → List (List ℕ) → Result Scenario ScriptWhy
 served_line s text fields = do
-  served ← require (not (is_later text fields)) why.NotYet
+  served ← require (not (is_later text)) why.NotYet
   which ← ok_or (word_of text) why.UnknownWord
   word_line s which fields
 

@@ -1,5 +1,5 @@
 -- The fields of a `session` line, what they say, and which of their values isn't served.
-use Rattle.std.specs.Prelude.{ℕ, ◌==◌, ◌&&◌, ◌||◌, nat_le, not, Bool, true, false, List, [], ◌∷◌, drop, length, codes, Option, Some, None, Result, Ok, Err, if◌then◌else◌, slice_index_or}
+use Rattle.std.specs.Prelude.{ℕ, ◌==◌, ◌&&◌, ◌||◌, nat_le, not, Bool, true, List, [], ◌∷◌, drop, length, codes, Option, Some, None, Result, Ok, Err, if◌then◌else◌, slice_index_or}
 use Rattle.std.specs.List.{list_any}
 use Rattle.auc_hmac.specs.declared.method.Method.{Method}
 use Rattle.auc_hmac.specs.declared.method.Method.TheVariants as methods
@@ -75,8 +75,8 @@ identity_in text =
     else if is_text text (codes "permanent") then Permanent
     else Text (drop 1 text)
 
--- the session of a number and of a subscriber's place, by a method and the fields; its letters are p (112), b (98), a (97)
--- and d (100)
+-- the session of a number and of a subscriber's place, by a method and the fields; its letters are p (112), r (114), b (98),
+-- a (97) and d (100)
 abbrev pub session_line : ℕ → ℕ → Method → SessionFields → SessionLine
 session_line session sub method f = record {
   session = session;
@@ -85,13 +85,9 @@ session_line session sub method f = record {
   name = name_in method f.sname;
   peer_name = peer_name_in method f.pname;
   pseudonym = is_one_of f.options 112;
+  reauth = is_one_of f.options 114;
   bidding = is_one_of f.options 98;
   any = is_one_of f.options 97;
   has_prime = is_one_of f.options 100;
   identity = identity_in f.identity;
 }
-
--- an option that isn't served so far: r (114), among letters
-abbrev pub has_later : Result SessionFields ScriptWhy → Bool
-has_later (Ok f) = has_letters f.options && is_one_of f.options 114
-has_later (Err why) = false

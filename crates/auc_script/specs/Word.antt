@@ -1,7 +1,6 @@
 -- How a line begins: with the # of a comment, or with a word.
-use Rattle.std.specs.Prelude.{ℕ, ◌==◌, ◌||◌, ◌&&◌, Bool, List, codes, Option, Some, None, if◌then◌else◌, slice_index_or}
+use Rattle.std.specs.Prelude.{ℕ, ◌==◌, ◌||◌, Bool, List, codes, Option, Some, None, if◌then◌else◌, slice_index_or}
 use Rattle.auc_text.specs.Text.{is_text}
-use Rattle.auc_script.specs.SessionLine.{has_later, seven_fields}
 use Rattle.auc_script.specs.declared.word.HeaderWord.{HeaderWord}
 use Rattle.auc_script.specs.declared.word.HeaderWord.TheVariants as header
 use Rattle.auc_script.specs.declared.word.JobWord.{JobWord}
@@ -57,7 +56,6 @@ word_of text =
     else if is_text text (codes "job") then Some word.Job
     else other_word_of text
 
--- whether a line with this first word and these fields isn't served so far
-abbrev pub is_later : List ℕ → List (List ℕ) → Bool
-is_later text fields =
-    is_text text (codes "tamper") || is_text text (codes "cut") || (is_text text (codes "session") && has_later (seven_fields fields))
+-- whether a line with this first word isn't served so far
+abbrev pub is_later : List ℕ → Bool
+is_later text = is_text text (codes "tamper") || is_text text (codes "cut")

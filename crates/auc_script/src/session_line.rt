@@ -7,7 +7,7 @@ ghost use Rattle.auc_text.specs.Text.{words_of};
 ghost use Rattle.auc_script.specs.InnerRefusal.{Says};
 ghost use Rattle.auc_script.specs.Limits.{IsLine, IsSession};
 ghost use Rattle.auc_script.specs.Numbers.{last_session};
-ghost use Rattle.auc_script.specs.SessionLine.{are_letters, are_names, are_options, has_later, has_letters, identity_in, is_identity, method_in, name_in, peer_name_in, seven_fields};
+ghost use Rattle.auc_script.specs.SessionLine.{are_letters, are_names, are_options, has_letters, identity_in, is_identity, method_in, name_in, peer_name_in, seven_fields};
 ghost use Rattle.auc_script.specs.Field.{number_between};
 ghost use Rattle.auc_script.specs.Scenario.{deliver_of, give_up_of, number_of_session, session_of};
 ghost use Rattle.auc_script.specs.Session.{has_fit_texts, is_first, is_short};
@@ -21,16 +21,6 @@ use auc_lines::{Identity, Line, SessionLine};
 use auc_subs::Subscribers;
 use auc_text::next_word;
 use std::alloc::Global;
-
-/// Whether the fields of a session's line are seven and have an option that isn't served so far.
-pub fn has_later(fields: &[u8]) -> bool
-    ensures { result ≡ has_later (seven_fields (words_of fields.now)) }
-{
-    let Ok((_, _, _, _, _, options, _)) = seven_fields(fields) else {
-        return false;
-    };
-    has_letters(options) && options.contains(&b'r')
-}
 
 /// Whether options are letters, each once.
 fn has_letters(options: &[u8]) -> bool
@@ -53,7 +43,7 @@ fn are_letters(text: &[u8]) -> bool
 }
 
 /// The fields `T IMSI METHOD SNAME PNAME OPTIONS IDENTITY` of a line.
-pub fn seven_fields(
+fn seven_fields(
     fields: &[u8],
 ) -> Result<(&[u8], &[u8], &[u8], &[u8], &[u8], &[u8], &[u8]), ScriptWhy>
     ensures { MatchResult result
@@ -102,6 +92,7 @@ pub fn read_session(alloc: Global, subs: &Subscribers, fields: &[u8]) -> Result<
         name: read_name(alloc, method, sname)?,
         peer_name: read_peer_name(alloc, method, pname)?,
         pseudonym: options.contains(&b'p'),
+        reauth: options.contains(&b'r'),
         bidding: options.contains(&b'b'),
         any: options.contains(&b'a'),
         has_prime: options.contains(&b'd'),

@@ -95,7 +95,7 @@ impl SoFar {
         let Some((text, fields)) = next_word(line) else {
             return Ok(());
         };
-        if is_later(text, fields) {
+        if is_later(text) {
             return Err(LineRefusal::Why(ScriptWhy::NotYet));
         }
         match read_word(text) {

@@ -1,10 +1,7 @@
 //! How a line begins: with the `#` of a comment, or with a word.
 
 ghost use Rattle.std.specs.Prelude.{◌≡◌};
-ghost use Rattle.auc_text.specs.Text.{words_of};
 ghost use Rattle.auc_script.specs.Word.{header_word_of, is_comment, is_later, job_word_of, other_word_of, word_of};
-
-use crate::session_line::has_later;
 
 /// A word of a line before the first round, which stands there at most once.
 #[derive(Clone, Copy)]
@@ -126,11 +123,9 @@ fn read_header_word(text: &[u8]) -> Option<HeaderWord>
     }
 }
 
-/// Whether a line with this first word and these fields isn't served so far.
-pub fn is_later(text: &[u8], fields: &[u8]) -> bool
-    ensures { result ≡ is_later text.now (words_of fields.now) }
+/// Whether a line with this first word isn't served so far.
+pub fn is_later(text: &[u8]) -> bool
+    ensures { result ≡ is_later text.now }
 {
-    text == b"tamper".as_slice()
-        || text == b"cut".as_slice()
-        || (text == b"session".as_slice() && has_later(fields))
+    text == b"tamper".as_slice() || text == b"cut".as_slice()
 }

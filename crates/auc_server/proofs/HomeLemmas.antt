@@ -7,16 +7,21 @@ use Rattle.std.specs.List.{list_any}
 use Rattle.auc_subs.specs.declared.row.Row as rows
 use Rattle.auc_vector.specs.declared.notes.NumberNote.{NumberNote}
 use Rattle.auc_vector.specs.declared.notes.NumberNote.TheVariants as number
-use Rattle.auc_server.specs.InnerRows.{IsRowOf, IsHeldRow}
+use Rattle.auc_server.specs.InnerRows.{IsHeldRow, IsRowOf}
+use Rattle.auc_hmac.specs.declared.method.Method.{Method}
+use Rattle.auc_reauth.specs.declared.context.Context.{Context}
+use Rattle.auc_reauth.specs.Server.{no_contexts}
+use Rattle.auc_server.specs.Contexts.{context_after, context_of, gives_next, homes_kept, homes_left, homes_resumed, homes_rewon, homes_won, with_context, with_context_at, without, without_at}
 use Rattle.auc_server.specs.Ordinals.{home_at, home_place, homes_given, homes_with, ordinal_after, with_next}
 use Rattle.auc_server.specs.Rows.{is_held}
 use Rattle.auc_server.specs.Server.{ServerEnd}
-use Rattle.auc_server.specs.Steps.{IsHeld, IsHome, IsServed}
-use Rattle.auc_server.specs.Table.{homes_challenged}
+use Rattle.auc_server.specs.Steps.{IsHeld, IsHeldToo, IsHome, IsServed}
+use Rattle.auc_server.specs.Table.{homes_challenged, homes_named}
 use Rattle.auc_server.specs.declared.options.ServerOptions.{ServerOptions}
 use Rattle.auc_server.specs.declared.rows.Row.{Row}
 use Rattle.auc_server.specs.declared.rows.Row.TheVariants as row
 use Rattle.auc_server.specs.declared.server.Challenged.{Challenged}
+use Rattle.auc_server.specs.declared.server.Resumed.{Resumed}
 use Rattle.auc_server.specs.declared.setting.HomeRow.{HomeRow}
 
 -- numbers that are tested as equal are
@@ -58,13 +63,19 @@ listed_of all subs top homes (Some sent) each held = (home_of all subs top homes
 -- a row of a response names a home, if the challenge's subscriber is one
 pub held_row : (homes : List HomeRow) (c : Option Challenged) (r : Row) → IsHeld homes c → IsRowOf c r → IsHeldRow homes r
 held_row homes None (row.Challenge sub) held of = absurd of
+held_row homes None (row.Resume sub) held of = absurd of
+held_row homes None (row.TooSmall sub) held of = absurd of
 held_row homes None (row.Resynchronise sub seq) held of = absurd of
 held_row homes (Some sent) (row.Challenge sub) held of = absurd of
+held_row homes (Some sent) (row.Resume sub) held of = absurd of
+held_row homes (Some sent) (row.TooSmall sub) held of = ap (is_held homes) of ∙ held
 held_row homes (Some sent) (row.Resynchronise sub seq) held of = (ap (is_held homes) of.0 ∙ held, of.1)
 held_row homes c (row.Ignore cause) held of = tt
 held_row homes c (row.Ask kind) held of = tt
 held_row homes c row.UnknownIdentity held of = tt
 held_row homes c row.WrongMac held of = tt
+held_row homes c row.WrongCounter held of = tt
+held_row homes c row.Reauthenticated held of = tt
 held_row homes c row.WrongRes held of = tt
 held_row homes c row.WrongCheckcode held of = tt
 held_row homes c row.Success held of = tt
@@ -77,7 +88,7 @@ held_row homes c (row.Notified cause) held of = tt
 -- ---- the homes after an ordinal was used
 
 abbrev nobody : HomeRow
-nobody = record { sub = 0; ordinals = 0 }
+nobody = record { sub = 0; ordinals = 0; store = no_contexts }
 
 -- whether a subscriber is held is read from the homes' subscribers
 held_by_subs : (homes : List HomeRow) (j : ℕ) → is_held homes j ≡ list_any (λ (n : ℕ). n == j) (map (λ (home : HomeRow). home.sub) homes)
@@ -94,24 +105,51 @@ with_subs homes (Some place) =
     map-set_same (λ (h : HomeRow). h.sub) homes place (with_next (home_at homes place) (ordinal_after (home_at homes place))) nobody
     (next_sub (home_at homes place) (ordinal_after (home_at homes place)))
 
-given_subs : (gives : Bool) (homes : List HomeRow) (sub : ℕ) → map (λ (home : HomeRow). home.sub) (homes_given gives homes sub) ≡ map (λ (home : HomeRow). home.sub) homes
+pub given_subs : (gives : Bool) (homes : List HomeRow) (sub : ℕ) → map (λ (home : HomeRow). home.sub) (homes_given gives homes sub) ≡ map (λ (home : HomeRow). home.sub) homes
 given_subs false homes sub = refl
 given_subs true homes sub = with_subs homes (home_place homes sub)
+
+named_subs : (options : ServerOptions) (homes : List HomeRow) (sub : ℕ) → map (λ (home : HomeRow). home.sub) (homes_named options homes sub) ≡ map (λ (home : HomeRow). home.sub) homes
+named_subs options homes sub = given_subs options.reauth (homes_given options.pseudonym homes sub) sub ∙ given_subs options.pseudonym homes sub
 
 -- no challenge changes whose the homes are
 pub challenged_subs : (options : ServerOptions) (homes : List HomeRow) (sub : ℕ) (drawn : Option NumberNote)
     → map (λ (home : HomeRow). home.sub) (homes_challenged options homes sub drawn) ≡ map (λ (home : HomeRow). home.sub) homes
 challenged_subs options homes sub None = refl
-challenged_subs options homes sub (Some (number.Drew n)) = given_subs options.pseudonym homes sub
+challenged_subs options homes sub (Some (number.Drew n)) = named_subs options homes sub
 challenged_subs options homes sub (Some (number.Exhausted w)) = refl
 challenged_subs options homes sub (Some (number.Withheld n stop)) = refl
 
+-- a context that comes or leaves changes it neither
+pub left_subs : (by : Method) (text : List ℕ) (homes : List HomeRow) (place : Option ℕ) → map (λ (home : HomeRow). home.sub) (without_at by text homes place) ≡ map (λ (home : HomeRow). home.sub) homes
+left_subs by text homes None = refl
+left_subs by text homes (Some place) = map-set_same (λ (h : HomeRow). h.sub) homes place (without by text (home_at homes place)) nobody refl
+
+put_subs : (by : Method) (c : Context) (homes : List HomeRow) (place : Option ℕ) → map (λ (home : HomeRow). home.sub) (with_context_at by c homes place) ≡ map (λ (home : HomeRow). home.sub) homes
+put_subs by c homes None = refl
+put_subs by c homes (Some place) = map-set_same (λ (h : HomeRow). h.sub) homes place (with_context by c (home_at homes place)) nobody refl
+
+pub kept_subs : (by : Method) (homes : List HomeRow) (sub : ℕ) (c : Option Context) → map (λ (home : HomeRow). home.sub) (homes_kept by homes sub c) ≡ map (λ (home : HomeRow). home.sub) homes
+kept_subs by homes sub None = refl
+kept_subs by homes sub (Some c) = put_subs by c homes (home_place homes sub)
+
+pub won_subs : (by : Method) (homes : List HomeRow) (c : Option Challenged) → map (λ (home : HomeRow). home.sub) (homes_won by homes c) ≡ map (λ (home : HomeRow). home.sub) homes
+won_subs by homes None = refl
+won_subs by homes (Some sent) = kept_subs by homes sent.sub (context_of sent)
+
+pub rewon_subs : (by : Method) (homes : List HomeRow) (c : Option Resumed) → map (λ (home : HomeRow). home.sub) (homes_rewon by homes c) ≡ map (λ (home : HomeRow). home.sub) homes
+rewon_subs by homes None = refl
+rewon_subs by homes (Some sent) = kept_subs by homes sent.sub (context_after sent)
+
+pub resumed_subs : (options : ServerOptions) (text : List ℕ) (homes : List HomeRow) (sub : ℕ) (c : Option Context)
+    → map (λ (home : HomeRow). home.sub) (homes_resumed options text homes sub c) ≡ map (λ (home : HomeRow). home.sub) homes
+resumed_subs options text homes sub None = refl
+resumed_subs options text homes sub (Some c) =
+    given_subs (gives_next options c) (homes_left options.method text homes sub) sub ∙ left_subs options.method text homes (home_place homes sub)
+
 -- a subscriber stays held, and none comes
-pub challenged_held : (options : ServerOptions) (homes : List HomeRow) (sub : ℕ) (drawn : Option NumberNote) (j : ℕ)
-    → is_held (homes_challenged options homes sub drawn) j ≡ is_held homes j
-challenged_held options homes sub drawn j =
-    held_by_subs (homes_challenged options homes sub drawn) j
-    ∙ ap (list_any (λ (n : ℕ). n == j)) (challenged_subs options homes sub drawn) ∙ sym (held_by_subs homes j)
+pub same_held : (homes later : List HomeRow) (j : ℕ) → map (λ (home : HomeRow). home.sub) later ≡ map (λ (home : HomeRow). home.sub) homes → is_held later j ≡ is_held homes j
+same_held homes later j same = held_by_subs later j ∙ ap (list_any (λ (n : ℕ). n == j)) same ∙ sym (held_by_subs homes j)
 
 from_subs : (P : ℕ → Type 0) (homes : List HomeRow) → All P (map (λ (home : HomeRow). home.sub) homes) → All (λ home. P home.sub) homes
 from_subs P [] each = All-nil (λ (home : HomeRow). P home.sub)
@@ -123,26 +161,35 @@ subs_each : (P : ℕ → Type 0) (homes later : List HomeRow) → map (λ (home 
     → All (λ home. P home.sub) homes → All (λ home. P home.sub) later
 subs_each P homes later same each = from_subs P later (subst (All P) (sym same) (All-map P (λ (home : HomeRow). home.sub) homes each))
 
--- what holds of each home's subscriber holds again
-pub challenged_each : (P : ℕ → Type 0) (options : ServerOptions) (homes : List HomeRow) (sub : ℕ) (drawn : Option NumberNote)
-    → All (λ home. P home.sub) homes → All (λ home. P home.sub) (homes_challenged options homes sub drawn)
-challenged_each P options homes sub drawn each = subs_each P homes (homes_challenged options homes sub drawn) (challenged_subs options homes sub drawn) each
-
 -- a challenged subscriber stays one of the homes
 held_again : (homes later : List HomeRow) (c : Option Challenged) → ((j : ℕ) → is_held later j ≡ is_held homes j) → IsHeld homes c → IsHeld later c
 held_again homes later None same held = tt
 held_again homes later (Some sent) same held = same sent.sub ∙ held
 
--- what a server needs, after a challenge
-pub served_again : (all : List rows.Row) (subs subs' : ℕ) (top top' : ℕ → ℕ) (options : ServerOptions) (homes later : List HomeRow) (sub : ℕ) (drawn : Option NumberNote)
-    (s new : ServerEnd) → subs' ≡ subs → ((i : ℕ) → top' i ≡ top i) → later ≡ homes_challenged options homes sub drawn
-    → ((held : List HomeRow) → IsHeld held s.challenged → is_held held sub ≡ true → IsHeld held new.challenged)
-    → is_held homes sub ≡ true → IsServed all subs top homes s → IsServed all subs' top' later new
-served_again all subs subs' top top' options homes later sub drawn s new same alike is keeps held served =
-    let stays : (j : ℕ) → is_held later j ≡ is_held homes j = λ j. ap (λ (l : List HomeRow). is_held l j) is ∙ challenged_held options homes sub drawn j in
+held_too_again : (homes later : List HomeRow) (c : Option Resumed) → ((j : ℕ) → is_held later j ≡ is_held homes j) → IsHeldToo homes c → IsHeldToo later c
+held_too_again homes later None same held = tt
+held_too_again homes later (Some sent) same held = same sent.sub ∙ held
+
+-- what a server needs, after the homes changed, but not whose they are
+pub served_again : (all : List rows.Row) (subs subs' : ℕ) (top top' : ℕ → ℕ) (homes later : List HomeRow) (s new : ServerEnd)
+    → subs' ≡ subs → ((i : ℕ) → top' i ≡ top i) → map (λ (home : HomeRow). home.sub) later ≡ map (λ (home : HomeRow). home.sub) homes
+    → ((held : List HomeRow) → IsHeld held s.challenged → ((j : ℕ) → is_held held j ≡ is_held homes j) → IsHeld held new.challenged)
+    → ((held : List HomeRow) → IsHeldToo held s.resumed → ((j : ℕ) → is_held held j ≡ is_held homes j) → IsHeldToo held new.resumed)
+    → IsServed all subs top homes s → IsServed all subs' top' later new
+served_again all subs subs' top top' homes later s new same alike is keeps renews served =
+    let stays : (j : ℕ) → is_held later j ≡ is_held homes j = λ j. same_held homes later j is in
     record {
-      each = homes_again all subs subs' top top' later same alike
-          (subst (λ (l : List HomeRow). All (λ home. IsHome all subs top home.sub) l) (sym is)
-          (challenged_each (IsHome all subs top) options homes sub drawn served.each));
-      held = keeps later (held_again homes later s.challenged stays served.held) (stays sub ∙ held);
+      each = homes_again all subs subs' top top' later same alike (subs_each (IsHome all subs top) homes later is served.each);
+      held = keeps later (held_again homes later s.challenged stays served.held) stays;
+      resumed = renews later (held_too_again homes later s.resumed stays served.resumed) stays;
     }
+
+-- the same after a challenge
+pub served_challenged : (all : List rows.Row) (subs subs' : ℕ) (top top' : ℕ → ℕ) (options : ServerOptions) (homes later : List HomeRow) (sub : ℕ) (drawn : Option NumberNote)
+    (s new : ServerEnd) → subs' ≡ subs → ((i : ℕ) → top' i ≡ top i) → later ≡ homes_challenged options homes sub drawn
+    → ((held : List HomeRow) → IsHeld held s.challenged → is_held held sub ≡ true → IsHeld held new.challenged) → new.resumed ≡ s.resumed
+    → is_held homes sub ≡ true → IsServed all subs top homes s → IsServed all subs' top' later new
+served_challenged all subs subs' top top' options homes later sub drawn s new same alike is keeps still held served =
+    served_again all subs subs' top top' homes later s new same alike
+    (ap (λ (l : List HomeRow). map (λ (home : HomeRow). home.sub) l) is ∙ challenged_subs options homes sub drawn)
+    (λ all' was stays. keeps all' was (stays sub ∙ held)) (λ all' was stays. subst (IsHeldToo all') (sym still) was) served

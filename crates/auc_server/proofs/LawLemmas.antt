@@ -1,5 +1,5 @@
 -- What each row says of the server, and that Success comes only after a right AT_MAC.
-use Rattle.std.proofs.Common.{◌≡◌, ℕ, ◌==◌, ◌||◌, Bool, true, false, cond, not, List, [], Option, Some, None, slice_get, refl, sym, ap, ◌∙◌}
+use Rattle.std.proofs.Common.{◌≡◌, ◌⊎◌, inl, inr, ℕ, ◌==◌, ◌||◌, Bool, true, false, cond, not, List, [], Option, Some, None, slice_get, refl, sym, ap, ◌∙◌}
 use Rattle.std.specs.Option.{option_or}
 use Rattle.auc_attr.specs.declared.attr.Attr.{Attr}
 use Rattle.auc_hmac.specs.declared.keys.KeySet.{KeySet}
@@ -29,19 +29,22 @@ use Rattle.auc_vector.specs.declared.turn.Step.{Step}
 use Rattle.auc_vector.specs.declared.turn.Step.TheVariants as step
 use Rattle.auc_vector.specs.declared.turn.Turn.{Turn}
 use Rattle.auc_server.specs.Attributes.{res_of, auts_of, checkcode_of, error_code_of, first_of, identity_in}
-use Rattle.auc_server.specs.Laws.{AreProved, awaits_identity}
+use Rattle.auc_server.specs.Laws.{AreProved, AreRenewed, SuccessNeedsARightMac, awaits_identity}
+use Rattle.auc_reauth.specs.declared.context.Context.{Context}
+use Rattle.auc_server.specs.Contexts.{context_in, homes_left}
 use Rattle.auc_server.specs.Rounds.{checkcode}
-use Rattle.auc_server.specs.Rows.{by_auts, challenge_or, differs, if_challenged, in_state, is_expected, is_type, on_any, on_auts, on_challenged, on_client_error, on_error_code, on_first, on_full, on_head, on_identity, on_message, on_method, on_permanent, on_reading, on_response, on_sync_failure, permanent_subscriber, pseudonym_subscriber, read_by, server_row, subscriber_in, text_in, type_awaited}
+use Rattle.auc_server.specs.Rows.{by_auts, challenge_or, context_subscriber, differs, if_challenged, if_resumed, in_state, is_expected, is_type, is_wrong, on_any, on_auts, on_challenged, on_client_error, on_error_code, on_first, on_full, on_head, on_identity, on_message, on_method, on_permanent, on_reading, on_reauth, on_response, on_resumed, on_sync_failure, permanent_subscriber, pseudonym_subscriber, read_by, resume_or, says_small, server_row, subscriber_in, text_in, type_awaited}
 use Rattle.auc_server.specs.Server.{ServerEnd}
 use Rattle.auc_server.specs.Setting.{Setting}
-use Rattle.auc_server.specs.Table.{asked, challenged, challenged_with, identified, name_given, noted, packets_after, resynchronised, resynchronising, server_does, server_step, succeeded, vector_at}
-use Rattle.auc_request.specs.declared.identities.IdentityRequest.{IdentityRequest}
+use Rattle.auc_server.specs.Table.{challenged, challenged_with, identified, names_given, noted, packets_after, reauthenticated, resumed_keys, resumed_with, resynchronised, resynchronising, server_does, succeeded, vector_at}
 use Rattle.auc_request.specs.declared.identities.IdentityRequest.TheVariants as asks
-use Rattle.auc_server.specs.declared.naming.NewName.{NewName}
+use Rattle.auc_server.specs.declared.naming.GivenNames.{GivenNames}
 use Rattle.auc_server.specs.declared.options.ServerOptions.{ServerOptions}
+use Rattle.auc_server.specs.declared.reply.Reply.{Reply}
 use Rattle.auc_server.specs.declared.rows.Row.{Row}
 use Rattle.auc_server.specs.declared.rows.Row.TheVariants as row
 use Rattle.auc_server.specs.declared.server.Challenged.{Challenged}
+use Rattle.auc_server.specs.declared.server.Resumed.{Resumed}
 use Rattle.auc_server.specs.declared.server.ServerState.{ServerState}
 use Rattle.auc_server.specs.declared.server.ServerState.TheVariants as state
 use Rattle.auc_server.specs.declared.setting.HomeRow.{HomeRow}
@@ -54,15 +57,31 @@ pub record IsRight (s : ServerEnd) (seen : Seen) : Type 0 where
   pub sent : Challenged
   pub last : s.challenged ≡ Some sent
   pub right : is_sealed s.options.method sent.keys.k_aut [] seen ≡ true
+  pub waits : s.state ≡ state.AwaitChallenge
+
+-- the response to the re-authentication has a right AT_MAC
+pub record IsRightToo (s : ServerEnd) (seen : Seen) : Type 0 where
+  pub sent : Resumed
+  pub last : s.resumed ≡ Some sent
+  pub right : is_sealed s.options.method sent.context.k_aut sent.nonce seen ≡ true
+  pub waits : s.state ≡ state.AwaitReauth
+
+-- the subscriber of the re-authentication
+abbrev pub IsResumed : ServerEnd → ℕ → Type 0
+IsResumed s sub = (sent : Resumed) × (s.resumed ≡ Some sent) × (sent.sub ≡ sub)
 
 -- the subscriber of the last challenge
 abbrev pub IsLast : ServerEnd → ℕ → Type 0
 IsLast s sub = (sent : Challenged) × (s.challenged ≡ Some sent) × (sent.sub ≡ sub)
 
 -- an identity comes only where one is awaited, and a subscriber that was found by it is challenged; Success comes only after a
--- right AT_MAC; and the subscriber of the last challenge resynchronises
+-- right AT_MAC; the subscriber of the last challenge resynchronises, and that of the re-authentication is challenged if the
+-- counter was too small
 abbrev pub Says : Option ℕ → ServerEnd → Seen → Row → Type 0
 Says found s seen row.Success = IsRight s seen
+Says found s seen row.Reauthenticated = IsRightToo s seen
+Says found s seen (row.Resume sub) = awaits_identity s.state ≡ true
+Says found s seen (row.TooSmall sub) = IsResumed s sub
 Says found s seen (row.Ask kind) = awaits_identity s.state ≡ true
 Says found s seen row.UnknownIdentity = awaits_identity s.state ≡ true
 Says found s seen (row.Challenge sub) = (awaits_identity s.state ≡ true) × (found ≡ Some sub)
@@ -77,8 +96,8 @@ is_true : (b : Bool) → not b ≡ false → b ≡ true
 is_true true e = refl
 is_true false e = absurd cc
 
-says_response : (found : Option ℕ) (s : ServerEnd) (sent : Challenged) (seen : Seen) (list : List Attr) → s.challenged ≡ Some sent → Says found s seen (on_response s.options.method s.packets sent seen list)
-says_response found s sent seen list f =
+says_response : (found : Option ℕ) (s : ServerEnd) (sent : Challenged) (seen : Seen) (list : List Attr) → s.challenged ≡ Some sent → s.state ≡ state.AwaitChallenge → Says found s seen (on_response s.options.method s.packets sent seen list)
+says_response found s sent seen list f now =
     let sealed = is_sealed s.options.method sent.keys.k_aut [] seen in
     let expected = is_expected sent.vector.xres (first_of res_of list) in
     let other = differs (checkcode s.options.method s.packets) (first_of checkcode_of list) in
@@ -87,7 +106,21 @@ says_response found s sent seen list f =
     on_cond (Says found s seen) (is_missing subtype.Challenge false list) (row.Ignore reason.Missing) (cond (not sealed) row.WrongMac by_res) tt (λ there.
     on_cond (Says found s seen) (not sealed) row.WrongMac by_res tt (λ right.
     on_cond (Says found s seen) (not expected) row.WrongRes last tt (λ same.
-    on_cond (Says found s seen) other row.WrongCheckcode row.Success tt (λ alike. record { sent = sent; last = f; right = is_true sealed right }))))
+    on_cond (Says found s seen) other row.WrongCheckcode row.Success tt (λ alike. record { sent = sent; last = f; right = is_true sealed right; waits = now }))))
+
+says_reauth : (found : Option ℕ) (s : ServerEnd) (sent : Resumed) (seen : Seen) (said : Reply) (list : List Attr) → s.resumed ≡ Some sent → s.state ≡ state.AwaitReauth
+    → Says found s seen (on_reauth s.options.method s.packets sent seen said list)
+says_reauth found s sent seen said list f now =
+    let sealed = is_sealed s.options.method sent.context.k_aut sent.nonce seen in
+    let other = differs (checkcode s.options.method s.packets) (first_of checkcode_of list) in
+    let last = cond other row.WrongCheckcode row.Reauthenticated in
+    let small = cond (says_small said) (row.TooSmall sent.sub) last in
+    let by_counter = cond (is_wrong said) row.WrongCounter small in
+    on_cond (Says found s seen) (is_missing subtype.Reauthentication false list) (row.Ignore reason.Missing) (cond (not sealed) row.WrongMac by_counter) tt (λ there.
+    on_cond (Says found s seen) (not sealed) row.WrongMac by_counter tt (λ right.
+    on_cond (Says found s seen) (is_wrong said) row.WrongCounter small tt (λ counted.
+    on_cond (Says found s seen) (says_small said) (row.TooSmall sent.sub) last (sent, f, refl) (λ great.
+    on_cond (Says found s seen) other row.WrongCheckcode row.Reauthenticated tt (λ alike. record { sent = sent; last = f; right = is_true sealed right; waits = now })))))
 
 says_auts : (found : Option ℕ) (s : ServerEnd) (seen : Seen) (sent : Challenged) (a : Auts) → s.challenged ≡ Some sent → Says found s seen (by_auts sent.sub a)
 says_auts found s seen sent auts.WrongMac f = tt
@@ -116,29 +149,44 @@ says_error found s seen list =
     on_cond (Says found s seen) (is_missing subtype.ClientError false list) (row.Ignore reason.Missing) (on_error_code (first_of error_code_of list)) tt
     (λ there. says_code found s seen (first_of error_code_of list))
 
-says_answer : (found : Option ℕ) (set : Setting) (s : ServerEnd) (sent : Challenged) (seen : Seen) (kind : Subtype) (list : List Attr) → s.challenged ≡ Some sent
+says_answer : (found : Option ℕ) (set : Setting) (s : ServerEnd) (sent : Challenged) (seen : Seen) (kind : Subtype) (list : List Attr) → s.challenged ≡ Some sent → s.state ≡ state.AwaitChallenge
     → Says found s seen (on_challenged set s sent seen kind list)
-says_answer found set s sent seen subtype.Challenge list f = says_response found s sent seen list f
-says_answer found set s sent seen subtype.SynchronizationFailure list f = says_sync found set s seen s.synced sent list f
-says_answer found set s sent seen subtype.AuthenticationReject list f = tt
-says_answer found set s sent seen subtype.ClientError list f = says_error found s seen list
-says_answer found set s sent seen subtype.Identity list f = tt
-says_answer found set s sent seen subtype.Notification list f = tt
-says_answer found set s sent seen subtype.Reauthentication list f = tt
+says_answer found set s sent seen subtype.Challenge list f now = says_response found s sent seen list f now
+says_answer found set s sent seen subtype.SynchronizationFailure list f now = says_sync found set s seen s.synced sent list f
+says_answer found set s sent seen subtype.AuthenticationReject list f now = tt
+says_answer found set s sent seen subtype.ClientError list f now = says_error found s seen list
+says_answer found set s sent seen subtype.Identity list f now = tt
+says_answer found set s sent seen subtype.Notification list f now = tt
+says_answer found set s sent seen subtype.Reauthentication list f now = tt
 
-says_if : (found : Option ℕ) (set : Setting) (s : ServerEnd) (c : Option Challenged) (seen : Seen) (kind : Subtype) (list : List Attr) → s.challenged ≡ c
+says_if : (found : Option ℕ) (set : Setting) (s : ServerEnd) (c : Option Challenged) (seen : Seen) (kind : Subtype) (list : List Attr) → s.challenged ≡ c → s.state ≡ state.AwaitChallenge
     → Says found s seen (if_challenged set s c seen kind list)
-says_if found set s None seen kind list f = tt
-says_if found set s (Some sent) seen kind list f = says_answer found set s sent seen kind list f
+says_if found set s None seen kind list f now = tt
+says_if found set s (Some sent) seen kind list f now = says_answer found set s sent seen kind list f now
 
-says_notified : (found : Option ℕ) (set : Setting) (homes : List HomeRow) (s : ServerEnd) (seen : Seen) (kind : Subtype) (list : List Attr) (why : ServerWhy) → Says found s seen (on_message set homes s (state.Notifying why) seen kind list)
-says_notified found set homes s seen subtype.Notification list why = tt
-says_notified found set homes s seen subtype.Challenge list why = tt
-says_notified found set homes s seen subtype.AuthenticationReject list why = tt
-says_notified found set homes s seen subtype.SynchronizationFailure list why = tt
-says_notified found set homes s seen subtype.Identity list why = tt
-says_notified found set homes s seen subtype.Reauthentication list why = tt
-says_notified found set homes s seen subtype.ClientError list why = tt
+says_resumed : (found : Option ℕ) (s : ServerEnd) (sent : Resumed) (seen : Seen) (said : Reply) (kind : Subtype) (list : List Attr) → s.resumed ≡ Some sent → s.state ≡ state.AwaitReauth
+    → Says found s seen (on_resumed s sent seen said kind list)
+says_resumed found s sent seen said subtype.Reauthentication list f now = says_reauth found s sent seen said list f now
+says_resumed found s sent seen said subtype.ClientError list f now = says_error found s seen list
+says_resumed found s sent seen said subtype.Challenge list f now = tt
+says_resumed found s sent seen said subtype.AuthenticationReject list f now = tt
+says_resumed found s sent seen said subtype.SynchronizationFailure list f now = tt
+says_resumed found s sent seen said subtype.Identity list f now = tt
+says_resumed found s sent seen said subtype.Notification list f now = tt
+
+says_if_resumed : (found : Option ℕ) (s : ServerEnd) (c : Option Resumed) (seen : Seen) (said : Reply) (kind : Subtype) (list : List Attr) → s.resumed ≡ c → s.state ≡ state.AwaitReauth
+    → Says found s seen (if_resumed s c seen said kind list)
+says_if_resumed found s None seen said kind list f now = tt
+says_if_resumed found s (Some sent) seen said kind list f now = says_resumed found s sent seen said kind list f now
+
+says_notified : (found : Option ℕ) (set : Setting) (homes : List HomeRow) (s : ServerEnd) (seen : Seen) (said : Reply) (kind : Subtype) (list : List Attr) (why : ServerWhy) → Says found s seen (on_message set homes s (state.Notifying why) seen said kind list)
+says_notified found set homes s seen said subtype.Notification list why = tt
+says_notified found set homes s seen said subtype.Challenge list why = tt
+says_notified found set homes s seen said subtype.AuthenticationReject list why = tt
+says_notified found set homes s seen said subtype.SynchronizationFailure list why = tt
+says_notified found set homes s seen said subtype.Identity list why = tt
+says_notified found set homes s seen said subtype.Reauthentication list why = tt
+says_notified found set homes s seen said subtype.ClientError list why = tt
 
 -- ---- an identity
 
@@ -151,9 +199,16 @@ says_or : (found : Option ℕ) (s : ServerEnd) (seen : Seen) (other : Row) (r : 
 says_or found s seen other None e says f = says
 says_or found s seen other (Some sub) e says f = (e, f sub refl)
 
+says_resume : (found : Option ℕ) (s : ServerEnd) (seen : Seen) (other : Row) (r : Option ℕ) → awaits_identity s.state ≡ true → Says found s seen other
+    → Says found s seen (resume_or other r)
+says_resume found s seen other None e says = says
+says_resume found s seen other (Some sub) e says = e
+
 says_any : (found : Option ℕ) (by : Method) (set : Setting) (homes : List HomeRow) (s : ServerEnd) (seen : Seen) (text : List ℕ) → awaits_identity s.state ≡ true
     → found ≡ subscriber_in by set homes text → Says found s seen (on_any by set homes text)
-says_any found by set homes s seen text e f = says_or found s seen (row.Ask asks.Fullauth) (subscriber_in by set homes text) e e (λ sub g. f ∙ g)
+says_any found by set homes s seen text e f =
+    says_resume found s seen (challenge_or (row.Ask asks.Fullauth) (subscriber_in by set homes text)) (context_subscriber by set homes text) e
+    (says_or found s seen (row.Ask asks.Fullauth) (subscriber_in by set homes text) e e (λ sub g. f ∙ g))
 
 says_full : (found : Option ℕ) (by : Method) (set : Setting) (homes : List HomeRow) (s : ServerEnd) (seen : Seen) (text : List ℕ) → awaits_identity s.state ≡ true
     → found ≡ subscriber_in by set homes text → Says found s seen (on_full by set homes text)
@@ -181,89 +236,100 @@ says_identity found s seen answered subtype.SynchronizationFailure list says = t
 says_identity found s seen answered subtype.Notification list says = tt
 says_identity found s seen answered subtype.Reauthentication list says = tt
 
-says_message : (found : Option ℕ) (set : Setting) (homes : List HomeRow) (s : ServerEnd) (now : ServerState) (seen : Seen) (kind : Subtype) (list : List Attr) → s.state ≡ now
-    → found ≡ subscriber_in s.options.method set homes (identity_in list) → Says found s seen (on_message set homes s now seen kind list)
-says_message found set homes s state.AwaitAny seen kind list e f =
+says_message : (found : Option ℕ) (set : Setting) (homes : List HomeRow) (s : ServerEnd) (now : ServerState) (seen : Seen) (said : Reply) (kind : Subtype) (list : List Attr) → s.state ≡ now
+    → found ≡ subscriber_in s.options.method set homes (identity_in list) → Says found s seen (on_message set homes s now seen said kind list)
+says_message found set homes s state.AwaitAny seen said kind list e f =
     says_identity found s seen (on_any s.options.method set homes (identity_in list)) kind list (says_any found s.options.method set homes s seen (identity_in list) (ap awaits_identity e) f)
-says_message found set homes s state.AwaitFull seen kind list e f =
+says_message found set homes s state.AwaitFull seen said kind list e f =
     says_identity found s seen (on_full s.options.method set homes (identity_in list)) kind list (says_full found s.options.method set homes s seen (identity_in list) (ap awaits_identity e) f)
-says_message found set homes s state.AwaitPermanent seen kind list e f =
+says_message found set homes s state.AwaitPermanent seen said kind list e f =
     says_identity found s seen (on_permanent s.options.method set homes (identity_in list)) kind list
     (says_permanent found s.options.method set homes s seen (identity_in list) (ap awaits_identity e) f)
-says_message found set homes s state.AwaitChallenge seen kind list e f = says_if found set s s.challenged seen kind list refl
-says_message found set homes s (state.Notifying why) seen kind list e f = says_notified found set homes s seen kind list why
-says_message found set homes s state.AwaitIdentity seen kind list e f = tt
-says_message found set homes s (state.Ended result) seen kind list e f = tt
+says_message found set homes s state.AwaitChallenge seen said kind list e f = says_if found set s s.challenged seen kind list refl e
+says_message found set homes s state.AwaitReauth seen said kind list e f = says_if_resumed found s s.resumed seen said kind list refl e
+says_message found set homes s (state.Notifying why) seen said kind list e f = says_notified found set homes s seen said kind list why
+says_message found set homes s state.AwaitIdentity seen said kind list e f = tt
+says_message found set homes s (state.Ended result) seen said kind list e f = tt
 
-says_method : (found : Option ℕ) (set : Setting) (homes : List HomeRow) (s : ServerEnd) (now : ServerState) (seen : Seen) (r : Reading) → s.state ≡ now
-    → found ≡ subscriber_in s.options.method set homes (text_in r) → Says found s seen (on_method set homes s now seen r)
-says_method found set homes s now seen (reading.Read (packet.Aka request id m kind list)) e f =
-    on_cond (Says found s seen) (is_malformed kind false s.options.method list) (row.Ignore reason.Malformed) (on_message set homes s now seen kind list) tt
-    (λ sound. says_message found set homes s now seen kind list e f)
-says_method found set homes s now seen (reading.Read (packet.Identity request id text)) e f = tt
-says_method found set homes s now seen (reading.Read (packet.Success id)) e f = tt
-says_method found set homes s now seen (reading.Read (packet.Failure id)) e f = tt
-says_method found set homes s now seen (reading.Fault fault) e f = tt
+says_method : (found : Option ℕ) (set : Setting) (homes : List HomeRow) (s : ServerEnd) (now : ServerState) (seen : Seen) (said : Reply) (r : Reading) → s.state ≡ now
+    → found ≡ subscriber_in s.options.method set homes (text_in r) → Says found s seen (on_method set homes s now seen said r)
+says_method found set homes s now seen said (reading.Read (packet.Aka request id m kind list)) e f =
+    on_cond (Says found s seen) (is_malformed kind false s.options.method list) (row.Ignore reason.Malformed) (on_message set homes s now seen said kind list) tt
+    (λ sound. says_message found set homes s now seen said kind list e f)
+says_method found set homes s now seen said (reading.Read (packet.Identity request id text)) e f = tt
+says_method found set homes s now seen said (reading.Read (packet.Success id)) e f = tt
+says_method found set homes s now seen said (reading.Read (packet.Failure id)) e f = tt
+says_method found set homes s now seen said (reading.Fault fault) e f = tt
 
-says_reading : (found : Option ℕ) (set : Setting) (homes : List HomeRow) (s : ServerEnd) (now : ServerState) (seen : Seen) (r : Reading) → s.state ≡ now → found ≡ subscriber_in s.options.method set homes (text_in r)
-    → Says found s seen (on_reading set homes s now seen r)
-says_reading found set homes s state.AwaitIdentity seen r e f = says_first found s.options set homes s seen (text_in r) (ap awaits_identity e) f
-says_reading found set homes s state.AwaitAny seen r e f = says_method found set homes s state.AwaitAny seen r e f
-says_reading found set homes s state.AwaitFull seen r e f = says_method found set homes s state.AwaitFull seen r e f
-says_reading found set homes s state.AwaitPermanent seen r e f = says_method found set homes s state.AwaitPermanent seen r e f
-says_reading found set homes s state.AwaitChallenge seen r e f = says_method found set homes s state.AwaitChallenge seen r e f
-says_reading found set homes s (state.Notifying why) seen r e f = says_method found set homes s (state.Notifying why) seen r e f
-says_reading found set homes s (state.Ended result) seen r e f = says_method found set homes s (state.Ended result) seen r e f
+says_reading : (found : Option ℕ) (set : Setting) (homes : List HomeRow) (s : ServerEnd) (now : ServerState) (seen : Seen) (said : Reply) (r : Reading) → s.state ≡ now → found ≡ subscriber_in s.options.method set homes (text_in r)
+    → Says found s seen (on_reading set homes s now seen said r)
+says_reading found set homes s state.AwaitIdentity seen said r e f = says_first found s.options set homes s seen (text_in r) (ap awaits_identity e) f
+says_reading found set homes s state.AwaitAny seen said r e f = says_method found set homes s state.AwaitAny seen said r e f
+says_reading found set homes s state.AwaitFull seen said r e f = says_method found set homes s state.AwaitFull seen said r e f
+says_reading found set homes s state.AwaitPermanent seen said r e f = says_method found set homes s state.AwaitPermanent seen said r e f
+says_reading found set homes s state.AwaitChallenge seen said r e f = says_method found set homes s state.AwaitChallenge seen said r e f
+says_reading found set homes s state.AwaitReauth seen said r e f = says_method found set homes s state.AwaitReauth seen said r e f
+says_reading found set homes s (state.Notifying why) seen said r e f = says_method found set homes s (state.Notifying why) seen said r e f
+says_reading found set homes s (state.Ended result) seen said r e f = says_method found set homes s (state.Ended result) seen said r e f
 
-says_head : (found : Option ℕ) (set : Setting) (homes : List HomeRow) (s : ServerEnd) (seen : Seen) (head : Option Head) → found ≡ subscriber_in s.options.method set homes (text_in seen.reading) → Says found s seen (on_head set homes s seen head)
-says_head found set homes s seen None f = tt
-says_head found set homes s seen (Some head) f =
-    let inner = on_reading set homes s s.state seen seen.reading in
+says_head : (found : Option ℕ) (set : Setting) (homes : List HomeRow) (s : ServerEnd) (seen : Seen) (said : Reply) (head : Option Head) → found ≡ subscriber_in s.options.method set homes (text_in seen.reading) → Says found s seen (on_head set homes s seen said head)
+says_head found set homes s seen said None f = tt
+says_head found set homes s seen said (Some head) f =
+    let inner = on_reading set homes s s.state seen said seen.reading in
     let typed = not (is_type (type_awaited s.options.method s.state) head.kind) in
     on_cond (Says found s seen) (not (head.code == 2) || not (head.id == s.id)) (row.Ignore reason.NotForMe) (cond typed (row.Ignore reason.OtherType) inner) tt (λ mine.
-    on_cond (Says found s seen) typed (row.Ignore reason.OtherType) inner tt (λ same. says_reading found set homes s s.state seen seen.reading refl f))
+    on_cond (Says found s seen) typed (row.Ignore reason.OtherType) inner tt (λ same. says_reading found set homes s s.state seen said seen.reading refl f))
 
-says_state : (found : Option ℕ) (set : Setting) (homes : List HomeRow) (s : ServerEnd) (seen : Seen) (now : ServerState) → found ≡ subscriber_in s.options.method set homes (text_in seen.reading) → Says found s seen (in_state set homes s seen now)
-says_state found set homes s seen (state.Ended result) f = tt
-says_state found set homes s seen state.AwaitIdentity f = says_head found set homes s seen (head_at seen.bytes) f
-says_state found set homes s seen state.AwaitAny f = says_head found set homes s seen (head_at seen.bytes) f
-says_state found set homes s seen state.AwaitFull f = says_head found set homes s seen (head_at seen.bytes) f
-says_state found set homes s seen state.AwaitPermanent f = says_head found set homes s seen (head_at seen.bytes) f
-says_state found set homes s seen state.AwaitChallenge f = says_head found set homes s seen (head_at seen.bytes) f
-says_state found set homes s seen (state.Notifying why) f = says_head found set homes s seen (head_at seen.bytes) f
+says_state : (found : Option ℕ) (set : Setting) (homes : List HomeRow) (s : ServerEnd) (seen : Seen) (said : Reply) (now : ServerState) → found ≡ subscriber_in s.options.method set homes (text_in seen.reading) → Says found s seen (in_state set homes s seen said now)
+says_state found set homes s seen said (state.Ended result) f = tt
+says_state found set homes s seen said state.AwaitIdentity f = says_head found set homes s seen said (head_at seen.bytes) f
+says_state found set homes s seen said state.AwaitAny f = says_head found set homes s seen said (head_at seen.bytes) f
+says_state found set homes s seen said state.AwaitFull f = says_head found set homes s seen said (head_at seen.bytes) f
+says_state found set homes s seen said state.AwaitPermanent f = says_head found set homes s seen said (head_at seen.bytes) f
+says_state found set homes s seen said state.AwaitChallenge f = says_head found set homes s seen said (head_at seen.bytes) f
+says_state found set homes s seen said state.AwaitReauth f = says_head found set homes s seen said (head_at seen.bytes) f
+says_state found set homes s seen said (state.Notifying why) f = says_head found set homes s seen said (head_at seen.bytes) f
 
 -- each row says this
-pub says_row : (set : Setting) (homes : List HomeRow) (s : ServerEnd) (seen : Seen) → Says (subscriber_in s.options.method set homes (text_in seen.reading)) s seen (server_row set homes s seen)
-says_row set homes s seen = says_state (subscriber_in s.options.method set homes (text_in seen.reading)) set homes s seen s.state refl
+pub says_row : (set : Setting) (homes : List HomeRow) (s : ServerEnd) (seen : Seen) (said : Reply) → Says (subscriber_in s.options.method set homes (text_in seen.reading)) s seen (server_row set homes s seen said)
+says_row set homes s seen said = says_state (subscriber_in s.options.method set homes (text_in seen.reading)) set homes s seen said s.state refl
 
--- ---- only that row ends in Success
+-- ---- only those rows end in Success
 
 abbrev EndsIn : KeySet → List ℕ → ServerEnd × Turn ServerWhy → Type 0
 EndsIn keys bytes t = t.1.step ≡ step.Ended (outcome.Success keys) bytes
 
-no_drawn : (s : ServerEnd) (sub : ℕ) (v : Option Vector) (given : Option NewName) (notes : Notes) (keys : KeySet) (bytes : List ℕ) → EndsIn keys bytes (challenged_with s sub v given notes) → ⊥
-no_drawn s sub None given notes keys bytes e = cc
-no_drawn s sub (Some v) given notes keys bytes e = cc
+no_drawn : (realm : List ℕ) (s : ServerEnd) (sub n : ℕ) (v : Option Vector) (given : Option GivenNames) (notes : Notes) (checked : Bool) (keys : KeySet) (bytes : List ℕ)
+    → EndsIn keys bytes (challenged_with realm s sub n v given notes checked) → ⊥
+no_drawn realm s sub n None given notes checked keys bytes e = cc
+no_drawn realm s sub n (Some v) given notes checked keys bytes e = cc
 
-no_challenged : (set : Setting) (homes : List HomeRow) (s : ServerEnd) (sub : ℕ) (resynced : Option ResyncNote) (drawn : Option NumberNote) (keys : KeySet) (bytes : List ℕ)
-    → EndsIn keys bytes (challenged set homes s sub resynced drawn) → ⊥
-no_challenged set homes s sub resynced None keys bytes e = cc
-no_challenged set homes s sub resynced (Some (number.Drew n)) keys bytes e =
-    no_drawn s sub (vector_at set s.options sub n) (name_given set homes s sub) (noted resynced (Some (number.Drew n))) keys bytes e
-no_challenged set homes s sub resynced (Some (number.Exhausted w)) keys bytes e = cc
-no_challenged set homes s sub resynced (Some (number.Withheld n stop)) keys bytes e = cc
+no_challenged : (set : Setting) (homes : List HomeRow) (s : ServerEnd) (sub : ℕ) (checked : Bool) (resynced : Option ResyncNote) (drawn : Option NumberNote) (keys : KeySet) (bytes : List ℕ)
+    → EndsIn keys bytes (challenged set homes s sub checked resynced drawn) → ⊥
+no_challenged set homes s sub checked resynced None keys bytes e = cc
+no_challenged set homes s sub checked resynced (Some (number.Drew n)) keys bytes e =
+    no_drawn set.realm s sub n (vector_at set s.options sub n) (names_given set homes s sub) (noted resynced (Some (number.Drew n))) checked keys bytes e
+no_challenged set homes s sub checked resynced (Some (number.Exhausted w)) keys bytes e = cc
+no_challenged set homes s sub checked resynced (Some (number.Withheld n stop)) keys bytes e = cc
 
 no_resynchronised : (set : Setting) (homes : List HomeRow) (s : ServerEnd) (sub : ℕ) (resynced : Option ResyncNote) (drawn : Option NumberNote) (keys : KeySet) (bytes : List ℕ)
     → EndsIn keys bytes (resynchronised set homes s sub resynced drawn) → ⊥
 no_resynchronised set homes s sub None drawn keys bytes e = cc
 no_resynchronised set homes s sub (Some resync.BadAuts) drawn keys bytes e = cc
 no_resynchronised set homes s sub (Some (resync.Beyond seen seq)) drawn keys bytes e = cc
-no_resynchronised set homes s sub (Some (resync.InRange seen seq)) drawn keys bytes e = no_challenged set homes (resynchronising s) sub (Some (resync.InRange seen seq)) drawn keys bytes e
-no_resynchronised set homes s sub (Some (resync.Moved seen seq)) drawn keys bytes e = no_challenged set homes (resynchronising s) sub (Some (resync.Moved seen seq)) drawn keys bytes e
+no_resynchronised set homes s sub (Some (resync.InRange seen seq)) drawn keys bytes e =
+    no_challenged set homes (resynchronising s) sub false (Some (resync.InRange seen seq)) drawn keys bytes e
+no_resynchronised set homes s sub (Some (resync.Moved seen seq)) drawn keys bytes e =
+    no_challenged set homes (resynchronising s) sub false (Some (resync.Moved seen seq)) drawn keys bytes e
+
+no_resumed : (set : Setting) (homes : List HomeRow) (s : ServerEnd) (text : List ℕ) (packets : List (List ℕ)) (sub : ℕ) (c : Option Context) (keys : KeySet) (bytes : List ℕ)
+    → EndsIn keys bytes (resumed_with set homes s text packets sub c) → ⊥
+no_resumed set homes s text packets sub None keys bytes e = cc
+no_resumed set homes s text packets sub (Some c) keys bytes e = cc
 
 -- what a turn that ends in Success says
 abbrev IsProved : ServerEnd → Seen → KeySet → ServerEnd × Turn ServerWhy → Type 0
-IsProved s seen keys t = AreProved s seen keys × (t.1.checked ≡ true)
+IsProved s seen keys t = (AreProved s seen keys ⊎ AreRenewed s seen keys) × (t.1.checked ≡ true)
 
 success_keys : (k keys : KeySet) (b bytes : List ℕ) → ◌≡◌ {A = Step ServerWhy} (step.Ended (outcome.Success k) b) (step.Ended (outcome.Success keys) bytes) → keys ≡ k
 success_keys k keys b bytes e = cc
@@ -271,28 +337,53 @@ success_keys k keys b bytes e = cc
 one_sent : (a b : Challenged) (c : Option Challenged) → c ≡ Some a → c ≡ Some b → a ≡ b
 one_sent a b c e f = cc
 
+one_resumed : (a b : Resumed) (c : Option Resumed) → c ≡ Some a → c ≡ Some b → a ≡ b
+one_resumed a b c e f = cc
+
 proved_by : (s : ServerEnd) (seen : Seen) (c : Option Challenged) (keys : KeySet) (bytes : List ℕ) → s.challenged ≡ c → IsRight s seen
     → EndsIn keys bytes (succeeded s c) → IsProved s seen keys (succeeded s c)
 proved_by s seen None keys bytes f right e = absurd cc
 proved_by s seen (Some sent) keys bytes f right e =
     let are : keys ≡ sent.keys = success_keys sent.keys keys _ bytes e in
     let same = one_sent right.sent sent s.challenged right.last f in (
-      record {
+      inl (record {
         sent = sent;
         last = f;
         keys_are = are;
         right = ap (λ (k : KeySet). is_sealed s.options.method k.k_aut [] seen) are ∙ ap (λ (c : Challenged). is_sealed s.options.method c.keys.k_aut [] seen) (sym same) ∙ right.right;
-      },
+      }),
+      refl,
+    )
+
+renewed_by : (s : ServerEnd) (seen : Seen) (c : Option Resumed) (keys : KeySet) (bytes : List ℕ) → s.resumed ≡ c → IsRightToo s seen
+    → EndsIn keys bytes (reauthenticated s c) → IsProved s seen keys (reauthenticated s c)
+renewed_by s seen None keys bytes f right e = absurd cc
+renewed_by s seen (Some sent) keys bytes f right e =
+    let are : keys ≡ resumed_keys s sent = success_keys (resumed_keys s sent) keys _ bytes e in
+    let same = one_resumed right.sent sent s.resumed right.last f in (
+      inr (record {
+        sent = sent;
+        last = f;
+        keys_are = are;
+        right = ap (λ (k : KeySet). is_sealed s.options.method k.k_aut sent.nonce seen) are
+            ∙ ap (λ (c : Resumed). is_sealed s.options.method c.context.k_aut c.nonce seen) (sym same) ∙ right.right;
+      }),
       refl,
     )
 
 proved_does : (found : Option ℕ) (set : Setting) (homes : List HomeRow) (s : ServerEnd) (seen : Seen) (text : List ℕ) (packets : List (List ℕ)) (r : Row) (notes : Notes) (keys : KeySet) (bytes : List ℕ)
     → Says found s seen r → EndsIn keys bytes (server_does set homes s text packets r notes) → IsProved s seen keys (server_does set homes s text packets r notes)
 proved_does found set homes s seen text packets row.Success notes keys bytes right e = proved_by s seen s.challenged keys bytes refl right e
+proved_does found set homes s seen text packets row.Reauthenticated notes keys bytes right e = renewed_by s seen s.resumed keys bytes refl right e
 proved_does found set homes s seen text packets (row.Ignore cause) notes keys bytes right e = absurd cc
 proved_does found set homes s seen text packets (row.Ask kind) notes keys bytes right e = absurd cc
 proved_does found set homes s seen text packets row.UnknownIdentity notes keys bytes right e = absurd cc
-proved_does found set homes s seen text packets (row.Challenge sub) notes keys bytes right e = absurd (no_challenged set homes (identified s text packets) sub None notes.number keys bytes e)
+proved_does found set homes s seen text packets (row.Challenge sub) notes keys bytes right e =
+    absurd (no_challenged set homes (identified s text packets) sub false None notes.number keys bytes e)
+proved_does found set homes s seen text packets (row.Resume sub) notes keys bytes right e =
+    absurd (no_resumed set (homes_left s.options.method text homes sub) s text packets sub (context_in s.options.method text homes sub) keys bytes e)
+proved_does found set homes s seen text packets (row.TooSmall sub) notes keys bytes right e = absurd (no_challenged set homes s sub true None notes.number keys bytes e)
+proved_does found set homes s seen text packets row.WrongCounter notes keys bytes right e = absurd cc
 proved_does found set homes s seen text packets row.WrongMac notes keys bytes right e = absurd cc
 proved_does found set homes s seen text packets row.WrongRes notes keys bytes right e = absurd cc
 proved_does found set homes s seen text packets row.WrongCheckcode notes keys bytes right e = absurd cc
@@ -303,8 +394,6 @@ proved_does found set homes s seen text packets row.Rejected notes keys bytes ri
 proved_does found set homes s seen text packets (row.ClientError code) notes keys bytes right e = absurd cc
 proved_does found set homes s seen text packets (row.Notified cause) notes keys bytes right e = absurd cc
 
-pub success_is_proved : (set : Setting) (homes : List HomeRow) (s : ServerEnd) (seen : Seen) (notes : Notes) (keys : KeySet) (bytes : List ℕ)
-    → (server_step set homes s seen notes).1.step ≡ step.Ended (outcome.Success keys) bytes
-    → AreProved s seen keys × ((server_step set homes s seen notes).1.checked ≡ true)
-success_is_proved set homes s seen notes keys bytes e =
-    proved_does (subscriber_in s.options.method set homes (text_in seen.reading)) set homes s seen (text_in seen.reading) (packets_after s seen (server_row set homes s seen)) (server_row set homes s seen) notes keys bytes (says_row set homes s seen) e
+pub success_is_proved : SuccessNeedsARightMac
+success_is_proved set homes s seen said notes keys bytes e =
+    proved_does (subscriber_in s.options.method set homes (text_in seen.reading)) set homes s seen (text_in seen.reading) (packets_after s seen (server_row set homes s seen said)) (server_row set homes s seen said) notes keys bytes (says_row set homes s seen said) e

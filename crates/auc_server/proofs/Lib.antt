@@ -4,7 +4,10 @@ mod FitsLemmas
 mod HomeLemmas
 mod LawLemmas
 mod MessageLemmas
+mod MakeLemmas
 mod MoveLemmas
 mod OptionsLemmas
 mod OrdinalLemmas
+mod ResumeLemmas
+mod RoundLemmas
 mod TurnLemmas

@@ -1,5 +1,5 @@
 -- What a server and its notes tell of the turn after which they stand.
-use Rattle.std.proofs.Common.{◌≡◌, ◌≤◌, ◌+◌, ◌⊎◌, ℕ, max, Bool, true, List, [], ◌∷◌, ◌++◌, length, replicate, arith, length-append, Option, Some, None, is_some, refl, sym, ap, ◌∙◌, inl, inr}
+use Rattle.std.proofs.Common.{◌≡◌, ◌≤◌, ◌+◌, ◌⊎◌, ℕ, max, Bool, true, false, List, [], ◌∷◌, ◌++◌, length, replicate, arith, length-append, Option, Some, None, is_some, refl, sym, ap, ◌∙◌, inl, inr}
 use Rattle.std.specs.Option.{option_or}
 use Rattle.std.specs.Int.{w16, to_be_bytes}
 use Rattle.auc_attr.proofs.Facts.{attr_size, attrs_within}
@@ -23,39 +23,56 @@ use Rattle.auc_vector.specs.declared.notes.ResyncNote.{ResyncNote}
 use Rattle.auc_vector.specs.declared.notes.ResyncNote.TheVariants as resync
 use Rattle.auc_vector.specs.declared.parts.Vector.{Vector}
 use Rattle.auc_vector.specs.declared.turn.Turn.{Turn}
-use Rattle.auc_server.specs.Asked.{asked_after, sub_of}
+use Rattle.auc_reauth.specs.declared.context.Context.{Context}
+use Rattle.auc_server.specs.Asked.{asked_after, sub_named, sub_of}
 use Rattle.auc_server.specs.Attributes.{first_of, identity_in, identity_of, text_or_none}
+use Rattle.auc_server.specs.Contexts.{context_in, homes_left}
+use Rattle.auc_server.specs.Laws.{Fits}
 use Rattle.auc_server.specs.Rows.{server_row, subscriber_in, text_in}
 use Rattle.auc_server.specs.Server.{ServerEnd}
 use Rattle.auc_server.specs.Setting.{Setting}
 use Rattle.auc_server.specs.Steps.{AsksAsNeeded, asking, challenges_again}
-use Rattle.auc_server.specs.Table.{challenged, challenged_with, identified, name_given, noted, packets_after, resynchronised, resynchronising, server_does, server_step, succeeded, vector_at}
-use Rattle.auc_server.specs.declared.naming.NewName.{NewName}
+use Rattle.auc_server.specs.Table.{challenged, challenged_with, identified, names_given, noted, packets_after, reauthenticated, resumed_with, resynchronised, resynchronising, server_does, server_step, succeeded, vector_at}
+use Rattle.auc_server.specs.declared.naming.GivenNames.{GivenNames}
+use Rattle.auc_server.specs.declared.reply.Reply.{Reply}
 use Rattle.auc_server.specs.declared.rows.Row.{Row}
 use Rattle.auc_server.specs.declared.rows.Row.TheVariants as row
 use Rattle.auc_server.specs.declared.server.Challenged.{Challenged}
+use Rattle.auc_server.specs.declared.server.Resumed.{Resumed}
 use Rattle.auc_server.specs.declared.setting.HomeRow.{HomeRow}
 use Rattle.auc_server.specs.declared.why.ServerWhy.{ServerWhy}
-use Rattle.auc_server.proofs.LawLemmas.{IsLast, Says, says_row}
+use Rattle.auc_server.proofs.LawLemmas.{IsLast, IsResumed, Says, says_row}
 
 -- ---- the identity after a turn
 
-with_keeps : (s : ServerEnd) (sub : ℕ) (v : Option Vector) (given : Option NewName) (notes : Notes) → (challenged_with s sub v given notes).0.identity ≡ s.identity
-with_keeps s sub None given notes = refl
-with_keeps s sub (Some v) given notes = refl
+with_keeps : (realm : List ℕ) (s : ServerEnd) (sub n : ℕ) (v : Option Vector) (given : Option GivenNames) (notes : Notes) (checked : Bool)
+    → (challenged_with realm s sub n v given notes checked).0.identity ≡ s.identity
+with_keeps realm s sub n None given notes checked = refl
+with_keeps realm s sub n (Some v) given notes checked = refl
 
-challenged_keeps : (set : Setting) (homes : List HomeRow) (s : ServerEnd) (sub : ℕ) (resynced : Option ResyncNote) (drawn : Option NumberNote) → (challenged set homes s sub resynced drawn).0.identity ≡ s.identity
-challenged_keeps set homes s sub resynced None = refl
-challenged_keeps set homes s sub resynced (Some (number.Drew n)) = with_keeps s sub (vector_at set s.options sub n) (name_given set homes s sub) (noted resynced (Some (number.Drew n)))
-challenged_keeps set homes s sub resynced (Some (number.Exhausted w)) = refl
-challenged_keeps set homes s sub resynced (Some (number.Withheld n stop)) = refl
+challenged_keeps : (set : Setting) (homes : List HomeRow) (s : ServerEnd) (sub : ℕ) (checked : Bool) (resynced : Option ResyncNote) (drawn : Option NumberNote)
+    → (challenged set homes s sub checked resynced drawn).0.identity ≡ s.identity
+challenged_keeps set homes s sub checked resynced None = refl
+challenged_keeps set homes s sub checked resynced (Some (number.Drew n)) =
+    with_keeps set.realm s sub n (vector_at set s.options sub n) (names_given set homes s sub) (noted resynced (Some (number.Drew n))) checked
+challenged_keeps set homes s sub checked resynced (Some (number.Exhausted w)) = refl
+challenged_keeps set homes s sub checked resynced (Some (number.Withheld n stop)) = refl
 
 resynchronised_keeps : (set : Setting) (homes : List HomeRow) (s : ServerEnd) (sub : ℕ) (resynced : Option ResyncNote) (drawn : Option NumberNote) → (resynchronised set homes s sub resynced drawn).0.identity ≡ s.identity
 resynchronised_keeps set homes s sub None drawn = refl
 resynchronised_keeps set homes s sub (Some resync.BadAuts) drawn = refl
 resynchronised_keeps set homes s sub (Some (resync.Beyond seen seq)) drawn = refl
-resynchronised_keeps set homes s sub (Some (resync.InRange seen seq)) drawn = challenged_keeps set homes (resynchronising s) sub (Some (resync.InRange seen seq)) drawn
-resynchronised_keeps set homes s sub (Some (resync.Moved seen seq)) drawn = challenged_keeps set homes (resynchronising s) sub (Some (resync.Moved seen seq)) drawn
+resynchronised_keeps set homes s sub (Some (resync.InRange seen seq)) drawn = challenged_keeps set homes (resynchronising s) sub false (Some (resync.InRange seen seq)) drawn
+resynchronised_keeps set homes s sub (Some (resync.Moved seen seq)) drawn = challenged_keeps set homes (resynchronising s) sub false (Some (resync.Moved seen seq)) drawn
+
+renewed_keeps : (s : ServerEnd) (c : Option Resumed) → (reauthenticated s c).0.identity ≡ s.identity
+renewed_keeps s None = refl
+renewed_keeps s (Some sent) = refl
+
+resumed_identity : (set : Setting) (homes : List HomeRow) (s : ServerEnd) (text : List ℕ) (packets : List (List ℕ)) (sub : ℕ) (c : Option Context)
+    → ((resumed_with set homes s text packets sub c).0.identity ≡ s.identity) ⊎ ((resumed_with set homes s text packets sub c).0.identity ≡ text)
+resumed_identity set homes s text packets sub None = inl refl
+resumed_identity set homes s text packets sub (Some c) = inr refl
 
 succeeded_keeps : (s : ServerEnd) (c : Option Challenged) → (succeeded s c).0.identity ≡ s.identity
 succeeded_keeps s None = refl
@@ -66,7 +83,12 @@ does_identity : (set : Setting) (homes : List HomeRow) (s : ServerEnd) (text : L
 does_identity set homes s text packets (row.Ignore cause) notes = inl refl
 does_identity set homes s text packets (row.Ask kind) notes = inr refl
 does_identity set homes s text packets row.UnknownIdentity notes = inr refl
-does_identity set homes s text packets (row.Challenge sub) notes = inr (challenged_keeps set homes (identified s text packets) sub None notes.number)
+does_identity set homes s text packets (row.Challenge sub) notes = inr (challenged_keeps set homes (identified s text packets) sub false None notes.number)
+does_identity set homes s text packets (row.Resume sub) notes =
+    resumed_identity set (homes_left s.options.method text homes sub) s text packets sub (context_in s.options.method text homes sub)
+does_identity set homes s text packets (row.TooSmall sub) notes = inl (challenged_keeps set homes s sub true None notes.number)
+does_identity set homes s text packets row.WrongCounter notes = inl refl
+does_identity set homes s text packets row.Reauthenticated notes = inl (renewed_keeps s s.resumed)
 does_identity set homes s text packets row.WrongMac notes = inl refl
 does_identity set homes s text packets row.WrongRes notes = inl refl
 does_identity set homes s text packets row.WrongCheckcode notes = inl refl
@@ -79,9 +101,10 @@ does_identity set homes s text packets (row.ClientError code) notes = inl refl
 does_identity set homes s text packets (row.Notified cause) notes = inl refl
 
 -- it is that before it, or the one that was received
-pub identity_is : (set : Setting) (homes : List HomeRow) (s : ServerEnd) (seen : Seen) (notes : Notes)
-    → ((server_step set homes s seen notes).0.identity ≡ s.identity) ⊎ ((server_step set homes s seen notes).0.identity ≡ text_in seen.reading)
-identity_is set homes s seen notes = does_identity set homes s (text_in seen.reading) (packets_after s seen (server_row set homes s seen)) (server_row set homes s seen) notes
+pub identity_is : (set : Setting) (homes : List HomeRow) (s : ServerEnd) (seen : Seen) (said : Reply) (notes : Notes)
+    → ((server_step set homes s seen said notes).0.identity ≡ s.identity) ⊎ ((server_step set homes s seen said notes).0.identity ≡ text_in seen.reading)
+identity_is set homes s seen said notes =
+    does_identity set homes s (text_in seen.reading) (packets_after s seen (server_row set homes s seen said)) (server_row set homes s seen said) notes
 
 -- ---- for whom the centre was asked
 
@@ -94,36 +117,49 @@ sub_asked (Some request) = Some request.sub
 abbrev AsksFor : Setting → List HomeRow → Option ℕ → ServerEnd × Turn ServerWhy → Type 0
 AsksFor set homes sub t = asked_after set homes t.0 t.1.notes.resync t.1.notes.number ≡ sub
 
--- an identity by which a subscriber is found
-with_asks : (set : Setting) (homes : List HomeRow) (s : ServerEnd) (sub : ℕ) (v : Option Vector) (given : Option NewName) (drawn : NumberNote)
-    → subscriber_in s.options.method set homes s.identity ≡ Some sub → (challenged_with s sub v given (noted None (Some drawn))).1.notes.number ≡ Some drawn
-    → AsksFor set homes (Some sub) (challenged_with s sub v given (noted None (Some drawn)))
-with_asks set homes s sub None given drawn found there = absurd cc
-with_asks set homes s sub (Some v) given drawn found there = found
+-- an identity by which a subscriber is found, or a re-authentication of it
+abbrev Names : Setting → List HomeRow → ServerEnd → ℕ → Type 0
+Names set homes s sub = sub_named s.resumed (subscriber_in s.options.method set homes s.identity) ≡ Some sub
 
-first_asks : (set : Setting) (homes : List HomeRow) (s : ServerEnd) (sub : ℕ) (drawn : Option NumberNote) → subscriber_in s.options.method set homes s.identity ≡ Some sub
-    → is_some drawn ≡ true → (challenged set homes s sub None drawn).1.notes.number ≡ drawn → AsksFor set homes (Some sub) (challenged set homes s sub None drawn)
-first_asks set homes s sub None found there told = absurd cc
-first_asks set homes s sub (Some (number.Drew n)) found there told = with_asks set homes s sub (vector_at set s.options sub n) (name_given set homes s sub) (number.Drew n) found told
-first_asks set homes s sub (Some (number.Exhausted w)) found there told = found
-first_asks set homes s sub (Some (number.Withheld n stop)) found there told = found
+with_asks : (set : Setting) (homes : List HomeRow) (s : ServerEnd) (sub n : ℕ) (v : Option Vector) (given : Option GivenNames) (drawn : NumberNote) (checked : Bool)
+    → Names set homes s sub → (challenged_with set.realm s sub n v given (noted None (Some drawn)) checked).1.notes.number ≡ Some drawn
+    → AsksFor set homes (Some sub) (challenged_with set.realm s sub n v given (noted None (Some drawn)) checked)
+with_asks set homes s sub n None given drawn checked found there = absurd cc
+with_asks set homes s sub n (Some v) given drawn checked found there = found
+
+first_asks : (set : Setting) (homes : List HomeRow) (s : ServerEnd) (sub : ℕ) (checked : Bool) (drawn : Option NumberNote) → Names set homes s sub
+    → is_some drawn ≡ true → (challenged set homes s sub checked None drawn).1.notes.number ≡ drawn → AsksFor set homes (Some sub) (challenged set homes s sub checked None drawn)
+first_asks set homes s sub checked None found there told = absurd cc
+first_asks set homes s sub checked (Some (number.Drew n)) found there told =
+    with_asks set homes s sub n (vector_at set s.options sub n) (names_given set homes s sub) (number.Drew n) checked found told
+first_asks set homes s sub checked (Some (number.Exhausted w)) found there told = found
+first_asks set homes s sub checked (Some (number.Withheld n stop)) found there told = found
+
+-- without a re-authentication the identity names the subscriber
+named_first : (c : Option Resumed) (found : Option ℕ) (sub : ℕ) → c ≡ None → found ≡ Some sub → sub_named c found ≡ Some sub
+named_first c found sub none is = ap (λ (r : Option Resumed). sub_named r found) none ∙ is
+
+-- the subscriber of the re-authentication
+resumed_is : (s : ServerEnd) (found : Option ℕ) (sub : ℕ) → IsResumed s sub → sub_named s.resumed found ≡ Some sub
+resumed_is s found sub last = ap (λ (r : Option Resumed). sub_named r found) last.1 ∙ ap (λ (n : ℕ). Some n) last.2
 
 -- the subscriber that was challenged last
 last_is : (s : ServerEnd) (sub : ℕ) → IsLast s sub → sub_of s.challenged ≡ Some sub
 last_is s sub last = ap sub_of last.1 ∙ ap (λ (n : ℕ). Some n) last.2
 
-again_with : (set : Setting) (homes : List HomeRow) (s : ServerEnd) (sub : ℕ) (r : ResyncNote) (v : Option Vector) (given : Option NewName) (drawn : NumberNote)
+again_with : (set : Setting) (homes : List HomeRow) (s : ServerEnd) (sub n : ℕ) (r : ResyncNote) (v : Option Vector) (given : Option GivenNames) (drawn : NumberNote)
     → ((t : ServerEnd) (d : Option NumberNote) → asked_after set homes t (Some r) d ≡ sub_of t.challenged)
-    → (challenged_with s sub v given (noted (Some r) (Some drawn))).1.notes.number ≡ Some drawn
-    → AsksFor set homes (Some sub) (challenged_with s sub v given (noted (Some r) (Some drawn)))
-again_with set homes s sub r None given drawn asks told = absurd cc
-again_with set homes s sub r (Some v) given drawn asks told = asks (challenged_with s sub (Some v) given (noted (Some r) (Some drawn))).0 (Some drawn)
+    → (challenged_with set.realm s sub n v given (noted (Some r) (Some drawn)) false).1.notes.number ≡ Some drawn
+    → AsksFor set homes (Some sub) (challenged_with set.realm s sub n v given (noted (Some r) (Some drawn)) false)
+again_with set homes s sub n r None given drawn asks told = absurd cc
+again_with set homes s sub n r (Some v) given drawn asks told = asks (challenged_with set.realm s sub n (Some v) given (noted (Some r) (Some drawn)) false).0 (Some drawn)
 
 again_asks : (set : Setting) (homes : List HomeRow) (s : ServerEnd) (sub : ℕ) (r : ResyncNote) (drawn : Option NumberNote) → sub_of s.challenged ≡ Some sub
     → ((t : ServerEnd) (d : Option NumberNote) → asked_after set homes t (Some r) d ≡ sub_of t.challenged)
-    → is_some drawn ≡ true → (challenged set homes s sub (Some r) drawn).1.notes.number ≡ drawn → AsksFor set homes (Some sub) (challenged set homes s sub (Some r) drawn)
+    → is_some drawn ≡ true → (challenged set homes s sub false (Some r) drawn).1.notes.number ≡ drawn → AsksFor set homes (Some sub) (challenged set homes s sub false (Some r) drawn)
 again_asks set homes s sub r None last asks there told = absurd cc
-again_asks set homes s sub r (Some (number.Drew n)) last asks there told = again_with set homes s sub r (vector_at set s.options sub n) (name_given set homes s sub) (number.Drew n) asks told
+again_asks set homes s sub r (Some (number.Drew n)) last asks there told =
+    again_with set homes s sub n r (vector_at set s.options sub n) (names_given set homes s sub) (number.Drew n) asks told
 again_asks set homes s sub r (Some (number.Exhausted w)) last asks there told = asks s (Some (number.Exhausted w)) ∙ last
 again_asks set homes s sub r (Some (number.Withheld n stop)) last asks there told = asks s (Some (number.Withheld n stop)) ∙ last
 
@@ -138,6 +174,15 @@ resynchronised_asks set homes s sub seq k (Some (resync.InRange at' to)) drawn l
 resynchronised_asks set homes s sub seq k (Some (resync.Moved at' to)) drawn last answer need told =
     again_asks set homes (resynchronising s) sub (resync.Moved at' to) drawn last (λ t d. refl) need told
 
+renewed_asks : (set : Setting) (homes : List HomeRow) (s : ServerEnd) (c : Option Resumed) → AsksFor set homes None (reauthenticated s c)
+renewed_asks set homes s None = refl
+renewed_asks set homes s (Some sent) = refl
+
+resumed_asks : (set : Setting) (homes left : List HomeRow) (s : ServerEnd) (text : List ℕ) (packets : List (List ℕ)) (sub : ℕ) (c : Option Context)
+    → AsksFor set homes None (resumed_with set left s text packets sub c)
+resumed_asks set homes left s text packets sub None = refl
+resumed_asks set homes left s text packets sub (Some c) = refl
+
 succeeded_asks : (set : Setting) (homes : List HomeRow) (s : ServerEnd) (c : Option Challenged) → AsksFor set homes None (succeeded s c)
 succeeded_asks set homes s None = refl
 succeeded_asks set homes s (Some sent) = refl
@@ -148,32 +193,40 @@ IsReported None notes = Unit {0}
 IsReported (Some request) notes = (kept : Option ℕ) × AnswersReport kept request.reported notes.resync
 
 does_asks : (set : Setting) (homes : List HomeRow) (s : ServerEnd) (seen : Seen) (text : List ℕ) (packets : List (List ℕ)) (r : Row) (notes : Notes) → Says (subscriber_in s.options.method set homes text) s seen r
-    → AsksAsNeeded r notes → IsReported (asking r) notes → (server_does set homes s text packets r notes).1.notes ≡ notes
+    → Fits s → AsksAsNeeded r notes → IsReported (asking r) notes → (server_does set homes s text packets r notes).1.notes ≡ notes
     → AsksFor set homes (sub_asked (asking r)) (server_does set homes s text packets r notes)
-does_asks set homes s seen text packets (row.Ignore cause) notes says need report told = refl
-does_asks set homes s seen text packets (row.Ask kind) notes says need report told = refl
-does_asks set homes s seen text packets row.UnknownIdentity notes says need report told = refl
-does_asks set homes s seen text packets (row.Challenge sub) notes says need report told =
-    first_asks set homes (identified s text packets) sub notes.number says.1 need (ap (λ (n : Notes). n.number) told)
-does_asks set homes s seen text packets row.WrongMac notes says need report told = refl
-does_asks set homes s seen text packets row.WrongRes notes says need report told = refl
-does_asks set homes s seen text packets row.WrongCheckcode notes says need report told = refl
-does_asks set homes s seen text packets row.Success notes says need report told = succeeded_asks set homes s s.challenged
-does_asks set homes s seen text packets row.SecondSync notes says need report told = refl
-does_asks set homes s seen text packets row.BadAuts notes says need report told = refl
-does_asks set homes s seen text packets (row.Resynchronise sub seq) notes says need report told =
+does_asks set homes s seen text packets (row.Ignore cause) notes says f need report told = refl
+does_asks set homes s seen text packets (row.Ask kind) notes says f need report told = refl
+does_asks set homes s seen text packets row.UnknownIdentity notes says f need report told = refl
+does_asks set homes s seen text packets (row.Challenge sub) notes says f need report told =
+    first_asks set homes (identified s text packets) sub false notes.number
+    (named_first s.resumed (subscriber_in s.options.method set homes text) sub (f.before says.0) says.1) need (ap (λ (n : Notes). n.number) told)
+does_asks set homes s seen text packets (row.Resume sub) notes says f need report told =
+    resumed_asks set homes (homes_left s.options.method text homes sub) s text packets sub (context_in s.options.method text homes sub)
+does_asks set homes s seen text packets (row.TooSmall sub) notes says f need report told =
+    first_asks set homes s sub true notes.number (resumed_is s (subscriber_in s.options.method set homes s.identity) sub says) need (ap (λ (n : Notes). n.number) told)
+does_asks set homes s seen text packets row.WrongCounter notes says f need report told = refl
+does_asks set homes s seen text packets row.Reauthenticated notes says f need report told = renewed_asks set homes s s.resumed
+does_asks set homes s seen text packets row.WrongMac notes says f need report told = refl
+does_asks set homes s seen text packets row.WrongRes notes says f need report told = refl
+does_asks set homes s seen text packets row.WrongCheckcode notes says f need report told = refl
+does_asks set homes s seen text packets row.Success notes says f need report told = succeeded_asks set homes s s.challenged
+does_asks set homes s seen text packets row.SecondSync notes says f need report told = refl
+does_asks set homes s seen text packets row.BadAuts notes says f need report told = refl
+does_asks set homes s seen text packets (row.Resynchronise sub seq) notes says f need report told =
     resynchronised_asks set homes s sub seq report.0 notes.resync notes.number (last_is s sub says) report.1 need (ap (λ (n : Notes). n.number) told)
-does_asks set homes s seen text packets row.Rejected notes says need report told = refl
-does_asks set homes s seen text packets (row.ClientError code) notes says need report told = refl
-does_asks set homes s seen text packets (row.Notified cause) notes says need report told = refl
+does_asks set homes s seen text packets row.Rejected notes says f need report told = refl
+does_asks set homes s seen text packets (row.ClientError code) notes says f need report told = refl
+does_asks set homes s seen text packets (row.Notified cause) notes says f need report told = refl
 
 -- the server and its notes tell it
-pub asked_is : (set : Setting) (homes : List HomeRow) (s : ServerEnd) (seen : Seen) (notes : Notes)
-    → AsksAsNeeded (server_row set homes s seen) notes → IsReported (asking (server_row set homes s seen)) notes → (server_step set homes s seen notes).1.notes ≡ notes
-    → asked_after set homes (server_step set homes s seen notes).0 notes.resync notes.number ≡ sub_asked (asking (server_row set homes s seen))
-asked_is set homes s seen notes need report told =
-    ap (λ (n : Notes). asked_after set homes (server_step set homes s seen notes).0 n.resync n.number) (sym told)
-    ∙ does_asks set homes s seen (text_in seen.reading) (packets_after s seen (server_row set homes s seen)) (server_row set homes s seen) notes (says_row set homes s seen) need report told
+pub asked_is : (set : Setting) (homes : List HomeRow) (s : ServerEnd) (seen : Seen) (said : Reply) (notes : Notes) → Fits s
+    → AsksAsNeeded (server_row set homes s seen said) notes → IsReported (asking (server_row set homes s seen said)) notes → (server_step set homes s seen said notes).1.notes ≡ notes
+    → asked_after set homes (server_step set homes s seen said notes).0 notes.resync notes.number ≡ sub_asked (asking (server_row set homes s seen said))
+asked_is set homes s seen said notes f need report told =
+    ap (λ (n : Notes). asked_after set homes (server_step set homes s seen said notes).0 n.resync n.number) (sym told)
+    ∙ does_asks set homes s seen (text_in seen.reading) (packets_after s seen (server_row set homes s seen said)) (server_row set homes s seen said) notes
+    (says_row set homes s seen said) f need report told
 
 -- ---- the text that was received
 
@@ -239,8 +292,8 @@ fits_with before text received new (inl same) fits = let n : length new ≡ leng
 fits_with before text received new (inr same) fits = let n : length new ≡ length text = ap (λ (b : List ℕ). length b) same in omega (arith, n, fits)
 
 -- the identity after a turn is no longer than that before it, or than what was received
-pub identity_fits : (set : Setting) (homes : List HomeRow) (s : ServerEnd) (seen : Seen) (notes : Notes) → IsReceived seen
-    → length (server_step set homes s seen notes).0.identity ≤ max (length s.identity) (length seen.bytes)
-identity_fits set homes s seen notes received =
-    fits_with s.identity (text_in seen.reading) seen.bytes (server_step set homes s seen notes).0.identity (identity_is set homes s seen notes)
+pub identity_fits : (set : Setting) (homes : List HomeRow) (s : ServerEnd) (seen : Seen) (said : Reply) (notes : Notes) → IsReceived seen
+    → length (server_step set homes s seen said notes).0.identity ≤ max (length s.identity) (length seen.bytes)
+identity_fits set homes s seen said notes received =
+    fits_with s.identity (text_in seen.reading) seen.bytes (server_step set homes s seen said notes).0.identity (identity_is set homes s seen said notes)
     (reading_fits seen.bytes seen.reading received.reads)

@@ -3,6 +3,9 @@ use Rattle.std.specs.Prelude.{ℕ, List, [], ◌∷◌, Option, Some, None}
 use Rattle.std.specs.Option.{option_or}
 use Rattle.auc_attr.specs.declared.attr.Attr.{Attr}
 use Rattle.auc_attr.specs.declared.attr.Attr.TheVariants as attr
+use Rattle.auc_packet.specs.declared.packet.Packet.TheVariants as packet
+use Rattle.auc_packet.specs.declared.received.Reading.{Reading}
+use Rattle.auc_packet.specs.declared.received.Reading.TheVariants as reading
 
 -- the value of an AT_RES
 abbrev pub res_of : Attr → Option (List ℕ)
@@ -41,3 +44,8 @@ text_or_none (Some text) = text
 -- the text of the first AT_IDENTITY of a list, empty if there is none (RFC 4187 §10.5)
 abbrev pub identity_in : List Attr → List ℕ
 identity_in list = text_or_none (first_of identity_of list)
+
+-- the attributes of a message
+abbrev pub attrs_in : Reading → List Attr
+attrs_in (reading.Read (packet.Aka request id m kind list)) = list
+attrs_in other = []

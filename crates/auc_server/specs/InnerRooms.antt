@@ -6,7 +6,7 @@ use Rattle.auc_edge.specs.Reserved.{Reserved}
 -- for the greatest request, the Challenge
 pub record IsFresh (room : Reserved ℕ) : Type 0 where
   pub empty : room.written ≡ []
-  pub size : room.left ≡ 440
+  pub size : room.left ≡ 728
 
 -- for the attributes of the Challenge
 pub record HasPlaces (places : Reserved Attr) : Type 0 where
@@ -23,7 +23,12 @@ pub record IsFreshCheck (room : Reserved ℕ) : Type 0 where
   pub empty : room.written ≡ []
   pub size : room.left ≡ 32
 
--- for the encrypted attribute
-pub record HasOnePlace (places : Reserved Attr) : Type 0 where
+-- for a re-authentication identity with a realm
+pub record IsFreshIdentity (room : Reserved ℕ) : Type 0 where
+  pub empty : room.written ≡ []
+  pub size : room.left ≡ 289
+
+-- for the encrypted attributes
+pub record HasInner (places : Reserved Attr) : Type 0 where
   pub empty : places.written ≡ []
-  pub size : places.left ≡ 1
+  pub size : places.left ≡ 3

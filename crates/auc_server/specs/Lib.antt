@@ -1,11 +1,15 @@
 pub mod Asked
 pub mod Attributes
+pub mod Contexts
 pub mod InnerMessages
 pub mod InnerRooms
 pub mod InnerRows
+pub mod InnerServer
 pub mod Laws
 pub mod Messages
+pub mod Moves
 pub mod Ordinals
+pub mod Replies
 pub mod Rounds
 pub mod Rows
 pub mod Server

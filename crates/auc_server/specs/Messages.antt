@@ -14,8 +14,11 @@ use Rattle.auc_seal.specs.Encrypted.{encrypted}
 use Rattle.auc_vector.specs.declared.parts.Vector.{Vector}
 use Rattle.auc_request.specs.declared.identities.IdentityRequest.{IdentityRequest}
 use Rattle.auc_request.specs.declared.identities.IdentityRequest.TheVariants as asks
-use Rattle.auc_server.specs.declared.naming.NewName.{NewName}
+use Rattle.auc_server.specs.declared.naming.GivenNames.{GivenNames}
+use Rattle.auc_server.specs.declared.naming.NewNames.{NewNames}
+use Rattle.auc_server.specs.declared.naming.NewNames.TheVariants as names
 use Rattle.auc_server.specs.declared.options.ServerOptions.{ServerOptions}
+use Rattle.auc_server.specs.declared.server.Resumed.{Resumed}
 
 -- the first request, which has no text (RFC 3748 §5.1)
 abbrev pub identity_request : ℕ → Packet
@@ -28,33 +31,65 @@ attrs_by method.Prime name bidding = attr.KdfInput name ∷ attr.Kdf 1 ∷ []
 attrs_by method.Aka name true = attr.Bidding true ∷ []
 attrs_by method.Aka name false = []
 
--- the attributes that a Challenge encrypts: the next pseudonym (RFC 4187 §10.10)
-abbrev pub names_in : List ℕ → List Attr
-names_in name = attr.NextPseudonym name ∷ []
+-- a username, followed by `@` and the realm if there is one (RFC 4187 §4.1.1.5)
+abbrev pub with_realm : List ℕ → List ℕ → List ℕ
+with_realm text [] = text
+with_realm text (letter ∷ letters) = text ++ 64 ∷ letter ∷ letters
 
--- AT_IV and AT_ENCR_DATA, if a name is given (RFC 4187 §10.12)
-abbrev pub attrs_given : List ℕ → Option NewName → List Attr
-attrs_given k_encr None = []
-attrs_given k_encr (Some name) = encrypted k_encr name.iv (names_in name.text)
+-- the attributes that a Challenge encrypts: the next pseudonym, which has no realm, and the next re-authentication identity
+-- with the realm (RFC 4187 §10.10 and §10.11)
+abbrev pub names_in : List ℕ → NewNames → List Attr
+names_in realm (names.Pseudonym text) = attr.NextPseudonym text ∷ []
+names_in realm (names.Identity text) = attr.NextReauthId (with_realm text realm) ∷ []
+names_in realm (names.Both text other) = attr.NextPseudonym text ∷ attr.NextReauthId (with_realm other realm) ∷ []
+
+-- AT_IV and AT_ENCR_DATA, if names are given (RFC 4187 §10.12)
+abbrev pub attrs_given : List ℕ → List ℕ → Option GivenNames → List Attr
+attrs_given realm k_encr None = []
+attrs_given realm k_encr (Some given) = encrypted k_encr given.iv (names_in realm given.names)
 
 -- the attributes of a Challenge before AT_CHECKCODE
-abbrev pub attrs_before : ServerOptions → List ℕ → List ℕ → List ℕ → Option NewName → List Attr
-attrs_before options rand autn k_encr given =
-    attr.Rand rand ∷ attr.Autn autn ∷ (attrs_by options.method options.name options.bidding ++ attrs_given k_encr given)
+abbrev pub attrs_before : ServerOptions → List ℕ → List ℕ → List ℕ → List ℕ → Option GivenNames → List Attr
+attrs_before options realm rand autn k_encr given =
+    attr.Rand rand ∷ attr.Autn autn ∷ (attrs_by options.method options.name options.bidding ++ attrs_given realm k_encr given)
 
 -- Challenge (RFC 4187 §9.3), but for its AT_MAC, with a value of AT_CHECKCODE
-abbrev pub challenge_draft : ServerOptions → ℕ → List ℕ → List ℕ → List ℕ → Option NewName → List ℕ → Draft
-challenge_draft options id rand autn k_encr given check = record {
+abbrev pub challenge_draft : ServerOptions → List ℕ → ℕ → List ℕ → List ℕ → List ℕ → Option GivenNames → List ℕ → Draft
+challenge_draft options realm id rand autn k_encr given check = record {
   method = options.method;
   request = true;
   id = id;
   subtype = subtype.Challenge;
-  attrs = attrs_before options rand autn k_encr given ++ attr.Checkcode check ∷ [];
+  attrs = attrs_before options realm rand autn k_encr given ++ attr.Checkcode check ∷ [];
 }
 
 -- Challenge, with AT_MAC under K_aut
-unfoldable pub challenge_bytes : ServerOptions → ℕ → Vector → KeySet → Option NewName → List ℕ → List ℕ
-challenge_bytes options id v keys given check = sealed keys.k_aut [] (challenge_draft options id v.rand v.autn keys.k_encr given check)
+unfoldable pub challenge_bytes : ServerOptions → List ℕ → ℕ → Vector → KeySet → Option GivenNames → List ℕ → List ℕ
+challenge_bytes options realm id v keys given check =
+    sealed keys.k_aut [] (challenge_draft options realm id v.rand v.autn keys.k_encr given check)
+
+-- AT_NEXT_REAUTH_ID, if an identity is given (RFC 4187 §10.11)
+abbrev pub next_in : List ℕ → Option (List ℕ) → List Attr
+next_in realm None = []
+next_in realm (Some text) = attr.NextReauthId (with_realm text realm) ∷ []
+
+-- the attributes that a Reauthentication request encrypts: AT_COUNTER, AT_NONCE_S and the next identity (RFC 4187 §9.7)
+abbrev pub reauth_in : List ℕ → Resumed → List Attr
+reauth_in realm r = attr.Counter r.context.counter ∷ attr.NonceS r.nonce ∷ next_in realm r.next
+
+-- Reauthentication (RFC 4187 §9.7), but for its AT_MAC, with an initialisation vector and a value of AT_CHECKCODE
+abbrev pub reauth_draft : Method → List ℕ → ℕ → List ℕ → Resumed → List ℕ → Draft
+reauth_draft by realm id iv r check = record {
+  method = by;
+  request = true;
+  id = id;
+  subtype = subtype.Reauthentication;
+  attrs = encrypted r.context.k_encr iv (reauth_in realm r) ++ attr.Checkcode check ∷ [];
+}
+
+-- Reauthentication, with AT_MAC under K_aut
+unfoldable pub reauth_bytes : Method → List ℕ → ℕ → List ℕ → Resumed → List ℕ → List ℕ
+reauth_bytes by realm id iv r check = sealed r.context.k_aut [] (reauth_draft by realm id iv r check)
 
 -- the attribute by which an identity is asked for (RFC 4187 §10.2 to §10.4)
 abbrev pub id_req : IdentityRequest → Attr

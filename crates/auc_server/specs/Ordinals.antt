@@ -1,6 +1,7 @@
--- The ordinals of the pseudonyms that a server gives: a subscriber's ordinals stand in its home, and each is used once.
+-- The ordinals of the names that a server gives: a subscriber's ordinals stand in its home, and each is used once.
 use Rattle.std.specs.Prelude.{ℕ, ◌+◌, ◌==◌, Bool, true, false, List, position, slice_index_or, slice_set, Option, Some, None, if◌then◌else◌}
 use Rattle.auc_ident.specs.Ordinals.{last_ordinal}
+use Rattle.auc_reauth.specs.Server.{no_contexts}
 use Rattle.auc_server.specs.declared.setting.HomeRow.{HomeRow}
 
 -- ---- one home
@@ -22,13 +23,13 @@ home_place homes sub = position (λ home. home.sub == sub) homes
 
 -- the home at a place of the list
 abbrev pub home_at : List HomeRow → ℕ → HomeRow
-home_at homes place = slice_index_or homes place (record { sub = 0; ordinals = 0 })
+home_at homes place = slice_index_or homes place (record { sub = 0; ordinals = 0; store = no_contexts })
 
 abbrev pub ordinal_at : List HomeRow → Option ℕ → Option ℕ
 ordinal_at homes None = None
 ordinal_at homes (Some place) = ordinal_after (home_at homes place)
 
--- the ordinal that a subscriber's next pseudonym has, if the session gives pseudonyms and one is left
+-- the ordinal that a subscriber's next name has, if such a name is given and an ordinal is left
 abbrev pub ordinal_given : Bool → List HomeRow → ℕ → Option ℕ
 ordinal_given false homes sub = None
 ordinal_given true homes sub = ordinal_at homes (home_place homes sub)

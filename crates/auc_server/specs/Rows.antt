@@ -1,6 +1,6 @@
 -- The table of a server of EAP-AKA or EAP-AKA': which row received bytes fall into, in the order of the tests (RFC 4187 §3, §6 and
 -- §9).
-use Rattle.std.specs.Prelude.{ℕ, ◌==◌, ◌||◌, not, Bool, true, false, List, [], ◌∷◌, Option, Some, None, slice_get, if◌then◌else◌}
+use Rattle.std.specs.Prelude.{ℕ, ◌==◌, ◌||◌, not, Bool, true, false, List, [], Option, Some, None, slice_get, if◌then◌else◌}
 use Rattle.std.specs.List.{list_any}
 use Rattle.std.specs.Option.{option_or}
 use Rattle.std.specs.Str.{bytes_eq}
@@ -26,15 +26,20 @@ use Rattle.auc_vector.specs.Auts.{read_auts_of}
 use Rattle.auc_vector.specs.declared.auts.Auts.{Auts}
 use Rattle.auc_vector.specs.declared.auts.Auts.TheVariants as auts
 use Rattle.auc_vector.specs.declared.turn.Reason.TheVariants as reason
+use Rattle.auc_reauth.specs.declared.context.Context.{Context}
 use Rattle.auc_server.specs.Attributes.{res_of, auts_of, checkcode_of, error_code_of, first_of, identity_in}
+use Rattle.auc_server.specs.Contexts.{context_in}
 use Rattle.auc_server.specs.Rounds.{checkcode}
 use Rattle.auc_server.specs.Server.{ServerEnd}
 use Rattle.auc_server.specs.Setting.{Setting}
 use Rattle.auc_request.specs.declared.identities.IdentityRequest.TheVariants as asks
 use Rattle.auc_server.specs.declared.options.ServerOptions.{ServerOptions}
+use Rattle.auc_server.specs.declared.reply.Reply.{Reply}
+use Rattle.auc_server.specs.declared.reply.Reply.TheVariants as reply
 use Rattle.auc_server.specs.declared.rows.Row.{Row}
 use Rattle.auc_server.specs.declared.rows.Row.TheVariants as row
 use Rattle.auc_server.specs.declared.server.Challenged.{Challenged}
+use Rattle.auc_server.specs.declared.server.Resumed.{Resumed}
 use Rattle.auc_server.specs.declared.server.ServerState.{ServerState}
 use Rattle.auc_server.specs.declared.server.ServerState.TheVariants as state
 use Rattle.auc_server.specs.declared.setting.HomeRow.{HomeRow}
@@ -72,16 +77,39 @@ pseudonym_subscriber by set homes text = named_place homes (resolved set.names k
 abbrev pub subscriber_in : Method → Setting → List HomeRow → List ℕ → Option ℕ
 subscriber_in by set homes text = option_or (permanent_subscriber by set homes text) (pseudonym_subscriber by set homes text)
 
+-- the held subscriber whose re-authentication identity of a method a text is, up to its realm (RFC 4187 §4.1.1.8)
+abbrev pub reauth_subscriber : Method → Setting → List HomeRow → List ℕ → Option ℕ
+reauth_subscriber by set homes text = named_place homes (resolved set.names kinds.Reauth by text)
+
+abbrev pub if_found : ℕ → Option Context → Option ℕ
+if_found sub None = None
+if_found sub (Some c) = Some sub
+
+abbrev pub with_context_in : Method → List HomeRow → List ℕ → Option ℕ → Option ℕ
+with_context_in by homes text None = None
+with_context_in by homes text (Some sub) = if_found sub (context_in by text homes sub)
+
+-- the held subscriber whose context of a method has a text as its identity
+abbrev pub context_subscriber : Method → Setting → List HomeRow → List ℕ → Option ℕ
+context_subscriber by set homes text = with_context_in by homes text (reauth_subscriber by set homes text)
+
 -- a subscriber is challenged, and if there is none, another row is taken
 abbrev pub challenge_or : Row → Option ℕ → Row
 challenge_or other None = other
 challenge_or other (Some sub) = row.Challenge sub
 
--- an identity that may be a pseudonym: if it is none, one for full authentication is asked for (RFC 4187 §4.1.4)
-abbrev pub on_any : Method → Setting → List HomeRow → List ℕ → Row
-on_any by set homes text = challenge_or (row.Ask asks.Fullauth) (subscriber_in by set homes text)
+-- a context is taken up again, and if there is none, another row is taken
+abbrev pub resume_or : Row → Option ℕ → Row
+resume_or other None = other
+resume_or other (Some sub) = row.Resume sub
 
--- the same, where one for full authentication was asked for: then the permanent identity is
+-- an identity that may be a re-authentication identity or a pseudonym: if it is none, one for full authentication is asked for
+-- (RFC 4187 §4.1.4)
+abbrev pub on_any : Method → Setting → List HomeRow → List ℕ → Row
+on_any by set homes text =
+    resume_or (challenge_or (row.Ask asks.Fullauth) (subscriber_in by set homes text)) (context_subscriber by set homes text)
+
+-- a pseudonym or a permanent identity, where one for full authentication was asked for: else the permanent one is asked for
 abbrev pub on_full : Method → Setting → List HomeRow → List ℕ → Row
 on_full by set homes text = challenge_or (row.Ask asks.Permanent) (subscriber_in by set homes text)
 
@@ -119,6 +147,28 @@ on_response by packets sent seen list =
     else if not (is_expected sent.vector.xres (first_of res_of list)) then row.WrongRes
     else if differs (checkcode by packets) (first_of checkcode_of list) then row.WrongCheckcode
     else row.Success
+
+-- ---- the response to a re-authentication
+
+-- whether the counter was too small
+abbrev pub says_small : Reply → Bool
+says_small reply.TooSmall = true
+says_small other = false
+
+-- whether the response hasn't the counter that was sent
+abbrev pub is_wrong : Reply → Bool
+is_wrong reply.Wrong = true
+is_wrong other = false
+
+-- AT_MAC, which covers NONCE_S too, is tested before what is encrypted, and that before AT_CHECKCODE (RFC 4187 §5 and §9.8)
+abbrev pub on_reauth : Method → List (List ℕ) → Resumed → Seen → Reply → List Attr → Row
+on_reauth by packets sent seen said list =
+    if is_missing subtype.Reauthentication false list then row.Ignore reason.Missing
+    else if not (is_sealed by sent.context.k_aut sent.nonce seen) then row.WrongMac
+    else if is_wrong said then row.WrongCounter
+    else if says_small said then row.TooSmall sent.sub
+    else if differs (checkcode by packets) (first_of checkcode_of list) then row.WrongCheckcode
+    else row.Reauthenticated
 
 -- ---- a synchronisation failure
 
@@ -165,32 +215,43 @@ abbrev pub if_challenged : Setting → ServerEnd → Option Challenged → Seen 
 if_challenged set s None seen kind list = row.Ignore reason.Unexpected
 if_challenged set s (Some sent) seen kind list = on_challenged set s sent seen kind list
 
+abbrev pub on_resumed : ServerEnd → Resumed → Seen → Reply → Subtype → List Attr → Row
+on_resumed s sent seen said subtype.Reauthentication list = on_reauth s.options.method s.packets sent seen said list
+on_resumed s sent seen said subtype.ClientError list = on_client_error list
+on_resumed s sent seen said other list = row.Ignore reason.Unexpected
+
+-- a server that awaits the answer to a re-authentication has sent one
+abbrev pub if_resumed : ServerEnd → Option Resumed → Seen → Reply → Subtype → List Attr → Row
+if_resumed s None seen said kind list = row.Ignore reason.Unexpected
+if_resumed s (Some sent) seen said kind list = on_resumed s sent seen said kind list
+
 -- an AKA-Identity response, for which a row is taken, or an error of the peer
 abbrev pub on_identity : Row → Subtype → List Attr → Row
 on_identity answered subtype.Identity list = if is_missing subtype.Identity false list then row.Ignore reason.Missing else answered
 on_identity answered subtype.ClientError list = on_client_error list
 on_identity answered other list = row.Ignore reason.Unexpected
 
-abbrev pub on_message : Setting → List HomeRow → ServerEnd → ServerState → Seen → Subtype → List Attr → Row
-on_message set homes s state.AwaitAny seen kind list = on_identity (on_any s.options.method set homes (identity_in list)) kind list
-on_message set homes s state.AwaitFull seen kind list = on_identity (on_full s.options.method set homes (identity_in list)) kind list
-on_message set homes s state.AwaitPermanent seen kind list = on_identity (on_permanent s.options.method set homes (identity_in list)) kind list
-on_message set homes s state.AwaitChallenge seen kind list = if_challenged set s s.challenged seen kind list
-on_message set homes s (state.Notifying why) seen subtype.Notification list = row.Notified why
-on_message set homes s other seen kind list = row.Ignore reason.Unexpected
+abbrev pub on_message : Setting → List HomeRow → ServerEnd → ServerState → Seen → Reply → Subtype → List Attr → Row
+on_message set homes s state.AwaitAny seen said kind list = on_identity (on_any s.options.method set homes (identity_in list)) kind list
+on_message set homes s state.AwaitFull seen said kind list = on_identity (on_full s.options.method set homes (identity_in list)) kind list
+on_message set homes s state.AwaitPermanent seen said kind list = on_identity (on_permanent s.options.method set homes (identity_in list)) kind list
+on_message set homes s state.AwaitChallenge seen said kind list = if_challenged set s s.challenged seen kind list
+on_message set homes s state.AwaitReauth seen said kind list = if_resumed s s.resumed seen said kind list
+on_message set homes s (state.Notifying why) seen said subtype.Notification list = row.Notified why
+on_message set homes s other seen said kind list = row.Ignore reason.Unexpected
 
 -- ---- the tests for every state
 
 -- a response of the method
-abbrev pub on_method : Setting → List HomeRow → ServerEnd → ServerState → Seen → Reading → Row
-on_method set homes s now seen (reading.Read (packet.Aka request id m kind list)) =
-    if is_malformed kind false s.options.method list then row.Ignore reason.Malformed else on_message set homes s now seen kind list
-on_method set homes s now seen other = row.Ignore reason.Malformed
+abbrev pub on_method : Setting → List HomeRow → ServerEnd → ServerState → Seen → Reply → Reading → Row
+on_method set homes s now seen said (reading.Read (packet.Aka request id m kind list)) =
+    if is_malformed kind false s.options.method list then row.Ignore reason.Malformed else on_message set homes s now seen said kind list
+on_method set homes s now seen said other = row.Ignore reason.Malformed
 
 -- a response of the type that the state expects
-abbrev pub on_reading : Setting → List HomeRow → ServerEnd → ServerState → Seen → Reading → Row
-on_reading set homes s state.AwaitIdentity seen r = on_first s.options set homes (text_in r)
-on_reading set homes s other seen r = on_method set homes s other seen r
+abbrev pub on_reading : Setting → List HomeRow → ServerEnd → ServerState → Seen → Reply → Reading → Row
+on_reading set homes s state.AwaitIdentity seen said r = on_first s.options set homes (text_in r)
+on_reading set homes s other seen said r = on_method set homes s other seen said r
 
 -- the type that the state expects: Identity first, and that of the method then
 abbrev pub type_awaited : Method → ServerState → ℕ
@@ -201,16 +262,16 @@ abbrev pub is_type : ℕ → Option ℕ → Bool
 is_type wanted None = false
 is_type wanted (Some kind) = kind == wanted
 
-abbrev pub on_head : Setting → List HomeRow → ServerEnd → Seen → Option Head → Row
-on_head set homes s seen None = row.Ignore reason.NotForMe
-on_head set homes s seen (Some head) =
+abbrev pub on_head : Setting → List HomeRow → ServerEnd → Seen → Reply → Option Head → Row
+on_head set homes s seen said None = row.Ignore reason.NotForMe
+on_head set homes s seen said (Some head) =
     if not (head.code == 2) || not (head.id == s.id) then row.Ignore reason.NotForMe
     else if not (is_type (type_awaited s.options.method s.state) head.kind) then row.Ignore reason.OtherType
-    else on_reading set homes s s.state seen seen.reading
+    else on_reading set homes s s.state seen said seen.reading
 
-abbrev pub in_state : Setting → List HomeRow → ServerEnd → Seen → ServerState → Row
-in_state set homes s seen (state.Ended outcome) = row.Ignore reason.Closed
-in_state set homes s seen other = on_head set homes s seen (head_at seen.bytes)
+abbrev pub in_state : Setting → List HomeRow → ServerEnd → Seen → Reply → ServerState → Row
+in_state set homes s seen said (state.Ended outcome) = row.Ignore reason.Closed
+in_state set homes s seen said other = on_head set homes s seen said (head_at seen.bytes)
 
-abbrev pub server_row : Setting → List HomeRow → ServerEnd → Seen → Row
-server_row set homes s seen = in_state set homes s seen s.state
+abbrev pub server_row : Setting → List HomeRow → ServerEnd → Seen → Reply → Row
+server_row set homes s seen said = in_state set homes s seen said s.state

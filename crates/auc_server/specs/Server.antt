@@ -4,6 +4,7 @@ use Rattle.auc_packet.specs.Spelling.{packet_text}
 use Rattle.auc_server.specs.Messages.{identity_request}
 use Rattle.auc_server.specs.declared.options.ServerOptions.{ServerOptions}
 use Rattle.auc_server.specs.declared.server.Challenged.{Challenged}
+use Rattle.auc_server.specs.declared.server.Resumed.{Resumed}
 use Rattle.auc_server.specs.declared.server.ServerState.{ServerState}
 use Rattle.auc_server.specs.declared.server.ServerState.TheVariants as state
 
@@ -20,6 +21,8 @@ pub record ServerEnd : Type 0 where
   pub identity : List ℕ
   -- its last challenge
   pub challenged : Option Challenged
+  -- its re-authentication
+  pub resumed : Option Resumed
   -- whether a synchronisation failure led to a new challenge
   pub synced : Bool
   -- the AKA-Identity packets that it sent, or received and didn't ignore, in their order; a repetition isn't counted again
@@ -36,6 +39,7 @@ started options = record {
   last = packet_text (identity_request 1);
   identity = [];
   challenged = None;
+  resumed = None;
   synced = false;
   packets = [];
   next_iv = 0;

@@ -1,12 +1,14 @@
--- The table of a server of EAP-AKA or EAP-AKA': what each row does (RFC 4187 §3 and §6).
+-- The table of a server of EAP-AKA or EAP-AKA': what each row does (RFC 4187 §3, §5 and §6).
 use Rattle.std.specs.Prelude.{ℕ, ◌+◌, ◌%◌, ◌^◌, Bool, true, false, List, [], Option, Some, None, slice_get}
+use Rattle.auc_hmac.specs.declared.keys.KeySet.{KeySet}
 use Rattle.auc_ident.specs.Names.{name_text}
+use Rattle.auc_ident.specs.declared.names.NameKind.{NameKind}
 use Rattle.auc_ident.specs.declared.names.NameKind.TheVariants as kinds
 use Rattle.auc_packet.specs.Spelling.{packet_text}
 use Rattle.auc_packet.specs.Received.{Seen}
 use Rattle.auc_packet.specs.declared.packet.Packet.TheVariants as packet
 use Rattle.auc_subs.specs.declared.row.Row as rows
-use Rattle.auc_vector.specs.Keys.{keys_of}
+use Rattle.auc_vector.specs.Keys.{keys_of, master_of, reauth_keys_of}
 use Rattle.auc_random.specs.Random.{nonce_of, rand_of}
 use Rattle.auc_vector.specs.Vector.{vector_of}
 use Rattle.auc_vector.specs.declared.notes.Notes.{Notes}
@@ -22,7 +24,9 @@ use Rattle.auc_vector.specs.declared.turn.Reason.TheVariants as reason
 use Rattle.auc_vector.specs.declared.turn.Step.{Step}
 use Rattle.auc_vector.specs.declared.turn.Step.TheVariants as step
 use Rattle.auc_vector.specs.declared.turn.Turn.{Turn}
-use Rattle.auc_server.specs.Messages.{aka_identity, challenge_bytes, notification}
+use Rattle.auc_reauth.specs.declared.context.Context.{Context}
+use Rattle.auc_server.specs.Contexts.{context_in, gives_next, homes_left, homes_resumed, homes_rewon, homes_won}
+use Rattle.auc_server.specs.Messages.{aka_identity, challenge_bytes, notification, reauth_bytes}
 use Rattle.auc_server.specs.Ordinals.{homes_given, ordinal_given}
 use Rattle.auc_seal.specs.Checkcode.{counted}
 use Rattle.auc_server.specs.Rounds.{checkcode, heard}
@@ -31,11 +35,15 @@ use Rattle.auc_server.specs.Server.{ServerEnd}
 use Rattle.auc_server.specs.Setting.{Setting}
 use Rattle.auc_request.specs.declared.identities.IdentityRequest.{IdentityRequest}
 use Rattle.auc_request.specs.declared.identities.IdentityRequest.TheVariants as asks
-use Rattle.auc_server.specs.declared.naming.NewName.{NewName}
+use Rattle.auc_server.specs.declared.naming.GivenNames.{GivenNames}
+use Rattle.auc_server.specs.declared.naming.NewNames.{NewNames}
+use Rattle.auc_server.specs.declared.naming.NewNames.TheVariants as names
 use Rattle.auc_server.specs.declared.options.ServerOptions.{ServerOptions}
+use Rattle.auc_server.specs.declared.reply.Reply.{Reply}
 use Rattle.auc_server.specs.declared.rows.Row.{Row}
 use Rattle.auc_server.specs.declared.rows.Row.TheVariants as row
 use Rattle.auc_server.specs.declared.server.Challenged.{Challenged}
+use Rattle.auc_server.specs.declared.server.Resumed.{Resumed}
 use Rattle.auc_server.specs.declared.server.ServerState.{ServerState}
 use Rattle.auc_server.specs.declared.server.ServerState.TheVariants as state
 use Rattle.auc_server.specs.declared.setting.HomeRow.{HomeRow}
@@ -47,6 +55,10 @@ use Rattle.auc_server.specs.declared.why.ServerWhy.TheVariants as why
 -- what a server's turn notes
 abbrev pub noted : Option ResyncNote → Option NumberNote → Notes
 noted resynced drawn = record { resync = resynced; number = drawn; resumed = None; usim = None; counter = None }
+
+-- the counter of a context that was taken up again
+abbrev pub resuming : ℕ → Notes
+resuming counter = record { resync = None; number = None; resumed = Some counter; usim = None; counter = None }
 
 -- nothing is noted
 abbrev pub silent : Notes
@@ -92,48 +104,118 @@ vector_of_row set options sub n (Some home) = Some (vector_of home.secret option
 abbrev pub vector_at : Setting → ServerOptions → ℕ → ℕ → Option Vector
 vector_at set options sub n = vector_of_row set options sub n (slice_get set.rows sub)
 
--- the challenge of a vector, under the keys that the identity that was received last gives
-abbrev pub challenge_of : ServerEnd → ℕ → Vector → Challenged
-challenge_of s sub v = record { sub = sub; vector = v; keys = keys_of s.options.method s.identity v.ik v.ck }
+-- the next identity among the names that are given
+abbrev pub identity_among : NewNames → Option (List ℕ)
+identity_among (names.Pseudonym text) = None
+identity_among (names.Identity text) = Some text
+identity_among (names.Both text other) = Some other
 
--- the next initialisation vector; the indices count modulo 2^32
-abbrev pub iv_after : ℕ → Option NewName → ℕ
+abbrev pub next_given : Option GivenNames → Option (List ℕ)
+next_given None = None
+next_given (Some given) = identity_among given.names
+
+-- the challenge of a number's vector, under the keys that the identity that was received last gives
+abbrev pub challenge_of : ServerEnd → ℕ → ℕ → Vector → Option (List ℕ) → Challenged
+challenge_of s sub n v next = record {
+  sub = sub;
+  number = n;
+  vector = v;
+  keys = keys_of s.options.method s.identity v.ik v.ck;
+  master = master_of s.options.method s.identity v.ik v.ck;
+  next = next;
+}
+
+-- the sixteen random bytes of an index of the session, for an initialisation vector or NONCE_S
+abbrev pub random_at : Setting → ServerEnd → ℕ → List ℕ
+random_at set s k = nonce_of set.key s.options.session k
+
+-- the index after next; the indices count modulo 2^32
+abbrev pub index_after : ℕ → ℕ
+index_after k = (k + 2) % 2 ^ 32
+
+-- the next initialisation vector after a challenge
+abbrev pub iv_after : ℕ → Option GivenNames → ℕ
 iv_after k None = k
-iv_after k (Some name) = (k + 2) % 2 ^ 32
+iv_after k (Some given) = index_after k
 
--- the pseudonym of an ordinal, and the initialisation vector under which it is encrypted
-abbrev pub name_of : Setting → ServerEnd → ℕ → Option ℕ → Option NewName
-name_of set s sub None = None
-name_of set s sub (Some ordinal) = Some (record {
-  iv = nonce_of set.key s.options.session s.next_iv;
-  text = name_text set.names kinds.Pseudonym s.options.method sub ordinal;
-})
+-- the name of an ordinal
+abbrev pub name_of : Setting → NameKind → ServerEnd → ℕ → Option ℕ → Option (List ℕ)
+name_of set kind s sub None = None
+name_of set kind s sub (Some ordinal) = Some (name_text set.names kind s.options.method sub ordinal)
 
 -- the pseudonym that a challenge of a subscriber gives
-abbrev pub name_given : Setting → List HomeRow → ServerEnd → ℕ → Option NewName
-name_given set homes s sub = name_of set s sub (ordinal_given s.options.pseudonym homes sub)
+abbrev pub pseudonym_given : Setting → List HomeRow → ServerEnd → ℕ → Option (List ℕ)
+pseudonym_given set homes s sub = name_of set kinds.Pseudonym s sub (ordinal_given s.options.pseudonym homes sub)
 
-abbrev pub sent_with : ServerEnd → Challenged → Option NewName → Notes → ServerEnd × Turn ServerWhy
-sent_with s sent given notes =
+-- the re-authentication identity that it gives; its ordinal comes after the pseudonym's
+abbrev pub identity_given : Setting → List HomeRow → ServerEnd → ℕ → Option (List ℕ)
+identity_given set homes s sub =
+    name_of set kinds.Reauth s sub (ordinal_given s.options.reauth (homes_given s.options.pseudonym homes sub) sub)
+
+abbrev pub both_of : Option (List ℕ) → Option (List ℕ) → Option NewNames
+both_of None None = None
+both_of (Some text) None = Some (names.Pseudonym text)
+both_of None (Some other) = Some (names.Identity other)
+both_of (Some text) (Some other) = Some (names.Both text other)
+
+-- names, with the initialisation vector under which they are encrypted
+abbrev pub under : List ℕ → Option NewNames → Option GivenNames
+under iv None = None
+under iv (Some given) = Some (record { iv = iv; names = given })
+
+-- the names that a challenge of a subscriber gives
+abbrev pub names_given : Setting → List HomeRow → ServerEnd → ℕ → Option GivenNames
+names_given set homes s sub = under (random_at set s s.next_iv) (both_of (pseudonym_given set homes s sub) (identity_given set homes s sub))
+
+abbrev pub sent_with : List ℕ → ServerEnd → Challenged → Option GivenNames → Notes → Bool → ServerEnd × Turn ServerWhy
+sent_with realm s sent given notes checked =
     requested (record s { challenged = Some sent; next_iv = iv_after s.next_iv given }) state.AwaitChallenge
-    (challenge_bytes s.options (next_id s.id) sent.vector sent.keys given (checkcode s.options.method s.packets)) notes false
+    (challenge_bytes s.options realm (next_id s.id) sent.vector sent.keys given (checkcode s.options.method s.packets)) notes checked
 
-abbrev pub challenged_with : ServerEnd → ℕ → Option Vector → Option NewName → Notes → ServerEnd × Turn ServerWhy
-challenged_with s sub None given notes = ignored s reason.Unexpected
-challenged_with s sub (Some v) given notes = sent_with s (challenge_of s sub v) given notes
+abbrev pub challenged_with : List ℕ → ServerEnd → ℕ → ℕ → Option Vector → Option GivenNames → Notes → Bool → ServerEnd × Turn ServerWhy
+challenged_with realm s sub n None given notes checked = ignored s reason.Unexpected
+challenged_with realm s sub n (Some v) given notes checked = sent_with realm s (challenge_of s sub n v (next_given given)) given notes checked
 
 -- a subscriber is challenged, if the centre gives a number
-abbrev pub challenged : Setting → List HomeRow → ServerEnd → ℕ → Option ResyncNote → Option NumberNote → ServerEnd × Turn ServerWhy
-challenged set homes s sub resynced None = ignored s reason.Unexpected
-challenged set homes s sub resynced (Some (number.Drew n)) =
-    challenged_with s sub (vector_at set s.options sub n) (name_given set homes s sub) (noted resynced (Some (number.Drew n)))
-challenged set homes s sub resynced (Some (number.Exhausted w)) = notified s (why.Exhausted w) (noted resynced (Some (number.Exhausted w))) false
-challenged set homes s sub resynced (Some (number.Withheld n stop)) = notified s (why.Stopped n stop) (noted resynced (Some (number.Withheld n stop))) false
+abbrev pub challenged : Setting → List HomeRow → ServerEnd → ℕ → Bool → Option ResyncNote → Option NumberNote → ServerEnd × Turn ServerWhy
+challenged set homes s sub checked resynced None = ignored s reason.Unexpected
+challenged set homes s sub checked resynced (Some (number.Drew n)) =
+    challenged_with set.realm s sub n (vector_at set s.options sub n) (names_given set homes s sub) (noted resynced (Some (number.Drew n))) checked
+challenged set homes s sub checked resynced (Some (number.Exhausted w)) =
+    notified s (why.Exhausted w) (noted resynced (Some (number.Exhausted w))) checked
+challenged set homes s sub checked resynced (Some (number.Withheld n stop)) =
+    notified s (why.Stopped n stop) (noted resynced (Some (number.Withheld n stop))) checked
+
+-- the homes after the names of a challenge were given
+abbrev pub homes_named : ServerOptions → List HomeRow → ℕ → List HomeRow
+homes_named options homes sub = homes_given options.reauth (homes_given options.pseudonym homes sub) sub
 
 -- the homes after a subscriber was challenged
 abbrev pub homes_challenged : ServerOptions → List HomeRow → ℕ → Option NumberNote → List HomeRow
-homes_challenged options homes sub (Some (number.Drew n)) = homes_given options.pseudonym homes sub
+homes_challenged options homes sub (Some (number.Drew n)) = homes_named options homes sub
 homes_challenged options homes sub other = homes
+
+-- ---- a re-authentication
+
+-- the re-authentication of a subscriber with a context, by the homes after the context left
+abbrev pub resumption : Setting → List HomeRow → ServerEnd → ℕ → Context → Resumed
+resumption set homes s sub c = record {
+  sub = sub;
+  context = c;
+  nonce = random_at set s (index_after s.next_iv);
+  next = name_of set kinds.Reauth s sub (ordinal_given (gives_next s.options c) homes sub);
+}
+
+-- the request is sent; its initialisation vector comes before its NONCE_S among the random bytes
+abbrev pub resent : Setting → ServerEnd → Resumed → ServerEnd × Turn ServerWhy
+resent set s r =
+    requested (record s { resumed = Some r; next_iv = index_after (index_after s.next_iv) }) state.AwaitReauth
+    (reauth_bytes s.options.method set.realm (next_id s.id) (random_at set s s.next_iv) r (checkcode s.options.method s.packets))
+    (resuming r.context.counter) false
+
+-- the keys of a re-authentication, from the identity that was received last (RFC 4187 §7, RFC 9048 §3.3)
+abbrev pub resumed_keys : ServerEnd → Resumed → KeySet
+resumed_keys s r = reauth_keys_of r.context.k_encr r.context.k_aut r.context.master s.identity r.context.counter r.nonce
 
 -- ---- the rows
 
@@ -159,7 +241,16 @@ abbrev pub asked : ServerEnd → List ℕ → List (List ℕ) → IdentityReques
 asked s text packets kind = requested (identified s text packets) (awaiting kind) (identity_asked s kind) silent false
 
 abbrev pub first_challenge : Setting → List HomeRow → ServerEnd → List ℕ → List (List ℕ) → ℕ → Option NumberNote → ServerEnd × Turn ServerWhy
-first_challenge set homes s text packets sub drawn = challenged set homes (identified s text packets) sub None drawn
+first_challenge set homes s text packets sub drawn = challenged set homes (identified s text packets) sub false None drawn
+
+abbrev pub resumed_with : Setting → List HomeRow → ServerEnd → List ℕ → List (List ℕ) → ℕ → Option Context → ServerEnd × Turn ServerWhy
+resumed_with set homes s text packets sub None = ignored s reason.Unexpected
+resumed_with set homes s text packets sub (Some c) = resent set (identified s text packets) (resumption set homes s sub c)
+
+-- the context of a subscriber is taken up again (RFC 4187 §5.3)
+abbrev pub resumed : Setting → List HomeRow → ServerEnd → List ℕ → List (List ℕ) → ℕ → ServerEnd × Turn ServerWhy
+resumed set homes s text packets sub =
+    resumed_with set (homes_left s.options.method text homes sub) s text packets sub (context_in s.options.method text homes sub)
 
 abbrev pub resynchronising : ServerEnd → ServerEnd
 resynchronising s = record s { synced = true }
@@ -170,13 +261,18 @@ resynchronised set homes s sub None drawn = ignored s reason.Unexpected
 resynchronised set homes s sub (Some resync.BadAuts) drawn = ignored s reason.Unexpected
 resynchronised set homes s sub (Some (resync.Beyond seen seq)) drawn =
     notified (resynchronising s) (why.Beyond seen seq) (noted (Some (resync.Beyond seen seq)) None) false
-resynchronised set homes s sub (Some (resync.InRange seen seq)) drawn = challenged set homes (resynchronising s) sub (Some (resync.InRange seen seq)) drawn
-resynchronised set homes s sub (Some (resync.Moved seen seq)) drawn = challenged set homes (resynchronising s) sub (Some (resync.Moved seen seq)) drawn
+resynchronised set homes s sub (Some (resync.InRange seen seq)) drawn = challenged set homes (resynchronising s) sub false (Some (resync.InRange seen seq)) drawn
+resynchronised set homes s sub (Some (resync.Moved seen seq)) drawn = challenged set homes (resynchronising s) sub false (Some (resync.Moved seen seq)) drawn
 
 -- EAP-Success, under the keys of the last challenge; a response comes only after a challenge
 abbrev pub succeeded : ServerEnd → Option Challenged → ServerEnd × Turn ServerWhy
 succeeded s None = ignored s reason.Unexpected
 succeeded s (Some sent) = ended s (outcome.Success sent.keys) (packet_text (packet.Success s.id)) true
+
+-- the same under the keys of the re-authentication
+abbrev pub reauthenticated : ServerEnd → Option Resumed → ServerEnd × Turn ServerWhy
+reauthenticated s None = ignored s reason.Unexpected
+reauthenticated s (Some r) = ended s (outcome.Success (resumed_keys s r)) (packet_text (packet.Success s.id)) true
 
 -- a row, with the text of an identity, the AKA-Identity packets after this turn, and the notes of what the centre answered
 abbrev pub server_does : Setting → List HomeRow → ServerEnd → List ℕ → List (List ℕ) → Row → Notes → ServerEnd × Turn ServerWhy
@@ -184,6 +280,10 @@ server_does set homes s text packets (row.Ignore cause) notes = ignored s cause
 server_does set homes s text packets (row.Ask kind) notes = asked s text packets kind
 server_does set homes s text packets row.UnknownIdentity notes = unknown s text packets
 server_does set homes s text packets (row.Challenge sub) notes = first_challenge set homes s text packets sub notes.number
+server_does set homes s text packets (row.Resume sub) notes = resumed set homes s text packets sub
+server_does set homes s text packets row.WrongCounter notes = notified s why.WrongCounter silent true
+server_does set homes s text packets (row.TooSmall sub) notes = challenged set homes s sub true None notes.number
+server_does set homes s text packets row.Reauthenticated notes = reauthenticated s s.resumed
 server_does set homes s text packets row.WrongMac notes = notified s why.WrongMac silent false
 server_does set homes s text packets row.WrongRes notes = notified s why.WrongRes silent true
 server_does set homes s text packets row.WrongCheckcode notes = notified s why.WrongCheckcode silent true
@@ -201,19 +301,24 @@ packets_after s seen (row.Ask kind) = counted (identity_asked s kind) (heard s.p
 packets_after s seen other = heard s.packets seen.bytes seen.reading
 
 -- the table
-abbrev pub server_step : Setting → List HomeRow → ServerEnd → Seen → Notes → ServerEnd × Turn ServerWhy
-server_step set homes s seen notes =
-    server_does set homes s (text_in seen.reading) (packets_after s seen (server_row set homes s seen)) (server_row set homes s seen) notes
+abbrev pub server_step : Setting → List HomeRow → ServerEnd → Seen → Reply → Notes → ServerEnd × Turn ServerWhy
+server_step set homes s seen said notes =
+    server_does set homes s (text_in seen.reading) (packets_after s seen (server_row set homes s seen said)) (server_row set homes s seen said) notes
 
--- the homes after a row
-abbrev pub homes_done : ServerOptions → List HomeRow → Row → Notes → List HomeRow
-homes_done options homes (row.Challenge sub) notes = homes_challenged options homes sub notes.number
-homes_done options homes (row.Resynchronise sub seq) notes = homes_challenged options homes sub notes.number
-homes_done options homes other notes = homes
+-- the homes after a row, with the text of an identity
+abbrev pub homes_done : List HomeRow → ServerEnd → List ℕ → Row → Notes → List HomeRow
+homes_done homes s text (row.Challenge sub) notes = homes_challenged s.options homes sub notes.number
+homes_done homes s text (row.Resume sub) notes = homes_resumed s.options text homes sub (context_in s.options.method text homes sub)
+homes_done homes s text (row.TooSmall sub) notes = homes_challenged s.options homes sub notes.number
+homes_done homes s text (row.Resynchronise sub seq) notes = homes_challenged s.options homes sub notes.number
+homes_done homes s text row.Success notes = homes_won s.options.method homes s.challenged
+homes_done homes s text row.Reauthenticated notes = homes_rewon s.options.method homes s.resumed
+homes_done homes s text other notes = homes
 
--- the homes after a turn: each pseudonym that is given uses an ordinal
-abbrev pub homes_after : Setting → List HomeRow → ServerEnd → Seen → Notes → List HomeRow
-homes_after set homes s seen notes = homes_done s.options homes (server_row set homes s seen) notes
+-- the homes after a turn: each name that is given uses an ordinal, a context that is taken up again leaves, and success keeps
+-- the new one
+abbrev pub homes_after : Setting → List HomeRow → ServerEnd → Seen → Reply → Notes → List HomeRow
+homes_after set homes s seen said notes = homes_done homes s (text_in seen.reading) (server_row set homes s seen said) notes
 
 -- ---- beside the table
 

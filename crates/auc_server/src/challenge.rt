@@ -7,10 +7,12 @@ ghost use Rattle.auc_vector.specs.Notes.{AnswersNumber, AskedOf, entries_noted, 
 ghost use Rattle.auc_server.specs.Rows.{is_held};
 ghost use Rattle.auc_server.specs.Steps.{IsHeld, IsHome, bytes_of, challenges_again};
 ghost use Rattle.auc_server.specs.declared.setting.HomeRow.{HomeRow};
-ghost use Rattle.auc_server.specs.Table.{challenged, first_challenge, homes_challenged, resynchronised, sent_with, vector_at};
+ghost use Rattle.auc_reauth.specs.Store.{method_of};
+ghost use Rattle.auc_vector.specs.Keys.{master_of};
+ghost use Rattle.auc_server.specs.Table.{challenge_of, challenged, first_challenge, homes_challenged, resynchronised, sent_with, vector_at};
 
 use crate::messages::challenge;
-use crate::naming::{NewName, iv_after};
+use crate::naming::{GivenNames, iv_after, next_given};
 use crate::options::ServerOptions;
 use crate::rooms::Rooms;
 use crate::rounds::checkcode;
@@ -19,9 +21,10 @@ use crate::setting::{HomeRow, Setting};
 use crate::turns::noted;
 use crate::why::ServerWhy;
 use auc_edge::Octets;
+use auc_hmac::{Master, Method};
 use auc_seal::IdentityPackets;
 use auc_vector::{
-    Centre, Notes, NumberNote, ResyncNote, Turn, Vector, ask, keys_of, report, vector,
+    Centre, Notes, NumberNote, ResyncNote, Turn, Vector, ask, keys_of, master_of, report, vector,
 };
 use std::sync::Wait;
 
@@ -45,18 +48,31 @@ fn vector_at(set: &Setting, options: &ServerOptions, sub: u32, n: u64) -> Vector
     )
 }
 
+/// The key that the keys of later re-authentications are derived from.
+#[tactic(auto, unfolding(auc_vector::specs::Keys::master_of))]
+fn master_by(method: Method, identity: &[u8], ik: [u8; 16], ck: [u8; 16]) -> Master
+    ensures master { result ≡ master_of method identity.now ik ck }
+    ensures own { method_of result ≡ method }
+{
+    master_of(method, identity, ik, ck)
+}
+
 impl Server {
     /// Sends a Challenge (RFC 4187 §9.3).
     fn send_challenge(
         &mut self,
+        realm: &[u8],
         sent: Challenged,
-        given: Option<NewName>,
+        given: Option<GivenNames>,
         notes: Notes,
+        checked: bool,
         rooms: Rooms,
     ) -> Turn<ServerWhy>
-        requires { rooms ≡ self.old.options.name }
-        ensures step { (self.new, result) ≡ sent_with self.old sent given notes }
-        ensures small { length (bytes_of result.step) ≤ 440 }
+        requires named { rooms ≡ self.old.options.name }
+        requires realm { length realm.now ≤ 255 }
+        requires own { method_of sent.master ≡ self.old.options.method }
+        ensures step { (self.new, result) ≡ sent_with realm.now self.old sent given notes checked }
+        ensures small { length (bytes_of result.step) ≤ 728 }
     {
         let Rooms {
             message,
@@ -70,6 +86,7 @@ impl Server {
         let check = checkcode(self.options.method, &self.packets, check);
         let bytes = challenge(
             &self.options,
+            realm,
             id,
             &sent.vector,
             &sent.keys,
@@ -82,26 +99,52 @@ impl Server {
         );
         self.challenged = Some(sent);
         self.next_iv = iv_after(self.next_iv, &given);
-        self.request(ServerState::AwaitChallenge, bytes, notes, false, kept)
+        self.request(ServerState::AwaitChallenge, bytes, notes, checked, kept)
+    }
+
+    /// The challenge of a number's vector.
+    fn challenged_by(
+        &self,
+        sub: u32,
+        number: u64,
+        vector: Vector,
+        next: Option<[u8; 33]>,
+    ) -> Challenged
+        ensures challenge { result ≡ challenge_of self.now sub number vector next }
+        ensures own { method_of result.master ≡ self.now.options.method }
+    {
+        let identity = self.identity.as_slice();
+        let method = self.options.method;
+        let Vector { ck, ik, .. } = vector;
+        Challenged {
+            sub,
+            number,
+            vector,
+            keys: keys_of(method, identity, ik, ck),
+            master: master_by(method, identity, ik, ck),
+            next,
+        }
     }
 
     /// Challenges a subscriber, if the centre gives a number.
-    fn challenge<C: Centre, R: Wait>(
+    pub(crate) fn challenge<C: Centre, R: Wait>(
         &mut self,
         rt: &R,
         set: &Setting,
         homes: &mut [HomeRow],
         centre: &mut C,
         sub: u32,
+        checked: bool,
         resynced: Option<ResyncNote>,
         rooms: Rooms,
     ) -> Turn<ServerWhy>
         requires home { IsHome set.now.rows (C.subs centre.old) (C.top centre.old) sub }
         requires named { rooms ≡ self.old.options.name }
+        requires realm { length set.now.realm ≤ 255 }
 
-        ensures step { (self.new, result) ≡ challenged set.now homes.old self.old sub resynced result.notes.number }
+        ensures step { (self.new, result) ≡ challenged set.now homes.old self.old sub checked resynced result.notes.number }
         ensures homes { homes.new ≡ homes_challenged self.old.options homes.old sub result.notes.number }
-        ensures small { length (bytes_of result.step) ≤ 440 }
+        ensures small { length (bytes_of result.step) ≤ 728 }
         ensures resync { result.notes.resync ≡ resynced }
         ensures drawn { is_some result.notes.number ≡ true }
 
@@ -117,6 +160,8 @@ impl Server {
         ensures held { (all : List HomeRow) → IsHeld all self.old.challenged → is_held all sub ≡ true
             → IsHeld all self.new.challenged }
 
+        ensures resumed { self.new.resumed ≡ self.old.resumed }
+
         ensures subs { C.subs centre.new ≡ C.subs centre.old }
         ensures top { (i : ℕ) → C.top centre.new i ≡ C.top centre.old i }
         ensures name { C.name centre.new ≡ C.name centre.old }
@@ -124,19 +169,18 @@ impl Server {
         match ask(rt, centre, sub) {
             NumberNote::Drew(n) => {
                 let vector = vector_at(set, &self.options, sub, n);
-                let method = self.options.method;
-                let keys = keys_of(method, self.identity.as_slice(), vector.ik, vector.ck);
-                let given = self.give_name(set, homes, sub);
+                let given = self.give_names(set, homes, sub);
+                let sent = self.challenged_by(sub, n, vector, next_given(&given));
                 let notes = noted(resynced, Some(NumberNote::Drew(n)));
-                self.send_challenge(Challenged { sub, vector, keys }, given, notes, rooms)
+                self.send_challenge(set.realm, sent, given, notes, checked, rooms)
             }
             NumberNote::Exhausted(word) => {
                 let notes = noted(resynced, Some(NumberNote::Exhausted(word)));
-                self.notify(ServerWhy::Exhausted(word), notes, false, rooms)
+                self.notify(ServerWhy::Exhausted(word), notes, checked, rooms)
             }
             NumberNote::Withheld(n, stop) => {
                 let notes = noted(resynced, Some(NumberNote::Withheld(n, stop)));
-                self.notify(ServerWhy::Stopped(n, stop), notes, false, rooms)
+                self.notify(ServerWhy::Stopped(n, stop), notes, checked, rooms)
             }
         }
     }
@@ -157,10 +201,11 @@ impl Server {
     ) -> Turn<ServerWhy>
         requires home { IsHome set.now.rows (C.subs centre.old) (C.top centre.old) sub }
         requires named { rooms ≡ self.old.options.name }
+        requires realm { length set.now.realm ≤ 255 }
 
         ensures step { (self.new, result) ≡ first_challenge set.now homes.old self.old text packets sub result.notes.number }
         ensures homes { homes.new ≡ homes_challenged self.old.options homes.old sub result.notes.number }
-        ensures small { length (bytes_of result.step) ≤ 440 }
+        ensures small { length (bytes_of result.step) ≤ 728 }
         ensures asked { AskedOf C.goes C.kept C.top (record { sub = sub; reported = None }) result.notes centre.old centre.new }
         ensures drawn { is_some result.notes.number ≡ true }
 
@@ -168,13 +213,48 @@ impl Server {
         ensures held { (all : List HomeRow) → IsHeld all self.old.challenged → is_held all sub ≡ true
             → IsHeld all self.new.challenged }
 
+        ensures resumed { self.new.resumed ≡ self.old.resumed }
+
         ensures subs { C.subs centre.new ≡ C.subs centre.old }
         ensures top { (i : ℕ) → C.top centre.new i ≡ C.top centre.old i }
         ensures name { C.name centre.new ≡ C.name centre.old }
     {
         self.identity = text;
         self.packets = packets;
-        self.challenge(rt, set, homes, centre, sub, None, rooms)
+        self.challenge(rt, set, homes, centre, sub, false, None, rooms)
+    }
+
+    /// Challenges the subscriber of a re-authentication whose counter was too small (RFC 4187 §5.5). The identity stays.
+    pub(crate) fn challenge_instead<C: Centre, R: Wait>(
+        &mut self,
+        rt: &R,
+        set: &Setting,
+        homes: &mut [HomeRow],
+        centre: &mut C,
+        sub: u32,
+        rooms: Rooms,
+    ) -> Turn<ServerWhy>
+        requires home { IsHome set.now.rows (C.subs centre.old) (C.top centre.old) sub }
+        requires named { rooms ≡ self.old.options.name }
+        requires realm { length set.now.realm ≤ 255 }
+
+        ensures step { (self.new, result) ≡ challenged set.now homes.old self.old sub true None result.notes.number }
+        ensures homes { homes.new ≡ homes_challenged self.old.options homes.old sub result.notes.number }
+        ensures small { length (bytes_of result.step) ≤ 728 }
+        ensures asked { AskedOf C.goes C.kept C.top (record { sub = sub; reported = None }) result.notes centre.old centre.new }
+        ensures drawn { is_some result.notes.number ≡ true }
+
+        // A home stays one, also if it is challenged now.
+        ensures held { (all : List HomeRow) → IsHeld all self.old.challenged → is_held all sub ≡ true
+            → IsHeld all self.new.challenged }
+
+        ensures resumed { self.new.resumed ≡ self.old.resumed }
+
+        ensures subs { C.subs centre.new ≡ C.subs centre.old }
+        ensures top { (i : ℕ) → C.top centre.new i ≡ C.top centre.old i }
+        ensures name { C.name centre.new ≡ C.name centre.old }
+    {
+        self.challenge(rt, set, homes, centre, sub, true, None, rooms)
     }
 
     /// Resynchronises with the SEQ that a USIM reported, and challenges it again unless the number is too far above
@@ -192,16 +272,19 @@ impl Server {
         requires home { IsHome set.now.rows (C.subs centre.old) (C.top centre.old) sub }
         requires number { seq ≤ max_seq }
         requires named { rooms ≡ self.old.options.name }
+        requires realm { length set.now.realm ≤ 255 }
 
         ensures step { (self.new, result) ≡ resynchronised set.now homes.old self.old sub result.notes.resync result.notes.number }
         ensures homes { homes.new ≡ homes_challenged self.old.options homes.old sub result.notes.number }
-        ensures small { length (bytes_of result.step) ≤ 440 }
+        ensures small { length (bytes_of result.step) ≤ 728 }
         ensures asked { AskedOf C.goes C.kept C.top (record { sub = sub; reported = Some seq }) result.notes centre.old centre.new }
         ensures drawn { is_some result.notes.number ≡ challenges_again result.notes.resync }
 
         // A home stays one, also if it is challenged now.
         ensures held { (all : List HomeRow) → IsHeld all self.old.challenged → is_held all sub ≡ true
             → IsHeld all self.new.challenged }
+
+        ensures resumed { self.new.resumed ≡ self.old.resumed }
 
         ensures subs { C.subs centre.new ≡ C.subs centre.old }
         ensures top { (i : ℕ) → C.top centre.new i ≡ C.top centre.old i }
@@ -216,6 +299,7 @@ impl Server {
                     homes,
                     centre,
                     sub,
+                    false,
                     Some(ResyncNote::Moved(seen, to)),
                     rooms,
                 )
@@ -227,6 +311,7 @@ impl Server {
                     homes,
                     centre,
                     sub,
+                    false,
                     Some(ResyncNote::InRange(seen, at)),
                     rooms,
                 )

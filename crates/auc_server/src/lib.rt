@@ -1,4 +1,5 @@
-//! The server of a session of EAP-AKA (RFC 4187) or EAP-AKA' (RFC 9048), for permanent identities and pseudonyms.
+//! The server of a session of EAP-AKA (RFC 4187) or EAP-AKA' (RFC 9048), with pseudonyms and
+//! fast re-authentication.
 //!
 //! [`Server::start`] takes the method and the network name and gives the first request, and [`Server::on_bytes`] takes
 //! what was received: it falls into one [`Row`] of the table, which tells what is sent, what the
@@ -13,11 +14,14 @@
 
 mod attributes;
 mod challenge;
+mod contexts;
 mod law;
 mod messages;
 mod naming;
 mod options;
 mod receiving;
+mod reply;
+mod resuming;
 mod rooms;
 mod rounds;
 mod rows;
@@ -28,11 +32,13 @@ mod why;
 
 pub use law::{
     each_turn_keeps_the_challenge_or_sends_one, each_turn_keeps_the_keys_of_its_inputs,
+    each_turn_keeps_the_re_authentication_or_resumes, each_turn_makes_at_most_one_move,
     no_turn_changes_the_options, no_turn_gives_an_ordinal_back, success_needs_a_right_mac,
 };
-pub use naming::NewName;
+pub use naming::{GivenNames, NewNames};
 pub use options::ServerOptions;
+pub use reply::Reply;
 pub use rows::Row;
-pub use server::{Challenged, Server, ServerState};
+pub use server::{Challenged, Resumed, Server, ServerState};
 pub use setting::{HomeRow, Setting};
 pub use why::ServerWhy;

@@ -1,25 +1,36 @@
-//! The pseudonyms that a server gives.
+//! The names that a server gives.
 
 ghost use Rattle.std.specs.Prelude.{◌≡◌, ◌≤◌, ◌<◌, length, Some, IfSome};
 ghost use Rattle.auc_ident.specs.Ordinals.{last_ordinal};
 ghost use Rattle.auc_server.specs.Ordinals.{home_place, homes_given, ordinal_after, ordinal_given, with_next};
-ghost use Rattle.auc_server.specs.Table.{iv_after, name_given, name_of};
+ghost use Rattle.auc_server.specs.Table.{both_of, homes_named, identity_among, index_after, iv_after, name_of, names_given, next_given, random_at, under};
 
 use crate::server::Server;
 use crate::setting::{HomeRow, Setting};
 use auc_ident::NameKind;
 
-/// A pseudonym that a challenge gives (RFC 4187 §4.1.1.7), and the initialisation vector under which it is encrypted.
+/// The names that a Challenge gives. None has a realm.
 #[derive(Clone, Copy, Debug, PartialEq, Eq)]
-pub struct NewName {
+pub enum NewNames {
+    /// The next pseudonym (RFC 4187 §4.1.1.7).
+    Pseudonym([u8; 33]),
+    /// The next re-authentication identity (RFC 4187 §4.1.1.8).
+    Identity([u8; 33]),
+    /// Both, the pseudonym first.
+    Both([u8; 33], [u8; 33]),
+}
+
+/// Names, and the initialisation vector under which they are encrypted.
+#[derive(Clone, Copy, Debug, PartialEq, Eq)]
+pub struct GivenNames {
     /// The initialisation vector.
     pub iv: [u8; 16],
-    /// The pseudonym, which has no realm.
-    pub text: [u8; 33],
+    /// The names.
+    pub names: NewNames,
 }
 
 /// The place of a subscriber's home.
-fn home_place(homes: &[HomeRow], sub: u32) -> Option<usize>
+pub(crate) fn home_place(homes: &[HomeRow], sub: u32) -> Option<usize>
     ensures place { result ≡ home_place homes.now sub }
     ensures within { IfSome result (λ place. place < length homes.now) }
 {
@@ -38,7 +49,7 @@ fn next_of(home: &mut HomeRow) -> Option<u64>
     }
 }
 
-/// Uses the ordinal that a subscriber's next pseudonym has, if the session gives pseudonyms and one is left.
+/// Uses the ordinal that a subscriber's next name has, if such a name is given and an ordinal is left.
 fn use_ordinal(gives: bool, homes: &mut [HomeRow], sub: u32) -> Option<u64>
     ensures ordinal { result ≡ ordinal_given gives homes.old sub }
     ensures homes { homes.new ≡ homes_given gives homes.old sub }
@@ -53,43 +64,112 @@ fn use_ordinal(gives: bool, homes: &mut [HomeRow], sub: u32) -> Option<u64>
     }
 }
 
+/// The index of the random bytes after next.
+pub(crate) fn index_after(k: u32) -> u32
+    ensures { result ≡ index_after k }
+{
+    k.wrapping_add(2)
+}
+
 /// The index of the initialisation vector after a challenge.
-pub(crate) fn iv_after(k: u32, given: &Option<NewName>) -> u32
+pub(crate) fn iv_after(k: u32, given: &Option<GivenNames>) -> u32
     ensures { result ≡ iv_after k given.now }
 {
     match given {
         None => k,
-        Some(_) => k.wrapping_add(2),
+        Some(_) => index_after(k),
+    }
+}
+
+/// The names that there are.
+fn both_of(pseudonym: Option<[u8; 33]>, identity: Option<[u8; 33]>) -> Option<NewNames>
+    ensures { result ≡ both_of pseudonym identity }
+{
+    match (pseudonym, identity) {
+        (None, None) => None,
+        (Some(text), None) => Some(NewNames::Pseudonym(text)),
+        (None, Some(other)) => Some(NewNames::Identity(other)),
+        (Some(text), Some(other)) => Some(NewNames::Both(text, other)),
+    }
+}
+
+/// Names, if there are any, with an initialisation vector.
+fn under(iv: [u8; 16], names: Option<NewNames>) -> Option<GivenNames>
+    ensures { result ≡ under iv names }
+{
+    match names {
+        None => None,
+        Some(names) => Some(GivenNames { iv, names }),
+    }
+}
+
+/// The next identity among the names that are given.
+pub(crate) fn next_given(given: &Option<GivenNames>) -> Option<[u8; 33]>
+    ensures { result ≡ next_given given.now }
+{
+    match given {
+        None => None,
+        Some(given) => identity_among(&given.names),
+    }
+}
+
+fn identity_among(names: &NewNames) -> Option<[u8; 33]>
+    ensures { result ≡ identity_among names.now }
+{
+    match names {
+        NewNames::Pseudonym(_) => None,
+        NewNames::Identity(text) => Some(*text),
+        NewNames::Both(_, other) => Some(*other),
     }
 }
 
 impl Server {
-    /// The pseudonym of an ordinal, and its initialisation vector.
-    fn name_of(&self, set: &Setting, sub: u32, ordinal: u64) -> NewName
-        requires { ordinal ≤ last_ordinal }
-        ensures { Some result ≡ name_of set.now self.now sub (Some ordinal) }
+    /// The sixteen random bytes of an index of the session.
+    pub(crate) fn random_at(&self, set: &Setting, k: u32) -> [u8; 16]
+        ensures { result ≡ random_at set.now self.now k }
     {
-        NewName {
-            iv: set.rands.nonce_of(self.options.session, self.next_iv),
-            text: set
-                .names
-                .text(NameKind::Pseudonym, self.options.method, sub, ordinal),
+        set.rands.nonce_of(self.options.session, k)
+    }
+
+    /// The next name of a subscriber, if such a name is given and an ordinal is left. The ordinal is used.
+    pub(crate) fn name_next(
+        &self,
+        set: &Setting,
+        gives: bool,
+        kind: NameKind,
+        homes: &mut [HomeRow],
+        sub: u32,
+    ) -> Option<[u8; 33]>
+        ensures name { result ≡ name_of set.now kind self.now sub (ordinal_given gives homes.old sub) }
+        ensures homes { homes.new ≡ homes_given gives homes.old sub }
+    {
+        match use_ordinal(gives, homes, sub) {
+            None => None,
+            Some(ordinal) => Some(set.names.text(kind, self.options.method, sub, ordinal)),
         }
     }
 
-    /// The pseudonym that a challenge of a subscriber gives. Its ordinal is used.
-    pub(crate) fn give_name(
+    /// The names that a challenge of a subscriber gives. Their ordinals are used.
+    pub(crate) fn give_names(
         &self,
         set: &Setting,
         homes: &mut [HomeRow],
         sub: u32,
-    ) -> Option<NewName>
-        ensures name { result ≡ name_given set.now homes.old self.now sub }
-        ensures homes { homes.new ≡ homes_given self.now.options.pseudonym homes.old sub }
+    ) -> Option<GivenNames>
+        ensures names { result ≡ names_given set.now homes.old self.now sub }
+        ensures homes { homes.new ≡ homes_named self.now.options homes.old sub }
     {
-        match use_ordinal(self.options.pseudonym, homes, sub) {
-            None => None,
-            Some(ordinal) => Some(self.name_of(set, sub, ordinal)),
-        }
+        let pseudonym = self.name_next(
+            set,
+            self.options.pseudonym,
+            NameKind::Pseudonym,
+            homes,
+            sub,
+        );
+        let identity = self.name_next(set, self.options.reauth, NameKind::Reauth, homes, sub);
+        under(
+            self.random_at(set, self.next_iv),
+            both_of(pseudonym, identity),
+        )
     }
 }

@@ -15,6 +15,8 @@ pub struct ServerOptions {
     pub name: Octets,
     /// Whether a Challenge gives the peer a pseudonym (RFC 4187 §4.1.1.7).
     pub pseudonym: bool,
+    /// Whether a Challenge and a Reauthentication give the peer a re-authentication identity (RFC 4187 §4.1.1.8).
+    pub reauth: bool,
     /// Whether a Challenge of EAP-AKA says that the server would rather use EAP-AKA' (RFC 9048 §4).
     pub bidding: bool,
     /// Whether the server asks for any identity (RFC 4187 §10.3) before it looks at one.

@@ -9,13 +9,14 @@ ghost use Rattle.auc_server.specs.Server.{started};
 ghost use Rattle.auc_server.specs.Steps.{AsksAsNeeded, IsHeld, IsHome, IsServed, Steps, asking, bytes_of};
 ghost use Rattle.auc_server.specs.Table.{homes_after, homes_done, packets_after, server_does, server_step};
 
+use crate::reply::{Reply, ciphertext_in};
 use crate::rooms::Rooms;
 use crate::rows::{Row, text_in};
 use crate::server::Server;
 use crate::setting::{HomeRow, Setting};
 use crate::turns::{noted, silent};
 use crate::why::ServerWhy;
-use auc_edge::{NoMemory, Octets};
+use auc_edge::{NoMemory, Octets, Room};
 use auc_packet::{Received, receive};
 use auc_seal::IdentityPackets;
 use auc_vector::{Centre, ResyncNote, Turn};
@@ -24,7 +25,7 @@ use std::sync::Wait;
 
 impl Server {
     /// Takes received bytes, as the table has it (RFC 4187 §3, §6 and §9, RFC 9048 §3). If memory runs out, the server, the homes and
-    /// the centre stay as they were. No message has more than 440 bytes.
+    /// the centre stay as they were. No message has more than 728 bytes.
     pub fn on_bytes<C: Centre, R: Wait>(
         &mut self,
         rt: &R,
@@ -34,10 +35,11 @@ impl Server {
         centre: &mut C,
         bytes: &[u8],
     ) -> Result<Turn<ServerWhy>, NoMemory>
-        requires { IsServed set.now.rows (C.subs centre.old) (C.top centre.old) homes.old self.old }
+        requires served { IsServed set.now.rows (C.subs centre.old) (C.top centre.old) homes.old self.old }
+        requires realm { length set.now.realm ≤ 255 }
 
         ensures step { IfOk result (λ turn. Steps C.goes C.kept C.top set.now homes.old self.old bytes.now centre.old self.new turn homes.new centre.new) }
-        ensures small { IfOk result (λ turn. length (bytes_of turn.step) ≤ 440) }
+        ensures small { IfOk result (λ turn. length (bytes_of turn.step) ≤ 728) }
         ensures served { IsServed set.now.rows (C.subs centre.new) (C.top centre.new) homes.new self.new }
         ensures subs { C.subs centre.new ≡ C.subs centre.old }
         ensures top { (i : ℕ) → C.top centre.new i ≡ C.top centre.old i }
@@ -50,9 +52,13 @@ impl Server {
         let rooms = Rooms::new(alloc, self.options.name.as_slice())?;
         let received = receive(alloc, bytes)?;
         let text = Octets::copied_from(alloc, text_in(&received.reading))?;
-        let row = self.row_of(set, homes, centre, &received);
+        let plain = Room::new(alloc, ciphertext_in(&received.reading))?;
+        let reply = self.reply_in(&received.reading, plain);
+        let row = self.row_of(set, homes, centre, &received, reply);
         let packets = self.packets_after(alloc, &received, row)?;
-        Ok(self.on_received(rt, set, homes, centre, &received, row, text, packets, rooms))
+        Ok(self.on_received(
+            rt, set, homes, centre, &received, reply, row, text, packets, rooms,
+        ))
     }
 
     /// The row that received bytes fall into.
@@ -62,13 +68,14 @@ impl Server {
         homes: &[HomeRow],
         centre: &C,
         received: &Received,
+        reply: Reply,
     ) -> Row
         requires received { IsReceived (seen_of received.now) }
         requires served { IsServed set.now.rows (C.subs centre.now) (C.top centre.now) homes.now self.now }
-        ensures row { result ≡ server_row set.now homes.now self.now (seen_of received.now) }
+        ensures row { result ≡ server_row set.now homes.now self.now (seen_of received.now) reply }
         ensures held { IsHeldRow homes.now result }
     {
-        self.row(set, homes, received)
+        self.row(set, homes, received, reply)
     }
 
     /// Takes what was received, by its row.
@@ -79,24 +86,26 @@ impl Server {
         homes: &mut [HomeRow],
         centre: &mut C,
         received: &Received,
+        reply: Reply,
         row: Row,
         text: Octets,
         packets: IdentityPackets,
         rooms: Rooms,
     ) -> Turn<ServerWhy>
         requires received { IsReceived (seen_of received.now) }
-        requires row { row ≡ server_row set.now homes.old self.old (seen_of received.now) }
+        requires row { row ≡ server_row set.now homes.old self.old (seen_of received.now) reply }
         requires held { IsHeldRow homes.old row }
         requires text { text ≡ text_in received.now.reading }
         requires packets { packets ≡ packets_after self.old (seen_of received.now) row }
         requires served { IsServed set.now.rows (C.subs centre.old) (C.top centre.old) homes.old self.old }
         requires named { rooms ≡ self.old.options.name }
+        requires realm { length set.now.realm ≤ 255 }
 
-        ensures step { (self.new, result) ≡ server_step set.now homes.old self.old (seen_of received.now) result.notes }
-        ensures homes { homes.new ≡ homes_after set.now homes.old self.old (seen_of received.now) result.notes }
-        ensures small { length (bytes_of result.step) ≤ 440 }
-        ensures asked { Asked C.goes C.kept C.top (asking (server_row set.now homes.old self.old (seen_of received.now))) result.notes centre.old centre.new }
-        ensures drawn { AsksAsNeeded (server_row set.now homes.old self.old (seen_of received.now)) result.notes }
+        ensures step { (self.new, result) ≡ server_step set.now homes.old self.old (seen_of received.now) reply result.notes }
+        ensures homes { homes.new ≡ homes_after set.now homes.old self.old (seen_of received.now) reply result.notes }
+        ensures small { length (bytes_of result.step) ≤ 728 }
+        ensures asked { Asked C.goes C.kept C.top (asking (server_row set.now homes.old self.old (seen_of received.now) reply)) result.notes centre.old centre.new }
+        ensures drawn { AsksAsNeeded (server_row set.now homes.old self.old (seen_of received.now) reply) result.notes }
         ensures served { IsServed set.now.rows (C.subs centre.new) (C.top centre.new) homes.new self.new }
         ensures subs { C.subs centre.new ≡ C.subs centre.old }
         ensures top { (i : ℕ) → C.top centre.new i ≡ C.top centre.old i }
@@ -120,10 +129,11 @@ impl Server {
         requires held { IsHeldRow homes.old row }
         requires served { IsServed set.now.rows (C.subs centre.old) (C.top centre.old) homes.old self.old }
         requires named { rooms ≡ self.old.options.name }
+        requires realm { length set.now.realm ≤ 255 }
 
         ensures step { (self.new, result) ≡ server_does set.now homes.old self.old text packets row result.notes }
-        ensures homes { homes.new ≡ homes_done self.old.options homes.old row result.notes }
-        ensures small { length (bytes_of result.step) ≤ 440 }
+        ensures homes { homes.new ≡ homes_done homes.old self.old text row result.notes }
+        ensures small { length (bytes_of result.step) ≤ 728 }
         ensures asked { Asked C.goes C.kept C.top (asking row) result.notes centre.old centre.new }
         ensures drawn { AsksAsNeeded row result.notes }
         ensures served { IsServed set.now.rows (C.subs centre.new) (C.top centre.new) homes.new self.new }
@@ -138,10 +148,14 @@ impl Server {
             Row::Challenge(sub) => {
                 self.challenge_first(rt, set, homes, centre, sub, text, packets, rooms)
             },
+            Row::Resume(sub) => self.resume(set, homes, sub, text, packets, rooms),
+            Row::TooSmall(sub) => { self.challenge_instead(rt, set, homes, centre, sub, rooms) },
+            Row::WrongCounter => self.notify(ServerWhy::WrongCounter, silent(), true, rooms),
+            Row::Reauthenticated => self.succeed_again(homes, rooms),
             Row::WrongMac => self.notify(ServerWhy::WrongMac, silent(), false, rooms),
             Row::WrongRes => self.notify(ServerWhy::WrongRes, silent(), true, rooms),
             Row::WrongCheckcode => self.notify(ServerWhy::WrongCheckcode, silent(), true, rooms),
-            Row::Success => self.succeed(rooms),
+            Row::Success => self.succeed(homes, rooms),
             Row::SecondSync => self.notify(ServerWhy::SecondSync, silent(), false, rooms),
             Row::BadAuts => {
                 let notes = noted(Some(ResyncNote::BadAuts), None);

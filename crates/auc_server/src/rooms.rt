@@ -8,9 +8,9 @@ use auc_seal::EncryptionRoom;
 use std::alloc::Global;
 use std::marker::Model;
 
-/// The greatest request that a server sends, the Challenge of EAP-AKA' with a name of 255 bytes, a checkcode and a
-/// pseudonym.
-const MOST: usize = 440;
+/// The greatest request that a server sends, the Challenge of EAP-AKA' with a name of 255 bytes, a checkcode, a pseudonym and
+/// a re-authentication identity with a realm of 255 bytes.
+const MOST: usize = 728;
 
 /// How many attributes a Challenge has at most beside AT_MAC.
 const ATTRIBUTES: usize = 7;
@@ -18,29 +18,36 @@ const ATTRIBUTES: usize = 7;
 /// How many bytes a pseudonym has.
 const PSEUDONYM: usize = 33;
 
+/// How many bytes a re-authentication identity has at most, with its realm.
+const IDENTITY: usize = 289;
+
+/// How many attributes a message encrypts at most.
+const INNER: usize = 3;
+
 /// How many bytes a checkcode has at most.
 const CHECKCODE: usize = 32;
 
-/// Memory for a pseudonym: its text, the list of the one attribute that it is, and the encryption of that list. Contracts
-/// see no value of it.
+/// Memory for names: a pseudonym, a re-authentication identity, the list of the attributes that are encrypted, and their
+/// encryption. Contracts see no value of it.
 #[derive(Drop)]
 pub(crate) struct NameRooms {
     pub(crate) text: Room,
+    pub(crate) identity: Room,
     pub(crate) inner: Places<Attr>,
     pub(crate) encryption: EncryptionRoom,
 }
 
 impl Model for NameRooms {
-    ghost use Rattle.auc_server.specs.InnerRooms.{IsFreshName, HasOnePlace};
+    ghost use Rattle.auc_server.specs.InnerRooms.{HasInner, IsFreshIdentity, IsFreshName};
 
     ghost Value = { Unit {0} };
 
     ghost view = { λ _. tt };
 
-    ghost invariant = { λ r. IsFreshName r.text × HasOnePlace r.inner };
+    ghost invariant = { λ r. IsFreshName r.text × IsFreshIdentity r.identity × HasInner r.inner };
 }
 
-/// Memory for a turn: the message, its copy, its attributes, the network name for them, a checkcode, and a pseudonym.
+/// Memory for a turn: the message, its copy, its attributes, the network name for them, a checkcode, and names.
 /// Contracts see the name.
 #[derive(Drop)]
 pub(crate) struct Rooms {
@@ -64,11 +71,12 @@ impl Model for Rooms {
 }
 
 impl NameRooms {
-    /// Memory for a pseudonym.
+    /// Memory for names.
     fn new(alloc: Global) -> Result<NameRooms, NoMemory> {
         Ok(NameRooms {
             text: Room::new(alloc, PSEUDONYM)?,
-            inner: Places::new(alloc, 1)?,
+            identity: Room::new(alloc, IDENTITY)?,
+            inner: Places::new(alloc, INNER)?,
             encryption: EncryptionRoom::new(alloc)?,
         })
     }

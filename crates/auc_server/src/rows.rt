@@ -7,16 +7,18 @@ ghost use Rattle.auc_packet.specs.Received.{IsReceived, seen_of};
 ghost use Rattle.auc_server.specs.Asked.{asked_after};
 ghost use Rattle.auc_server.specs.Attributes.{res_of, checkcode_of, first_of, identity_in};
 ghost use Rattle.auc_server.specs.Rounds.{checkcode};
-ghost use Rattle.auc_server.specs.Rows.{by_auts, challenge_or, differs, held_place, if_challenged, if_held, in_state, on_any, on_first, on_full, on_identity, on_permanent, named_place, permanent_subscriber, pseudonym_subscriber, is_expected, is_held, is_type, on_auts, on_challenged, on_client_error, on_error_code, on_head, on_message, on_method, on_reading, on_response, on_sync_failure, server_row, subscriber_in, text_in, type_awaited};
-ghost use Rattle.auc_server.specs.Steps.{IsHeld};
+ghost use Rattle.auc_server.specs.Rows.{by_auts, challenge_or, context_subscriber, differs, held_place, if_challenged, if_held, if_resumed, in_state, on_any, on_first, on_full, on_identity, on_permanent, named_place, permanent_subscriber, pseudonym_subscriber, is_expected, is_held, is_type, on_auts, on_challenged, on_client_error, on_error_code, on_head, on_message, on_method, on_reading, on_reauth, on_response, on_resumed, on_sync_failure, reauth_subscriber, server_row, subscriber_in, text_in, type_awaited};
+ghost use Rattle.auc_server.specs.Steps.{IsHeld, IsHeldToo};
 ghost use Rattle.auc_server.specs.declared.setting.HomeRow.{HomeRow};
 ghost use Rattle.auc_vector.specs.Auts.{IsNumber};
-ghost use Rattle.auc_server.specs.InnerRows.{IsOwnRow, IsRowOf, IsHeldRow};
+ghost use Rattle.auc_server.specs.InnerRows.{IsHeldRow, IsOwnRow, IsRowOf, IsRowToo};
 
 use crate::attributes::{auts_in, checkcode_in, error_code_in, identity_in, res_in};
+use crate::contexts::has_context;
 use crate::options::ServerOptions;
+use crate::reply::Reply;
 use crate::rounds::is_checkcode;
-use crate::server::{Challenged, Server, ServerState};
+use crate::server::{Challenged, Resumed, Server, ServerState};
 use crate::setting::{HomeRow, Setting};
 use crate::why::ServerWhy;
 use auc_attr::AttrList;
@@ -41,6 +43,14 @@ pub enum Row {
     UnknownIdentity,
     /// The subscriber at this place is challenged (RFC 4187 §3).
     Challenge(u32),
+    /// The context of the subscriber at this place is taken up again (RFC 4187 §5.3).
+    Resume(u32),
+    /// The response hasn't the counter that was sent (RFC 4187 §5.5 and §10.16).
+    WrongCounter,
+    /// The counter is too small for the peer, and the subscriber at this place is challenged (RFC 4187 §5.5).
+    TooSmall(u32),
+    /// The peer is authenticated again (RFC 4187 §5.4).
+    Reauthenticated,
     /// AT_MAC isn't right (RFC 4187 §6.3.2).
     WrongMac,
     /// RES isn't XRES (RFC 4187 §6.3.2).
@@ -118,18 +128,42 @@ fn subscriber_in(method: Method, set: &Setting, homes: &[HomeRow], text: &[u8]) 
     }
 }
 
-/// An identity that may be a pseudonym.
+/// The held subscriber whose re-authentication identity of a method a text is, up to its realm (RFC 4187 §4.1.1.8).
+fn reauth_subscriber(method: Method, set: &Setting, homes: &[HomeRow], text: &[u8]) -> Option<u32>
+    ensures value { result ≡ reauth_subscriber method set.now homes.now text.now }
+    ensures held { IfSome result (λ sub. is_held homes.now sub ≡ true) }
+{
+    let of = set.names.resolve(NameKind::Reauth, method, text)?;
+    if_held(homes, of.0)
+}
+
+/// The held subscriber whose context of a method has a text as its identity.
+fn context_subscriber(method: Method, set: &Setting, homes: &[HomeRow], text: &[u8]) -> Option<u32>
+    ensures value { result ≡ context_subscriber method set.now homes.now text.now }
+    ensures held { IfSome result (λ sub. is_held homes.now sub ≡ true) }
+{
+    let sub = reauth_subscriber(method, set, homes, text)?;
+    if !has_context(method, text, homes, sub) {
+        return None;
+    }
+    Some(sub)
+}
+
+/// An identity that may be a re-authentication identity or a pseudonym.
 fn on_any(method: Method, set: &Setting, homes: &[HomeRow], text: &[u8]) -> Row
     ensures row { result ≡ on_any method set.now homes.now text.now }
     ensures held { IsHeldRow homes.now result }
 {
+    if let Some(sub) = context_subscriber(method, set, homes, text) {
+        return Row::Resume(sub);
+    }
     match subscriber_in(method, set, homes, text) {
         None => Row::Ask(IdentityRequest::Fullauth),
         Some(sub) => Row::Challenge(sub),
     }
 }
 
-/// An identity that may be a pseudonym, where one for full authentication was asked for.
+/// A pseudonym or a permanent identity, where one for full authentication was asked for.
 fn on_full(method: Method, set: &Setting, homes: &[HomeRow], text: &[u8]) -> Row
     ensures row { result ≡ on_full method set.now homes.now text.now }
     ensures held { IsHeldRow homes.now result }
@@ -169,9 +203,10 @@ impl Server {
     {
         match (notes.resync, notes.number) {
             (None, None) | (Some(ResyncNote::BadAuts), _) => None,
-            (None, Some(_)) => {
-                subscriber_in(self.options.method, set, homes, self.identity.as_slice())
-            }
+            (None, Some(_)) => match &self.resumed {
+                Some(sent) => Some(sent.sub),
+                None => subscriber_in(self.options.method, set, homes, self.identity.as_slice()),
+            },
             (Some(_), _) => Some(self.challenged?.sub),
         }
     }
@@ -233,6 +268,37 @@ fn on_response(
         return Row::WrongCheckcode;
     }
     Row::Success
+}
+
+/// A Reauthentication response.
+fn on_reauth(
+    method: Method,
+    packets: &IdentityPackets,
+    sent: &Resumed,
+    received: &Received,
+    reply: Reply,
+    attrs: &AttrList,
+) -> Row
+    requires { IsReceived (seen_of received.now) }
+    ensures row { result ≡ on_reauth method packets.now sent.now (seen_of received.now) reply attrs.now }
+    ensures own { IsOwnRow sent.now.sub result }
+{
+    if is_missing(Subtype::Reauthentication, false, attrs) {
+        return Row::Ignore(Reason::Missing);
+    }
+    if !is_sealed(received, method, &sent.context.k_aut, &sent.nonce) {
+        return Row::WrongMac;
+    }
+    match reply {
+        Reply::Wrong => Row::WrongCounter,
+        Reply::TooSmall => Row::TooSmall(sent.sub),
+        Reply::Right => {
+            if differs(method, packets, checkcode_in(attrs)) {
+                return Row::WrongCheckcode;
+            }
+            Row::Reauthenticated
+        }
+    }
 }
 
 /// AUTS of a subscriber's USIM, by what it says.
@@ -421,19 +487,66 @@ impl Server {
         }
     }
 
+    /// The answer to a re-authentication.
+    fn on_resumed(
+        &self,
+        sent: &Resumed,
+        received: &Received,
+        reply: Reply,
+        subtype: Subtype,
+        attrs: &AttrList,
+    ) -> Row
+        requires { IsReceived (seen_of received.now) }
+        ensures row { result ≡ on_resumed self.now sent.now (seen_of received.now) reply subtype attrs.now }
+        ensures own { IsOwnRow sent.now.sub result }
+    {
+        match subtype {
+            Subtype::Reauthentication => on_reauth(
+                self.options.method,
+                &self.packets,
+                sent,
+                received,
+                reply,
+                attrs,
+            ),
+            Subtype::ClientError => on_client_error(attrs),
+            _ => Row::Ignore(Reason::Unexpected),
+        }
+    }
+
+    /// The answer to the re-authentication, if there is one.
+    fn if_resumed(
+        &self,
+        received: &Received,
+        reply: Reply,
+        subtype: Subtype,
+        attrs: &AttrList,
+    ) -> Row
+        requires { IsReceived (seen_of received.now) }
+        ensures row { result ≡ if_resumed self.now self.now.resumed (seen_of received.now) reply subtype attrs.now }
+        ensures own { IsRowToo self.now.resumed result }
+    {
+        match &self.resumed {
+            None => Row::Ignore(Reason::Unexpected),
+            Some(sent) => self.on_resumed(sent, received, reply, subtype, attrs),
+        }
+    }
+
     /// A message that isn't malformed.
     fn on_message(
         &self,
         set: &Setting,
         homes: &[HomeRow],
         received: &Received,
+        reply: Reply,
         subtype: Subtype,
         attrs: &AttrList,
     ) -> Row
         requires received { IsReceived (seen_of received.now) }
         requires listed { IfSome self.now.challenged (λ sent. sent.sub < length set.now.rows) }
         requires held { IsHeld homes.now self.now.challenged }
-        ensures row { result ≡ on_message set.now homes.now self.now self.now.state (seen_of received.now) subtype attrs.now }
+        requires resumed { IsHeldToo homes.now self.now.resumed }
+        ensures row { result ≡ on_message set.now homes.now self.now self.now.state (seen_of received.now) reply subtype attrs.now }
         ensures held { IsHeldRow homes.now result }
     {
         let method = self.options.method;
@@ -442,6 +555,7 @@ impl Server {
             ServerState::AwaitFull => in_full(method, set, homes, subtype, attrs),
             ServerState::AwaitPermanent => in_permanent(method, set, homes, subtype, attrs),
             ServerState::AwaitChallenge => self.if_challenged(set, received, subtype, attrs),
+            ServerState::AwaitReauth => self.if_resumed(received, reply, subtype, attrs),
             ServerState::Notifying(why) => match subtype {
                 Subtype::Notification => Row::Notified(why),
                 _ => Row::Ignore(Reason::Unexpected),
@@ -451,11 +565,12 @@ impl Server {
     }
 
     /// A response of the method.
-    fn on_method(&self, set: &Setting, homes: &[HomeRow], received: &Received) -> Row
+    fn on_method(&self, set: &Setting, homes: &[HomeRow], received: &Received, reply: Reply) -> Row
         requires received { IsReceived (seen_of received.now) }
         requires listed { IfSome self.now.challenged (λ sent. sent.sub < length set.now.rows) }
         requires held { IsHeld homes.now self.now.challenged }
-        ensures row { result ≡ on_method set.now homes.now self.now self.now.state (seen_of received.now) received.now.reading }
+        requires resumed { IsHeldToo homes.now self.now.resumed }
+        ensures row { result ≡ on_method set.now homes.now self.now self.now.state (seen_of received.now) reply received.now.reading }
         ensures held { IsHeldRow homes.now result }
     {
         let Reading::Read(Packet::Aka { subtype, attrs, .. }) = &received.reading else {
@@ -464,29 +579,37 @@ impl Server {
         if is_malformed(*subtype, false, self.options.method, attrs) {
             return Row::Ignore(Reason::Malformed);
         }
-        self.on_message(set, homes, received, *subtype, attrs)
+        self.on_message(set, homes, received, reply, *subtype, attrs)
     }
 
     /// A response of the type that the state expects.
-    fn on_reading(&self, set: &Setting, homes: &[HomeRow], received: &Received) -> Row
+    fn on_reading(&self, set: &Setting, homes: &[HomeRow], received: &Received, reply: Reply) -> Row
         requires received { IsReceived (seen_of received.now) }
         requires listed { IfSome self.now.challenged (λ sent. sent.sub < length set.now.rows) }
         requires held { IsHeld homes.now self.now.challenged }
-        ensures row { result ≡ on_reading set.now homes.now self.now self.now.state (seen_of received.now) received.now.reading }
+        requires resumed { IsHeldToo homes.now self.now.resumed }
+        ensures row { result ≡ on_reading set.now homes.now self.now self.now.state (seen_of received.now) reply received.now.reading }
         ensures held { IsHeldRow homes.now result }
     {
         if let ServerState::AwaitIdentity = self.state {
             return on_first(&self.options, set, homes, text_in(&received.reading));
         }
-        self.on_method(set, homes, received)
+        self.on_method(set, homes, received, reply)
     }
 
     /// The row that received bytes fall into.
-    pub(crate) fn row(&self, set: &Setting, homes: &[HomeRow], received: &Received) -> Row
+    pub(crate) fn row(
+        &self,
+        set: &Setting,
+        homes: &[HomeRow],
+        received: &Received,
+        reply: Reply,
+    ) -> Row
         requires received { IsReceived (seen_of received.now) }
         requires listed { IfSome self.now.challenged (λ sent. sent.sub < length set.now.rows) }
         requires held { IsHeld homes.now self.now.challenged }
-        ensures row { result ≡ server_row set.now homes.now self.now (seen_of received.now) }
+        requires resumed { IsHeldToo homes.now self.now.resumed }
+        ensures row { result ≡ server_row set.now homes.now self.now (seen_of received.now) reply }
         ensures held { IsHeldRow homes.now result }
     {
         if let ServerState::Ended(_) = self.state {
@@ -501,6 +624,6 @@ impl Server {
         if !is_type(type_awaited(self.options.method, &self.state), head.kind) {
             return Row::Ignore(Reason::OtherType);
         }
-        self.on_reading(set, homes, received)
+        self.on_reading(set, homes, received, reply)
     }
 }

@@ -4,6 +4,7 @@ ghost use Rattle.std.specs.Prelude.{◌≡◌};
 
 use auc_ident::{Names, Ordinals};
 use auc_random::Rands;
+use auc_reauth::ServerStore;
 use auc_subs::Subscribers;
 use std::marker::Model;
 
@@ -36,6 +37,8 @@ pub struct HomeRow {
     pub sub: u32,
     /// The ordinals of the subscriber's names.
     pub ordinals: Ordinals,
+    /// The contexts that fast re-authentications start from.
+    pub store: ServerStore,
 }
 
 impl HomeRow {
@@ -46,6 +49,7 @@ impl HomeRow {
         HomeRow {
             sub: self.sub,
             ordinals: self.ordinals,
+            store: self.store,
         }
     }
 }

@@ -2,15 +2,18 @@
 
 ghost use Rattle.std.specs.Prelude.{◌≡◌, ◌≤◌, [], length, None, IfOk};
 ghost use Rattle.auc_packet.specs.Spelling.{packet_text};
+ghost use Rattle.auc_server.specs.Contexts.{homes_won};
 ghost use Rattle.auc_server.specs.InnerRooms.{IsFresh};
 ghost use Rattle.auc_server.specs.Server.{started};
 ghost use Rattle.auc_server.specs.Steps.{bytes_of};
 ghost use Rattle.auc_server.specs.Table.{asked, awaiting, ended, failed, gave_up, ignored, noted, notified, repeated, requested, silent, succeeded, unknown};
 
+use crate::contexts::{context_of, keep_context};
 use crate::messages::{aka_identity, message, notification};
 use crate::options::ServerOptions;
 use crate::rooms::Rooms;
-use crate::server::{Challenged, Server, ServerState};
+use crate::server::{Challenged, Resumed, Server, ServerState};
+use crate::setting::HomeRow;
 use crate::why::ServerWhy;
 use auc_edge::{NoMemory, Octets, Room};
 use auc_packet::Packet;
@@ -54,7 +57,7 @@ impl Server {
     /// Ignores what was received.
     pub(crate) fn ignore(&self, why: Reason) -> Turn<ServerWhy>
         ensures step { (self.now, result) ≡ ignored self.now why }
-        ensures small { length (bytes_of result.step) ≤ 440 }
+        ensures small { length (bytes_of result.step) ≤ 728 }
     {
         Turn {
             notes: silent(),
@@ -72,10 +75,10 @@ impl Server {
         checked: bool,
         kept: Room,
     ) -> Turn<ServerWhy>
-        requires small { length bytes ≤ 440 }
+        requires small { length bytes ≤ 728 }
         requires fresh { IsFresh kept }
         ensures step { (self.new, result) ≡ requested self.old state bytes notes checked }
-        ensures small { length (bytes_of result.step) ≤ 440 }
+        ensures small { length (bytes_of result.step) ≤ 728 }
     {
         let mut kept = kept;
         kept.put(bytes.as_slice());
@@ -98,7 +101,7 @@ impl Server {
         rooms: Rooms,
     ) -> Turn<ServerWhy>
         ensures step { (self.new, result) ≡ notified self.old why notes checked }
-        ensures small { length (bytes_of result.step) ≤ 440 }
+        ensures small { length (bytes_of result.step) ≤ 728 }
     {
         let Rooms {
             message,
@@ -111,10 +114,15 @@ impl Server {
     }
 
     /// Ends the session.
-    fn end(&mut self, outcome: Outcome<ServerWhy>, bytes: Octets, checked: bool) -> Turn<ServerWhy>
-        requires { length bytes ≤ 440 }
+    pub(crate) fn end(
+        &mut self,
+        outcome: Outcome<ServerWhy>,
+        bytes: Octets,
+        checked: bool,
+    ) -> Turn<ServerWhy>
+        requires { length bytes ≤ 728 }
         ensures step { (self.new, result) ≡ ended self.old outcome bytes checked }
-        ensures small { length (bytes_of result.step) ≤ 440 }
+        ensures small { length (bytes_of result.step) ≤ 728 }
     {
         self.state = ServerState::Ended(outcome);
         Turn {
@@ -127,21 +135,25 @@ impl Server {
     /// Ends the session with EAP-Failure (RFC 3748 §4.2).
     pub(crate) fn fail(&mut self, why: ServerWhy, rooms: Rooms) -> Turn<ServerWhy>
         ensures step { (self.new, result) ≡ failed self.old why }
-        ensures small { length (bytes_of result.step) ≤ 440 }
+        ensures small { length (bytes_of result.step) ≤ 728 }
     {
         let bytes = message(&Packet::Failure(self.id), rooms.message);
         self.end(Outcome::Failure(why), bytes, false)
     }
 
-    /// Ends the session with EAP-Success (RFC 3748 §4.2).
-    pub(crate) fn succeed(&mut self, rooms: Rooms) -> Turn<ServerWhy>
+    /// Ends the session with EAP-Success (RFC 3748 §4.2), and keeps the new context.
+    pub(crate) fn succeed(&mut self, homes: &mut [HomeRow], rooms: Rooms) -> Turn<ServerWhy>
         ensures step { (self.new, result) ≡ succeeded self.old self.old.challenged }
-        ensures small { length (bytes_of result.step) ≤ 440 }
+        ensures homes { homes.new ≡ homes_won self.old.options.method homes.old self.old.challenged }
+        ensures small { length (bytes_of result.step) ≤ 728 }
+        ensures challenged { self.new.challenged ≡ self.old.challenged }
+        ensures resumed { self.new.resumed ≡ self.old.resumed }
     {
         match self.challenged {
             None => self.ignore(Reason::Unexpected),
             Some(sent) => {
                 let bytes = message(&Packet::Success(self.id), rooms.message);
+                keep_context(self.options.method, homes, sent.sub, context_of(&sent));
                 self.end(Outcome::Success(sent.keys), bytes, true)
             }
         }
@@ -156,7 +168,7 @@ impl Server {
         rooms: Rooms,
     ) -> Turn<ServerWhy>
         ensures step { (self.new, result) ≡ asked self.old text packets kind }
-        ensures small { length (bytes_of result.step) ≤ 440 }
+        ensures small { length (bytes_of result.step) ≤ 728 }
     {
         let Rooms {
             message,
@@ -179,7 +191,7 @@ impl Server {
         rooms: Rooms,
     ) -> Turn<ServerWhy>
         ensures step { (self.new, result) ≡ unknown self.old text packets }
-        ensures small { length (bytes_of result.step) ≤ 440 }
+        ensures small { length (bytes_of result.step) ≤ 728 }
     {
         self.identity = text;
         self.packets = packets;
@@ -209,6 +221,7 @@ impl Server {
             last,
             identity: Octets::new(alloc),
             challenged: None,
+            resumed: None,
             synced: false,
             packets: IdentityPackets::new(alloc),
             next_iv: 0,
@@ -266,5 +279,12 @@ impl Server {
         ensures { result ≡ self.now.challenged }
     {
         self.challenged
+    }
+
+    /// The re-authentication, also after the session has ended, or `None` if there was none.
+    pub fn resumed(&self) -> Option<Resumed>
+        ensures { result ≡ self.now.resumed }
+    {
+        self.resumed
     }
 }

@@ -13,6 +13,8 @@ pub enum ServerWhy {
     WrongRes,
     /// The checkcode isn't that of the session (RFC 4187 §10.13).
     WrongCheckcode,
+    /// The response to a re-authentication hasn't the counter of the request (RFC 4187 §10.16).
+    WrongCounter,
     /// The peer sent a second synchronisation failure (RFC 4187 §6.3.2).
     SecondSync,
     /// MAC-S of AUTS isn't right (TS 33.102 §6.3.5).

@@ -102,6 +102,7 @@ fn text_of_session(alloc: Global, line: &SessionLine) -> Result<String, AllocErr
         name,
         peer_name,
         pseudonym,
+        reauth,
         bidding,
         any,
         has_prime,
@@ -114,7 +115,7 @@ fn text_of_session(alloc: Global, line: &SessionLine) -> Result<String, AllocErr
     };
     let identity = text_of_identity(alloc, identity)?;
     format!(in alloc;
-        "Session {{ session: {session}, sub: {sub}, method: {method:?}, name: {name}, peer_name: {peer_name:?}, pseudonym: {pseudonym}, bidding: {bidding}, any: {any}, has_prime: {has_prime}, identity: {identity} }}"
+        "Session {{ session: {session}, sub: {sub}, method: {method:?}, name: {name}, peer_name: {peer_name:?}, pseudonym: {pseudonym}, reauth: {reauth}, bidding: {bidding}, any: {any}, has_prime: {has_prime}, identity: {identity} }}"
     )
 }
 

@@ -30,7 +30,7 @@ use Rattle.auc_transcript.proofs.VectorLemmas.{numbers_within, transcript_served
 -- ---- what is fresh wasn't accepted
 
 -- a SEQ that was accepted with an IND is old
-old_from_past : (past : Past) (seq ind : ℕ) → Contains past (seq, ind) → is_old past seq ind ≡ true
+pub old_from_past : (past : Past) (seq ind : ℕ) → Contains past (seq, ind) → is_old past seq ind ≡ true
 old_from_past [] seq ind (k, inside, at) = absurd (omega arith)
 old_from_past (pair ∷ past) seq ind (zero, inside, at) =
     or_left ((pair.1 == ind) && nat_le seq pair.0) (is_old past seq ind)
@@ -38,7 +38,7 @@ old_from_past (pair ∷ past) seq ind (zero, inside, at) =
 old_from_past (pair ∷ past) seq ind (suc k, inside, at) =
     or_right ((pair.1 == ind) && nat_le seq pair.0) (is_old past seq ind) (old_from_past past seq ind (k, omega arith, at))
 
-not_fresh : (old : Bool) (entry : ℕ) (other : Verdict) → (if old then Old entry else other) ≡ Fresh → old ≡ true → ⊥
+pub not_fresh : (old : Bool) (entry : ℕ) (other : Verdict) → (if old then Old entry else other) ≡ Fresh → old ≡ true → ⊥
 not_fresh true entry other is old = cc
 not_fresh false entry other is old = cc
 

@@ -7,6 +7,7 @@ use Rattle.std.proofs.lemmas.Slice.Eq.{bytes_eq-Decides}
 use Rattle.auc_history.specs.Resynchronise.{Resynchronisation, resynchronise_of}
 use Rattle.auc_history.specs.Resynchronise as found
 use Rattle.auc_hmac.specs.declared.keys.KeySet.{KeySet}
+use Rattle.auc_hmac.specs.declared.keys.Master.{Master}
 use Rattle.auc_lines.specs.Part.{is_that}
 use Rattle.auc_lines.specs.declared.part.End.{End}
 use Rattle.auc_lines.specs.declared.part.End.TheVariants as end
@@ -155,23 +156,23 @@ picked_note : (b : Bool) (x y : Peer × Turn PeerWhy) (n : Option UsimNote) → 
 picked_note true x y n e f = e
 picked_note false x y n e f = f
 
-opened_note : (p : Peer) (seen : Seen) (res sqn : List ℕ) (keys : KeySet) (inner : Decrypted) → (opened p seen res sqn keys inner).1.notes.usim ≡ Some (usim.Accepted sqn)
-opened_note p seen res sqn keys decrypted.Unreadable = refl
-opened_note p seen res sqn keys (decrypted.Attributes next) = refl
+opened_note : (p : Peer) (seen : Seen) (res sqn : List ℕ) (keys : KeySet) (m : Master) (inner : Decrypted) → (opened p seen res sqn keys m inner).1.notes.usim ≡ Some (usim.Accepted sqn)
+opened_note p seen res sqn keys m decrypted.Unreadable = refl
+opened_note p seen res sqn keys m (decrypted.Attributes next) = refl
 
 -- the note of a turn in which the USIM accepted names the SQN that AUTN has
-accepted_note : (p : Peer) (seen : Seen) (c : Challenge) (res sqn : List ℕ) (keys : KeySet) (inner : Decrypted)
-    → (peer_accepts p seen c res sqn keys inner).1.notes.usim ≡ Some (usim.Accepted sqn)
-accepted_note p seen c res sqn keys inner =
-    picked_note (not (is_sealed p.options.method keys.k_aut [] seen)) (client p seen why.WrongMac (Some (usim.Accepted sqn)) false) (genuine (accepting p seen c) seen res sqn keys inner)
+accepted_note : (p : Peer) (seen : Seen) (c : Challenge) (res sqn : List ℕ) (keys : KeySet) (m : Master) (inner : Decrypted)
+    → (peer_accepts p seen c res sqn keys m inner).1.notes.usim ≡ Some (usim.Accepted sqn)
+accepted_note p seen c res sqn keys m inner =
+    picked_note (not (is_sealed p.options.method keys.k_aut [] seen)) (client p seen why.WrongMac (Some (usim.Accepted sqn)) false) (genuine (accepting p seen c) seen res sqn keys m inner)
     (Some (usim.Accepted sqn)) refl
-    (picked_note (differs (own_code (accepting p seen c)) (checkcode seen)) (client (accepting p seen c) seen why.WrongCheckcode (Some (usim.Accepted sqn)) true) (opened (accepting p seen c) seen res sqn keys inner)
-    (Some (usim.Accepted sqn)) refl (opened_note (accepting p seen c) seen res sqn keys inner))
+    (picked_note (differs (own_code (accepting p seen c)) (checkcode seen)) (client (accepting p seen c) seen why.WrongCheckcode (Some (usim.Accepted sqn)) true) (opened (accepting p seen c) seen res sqn keys m inner)
+    (Some (usim.Accepted sqn)) refl (opened_note (accepting p seen c) seen res sqn keys m inner))
 
-challenged_note : (s : Subscription) (keeps : Keeps) (p : Peer) (seen : Seen) (c : Challenge) (m : List ℕ) (inner : Decrypted)
-    → (peer_does s keeps p seen (row.Challenged c) (Some (usim.Accepted m)) inner).1.notes.usim ≡ Some (usim.Accepted (sqn_in s.secret c.rand c.autn))
+pub challenged_note : (key : List ℕ) (s : Subscription) (keeps : Keeps) (p : Peer) (seen : Seen) (c : Challenge) (m : List ℕ) (inner : Decrypted)
+    → (peer_does key s keeps p seen (row.Challenged c) (Some (usim.Accepted m)) inner).1.notes.usim ≡ Some (usim.Accepted (sqn_in s.secret c.rand c.autn))
 unfolding acceptance
-challenged_note s keeps p seen c m inner = accepted_note p seen c _ (sqn_in s.secret c.rand c.autn) _ inner
+challenged_note key s keeps p seen c m inner = accepted_note p seen c _ (sqn_in s.secret c.rand c.autn) _ _ inner
 
 one_sqn : (o : Option UsimNote) (a b : List ℕ) → o ≡ Some (usim.Accepted a) → o ≡ Some (usim.Accepted b) → a ≡ b
 one_sqn o a b e f = cc
@@ -186,41 +187,42 @@ no_wrong : (x : Option UsimNote) (sqn : List ℕ) → Some usim.WrongMac ≡ x �
 no_wrong x sqn e f = cc
 
 -- an SQN that a turn notes as accepted is fresh by the USIM's past
-turn_fresh : (s : Subscription) (keeps : Keeps) (p : Peer) (seen : Seen) (r : PeerRow) (past : Past) (n : Option UsimNote) (inner : Decrypted) (sqn : List ℕ)
-    → UsimNotes s.secret past (asked r) n → n ≡ (peer_does s keeps p seen r n inner).1.notes.usim → (peer_does s keeps p seen r n inner).1.notes.usim ≡ Some (usim.Accepted sqn)
+turn_fresh : (key : List ℕ) (s : Subscription) (keeps : Keeps) (p : Peer) (seen : Seen) (r : PeerRow) (past : Past) (n : Option UsimNote) (inner : Decrypted) (sqn : List ℕ)
+    → UsimNotes s.secret past (asked r) n → n ≡ (peer_does key s keeps p seen r n inner).1.notes.usim → (peer_does key s keeps p seen r n inner).1.notes.usim ≡ Some (usim.Accepted sqn)
     → verdict_of past (seq_of sqn) (ind_of sqn) ≡ Fresh
-turn_fresh s keeps p seen (row.Ignore cause) past n inner sqn is same accepts = absurd (no_asking n _ sqn is same accepts)
-turn_fresh s keeps p seen row.Again past n inner sqn is same accepts = absurd (no_asking n _ sqn is same accepts)
-turn_fresh s keeps p seen row.First past n inner sqn is same accepts = absurd (no_asking n _ sqn is same accepts)
-turn_fresh s keeps p seen (row.Identity kind) past n inner sqn is same accepts = absurd (no_asking n _ sqn is same accepts)
-turn_fresh s keeps p seen (row.Client cause) past n inner sqn is same accepts = absurd (no_asking n _ sqn is same accepts)
-turn_fresh s keeps p seen (row.Reject cause) past n inner sqn is same accepts = absurd (no_asking n _ sqn is same accepts)
-turn_fresh s keeps p seen (row.Notified code) past n inner sqn is same accepts = absurd (no_asking n _ sqn is same accepts)
-turn_fresh s keeps p seen (row.Challenged c) past None inner sqn is same accepts = absurd is
-turn_fresh s keeps p seen (row.Challenged c) past (Some (usim.Accepted m)) inner sqn is same accepts =
-    subst (λ (x : List ℕ). verdict_of past (seq_of x) (ind_of x) ≡ Fresh) (one_sqn _ (sqn_in s.secret c.rand c.autn) sqn (challenged_note s keeps p seen c m inner) accepts)
+turn_fresh key s keeps p seen (row.Ignore cause) past n inner sqn is same accepts = absurd (no_asking n _ sqn is same accepts)
+turn_fresh key s keeps p seen row.Again past n inner sqn is same accepts = absurd (no_asking n _ sqn is same accepts)
+turn_fresh key s keeps p seen row.First past n inner sqn is same accepts = absurd (no_asking n _ sqn is same accepts)
+turn_fresh key s keeps p seen (row.Identity kind) past n inner sqn is same accepts = absurd (no_asking n _ sqn is same accepts)
+turn_fresh key s keeps p seen (row.Client cause) past n inner sqn is same accepts = absurd (no_asking n _ sqn is same accepts)
+turn_fresh key s keeps p seen (row.Reject cause) past n inner sqn is same accepts = absurd (no_asking n _ sqn is same accepts)
+turn_fresh key s keeps p seen (row.Notified code) past n inner sqn is same accepts = absurd (no_asking n _ sqn is same accepts)
+turn_fresh key s keeps p seen (row.Challenged c) past None inner sqn is same accepts = absurd is
+turn_fresh key s keeps p seen (row.Challenged c) past (Some (usim.Accepted m)) inner sqn is same accepts =
+    subst (λ (x : List ℕ). verdict_of past (seq_of x) (ind_of x) ≡ Fresh) (one_sqn _ (sqn_in s.secret c.rand c.autn) sqn (challenged_note key s keeps p seen c m inner) accepts)
     (accepts_fresh s.secret past c.rand c.autn is)
-turn_fresh s keeps p seen (row.Challenged c) past (Some (usim.Sync m)) inner sqn is same accepts = absurd (no_sync _ m sqn same accepts)
-turn_fresh s keeps p seen (row.Challenged c) past (Some usim.WrongMac) inner sqn is same accepts = absurd (no_wrong _ sqn same accepts)
-turn_fresh s keeps p seen row.Success past n inner sqn is same accepts = absurd (no_asking n _ sqn is same accepts)
-turn_fresh s keeps p seen (row.Failure cause) past n inner sqn is same accepts = absurd (no_asking n _ sqn is same accepts)
+turn_fresh key s keeps p seen (row.Challenged c) past (Some (usim.Sync m)) inner sqn is same accepts = absurd (no_sync _ m sqn same accepts)
+turn_fresh key s keeps p seen (row.Challenged c) past (Some usim.WrongMac) inner sqn is same accepts = absurd (no_wrong _ sqn same accepts)
+turn_fresh key s keeps p seen row.Reauthentication past n inner sqn is same accepts = absurd (no_asking n _ sqn is same accepts)
+turn_fresh key s keeps p seen row.Success past n inner sqn is same accepts = absurd (no_asking n _ sqn is same accepts)
+turn_fresh key s keeps p seen (row.Failure cause) past n inner sqn is same accepts = absurd (no_asking n _ sqn is same accepts)
 
-peer_served : (set : Setting) (place : Before) (w : Net) (d : Delivery) (told : Told) (o : Option Subscription) → TellsNotes told (came_at_peer w d told o)
-    → IsUsimAsked set place (presented_at d told o) told → IsEventServed set (all_before place) (came_at_peer w d told o)
-peer_served set place w d told None tells is = silent_served set (all_before place) (came_at_peer w d told None) refl refl
+peer_served : (set : Setting) (place : Before) (w : Net) (d : Delivery) (told : Told) (o : Option Subscription) → TellsNotes told (came_at_peer set w d told o)
+    → IsUsimAsked set place (presented_at w d told o) told → IsEventServed set (all_before place) (came_at_peer set w d told o)
+peer_served set place w d told None tells is = silent_served set (all_before place) (came_at_peer set w d told None) refl refl
 peer_served set place w d told (Some device) tells is = record {
   numbers = λ sub. tt;
   fresh = λ sub sqn accepts. by sub sqn (d.session.sub == sub) refl accepts;
 }
   where
     notes : Option UsimNote
-    notes = (peer_turn device (keeps_at w d.session.device) d.session told).1.notes.usim
+    notes = (peer_turn set device (keeps_at w d.session.device) d.session told).1.notes.usim
 
     here : (sqn : List ℕ) → notes ≡ Some (usim.Accepted sqn) → IsFreshFor set (all_before place) d.session.sub sqn
     here sqn accepts = record {
       row = is.row;
       there = is.there;
-      fresh = turn_fresh device (keeps_at w d.session.device) d.session.peer told.seen (peer_row d.session.peer told.seen) (past_before place is.row d.session.sub) told.notes.usim told.inner sqn
+      fresh = turn_fresh set.key device (keeps_at w d.session.device) d.session.peer told.seen (peer_row d.session.peer told.seen) (past_before place is.row d.session.sub) told.notes.usim told.inner sqn
           is.answers (ap (λ (n : Notes). n.usim) tells) accepts;
     }
 

@@ -147,6 +147,7 @@ row_asks r (row.Identity kind) c e is = absurd (let no : ⊥ = cc in no)
 row_asks r (row.Client cause) c e is = absurd (let no : ⊥ = cc in no)
 row_asks r (row.Reject cause) c e is = absurd (let no : ⊥ = cc in no)
 row_asks r (row.Notified code) c e is = absurd (let no : ⊥ = cc in no)
+row_asks r row.Reauthentication c e is = absurd (let no : ⊥ = cc in no)
 row_asks r row.Success c e is = absurd (let no : ⊥ = cc in no)
 row_asks r (row.Failure cause) c e is = absurd (let no : ⊥ = cc in no)
 

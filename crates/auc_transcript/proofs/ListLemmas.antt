@@ -1,8 +1,9 @@
--- For the laws of positions: pairs of a list's front and end, and filters that nothing or everything passes.
+-- For the laws of positions and of keys: what holds of a list's front and end, pairs of the two, and filters that nothing or everything passes.
 use Rattle.std.proofs.Common.{◌≡◌, ◌+◌, Bool, true, false, List, [], ◌∷◌, ◌++◌, length, get_or, arith, All, AllPairs, filter, refl, ap, ◌∙◌}
 use Rattle.std.proofs.lemmas.Bool.{cond-true, cond-false}
 use Rattle.std.proofs.lemmas.List.{get_or_append_left, get_or-append-add, length-append}
-use Rattle.std.proofs.lemmas.List.Elements.{All-head, All-tail}
+use Rattle.std.proofs.lemmas.List.Elements.{All-cons, All-head, All-nil, All-tail}
+use Rattle.auc_history.proofs.Facts.{AllPairs-head, AllPairs-tail}
 
 -- the pairs of a front
 pub AllPairs-left : {X : Type 0} (R : X → X → Type 0) (xs ys : List X) → AllPairs R (xs ++ ys) → AllPairs R xs
@@ -35,3 +36,20 @@ filter_all p [] all = refl
 filter_all {X} p (x ∷ xs) all =
     cond-true (p x) (x ∷ filter p xs) (filter p xs) (All-head (λ y. p y ≡ true) x xs all)
     ∙ ap (λ (ys : List X). x ∷ ys) (filter_all p xs (All-tail (λ y. p y ≡ true) x xs all))
+
+-- what holds of all of two lists holds of all of each
+pub all_left : {X : Type 0} (P : X → Type 0) (xs ys : List X) → All P (xs ++ ys) → All P xs
+all_left P [] ys all = All-nil P
+all_left P (x ∷ xs) ys all = All-cons P x xs (All-head P x (xs ++ ys) all) (all_left P xs ys (All-tail P x (xs ++ ys) all))
+
+pub all_right : {X : Type 0} (P : X → Type 0) (xs ys : List X) → All P (xs ++ ys) → All P ys
+all_right P [] ys all = all
+all_right P (x ∷ xs) ys all = all_right P xs ys (All-tail P x (xs ++ ys) all)
+
+-- if two lists are in order, each element of the second is after all of the first
+pub pairs_across : {X : Type 0} (R : X → X → Type 0) (xs ys : List X) → AllPairs R (xs ++ ys) → All (λ y. All (λ x. R x y) xs) ys
+pairs_across R [] ys pairs = λ k d inside. All-nil (λ x. R x (get_or ys k d))
+pairs_across R (x ∷ xs) ys pairs =
+    let first = all_right (R x) xs ys (AllPairs-head R x (xs ++ ys) pairs) in
+    let rest = pairs_across R xs ys (AllPairs-tail R x (xs ++ ys) pairs) in
+    λ k d inside. All-cons (λ z. R z (get_or ys k d)) x xs (first k d inside) (rest k d inside)

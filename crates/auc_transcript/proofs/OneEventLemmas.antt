@@ -9,18 +9,20 @@ use Rattle.auc_peer.proofs.Facts.{row_once}
 use Rattle.auc_peer.specs.Rows.{peer_row}
 use Rattle.auc_peer.specs.Subscription.{Subscription}
 use Rattle.auc_peer.specs.Table.{kept_by, peer_step}
-use Rattle.auc_peer.specs.Turn.{Decrypts, asked, decryption_noted}
+use Rattle.auc_peer.specs.Turn.{Decrypts, decryption_made}
 use Rattle.auc_peer.specs.declared.decrypted.Decrypted.{Decrypted}
 use Rattle.auc_peer.specs.declared.decrypted.Decrypted.TheVariants as decrypted
 use Rattle.auc_peer.specs.declared.peer.Peer.{Peer}
 use Rattle.auc_peer.specs.declared.why.PeerWhy.{PeerWhy}
 use Rattle.auc_reauth.specs.Device.{Keeps}
 use Rattle.auc_seal.specs.Laws.{OneOpening}
+use Rattle.auc_server.specs.Replies.{Replies}
 use Rattle.auc_server.specs.Server.{ServerEnd}
 use Rattle.auc_server.specs.Table.{silent}
+use Rattle.auc_server.specs.declared.reply.Reply.{Reply}
 use Rattle.auc_vector.specs.declared.notes.Notes.{Notes}
 use Rattle.auc_vector.specs.declared.turn.Turn.{Turn}
-use Rattle.auc_world.specs.Came.{AreReceived, Came, TellsNotes, bytes_named, by_peer, came, came_at_peer, came_at_server, came_delivered, presented_at, presented_by, presented_in, received_at, received_by}
+use Rattle.auc_world.specs.Came.{AreReceived, Came, RepliesAt, RepliesIn, TellsNotes, TellsReply, bytes_named, by_peer, came, came_at_peer, came_at_server, came_delivered, presented_at, presented_by, presented_in, received_at, received_by}
 use Rattle.auc_world.specs.Given.{Before, IsUsimAsked}
 use Rattle.auc_world.specs.Happened.{Delivery, Told, breach_at, delivered, delivery_at, delivery_of, found_by, happened, moved, found, peer_finds, peer_turn, server_finds, to_peer, to_server, with_peer}
 use Rattle.auc_world.specs.Net.{Finding, Net, inputs_of_peer, judged, keeps_at, packet_at, session_place}
@@ -30,6 +32,7 @@ use Rattle.auc_world.specs.declared.event.Event.{Event}
 use Rattle.auc_world.specs.declared.event.Event.TheVariants as event
 use Rattle.auc_world.specs.declared.net.SentPacket.{SentPacket}
 use Rattle.auc_world.specs.declared.net.Session.{Session}
+use Rattle.auc_transcript.proofs.ReplyLemmas.{replies_once}
 
 -- equal bytes are received alike, opened alike, and read alike
 pub record Laws : Type 0 where
@@ -53,49 +56,56 @@ abbrev notes_or : Came → Notes
 notes_or (Ok note) = note.notes
 notes_or (Err why) = silent
 
-abbrev told_with : Seen → Notes → Told
-told_with seen notes = record { seen = seen; notes = notes; inner = decrypted.Unreadable }
+abbrev told_with : Seen → Notes → Reply → Told
+told_with seen notes said = record { seen = seen; notes = notes; inner = decrypted.Unreadable; reply = said }
 
 -- ---- a delivery to a server
 
+-- what follows from what was received, noted and replied
+alike : {X : Type 0} (f : Told → X) (a b : Told) → a.seen ≡ b.seen → a.notes ≡ b.notes → a.reply ≡ b.reply → f (told_with a.seen a.notes a.reply) ≡ f (told_with b.seen b.notes b.reply)
+alike f a b seen notes said =
+    ap (λ (x : Seen). f (told_with x a.notes a.reply)) seen ∙ ap (λ (n : Notes). f (told_with b.seen n a.reply)) notes ∙ ap (λ (r : Reply). f (told_with b.seen b.notes r)) said
+
 server_one : Laws → (set : Setting) (w : Net) (d : Delivery) (o : Option ServerEnd) (a b : Told) → AreReceived (received_by d.bytes o) a.seen → AreReceived (received_by d.bytes o) b.seen
-    → TellsNotes a (came_at_server set w a o) → TellsNotes b (came_at_server set w b o) → told_came (came_at_server set w a o) ≡ told_came (came_at_server set w b o)
+    → RepliesAt a o → RepliesAt b o → TellsNotes a (came_at_server set w a o) → TellsNotes b (came_at_server set w b o) → told_came (came_at_server set w a o) ≡ told_came (came_at_server set w b o)
     → AreOne (came_at_server set w a o) (came_at_server set w b o) (to_server set w d a o) (to_server set w d b o) (server_finds set w d a o) (server_finds set w d b o)
-server_one laws set w d None a b first second tells also same = record { same = refl; leads = refl; finds = refl }
-server_one laws set w d (Some s) a b first second tells also same =
+server_one laws set w d None a b first second replies replied tells also same = record { same = refl; leads = refl; finds = refl }
+server_one laws set w d (Some s) a b first second replies replied tells also same =
     let seen = one_seen laws d.bytes a.seen b.seen first second in
     let notes : a.notes ≡ b.notes = tells ∙ ap notes_or same ∙ sym also in
+    let said : a.reply ≡ b.reply =
+    replies_once laws.walk laws.opening s.resumed a.seen.reading a.reply b.reply replies (subst (λ (x : Seen). Replies s.resumed x.reading b.reply) (sym seen) replied) in
     record {
-      same = ap (λ (x : Seen). came_at_server set w (told_with x a.notes) (Some s)) seen ∙ ap (λ (n : Notes). came_at_server set w (told_with b.seen n) (Some s)) notes;
-      leads = ap (λ (x : Seen). to_server set w d (told_with x a.notes) (Some s)) seen ∙ ap (λ (n : Notes). to_server set w d (told_with b.seen n) (Some s)) notes;
-      finds = ap (λ (x : Seen). server_finds set w d (told_with x a.notes) (Some s)) seen ∙ ap (λ (n : Notes). server_finds set w d (told_with b.seen n) (Some s)) notes;
+      same = alike (λ (t : Told). came_at_server set w t (Some s)) a b seen notes said;
+      leads = alike (λ (t : Told). to_server set w d t (Some s)) a b seen notes said;
+      finds = alike (λ (t : Told). server_finds set w d t (Some s)) a b seen notes said;
     }
 
 -- ---- a delivery to a peer
 
-abbrev Did : Subscription → Peer → Seen → Notes → Decrypted → Type 0
-Did s p seen notes inner = Decrypts (decryption_noted s p seen (asked (peer_row p seen)) notes.usim) inner
+abbrev Did : Subscription → Keeps → Peer → Seen → Notes → Decrypted → Type 0
+Did s keeps p seen notes inner = Decrypts (decryption_made s keeps p seen (peer_row p seen) notes.usim) inner
 
-turn_one : Laws → (s : Subscription) (keeps : Keeps) (p : Peer) (a b : Told) → a.seen ≡ b.seen → a.notes ≡ b.notes → Did s p a.seen a.notes a.inner → Did s p b.seen b.notes b.inner
-    → peer_step s keeps p a.seen a.notes.usim a.inner ≡ peer_step s keeps p b.seen b.notes.usim b.inner
-turn_one laws s keeps p a b seen notes first second =
-    let back : Did s p a.seen a.notes b.inner =
-    subst (λ (x : Seen). Did s p x a.notes b.inner) (sym seen) (subst (λ (n : Notes). Did s p b.seen n b.inner) (sym notes) second) in
-    row_once laws.walk laws.opening s keeps p a.seen (peer_row p a.seen) a.notes.usim a.inner b.inner first back
-    ∙ ap (λ (x : Seen). peer_step s keeps p x a.notes.usim b.inner) seen ∙ ap (λ (n : Notes). peer_step s keeps p b.seen n.usim b.inner) notes
+turn_one : Laws → (key : List ℕ) (s : Subscription) (keeps : Keeps) (p : Peer) (a b : Told) → a.seen ≡ b.seen → a.notes ≡ b.notes → Did s keeps p a.seen a.notes a.inner → Did s keeps p b.seen b.notes b.inner
+    → peer_step key s keeps p a.seen a.notes.usim a.inner ≡ peer_step key s keeps p b.seen b.notes.usim b.inner
+turn_one laws key s keeps p a b seen notes first second =
+    let back : Did s keeps p a.seen a.notes b.inner =
+    subst (λ (x : Seen). Did s keeps p x a.notes b.inner) (sym seen) (subst (λ (n : Notes). Did s keeps p b.seen n b.inner) (sym notes) second) in
+    row_once laws.walk laws.opening key s keeps p a.seen (peer_row p a.seen) a.notes.usim a.inner b.inner first back
+    ∙ ap (λ (x : Seen). peer_step key s keeps p x a.notes.usim b.inner) seen ∙ ap (λ (n : Notes). peer_step key s keeps p b.seen n.usim b.inner) notes
 
 peer_one : Laws → (set : Setting) (before also_before : Before) (w : Net) (d : Delivery) (o : Option Subscription) (a b : Told)
-    → AreReceived (received_by d.bytes o) a.seen → AreReceived (received_by d.bytes o) b.seen → TellsNotes a (came_at_peer w d a o) → TellsNotes b (came_at_peer w d b o)
-    → IsUsimAsked set before (presented_at d a o) a → IsUsimAsked set also_before (presented_at d b o) b → told_came (came_at_peer w d a o) ≡ told_came (came_at_peer w d b o)
-    → AreOne (came_at_peer w d a o) (came_at_peer w d b o) (to_peer w d a o) (to_peer w d b o) (peer_finds w d a o) (peer_finds w d b o)
+    → AreReceived (received_by d.bytes o) a.seen → AreReceived (received_by d.bytes o) b.seen → TellsNotes a (came_at_peer set w d a o) → TellsNotes b (came_at_peer set w d b o)
+    → IsUsimAsked set before (presented_at w d a o) a → IsUsimAsked set also_before (presented_at w d b o) b → told_came (came_at_peer set w d a o) ≡ told_came (came_at_peer set w d b o)
+    → AreOne (came_at_peer set w d a o) (came_at_peer set w d b o) (to_peer set w d a o) (to_peer set w d b o) (peer_finds set w d a o) (peer_finds set w d b o)
 peer_one laws set before also_before w d None a b first second tells also is was same = record { same = refl; leads = refl; finds = refl }
 peer_one laws set before also_before w d (Some device) a b first second tells also is was same =
     let seen = one_seen laws d.bytes a.seen b.seen first second in
     let notes : a.notes ≡ b.notes = tells ∙ ap notes_or same ∙ sym also in
-    let turn : peer_turn device keeps d.session a ≡ peer_turn device keeps d.session b = turn_one laws device keeps d.session.peer a b seen notes is.decrypts was.decrypts in
+    let turn : peer_turn set device keeps d.session a ≡ peer_turn set device keeps d.session b = turn_one laws set.key device keeps d.session.peer a b seen notes is.decrypts was.decrypts in
     record {
       same = ap (λ (t : Peer × Turn PeerWhy). Ok (by_peer w t.1.notes t.1.step (Some d.session.sub))) turn;
-      leads = ap (λ (t : Peer × Turn PeerWhy). led t a.seen) turn ∙ ap (led (peer_turn device keeps d.session b)) seen;
+      leads = ap (λ (t : Peer × Turn PeerWhy). led t a.seen) turn ∙ ap (led (peer_turn set device keeps d.session b)) seen;
       finds = ap (λ (t : Peer × Turn PeerWhy). finding t) turn;
     }
   where
@@ -105,7 +115,7 @@ peer_one laws set before also_before w d (Some device) a b first second tells al
     -- the network after a turn, by what was received
     led : Peer × Turn PeerWhy → Seen → Net
     led t seen = record (with_peer w d.place d.session t.0 t.1.step) {
-      stores = slice_set w.stores d.session.device (kept_by (peer_row d.session.peer seen) d.session.peer keeps);
+      stores = slice_set w.stores d.session.device (kept_by (peer_row d.session.peer seen) d.session.peer t.1.notes.counter keeps);
     }
 
     finding : Peer × Turn PeerWhy → Option Finding
@@ -121,6 +131,7 @@ DeliveriesAreOne set w at' sent d a b =
 -- what is known of a delivery
 record IsDelivered (set : Setting) (before : Before) (w : Net) (at' : End) (sent : Option SentPacket) (d : Option Delivery) (told : Told) : Type 0 where
   received : AreReceived (received_at w at' d) told.seen
+  replies : RepliesIn at' told d
   tells : TellsNotes told (came_delivered set w at' told sent d)
   usim : IsUsimAsked set before (presented_in w at' told d) told
 
@@ -132,7 +143,7 @@ some_one : Laws → (set : Setting) (before also_before : Before) (w : Net) (at'
     → IsDelivered set before w at' (Some sent) (Some d) a → IsDelivered set also_before w at' (Some sent) (Some d) b
     → told_came (came_delivered set w at' a (Some sent) (Some d)) ≡ told_came (came_delivered set w at' b (Some sent) (Some d)) → DeliveriesAreOne set w at' (Some sent) (Some d) a b
 some_one laws set before also_before w end.Server sent d a b is was same =
-    let one = server_one laws set w d d.session.server a b is.received was.received is.tells was.tells same in record { same = one.same; leads = one.leads; finds = one.finds }
+    let one = server_one laws set w d d.session.server a b is.received was.received is.replies was.replies is.tells was.tells same in record { same = one.same; leads = one.leads; finds = one.finds }
 some_one laws set before also_before w end.Peer sent d a b is was same =
     let one = peer_one laws set before also_before w d (slice_get w.devices d.session.device) a b is.received was.received is.tells was.tells is.usim was.usim same in
     record { same = one.same; leads = one.leads; finds = one.finds }
@@ -160,6 +171,7 @@ delivered_one laws set before also_before w at' packet (Some place) a b is was s
 -- what is known of an event
 pub record IsTold (set : Setting) (before : Before) (w : Net) (e : Event) (told : Told) : Type 0 where
   pub received : AreReceived (bytes_named w e) told.seen
+  pub replies : TellsReply w e told
   pub tells : TellsNotes told (came set w e told)
   pub usim : IsUsimAsked set before (presented_by w e told) told
 
@@ -174,7 +186,8 @@ event_one laws set before also_before w (event.Open opening) a b is was same = r
 event_one laws set before also_before w (event.Start session) a b is was same = record { same = refl; leads = refl }
 event_one laws set before also_before w (event.Deliver session at' packet) a b is was same =
     let one = delivered_one laws set before also_before w at' packet (session_place w.sessions session) a b
-    (record { received = is.received; tells = is.tells; usim = is.usim }) (record { received = was.received; tells = was.tells; usim = was.usim }) same in
+    (record { received = is.received; replies = is.replies; tells = is.tells; usim = is.usim })
+    (record { received = was.received; replies = was.replies; tells = was.tells; usim = was.usim }) same in
     let e = event.Deliver session at' packet in
     record {
       same = one.same;

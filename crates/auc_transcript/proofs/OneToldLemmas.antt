@@ -1,5 +1,5 @@
 -- The law of one told transcript: two lawful transcripts of the same parts of which the same is told are one.
-use Rattle.std.proofs.Common.{◌≡◌, ℕ, zero, suc, List, [], ◌∷◌, ◌++◌, map, Option, Some, None, refl, sym, ap, subst, ◌∙◌}
+use Rattle.std.proofs.Common.{◌≡◌, ℕ, zero, suc, List, [], ◌∷◌, ◌++◌, map, Option, Some, None, refl, sym, ap, subst, ◌∙◌, append_assoc}
 use Rattle.auc_edge.specs.declared.stop.Stop.{Stop}
 use Rattle.auc_lines.specs.declared.part.End.{End}
 use Rattle.auc_lines.specs.declared.part.End.TheVariants as end
@@ -143,7 +143,8 @@ event_lines_one laws set before also_before net next also_next e xs ys rest othe
     let results = came_of_told (told_event e) (told_event e) (told_came (came set net e a)) (told_came (came set net e b))
     (heads (told_first (came set net e a)) (told_first (came set net e b)) (told_job rest) (told_job others) cut) in
     let one = event_one laws set before also_before net e a b
-    (record { received = gives.received; tells = gives.notes; usim = gives.usim }) (record { received = gave.received; tells = gave.notes; usim = gave.usim }) results in
+    (record { received = gives.received; replies = gives.replies; tells = gives.notes; usim = gives.usim })
+    (record { received = gave.received; replies = gave.replies; tells = gave.notes; usim = gave.usim }) results in
     record {
       lines_are = gives.lines_are ∙ ap (λ (c : Came). line c ∷ []) one.same ∙ sym gave.lines_are;
       nets_are = gives.leads ∙ one.leads ∙ sym gave.leads;
@@ -232,6 +233,18 @@ job_one laws set before also_before net last also_last (l ∷ job) xs ys (front,
     let gave_more = subst (λ (w : Net). JobGives set (behind also_before also_front) w job also_rest also_last) (sym one.nets_are) also_more in
     let all = job_one laws set (behind before front) (behind also_before also_front) next last also_last job rest also_rest more gave_more one.rests_are in
     (cut ∙ ap (λ (ls : List LineRecord). ls ++ rest) one.lines_are ∙ ap (λ (ls : List LineRecord). also_front ++ ls) all.0 ∙ sym also_cut, all.1)
+
+-- the front of a job, whatever follows
+pub front_one : Laws → (set : Setting) (before also_before : Before) (net mid also_mid : Net) (front : List Line) (xs ys rest others : List LineRecord)
+    → JobGives set before net front xs mid → JobGives set also_before net front ys also_mid → told_job (xs ++ rest) ≡ told_job (ys ++ others) → mid ≡ also_mid
+front_one laws set before also_before net mid also_mid [] xs ys rest others (none, is) (nothing, was) same = is ∙ sym was
+front_one laws set before also_before net mid also_mid (l ∷ front) xs ys rest others (lines, more_lines, next, cut, gives, more) (also_lines, also_more_lines, also_next, also_cut, gave, also_more) same =
+    let parts : xs ++ rest ≡ lines ++ (more_lines ++ rest) = ap (λ (ls : List LineRecord). ls ++ rest) cut ∙ append_assoc lines more_lines rest in
+    let also_parts : ys ++ others ≡ also_lines ++ (also_more_lines ++ others) = ap (λ (ls : List LineRecord). ls ++ others) also_cut ∙ append_assoc also_lines also_more_lines others in
+    let one = line_one laws set before also_before net next also_next l lines also_lines (more_lines ++ rest) (also_more_lines ++ others) gives gave
+    (ap told_job (sym parts) ∙ same ∙ ap told_job also_parts) in
+    front_one laws set (behind before lines) (behind also_before also_lines) next mid also_mid front more_lines also_more_lines rest others more
+    (subst (λ (w : Net). JobGives set (behind also_before also_lines) w front also_more_lines also_mid) (sym one.nets_are) also_more) one.rests_are
 
 -- the jobs of a round
 pub jobs_one : Laws → (set : Setting) (early also_early : List LineRecord) (kept : List Kept) (beside also_beside : List LineRecord) (jobs : List (List Line)) (xs ys : List (List LineRecord)) (nets also_nets : List Net)

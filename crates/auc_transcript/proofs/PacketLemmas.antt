@@ -50,10 +50,10 @@ server_posts set w d told (Some s) =
     let turn = server_turn set w s told in
     record { packets = bytes_posted w.packets end.Server (inputs_of_server turn.0) (sent_by turn.1.step); devices = refl }
 
-peer_posts : (w : Net) (d : Delivery) (told : Told) (o : Option Subscription) → Posts w (came_at_peer w d told o) (to_peer w d told o)
-peer_posts w d told None = still w (came_at_peer w d told None) refl
-peer_posts w d told (Some device) =
-    let turn = peer_turn device (keeps_at w d.session.device) d.session told in
+peer_posts : (set : Setting) (w : Net) (d : Delivery) (told : Told) (o : Option Subscription) → Posts w (came_at_peer set w d told o) (to_peer set w d told o)
+peer_posts set w d told None = still w (came_at_peer set w d told None) refl
+peer_posts set w d told (Some device) =
+    let turn = peer_turn set device (keeps_at w d.session.device) d.session told in
     record { packets = bytes_posted w.packets end.Peer (inputs_of_peer d.session.sub turn.0) (sent_by turn.1.step); devices = refl }
 
 lost_posts : (set : Setting) (w : Net) (at' : End) (told : Told) (y : Option SentPacket) → Posts w (came_delivered set w at' told y None) (delivered set w at' told None)
@@ -67,7 +67,7 @@ delivery_posts set w at' told packet place (Some session) None = lost_posts set 
 delivery_posts set w end.Server told packet place (Some session) (Some sent) =
     server_posts set w (record { place = place; session = session; bytes = sent.bytes; packet = packet }) told session.server
 delivery_posts set w end.Peer told packet place (Some session) (Some sent) =
-    peer_posts w (record { place = place; session = session; bytes = sent.bytes; packet = packet }) told (slice_get w.devices session.device)
+    peer_posts set w (record { place = place; session = session; bytes = sent.bytes; packet = packet }) told (slice_get w.devices session.device)
 
 delivered_posts : (set : Setting) (w : Net) (at' : End) (told : Told) (packet : ℕ) (o : Option ℕ)
     → Posts w (came_delivered set w at' told (packet_at w.packets packet) (delivery_at w packet o)) (delivered set w at' told (delivery_at w packet o))

@@ -1,5 +1,5 @@
 -- The laws of positions: what lies between two numbers of a history stands between their draws.
-use Rattle.std.proofs.Common.{◌≡◌, ℕ, ◌<◌, ◌≤◌, ◌&&◌, ◌||◌, not, nat_lt, nat_le, Bool, true, false, List, [], ◌∷◌, ◌++◌, length, get_or, filter, All, AllPairs, refl, sym, ◌∙◌, ap, subst, arith, inl, inr}
+use Rattle.std.proofs.Common.{◌≡◌, ℕ, ◌<◌, ◌≤◌, ◌&&◌, ◌||◌, not, nat_lt, nat_le, Bool, true, false, List, [], ◌∷◌, ◌++◌, length, get_or, filter, All, refl, sym, ◌∙◌, ap, subst, arith, inl, inr}
 use Rattle.std.specs.List.{list_any}
 use Rattle.std.proofs.lemmas.Bool.{cond-true, or_from, or_left, or_right, and_from, and_left, and_right, le-leb, lt-leb, lt-ltb, le-ltb}
 use Rattle.std.proofs.lemmas.Bool.Decides.{nat_tests}
@@ -13,27 +13,8 @@ use Rattle.auc_history.specs.History.{IsMove, IsBefore, IsInOrder, drawn, drawn_
 use Rattle.auc_history.proofs.Facts.{AllPairs-head, AllPairs-tail}
 use Rattle.auc_transcript.specs.Headline.{moves_between, is_moved}
 use Rattle.auc_transcript.specs.Position.{is_move, EachMoveStandsBetween, EndsPeriod, EachPlaceIsAPosition}
-use Rattle.auc_transcript.proofs.ListLemmas.{AllPairs-left, AllPairs-right, filter_none, filter_all}
+use Rattle.auc_transcript.proofs.ListLemmas.{AllPairs-left, AllPairs-right, all_left, all_right, filter_none, filter_all, pairs_across}
 use Rattle.auc_transcript.proofs.PlaceLemmas.{not_moved_down}
-
--- ---- lists
-
--- what holds of all of two lists holds of all of each
-all_left : {X : Type 0} (P : X → Type 0) (xs ys : List X) → All P (xs ++ ys) → All P xs
-all_left P [] ys all = All-nil P
-all_left P (x ∷ xs) ys all = All-cons P x xs (All-head P x (xs ++ ys) all) (all_left P xs ys (All-tail P x (xs ++ ys) all))
-
-all_right : {X : Type 0} (P : X → Type 0) (xs ys : List X) → All P (xs ++ ys) → All P ys
-all_right P [] ys all = all
-all_right P (x ∷ xs) ys all = all_right P xs ys (All-tail P x (xs ++ ys) all)
-
--- if two lists are in order, each element of the second is after all of the first
-pairs_across : {X : Type 0} (R : X → X → Type 0) (xs ys : List X) → AllPairs R (xs ++ ys) → All (λ y. All (λ x. R x y) xs) ys
-pairs_across R [] ys pairs = λ k d inside. All-nil (λ x. R x (get_or ys k d))
-pairs_across R (x ∷ xs) ys pairs =
-    let first = all_right (R x) xs ys (AllPairs-head R x (xs ++ ys) pairs) in
-    let rest = pairs_across R xs ys (AllPairs-tail R x (xs ++ ys) pairs) in
-    λ k d inside. All-cons (λ z. R z (get_or ys k d)) x xs (first k d inside) (rest k d inside)
 
 -- ---- moves before, between and after two draws
 

@@ -143,14 +143,14 @@ asked_and_answered s past (Some c) (Some m) note is answers = (c, refl, subst (�
 
 -- a peer's device at which a packet arrived
 peer_handed : (set : Setting) (place : Before) (w : Net) (d : Delivery) (told : Told) (sub : ℕ) (note : UsimNote) (o : Option Subscription) → slice_get w.devices d.session.device ≡ o
-    → AreReceived (received_at w end.Peer (Some d)) told.seen → TellsNotes told (came_at_peer w d told o) → IsUsimAsked set place (presented_at d told o) told
-    → IsPresentedAt (HasSecret set w.devices) (presented_at d told o)
-    → usim_of sub (came_at_peer w d told o) ≡ Some note → IsHanded set place sub d.bytes note
+    → AreReceived (received_at w end.Peer (Some d)) told.seen → TellsNotes told (came_at_peer set w d told o) → IsUsimAsked set place (presented_at w d told o) told
+    → IsPresentedAt (HasSecret set w.devices) (presented_at w d told o)
+    → usim_of sub (came_at_peer set w d told o) ≡ Some note → IsHanded set place sub d.bytes note
 peer_handed set place w d told sub note None at' received tells is secret noted = absurd (no_note note noted)
 peer_handed set place w d told sub note (Some device) at' received tells is secret noted = by (d.session.sub == sub) refl noted
   where
     notes : Option UsimNote
-    notes = (peer_turn device (keeps_at w d.session.device) d.session told).1.notes.usim
+    notes = (peer_turn set device (keeps_at w d.session.device) d.session told).1.notes.usim
 
     here : notes ≡ Some note → IsHanded set place d.session.sub d.bytes note
     here answered =

@@ -21,6 +21,7 @@ use Rattle.auc_server.specs.Setting.{Setting}
 use Rattle.auc_server.specs.declared.setting.HomeRow.{HomeRow}
 use Rattle.auc_subs.specs.Subscriber.{AreSubscribers, same_identity}
 use Rattle.auc_subs.specs.declared.row.Row.{Row}
+use Rattle.auc_world.specs.Agreement.{AreSized}
 use Rattle.auc_world.specs.Came.{session_of}
 use Rattle.auc_world.specs.Net.{Net, device_place, place_with}
 use Rattle.auc_world.specs.Plain.{IsReady}
@@ -28,7 +29,7 @@ use Rattle.auc_world.specs.Start.{Kept, home_of, subscription_at, subscription_b
 use Rattle.auc_world.specs.declared.net.Session.{Session}
 use Rattle.auc_transcript.specs.Completeness.{IsSuited}
 use Rattle.auc_transcript.proofs.FirstLemmas.{none_passes}
-use Rattle.auc_transcript.proofs.PseudonymLemmas.{HasPseudonyms}
+use Rattle.auc_transcript.proofs.KeptNameLemmas.{KeepsNames}
 use Rattle.auc_transcript.proofs.StayingLemmas.{AreNew, IsNew, found_has_number}
 
 -- ---- the subscribers whose USIMs a job holds
@@ -92,13 +93,14 @@ homes_are_of kept (sub ∷ subs) = ap (λ (xs : List ℕ). sub ∷ xs) (homes_ar
 -- ---- devices
 
 -- a device is the subscription of one of some subscribers
-record IsCard (set : Setting) (subs : List ℕ) (d : Subscription) : Type 0 where
+pub record IsCard (set : Setting) (subs : List ℕ) (d : Subscription) : Type 0 where
   pub sub : ℕ
   pub held : is_among sub subs ≡ true
   pub row : Row
   pub there : slice_get set.rows sub ≡ Some row
   pub is : subscription_at set sub ≡ d ∷ []
   pub imsi : d.imsi ≡ row.imsi
+  pub realm : d.realm ≡ set.realm
 
 card_of : (set : Setting) (subs : List ℕ) (sub : ℕ) → is_among sub subs ≡ true → All (IsCard set subs) (subscription_at set sub)
 card_of set subs sub held = by (slice_get set.rows sub) refl
@@ -107,7 +109,7 @@ card_of set subs sub held = by (slice_get set.rows sub) refl
     by None there = All-nil (IsCard set subs)
     by (Some row) there =
         let d : Subscription = record { imsi = row.imsi; realm = set.realm; secret = row.secret } in
-        All-cons (IsCard set subs) d [] (record { sub = sub; held = held; row = row; there = there; is = ap (subscription_by set) there; imsi = refl }) (All-nil (IsCard set subs))
+        All-cons (IsCard set subs) d [] (record { sub = sub; held = held; row = row; there = there; is = ap (subscription_by set) there; imsi = refl; realm = refl }) (All-nil (IsCard set subs))
 
 cards_from : (set : Setting) (all subs : List ℕ) → ((sub : ℕ) → is_among sub subs ≡ true → is_among sub all ≡ true) → All (IsCard set all) (flat_map (subscription_at set) subs)
 cards_from set all [] each = All-nil (IsCard set all)
@@ -116,7 +118,7 @@ cards_from set all (x ∷ subs) each =
     (cards_from set all subs (λ sub among. each sub (or_right (x == sub) (is_among sub subs) among)))
 
 -- each device of a job's network is one of a subscriber whose USIM the job holds
-cards : (set : Setting) (subs : List ℕ) → All (IsCard set subs) (flat_map (subscription_at set) subs)
+pub cards : (set : Setting) (subs : List ℕ) → All (IsCard set subs) (flat_map (subscription_at set) subs)
 cards set subs = cards_from set subs subs (λ sub among. among)
 
 -- a subscriber's own device has its identity
@@ -196,7 +198,8 @@ pub record IsReadyFor (set : Setting) (net : Net) (opening : SessionLine) : Type
 pub record IsOfSubs (set : Setting) (subs : List ℕ) (net : Net) : Type 0 where
   pub devices : net.devices ≡ flat_map (subscription_at set) subs
   pub homes : map (λ home. home.sub) net.homes ≡ subs
-  pub pseudonyms : HasPseudonyms net
+  pub names : KeepsNames net
+  pub sized : AreSized net.homes
 
 -- a new session of such a network
 new_is_ready : (set : Setting) (net : Net) (subs : List ℕ) (opening : SessionLine) (s : Session) → AreSubscribers set.rows → IsSuited set.rows opening → IsOfSubs set subs net
@@ -207,7 +210,7 @@ new_is_ready set net subs opening s are suited of found new = by (slice_get set.
         → IsCard set subs d → IsReadyFor set net opening
     with_card row there d at' same card =
         let one : card.sub ≡ s.sub = one_subscriber set.rows card.sub s.sub card.row row are card.there there (sym card.imsi ∙ same_is d.imsi row.imsi same) in
-        let sizes = of.pseudonyms.sizes in
+        let sizes = of.names.sizes in
         let place = slice_get_within net.devices s.device d at' in
         let inside : s.device < length net.stores = omega arith in
         let keeps = get_or net.stores s.device nothing_kept in
@@ -227,8 +230,10 @@ new_is_ready set net subs opening s are suited of found new = by (slice_get set.
             subscribed = ap (subscription_at set) (sym one) ∙ card.is;
             keeps = keeps;
             stored = slice_get-get_or net.stores s.device nothing_kept inside;
-            pseudonym = of.pseudonyms.stores s.device nothing_kept inside opening.method;
+            pseudonym = (of.names.stores s.device nothing_kept inside opening.method).0;
+            context = (of.names.stores s.device nothing_kept inside opening.method).1;
             held = home_is_held s.sub net.homes ∙ ap (is_among s.sub) of.homes ∙ ap (λ (n : ℕ). is_among n subs) (sym one) ∙ card.held;
+            sized = of.sized;
           };
           own = ap (λ (x : Session). x.sub) new.is;
         }
@@ -245,12 +250,16 @@ new_is_ready set net subs opening s are suited of found new = by (slice_get set.
     by None there first = let no = sym (ap (place_with net.devices) there) ∙ first in let bad : ⊥ = cc in absurd bad
     by (Some row) there first = placed row there (sym (ap (place_with net.devices) there) ∙ first)
 
--- an open session of a number whose sessions are new is ready
-pub open_is_ready : (set : Setting) (net : Net) (subs : List ℕ) (opening : SessionLine) (s : Session) → AreSubscribers set.rows → IsSuited set.rows opening → IsOfSubs set subs net
-    → session_of net opening.session ≡ Some s → AreNew set.rows net.devices opening net.sessions → IsReadyFor set net opening
-open_is_ready set net subs opening s are suited of found new =
+-- an open session of a number whose sessions are new is new
+pub found_is_new : (set : Setting) (net : Net) (opening : SessionLine) (s : Session) → session_of net opening.session ≡ Some s → AreNew set.rows net.devices opening net.sessions
+    → IsNew set.rows net.devices opening s
+found_is_new set net opening s found new =
     let (i, there, has) = found_has_number net opening.session s found in
     let inside = slice_get_within net.sessions i s there in
     let is = get_or_from_slice_get net.sessions i s s there in
-    new_is_ready set net subs opening s are suited of found
-    (subst (λ (x : Session). IsNew set.rows net.devices opening x) is (new i s inside (ap (λ (x : Session). x.number == opening.session) is ∙ has)))
+    subst (λ (x : Session). IsNew set.rows net.devices opening x) is (new i s inside (ap (λ (x : Session). x.number == opening.session) is ∙ has))
+
+-- so it is ready
+pub open_is_ready : (set : Setting) (net : Net) (subs : List ℕ) (opening : SessionLine) (s : Session) → AreSubscribers set.rows → IsSuited set.rows opening → IsOfSubs set subs net
+    → session_of net opening.session ≡ Some s → AreNew set.rows net.devices opening net.sessions → IsReadyFor set net opening
+open_is_ready set net subs opening s are suited of found new = new_is_ready set net subs opening s are suited of found (found_is_new set net opening s found new)

@@ -111,7 +111,7 @@ given_answered set place sub n row answer true is there given present =
     record { row = row; there = there; released = released_before place sub n is; answers = given }
 
 -- the lines before what comes after some lines of the same job
-all_behind : (place : Before) (front : List LineRecord) → all_before (behind place front) ≡ all_before place ++ front
+pub all_behind : (place : Before) (front : List LineRecord) → all_before (behind place front) ≡ all_before place ++ front
 all_behind place front = sym (append_assoc (place.early ++ place.beside) place.own front)
 
 -- some lines, and what comes after them

@@ -70,7 +70,7 @@ differs s number another has apart = by (s.number == number) refl
 -- ---- what an event does to sessions
 
 -- a session of a number became another one of this number
-record IsTurn (xs ys : List Session) (number : ℕ) : Type 0 where
+pub record IsTurn (xs ys : List Session) (number : ℕ) : Type 0 where
   pub place : ℕ
   pub old : Session
   pub new : Session
@@ -80,7 +80,7 @@ record IsTurn (xs ys : List Session) (number : ℕ) : Type 0 where
   pub is : ys ≡ slice_set xs place new
 
 -- an event of a session: at most a session of its number changes
-record IsMove (w next : Net) (number : ℕ) : Type 0 where
+pub record IsMove (w next : Net) (number : ℕ) : Type 0 where
   pub sessions : (next.sessions ≡ w.sessions) ⊎ IsTurn w.sessions next.sessions number
   pub devices : next.devices ≡ w.devices
   pub homes : AreOfSame w.homes next.homes
@@ -89,7 +89,7 @@ nothing_moves : (w : Net) (number : ℕ) → IsMove w w number
 nothing_moves w number = record { sessions = inl refl; devices = refl; homes = refl }
 
 -- a session stands at a place under a number
-record Stands (w : Net) (number place : ℕ) (s : Session) : Type 0 where
+pub record Stands (w : Net) (number place : ℕ) (s : Session) : Type 0 where
   pub there : slice_get w.sessions place ≡ Some s
   pub numbered : has_number number s ≡ true
 
@@ -107,7 +107,7 @@ peer_moves w number place s p did st = record {
   homes = refl;
 }
 
-start_moves : (w : Net) (number place : ℕ) (s : Session) (o : Option ServerEnd) → Stands w number place s → IsMove w (start w place s o) number
+pub start_moves : (w : Net) (number place : ℕ) (s : Session) (o : Option ServerEnd) → Stands w number place s → IsMove w (start w place s o) number
 start_moves w number place s None st = server_moves w number place s [] (started s.options) (step.Sent (started s.options).last) st
 start_moves w number place s (Some q) st = nothing_moves w number
 
@@ -127,7 +127,7 @@ over_moves w number end.Peer place s st = peer_moves w number place s (peer_gave
 at_first : (w : Net) (number place : ℕ) (s : Session) → session_place w.sessions number ≡ Some place → slice_get w.sessions place ≡ Some s → Stands w number place s
 at_first w number place s first there = record { there = there; numbered = passes_first (has_number number) w.sessions place s (record { first = first; there = there }) }
 
-at_moves : (w : Net) (number : ℕ) (does : ℕ → Session → Net) → ((place : ℕ) (s : Session) → Stands w number place s → IsMove w (does place s) number)
+pub at_moves : (w : Net) (number : ℕ) (does : ℕ → Session → Net) → ((place : ℕ) (s : Session) → Stands w number place s → IsMove w (does place s) number)
     → IsMove w (at_place w does (session_place w.sessions number)) number
 at_moves w number does each = by (session_place w.sessions number) refl
   where
@@ -139,20 +139,20 @@ at_moves w number does each = by (session_place w.sessions number) refl
     by None first = nothing_moves w number
     by (Some place) first = inside place first (slice_get w.sessions place) refl
 
-delivery_moves : (set : Setting) (w : Net) (number : ℕ) (at' : End) (told : Told) (packet : ℕ) → IsMove w (delivered set w at' told (delivery_at w packet (session_place w.sessions number))) number
+pub delivery_moves : (set : Setting) (w : Net) (number : ℕ) (at' : End) (told : Told) (packet : ℕ) → IsMove w (delivered set w at' told (delivery_at w packet (session_place w.sessions number))) number
 delivery_moves set w number at' told packet = by (session_place w.sessions number) refl
   where
     to_server_moves : (d : Delivery) (o : Option ServerEnd) → Stands w number d.place d.session → IsMove w (to_server set w d told o) number
     to_server_moves d None st = nothing_moves w number
     to_server_moves d (Some q) st =
         let turn = server_turn set w q told in
-        let m = server_moves w number d.place d.session (released_by (asking (server_row set w.homes q told.seen)) turn.1.notes.number) turn.0 turn.1.step st in
-        record { sessions = m.sessions; devices = m.devices; homes = turn_subs set w.homes q told.seen told.notes }
+        let m = server_moves w number d.place d.session (released_by (asking (server_row set w.homes q told.seen told.reply)) turn.1.notes.number) turn.0 turn.1.step st in
+        record { sessions = m.sessions; devices = m.devices; homes = turn_subs set w.homes q told.seen told.reply told.notes }
 
-    to_peer_moves : (d : Delivery) (o : Option Subscription) → Stands w number d.place d.session → IsMove w (to_peer w d told o) number
+    to_peer_moves : (d : Delivery) (o : Option Subscription) → Stands w number d.place d.session → IsMove w (to_peer set w d told o) number
     to_peer_moves d None st = nothing_moves w number
     to_peer_moves d (Some device) st =
-        let turn = peer_turn device (keeps_at w d.session.device) d.session told in
+        let turn = peer_turn set device (keeps_at w d.session.device) d.session told in
         let m = peer_moves w number d.place d.session turn.0 turn.1.step st in record { sessions = m.sessions; devices = m.devices; homes = m.homes }
 
     nowhere : (e : End) → IsMove w (delivered set w e told None) number

@@ -91,7 +91,7 @@ one_row rows i j a b are there also same =
     ]
 
 -- the devices with which a job begins have their subscribers' secrets
-job_has_secrets : (set : Setting) (kept : List Kept) (job : List Line) → AreSubscribers set.rows → HaveSecrets set (start_of set kept job).devices
+pub job_has_secrets : (set : Setting) (kept : List Kept) (job : List Line) → AreSubscribers set.rows → HaveSecrets set (start_of set kept job).devices
 job_has_secrets set kept job are sub place device row found there known =
     let devices = flat_map (subscription_at set) (held_subs job) in
     let at' = ap (place_with devices) (sym known) ∙ found in
@@ -208,7 +208,7 @@ quiet_walks set place w next lines none is stands = record {
   });
 }
 
-draw_quiet : (set : Setting) (sub count : ℕ) (lines : List LineRecord) → DrawGives set sub count lines → All IsOutsideSessions lines
+pub draw_quiet : (set : Setting) (sub count : ℕ) (lines : List LineRecord) → DrawGives set sub count lines → All IsOutsideSessions lines
 draw_quiet set sub zero lines gives = subst (All IsOutsideSessions) (sym gives) (All-nil IsOutsideSessions)
 draw_quiet set sub (suc count) [] gives = absurd gives
 draw_quiet set sub (suc count) (Vector s m ∷ lines) (same, is, more) = All-cons IsOutsideSessions (Vector s m) lines tt (draw_quiet set sub count lines more)
@@ -220,7 +220,7 @@ draw_quiet set sub (suc count) (Sync s answer ∷ lines) gives = absurd gives
 draw_quiet set sub (suc count) (Give s n answer ∷ lines) gives = absurd gives
 draw_quiet set sub (suc count) (Event r ∷ lines) gives = absurd gives
 
-follows_quiet : (set : Setting) (sub count : ℕ) (answer : SyncVerdict) (lines : List LineRecord) → VectorsFollow set sub count answer lines → All IsOutsideSessions lines
+pub follows_quiet : (set : Setting) (sub count : ℕ) (answer : SyncVerdict) (lines : List LineRecord) → VectorsFollow set sub count answer lines → All IsOutsideSessions lines
 follows_quiet set sub count (verdict.Moved seen seq_ms) lines follows = draw_quiet set sub count lines follows
 follows_quiet set sub count (verdict.InRange seen seq_ms) lines follows = draw_quiet set sub count lines follows
 follows_quiet set sub count (verdict.Beyond seen seq_ms) lines follows = subst (All IsOutsideSessions) (sym follows) (All-nil IsOutsideSessions)

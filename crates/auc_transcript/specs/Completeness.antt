@@ -1,21 +1,32 @@
 -- Completeness of plain sessions in whole transcripts: a session that has its `plain` line and no other event line ends in
 -- Success at both ends under the same keys, unless a record of it tells why not (RFC 4187 §3, RFC 9048 §3).
-use Rattle.std.specs.Prelude.{◌≡◌, ◌≢◌, ℕ, ◌≤◌, ◌==◌, Bool, true, false, if◌then◌else◌, List, [], ◌∷◌, ◌++◌, length, filter, All, Contains, Option, Some, None, slice_get}
+use Rattle.std.specs.Prelude.{◌≡◌, ◌≢◌, ℕ, ◌==◌, Bool, true, false, if◌then◌else◌, List, [], ◌∷◌, ◌++◌, filter, map, All, Contains, Option, Some, None, slice_get}
 use Rattle.std.specs.Option.{option_or}
 use Rattle.auc_edge.specs.declared.stop.Stop.{Stop}
+use Rattle.auc_lines.specs.Part.{IsShortIdentity}
 use Rattle.auc_lines.specs.declared.part.Line.{Line}
 use Rattle.auc_lines.specs.declared.part.Line.TheVariants as line
 use Rattle.auc_lines.specs.declared.part.Part.{Part}
 use Rattle.auc_lines.specs.declared.part.Part.TheVariants.{Round, Restart}
 use Rattle.auc_lines.specs.declared.part.SessionLine.{SessionLine}
+use Rattle.auc_reauth.specs.Device.{Keeps}
+use Rattle.auc_reauth.specs.declared.context.Context.{Context}
 use Rattle.auc_subs.specs.Subscriber.{AreSubscribers}
 use Rattle.auc_subs.specs.declared.row.Row.{Row}
+use Rattle.auc_server.specs.declared.server.Resumed.{Resumed}
+use Rattle.auc_world.specs.Agreement.{IsRealm}
+use Rattle.auc_world.specs.Came.{session_of}
+use Rattle.auc_world.specs.Given.{Before, JobGives}
+use Rattle.auc_world.specs.Lines.{all_lines}
 use Rattle.auc_world.specs.Net.{Net}
-use Rattle.auc_world.specs.Plain.{EndsSuit, Succeeds, TellNoCause}
+use Rattle.auc_world.specs.Plain.{EndsSuit, HasResumed, HasSameContext, Succeeds, TellNoCause}
 use Rattle.auc_world.specs.Setting.{Setting}
+use Rattle.auc_world.specs.Start.{Kept, fresh_kept, kept_by_jobs, start_of}
 use Rattle.auc_world.specs.Transcript.{IsLawful}
+use Rattle.auc_world.specs.World.{IsName}
 use Rattle.auc_world.specs.declared.event.Event.{Event as Happens}
 use Rattle.auc_world.specs.declared.event.Event.TheVariants as event
+use Rattle.auc_world.specs.declared.net.Session.{Session}
 use Rattle.auc_world.specs.declared.record.LineRecord.{LineRecord}
 use Rattle.auc_world.specs.declared.record.LineRecord.TheVariants.{Vector, Withheld, Exhausted, Sync, Give, Event}
 use Rattle.auc_world.specs.declared.record.PartRecord.{PartRecord}
@@ -69,6 +80,26 @@ pub record IsOnlyEvent (rows : List Row) (front : List Line) (session : ℕ) (ba
   pub first : All (λ l. session_named l ≢ Some session) front
   pub last : All (λ l. session_named l ≢ Some session) back
 
+-- a plain line between some lines of its job is its session's only event line, and a line before it opens the session for a
+-- subscriber that there is, with a network's name and a first identity that aren't too long; whatever its other options are
+pub record IsAlone (rows : List Row) (front : List Line) (session : ℕ) (back : List Line) : Type 0 where
+  pub opening : SessionLine
+  pub opened : opening_in session front ≡ Some opening
+  pub row : Row
+  pub known : slice_get rows opening.sub ≡ Some row
+  pub name : IsName opening.name
+  pub identity : IsShortIdentity opening.identity
+  pub first : All (λ l. session_named l ≢ Some session) front
+  pub last : All (λ l. session_named l ≢ Some session) back
+
+-- the device of an open session has a context, with the same counter
+pub record HasContext (net : Net) (session : ℕ) (c : Context) : Type 0 where
+  pub own : Session
+  pub is : session_of net session ≡ Some own
+  pub keeps : Keeps
+  pub stored : slice_get net.stores own.device ≡ Some keeps
+  pub same : HasSameContext own.options.method keeps c
+
 -- ---- the records of a session
 
 -- the session in which an event happens
@@ -101,6 +132,35 @@ PlainSessionsSucceed rows verdicts job records net = (front back : List Line) (s
     → (only : IsOnlyEvent rows front session back) → TellNoCause only.opening.sub 1 (records_of session records)
     → Succeeds net session × Contains verdicts (record { session = session; agree = true })
 
+-- a plain session whose server takes up a context again succeeds too, if its device has that context when the line begins, with
+-- the same counter
+abbrev pub ResumedSessionsSucceed : Setting → List SessionVerdict → Before → Net → List Line → List LineRecord → Net → Type 0
+ResumedSessionsSucceed set verdicts before start job records net =
+    (front back : List Line) (session : ℕ) (early late : List LineRecord) (mid : Net) (r : Resumed)
+    → job ≡ front ++ line.Plain session ∷ back → records ≡ early ++ late → JobGives set before start front early mid
+    → IsAlone set.rows front session back → HasResumed net session r → HasContext mid session r.context
+    → Succeeds net session × Contains verdicts (record { session = session; agree = true })
+
+-- those of the jobs of a round, by the lines of earlier rounds and of earlier jobs
+abbrev pub EachJobResumes : Setting → List SessionVerdict → List LineRecord → List Kept → List LineRecord → List (List Line) → List (List LineRecord) → List Net → Type 0
+EachJobResumes set verdicts early kept beside [] [] [] = Unit {0}
+EachJobResumes set verdicts early kept beside (job ∷ jobs) (lines ∷ records) (net ∷ nets) =
+    ResumedSessionsSucceed set verdicts (record { early = early; beside = beside; own = [] }) (start_of set kept job) job lines net
+    × EachJobResumes set verdicts early kept (beside ++ lines) jobs records nets
+EachJobResumes set verdicts early kept beside jobs records nets = ⊥
+
+-- those of the rounds of a transcript, after the lines of earlier rounds and with what these left at homes and on devices
+abbrev pub ResumedSessionsAgreeAfter : Setting → List LineRecord → List Kept → List Part → List PartRecord → List (List Net) → Type 0
+ResumedSessionsAgreeAfter set early kept [] records nets = Unit {0}
+ResumedSessionsAgreeAfter set early kept (Round jobs ∷ parts) (record_of.Round round ∷ records) (first ∷ nets) =
+    EachJobResumes set round.sessions early kept [] jobs round.jobs first
+    × ResumedSessionsAgreeAfter set (early ++ all_lines round.jobs) (kept_by_jobs kept first) parts records nets
+ResumedSessionsAgreeAfter set early kept (Restart ∷ parts) (record_of.Restart ∷ records) nets = ResumedSessionsAgreeAfter set early kept parts records nets
+ResumedSessionsAgreeAfter set early kept (part ∷ parts) records nets = ⊥
+
+abbrev pub ResumedSessionsAgree : Setting → List Part → List PartRecord → List (List Net) → Type 0
+ResumedSessionsAgree set parts records nets = ResumedSessionsAgreeAfter set [] (map (λ row. fresh_kept) set.rows) parts records nets
+
 -- those of each job of a round, with the job's records and its last network
 abbrev pub EachJobSucceeds : List Row → List SessionVerdict → List (List Line) → List (List LineRecord) → List Net → Type 0
 EachJobSucceeds rows verdicts [] [] [] = Unit {0}
@@ -121,5 +181,11 @@ PlainSessionsAgree rows (part ∷ parts) records nets = ⊥
 abbrev pub EachPlainSessionAgrees : Type 0
 EachPlainSessionAgrees =
     (set : Setting) (reserved : List ℕ) (stop : Option Stop) (parts : List Part) (records : List PartRecord) (nets : List (List Net))
-    → AreSubscribers set.rows → length set.realm ≤ 255 → IsLawful set reserved stop parts records → AreNets set parts records nets
+    → AreSubscribers set.rows → IsRealm set.realm → IsLawful set reserved stop parts records → AreNets set parts records nets
     → PlainSessionsAgree set.rows parts records nets
+
+abbrev pub EachResumedSessionAgrees : Type 0
+EachResumedSessionAgrees =
+    (set : Setting) (reserved : List ℕ) (stop : Option Stop) (parts : List Part) (records : List PartRecord) (nets : List (List Net))
+    → AreSubscribers set.rows → IsRealm set.realm → IsLawful set reserved stop parts records → AreNets set parts records nets
+    → ResumedSessionsAgree set parts records nets

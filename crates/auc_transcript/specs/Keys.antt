@@ -1,12 +1,15 @@
 -- The two ends of an authentication have equal keys, in whichever jobs and rounds they are, if the premise of equal keys
 -- held; and what the records of rounds tell of the premise.
-use Rattle.std.specs.Prelude.{◌≡◌, ◌↔◌, ℕ, List, [], ◌∷◌, ◌++◌, Option, None, map, All, Contains}
+use Rattle.std.specs.Prelude.{◌≡◌, ◌↔◌, ◌<◌, ℕ, true, List, [], ◌∷◌, ◌++◌, Option, None, length, map, All, AllPairs, Contains}
+use Rattle.auc_aes.specs.Bytes.{IsBlock}
 use Rattle.auc_edge.specs.declared.stop.Stop.{Stop}
 use Rattle.auc_hmac.specs.declared.keys.KeySet.{KeySet}
+use Rattle.auc_lines.specs.Part.{AreApart, holds}
+use Rattle.auc_lines.specs.declared.part.Line.{Line}
 use Rattle.auc_lines.specs.declared.part.Part.{Part}
 use Rattle.auc_lines.specs.declared.part.Part.TheVariants.{Round, Restart}
 use Rattle.auc_subs.specs.Subscriber.{AreSubscribers}
-use Rattle.auc_world.specs.Agreement.{AreOfOneChallenge, PeerWon, ServerWon}
+use Rattle.auc_world.specs.Agreement.{AreOfOne, IsRealm, PeerWon, ServerWon}
 use Rattle.auc_world.specs.Given.{JobsGive}
 use Rattle.auc_world.specs.Lines.{all_lines}
 use Rattle.auc_world.specs.Net.{Net}
@@ -36,6 +39,16 @@ AreNetsAfter set early kept (part ∷ parts) records nets = ⊥
 abbrev pub AreNets : Setting → List Part → List PartRecord → List (List Net) → Type 0
 AreNets set parts records nets = AreNetsAfter set [] (map (λ row. fresh_kept) set.rows) parts records nets
 
+-- the jobs of a round hold the USIMs of so many subscribers alone, and no two of them hold one
+pub record AreHeldApart (count : ℕ) (jobs : List (List Line)) : Type 0 where
+  pub known : All (λ job. (sub : ℕ) → holds sub job ≡ true → sub < count) jobs
+  pub apart : AllPairs AreApart jobs
+
+-- a part of a scenario: such a round, or a restart
+abbrev pub IsHeldApart : ℕ → Part → Type 0
+IsHeldApart count (Round jobs) = AreHeldApart count jobs
+IsHeldApart count Restart = Unit {0}
+
 -- ---- keys
 
 -- a session of a job in which the premise of equal keys held: no delivery broke it
@@ -47,15 +60,17 @@ pub record IsOfUnbrokenJob (nets : List (List Net)) (a : Session) : Type 0 where
   pub is_in : Contains net.sessions a
   pub unbroken : net.broken ≡ None
 
--- a server and a peer that ended in Success over one challenge have equal keys, if the premise held in the jobs of both
+-- a server and a peer that ended in Success over one challenge or in one fast re-authentication have equal keys, if the premise
+-- held in the jobs of both
 abbrev pub EndsAgree : List (List Net) → Type 0
 EndsAgree nets = (a b : Session) (k l : KeySet) (i j : Inputs) → IsOfUnbrokenJob nets a → IsOfUnbrokenJob nets b
-    → ServerWon a k i → PeerWon b l j → AreOfOneChallenge i j → k ≡ l
+    → ServerWon a k i → PeerWon b l j → AreOfOne i j → k ≡ l
 
 abbrev pub EachAuthenticationAgrees : Type 0
 EachAuthenticationAgrees =
     (set : Setting) (reserved : List ℕ) (stop : Option Stop) (parts : List Part) (records : List PartRecord) (nets : List (List Net))
-    → AreSubscribers set.rows → IsLawful set reserved stop parts records → AreNets set parts records nets → EndsAgree nets
+    → AreSubscribers set.rows → IsRealm set.realm → IsBlock set.names → All (IsHeldApart (length set.rows)) parts → IsLawful set reserved stop parts records
+    → AreNets set parts records nets → EndsAgree nets
 
 -- ---- what is told of the premise
 

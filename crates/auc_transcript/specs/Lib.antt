@@ -1,4 +1,5 @@
 pub mod Completeness
+pub mod Counters
 pub mod Headline
 pub mod Keys
 pub mod OneTold

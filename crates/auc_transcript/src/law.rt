@@ -1,6 +1,7 @@
 //! Laws of every lawful transcript.
 
-ghost use Rattle.auc_transcript.specs.Completeness.{EachPlainSessionAgrees};
+ghost use Rattle.auc_transcript.specs.Completeness.{EachPlainSessionAgrees, EachResumedSessionAgrees};
+ghost use Rattle.auc_transcript.specs.Counters.{EachTranscriptKeepsContexts};
 ghost use Rattle.auc_transcript.specs.Headline.{EachTranscriptKeepsNumbersApart, EachTranscriptMayRestart, EachUsimAcceptsNoneTwice, EachFailureIsByPlace, EachSqnOutsideSessionsIsGenuine};
 ghost use Rattle.auc_transcript.specs.Keys.{EachAuthenticationAgrees, EachBreachIsTold, EachTranscriptHasItsNets};
 ghost use Rattle.auc_transcript.specs.OneTold.{EachToldTranscriptIsOne};
@@ -9,17 +10,28 @@ ghost use Rattle.auc_transcript.specs.Presented.{EachFailureInSessionsIsByPlace,
 ghost use Rattle.auc_transcript.specs.Rounds.{EachFailureInRoundsIsByPlace, EachSqnInRoundsIsGenuine};
 
 use auc_attr::bytes_have_one_reading_or_one_fault;
-use auc_packet::equal_bytes_are_received_alike;
-use auc_peer::{
-    each_turn_keeps_the_keys_of_its_inputs as each_peer_keeps_its_keys,
-    each_turn_keeps_what_keys_are_made_from,
+use auc_ident::each_name_is_given_once;
+use auc_packet::{
+    equal_bytes_are_received_alike, sealed_messages_are_read, written_packets_are_read,
 };
-use auc_seal::opening_has_one_answer;
+use auc_peer::{
+    each_turn_keeps_contexts_of_the_method,
+    each_turn_keeps_the_keys_of_its_inputs as each_peer_keeps_its_keys,
+    each_turn_keeps_what_keys_are_made_from, each_turn_leaves_the_other_method,
+    each_turn_moves_at_most_one_context,
+};
+use auc_reauth::{no_counter_is_used_twice, no_identity_is_resumed_twice};
+use auc_seal::{
+    encrypted_attributes_are_decrypted, encrypted_attributes_may_be_written, opening_has_one_answer,
+};
 use auc_server::{
     each_turn_keeps_the_challenge_or_sends_one, each_turn_keeps_the_keys_of_its_inputs,
+    no_turn_gives_an_ordinal_back,
 };
 use auc_vector::each_autn_carries_the_sqn_of_its_number;
-use auc_world::each_plain_session_succeeds;
+use auc_world::{
+    each_event_moves_contexts_once, each_plain_session_succeeds, each_resumed_session_succeeds,
+};
 
 /// No two vectors of a subscriber carry the same SQN, in whichever rounds and jobs they were released, and
 /// whatever restarts are between.
@@ -88,8 +100,8 @@ pub fn each_told_transcript_is_one()
     opening_has_one_answer();
 }
 
-/// A server and a peer that ended in Success over one challenge have equal keys, by whichever method and in whichever
-/// jobs and rounds they are, if no delivery broke the premise in the jobs of both.
+/// A server and a peer that ended in Success over one challenge or in one fast re-authentication have equal keys, by whichever
+/// method and in whichever jobs and rounds they are, if no delivery broke the premise in the jobs of both.
 pub fn each_authentication_agrees()
     ensures { EachAuthenticationAgrees }
 {
@@ -98,6 +110,29 @@ pub fn each_authentication_agrees()
     each_turn_keeps_the_challenge_or_sends_one();
     each_turn_keeps_the_keys_of_its_inputs();
     each_autn_carries_the_sqn_of_its_number();
+    equal_bytes_are_received_alike();
+    written_packets_are_read();
+    sealed_messages_are_read();
+    encrypted_attributes_may_be_written();
+    encrypted_attributes_are_decrypted();
+    each_transcript_keeps_contexts();
+}
+
+/// Whatever was lost, repeated, delivered out of order or to another session: no server resumes a counter twice under the keys of one
+/// full authentication, and no device accepts one twice (RFC 4187 §5.1); no identity is resumed twice, and a peer accepts a
+/// re-authentication only under the identity of its device's context (RFC 4187 §5.3).
+pub fn each_transcript_keeps_contexts()
+    ensures { EachTranscriptKeepsContexts }
+{
+    no_counter_is_used_twice();
+    no_identity_is_resumed_twice();
+    each_name_is_given_once();
+    no_turn_gives_an_ordinal_back();
+    each_event_moves_contexts_once();
+    each_turn_moves_at_most_one_context();
+    each_turn_keeps_contexts_of_the_method();
+    each_turn_leaves_the_other_method();
+    each_turn_keeps_what_keys_are_made_from();
 }
 
 /// A lawful transcript leads to networks of its jobs' sessions, and to no others. Each round tells of a breach
@@ -125,4 +160,16 @@ pub fn each_plain_session_agrees()
     equal_bytes_are_received_alike();
     opening_has_one_answer();
     each_plain_session_succeeds();
+}
+
+/// A session that has its `plain` line and no other event line, and whose server takes up a context again, ends in Success at both
+/// ends under the same keys, and its round says that they agree, if its device has that context with the same counter when the
+/// line begins (RFC 4187 §5).
+pub fn each_resumed_session_agrees()
+    ensures { EachResumedSessionAgrees }
+{
+    bytes_have_one_reading_or_one_fault();
+    equal_bytes_are_received_alike();
+    opening_has_one_answer();
+    each_resumed_session_succeeds();
 }

@@ -3,8 +3,9 @@
 //!
 //! [`vector`] makes the [`Vector`] of a number with a RAND under a secret. For EAP-AKA' it has CK' and IK' in the place of CK
 //! and IK, bound to the network's name, as [`keys_by`] makes them (RFC 9048 §3.3); [`keys_of`] makes the keys of a full
-//! authentication by either method. For many vectors of one subscriber for EAP-AKA, [`Vectors`] makes them with one key
-//! schedule and one generator. [`read_auts`] reads a USIM's AUTS.
+//! authentication by either method, [`master_of`] and [`reauth_keys`] those of the fast re-authentications after it. For
+//! many vectors of one subscriber for EAP-AKA, [`Vectors`] makes them with one key schedule and one generator.
+//! [`read_auts`] reads a USIM's AUTS.
 //!
 //! A [`Centre`] gives numbers and resynchronises them; its ghost members say which entries of a subscriber's history
 //! each call made. [`CoreCentre`] is the one over the pure core. [`ask`] and [`report`] call a centre and note its answer;
@@ -33,7 +34,7 @@ pub use asking::{ask, report};
 pub use auts::{Auts, read_auts};
 pub use centre::{Centre, CentreRefusal, Resynced};
 pub use core_centre::CoreCentre;
-pub use keys::{keys_by, keys_of};
+pub use keys::{keys_by, keys_of, master_of, reauth_keys};
 pub use law::{
     each_autn_carries_the_sqn_of_its_number, each_autn_has_the_mac_of_its_sqn,
     each_auts_is_read_back,

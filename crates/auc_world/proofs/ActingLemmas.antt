@@ -10,13 +10,13 @@ use Rattle.auc_peer.specs.declared.peer.PeerState.{PeerState}
 use Rattle.auc_peer.specs.declared.peer.PeerState.TheVariants as peer_state
 use Rattle.auc_peer.specs.declared.why.PeerWhy.{PeerWhy}
 use Rattle.auc_server.specs.Server.{ServerEnd, started}
-use Rattle.auc_server.specs.Steps.{IsHeld}
 use Rattle.auc_server.specs.Table.{gave_up as server_gave_up, repeated, silent}
 use Rattle.auc_server.specs.declared.server.ServerState.{ServerState}
 use Rattle.auc_server.specs.declared.server.ServerState.TheVariants as state
 use Rattle.auc_server.specs.declared.why.ServerWhy.{ServerWhy}
 use Rattle.auc_vector.specs.declared.turn.Step.{Step}
 use Rattle.auc_vector.specs.declared.turn.Step.TheVariants as step
+use Rattle.auc_world.proofs.FitLemmas.{gave_up_held, started_fits}
 use Rattle.auc_world.proofs.WorldLemmas.{stays}
 use Rattle.auc_world.specs.Came.{by_peer, by_server, came_repeated, came_started, packet_number, server_came_to_give_up}
 use Rattle.auc_world.specs.Happened.{keys_won, repeat, sent_by, server_gives_up, start, with_peer, with_server}
@@ -99,7 +99,7 @@ starts packets sent session s bytes packet n none is_s is_bytes is_sent is_packe
           ap (start w place session) is ∙ served w place packets session at' (started session.options) first ∙ changed;
       number = refl;
       options = refl;
-      held = λ homes held. subst (λ (t : ServerEnd). IsHeld homes t.challenged) (sym is_s) tt;
+      held = λ homes held. subst (λ (t : ServerEnd). HasHeld homes (Some t)) (sym is_s) (tt, tt, started_fits session.options);
     }
 
 -- ---- a server repeats its last request
@@ -138,16 +138,8 @@ gives_nothing s state.AwaitAny = refl
 gives_nothing s state.AwaitFull = refl
 gives_nothing s state.AwaitPermanent = refl
 gives_nothing s state.AwaitChallenge = refl
+gives_nothing s state.AwaitReauth = refl
 gives_nothing s (state.Notifying cause) = refl
-
-keeps_challenge : (s : ServerEnd) (now : ServerState) → (server_gave_up s now).0.challenged ≡ s.challenged
-keeps_challenge s (state.Ended result) = refl
-keeps_challenge s state.AwaitIdentity = refl
-keeps_challenge s state.AwaitAny = refl
-keeps_challenge s state.AwaitFull = refl
-keeps_challenge s state.AwaitPermanent = refl
-keeps_challenge s state.AwaitChallenge = refl
-keeps_challenge s (state.Notifying cause) = refl
 
 pub nobody_gives_up : (packets : List SentPacket) (session : Session) → session.server ≡ None → Acts (deed.GiveUp end.Server) packets session packets session (Err refused.NoSuchEnd)
 nobody_gives_up packets session is = record {
@@ -169,8 +161,7 @@ server_gives_up_now packets session s new what n is turn is_n = record {
       ∙ ap (λ (x : Option (List ℕ)). with_session w place (posted packets end.Server (inputs_of_server new) x) (record session { server = Some new })) silence;
   number = refl;
   options = refl;
-  held = λ homes held. subst (λ c. IsHeld homes c) (sym (keeps_challenge s s.state) ∙ ap (λ (x : ServerEnd × Step ServerWhy). x.0.challenged) (sym turn))
-      (subst (HasHeld homes) is held);
+  held = λ homes held. subst (λ (x : ServerEnd × Step ServerWhy). HasHeld homes (Some x.0)) (sym turn) (gave_up_held homes s s.state (subst (HasHeld homes) is held));
 }
   where
     silence : sent_by what ≡ None

@@ -7,7 +7,7 @@ use Rattle.auc_hmac.specs.declared.keys.KeySet.{KeySet}
 use Rattle.auc_milenage.specs.Milenage.{f3, f4}
 use Rattle.auc_milenage.specs.declared.secret.Secret.{Secret}
 use Rattle.auc_peer.specs.Laws as peer_laws
-use Rattle.auc_peer.specs.Laws.{keys_of_inputs}
+use Rattle.auc_peer.specs.Laws.{AreOf, keys_of_inputs}
 use Rattle.auc_peer.specs.Subscription.{Subscription}
 use Rattle.auc_peer.specs.Table.{in_state, text_or_none, gave_up as peer_gave_up}
 use Rattle.auc_peer.specs.declared.peer.Challenge.{Challenge}
@@ -16,6 +16,7 @@ use Rattle.auc_peer.specs.declared.peer.PeerState.{PeerState}
 use Rattle.auc_peer.specs.declared.peer.PeerState.TheVariants as peer_state
 use Rattle.auc_peer.specs.declared.why.PeerWhy.{PeerWhy}
 use Rattle.auc_peer.specs.declared.why.PeerWhy.TheVariants as peer_why
+use Rattle.auc_reauth.specs.declared.context.Context.{Context}
 use Rattle.auc_server.specs.Laws.{EachTurnFits, EachTurnKeepsOrChallenges, Fits, KeepsChallenge, SendsChallenge, awaits_identity}
 use Rattle.auc_server.proofs.Facts.{turn_options}
 use Rattle.auc_server.specs.Rows.{server_row}
@@ -25,6 +26,7 @@ use Rattle.auc_server.specs.Steps.{asking}
 use Rattle.auc_server.specs.Table.{challenge_of, gave_up, repeated, vector_at, vector_of_row}
 use Rattle.auc_server.specs.declared.options.ServerOptions.{ServerOptions}
 use Rattle.auc_server.specs.declared.server.Challenged.{Challenged}
+use Rattle.auc_server.specs.declared.server.Resumed.{Resumed}
 use Rattle.auc_server.specs.declared.server.ServerState.{ServerState}
 use Rattle.auc_server.specs.declared.server.ServerState.TheVariants as state
 use Rattle.auc_server.specs.declared.why.ServerWhy.{ServerWhy}
@@ -41,7 +43,7 @@ use Rattle.auc_vector.specs.declared.turn.Outcome.{Outcome}
 use Rattle.auc_vector.specs.declared.turn.Outcome.TheVariants as outcome
 use Rattle.auc_vector.specs.declared.turn.Step.{Step}
 use Rattle.auc_vector.specs.declared.turn.Step.TheVariants as step
-use Rattle.auc_world.specs.Agreement.{Agree, AreOfOneChallenge, AreReleasedOnce, EachHonestRunAgrees, Happening, HaveSecrets, IsFresh, IsHonest, IsHonestAt, IsHonestFinding, Noted, Occurs, after, after_one}
+use Rattle.auc_world.specs.Agreement.{AreOfOneChallenge, AreReleasedOnce, Happening, HaveSecrets, IsFresh, IsHonest, IsHonestAt, IsHonestFinding, Noted, Occurs, PeerWon, ServerWon, after, after_one}
 use Rattle.auc_world.specs.Happened.{Delivery, Told, at_place, at_session, delivered, delivery_at, delivery_of, found, found_by, give_up, in_session, keys_won, moved, opened, peer_finds, peer_turn, released_by, repeat, sent_by, server_gives_up, server_turn, start, to_peer, to_server, with_peer, with_server}
 use Rattle.auc_world.specs.Net.{Net, device_place, inputs_accepted, inputs_of_peer, inputs_of_server, inputs_sent, keeps_at, packet_at, posted, session_place}
 use Rattle.auc_lines.specs.declared.part.SessionLine.{SessionLine}
@@ -49,11 +51,13 @@ use Rattle.auc_lines.specs.declared.part.End.{End}
 use Rattle.auc_lines.specs.declared.part.End.TheVariants as end
 use Rattle.auc_world.specs.declared.event.Event.{Event}
 use Rattle.auc_world.specs.declared.event.Event.TheVariants as event
+use Rattle.auc_world.specs.declared.net.FullInputs.{FullInputs}
 use Rattle.auc_world.specs.declared.net.Inputs.{Inputs}
+use Rattle.auc_world.specs.declared.net.Inputs.TheVariants as inputs_of
 use Rattle.auc_released.specs.declared.numbers.Number.{Number}
 use Rattle.auc_world.specs.declared.net.SentPacket.{SentPacket}
 use Rattle.auc_world.specs.declared.net.Session.{Session}
-use Rattle.auc_world.proofs.PremiseLemmas.{honest_run}
+use Rattle.auc_world.proofs.RenewLemmas.{RenewsFirst, turn_renews}
 
 -- the laws of the two ends and of vectors
 pub record Laws : Type 0 where
@@ -66,11 +70,14 @@ pub record Laws : Type 0 where
 -- ---- lists
 
 -- what holds of all holds of the one at a place
-at : {X : Type 0} (P : X → Type 0) (xs : List X) (i : ℕ) (x : X) → All P xs → slice_get xs i ≡ Some x → P x
+pub at : {X : Type 0} (P : X → Type 0) (xs : List X) (i : ℕ) (x : X) → All P xs → slice_get xs i ≡ Some x → P x
 at P xs i x all there = subst P (get_or_from_slice_get xs i x x there) (all i x (slice_get_within xs i x there))
 
 one : {X : Type 0} (o : Option X) (a b : X) → o ≡ Some a → o ≡ Some b → a ≡ b
 one o a b e f = cc
+
+pub one_full : (o : Option Inputs) (i j : FullInputs) → o ≡ Some (inputs_of.Full i) → o ≡ Some (inputs_of.Full j) → i ≡ j
+one_full o i j e f = cc
 
 none_some : {X : Type 0} (o : Option X) (a : X) → o ≡ None → o ≡ Some a → ⊥
 none_some o a e f = cc
@@ -96,13 +103,13 @@ number_fits released x o c = let (place, within, is) = c in subst (λ (r : Numbe
 -- ---- what is posted
 
 -- a server posted a packet with these inputs
-pub record IsPosted (packets : List SentPacket) (i : Inputs) : Type 0 where
+pub record IsPosted (packets : List SentPacket) (i : FullInputs) : Type 0 where
   pub packet : SentPacket
   pub is_in : Contains packets packet
   pub role : packet.sender ≡ end.Server
-  pub with_inputs : packet.inputs ≡ Some i
+  pub with_inputs : packet.inputs ≡ Some (inputs_of.Full i)
 
-posted_after : (packets : List SentPacket) (from : End) (inputs : Option Inputs) (sent : Option (List ℕ)) (i : Inputs) → IsPosted packets i → IsPosted (posted packets from inputs sent) i
+posted_after : (packets : List SentPacket) (from : End) (inputs : Option Inputs) (sent : Option (List ℕ)) (i : FullInputs) → IsPosted packets i → IsPosted (posted packets from inputs sent) i
 posted_after packets from inputs None i p = p
 posted_after packets from inputs (Some bytes) i p = record {
   packet = p.packet;
@@ -112,7 +119,7 @@ posted_after packets from inputs (Some bytes) i p = record {
 }
 
 -- it was posted before, or is what the server posted now
-posted_cases : (packets : List SentPacket) (inputs : Option Inputs) (sent : Option (List ℕ)) (i : Inputs) → IsPosted (posted packets end.Server inputs sent) i → IsPosted packets i ⊎ (inputs ≡ Some i)
+posted_cases : (packets : List SentPacket) (inputs : Option Inputs) (sent : Option (List ℕ)) (i : FullInputs) → IsPosted (posted packets end.Server inputs sent) i → IsPosted packets i ⊎ (inputs ≡ Some (inputs_of.Full i))
 posted_cases packets inputs None i p = inl p
 posted_cases packets inputs (Some bytes) i p =
     let new : SentPacket = record { bytes = bytes; sender = end.Server; inputs = inputs } in
@@ -121,7 +128,7 @@ posted_cases packets inputs (Some bytes) i p =
     (Contains-push_cases packets new p.packet p.is_in)
 
 -- a peer's packet isn't a server's
-peer_posts : (packets : List SentPacket) (inputs : Option Inputs) (sent : Option (List ℕ)) (i : Inputs) → IsPosted (posted packets end.Peer inputs sent) i → IsPosted packets i
+peer_posts : (packets : List SentPacket) (inputs : Option Inputs) (sent : Option (List ℕ)) (i : FullInputs) → IsPosted (posted packets end.Peer inputs sent) i → IsPosted packets i
 peer_posts packets inputs None i p = p
 peer_posts packets inputs (Some bytes) i p =
     let new : SentPacket = record { bytes = bytes; sender = end.Peer; inputs = inputs } in
@@ -135,7 +142,7 @@ peer_posts packets inputs (Some bytes) i p =
 -- ---- what holds of a network
 
 -- inputs are those of the vector of a released number, which a server with some options made
-pub record IsDrawn (set : Setting) (released : List Number) (i : Inputs) : Type 0 where
+pub record IsDrawn (set : Setting) (released : List Number) (i : FullInputs) : Type 0 where
   pub n : ℕ
   pub options : ServerOptions
   pub vector : Vector
@@ -149,10 +156,11 @@ HasNumber set s = (sent : Challenged) → s.challenged ≡ Some sent → (n : �
 
 pub record ServerFine (set : Setting) (packets : List SentPacket) (s : ServerEnd) : Type 0 where
   pub fits : Fits s
-  pub was_posted : (i : Inputs) → inputs_of_server s ≡ Some i → IsPosted packets i
+  pub was_posted : (i : FullInputs) → inputs_of_server s ≡ Some (inputs_of.Full i) → IsPosted packets i
   pub drawn : HasNumber set s
+  pub renewed : RenewsFirst s
 
-abbrev pub inputs_at : ℕ → Challenge → Peer → Inputs
+abbrev pub inputs_at : ℕ → Challenge → Peer → FullInputs
 inputs_at sub c p = record {
   method = p.options.method;
   name = p.network;
@@ -170,7 +178,7 @@ pub record PeerIs (device : Subscription) (packets : List SentPacket) (sub : ℕ
   pub was_posted : IsPosted packets (inputs_at sub challenge p)
 
 abbrev pub Live : List Subscription → List SentPacket → ℕ → ℕ → Peer → Type 0
-Live devices packets place sub p = (device : Subscription) (keys : KeySet) → slice_get devices place ≡ Some device → p.state ≡ peer_state.Answered keys → PeerIs device packets sub p keys
+Live devices packets place sub p = (device : Subscription) (keys : KeySet) → slice_get devices place ≡ Some device → p.state ≡ peer_state.Answered keys → p.resumed ≡ None → PeerIs device packets sub p keys
 
 pub record Done (devices : List Subscription) (packets : List SentPacket) (place sub : ℕ) (p : Peer) (keys : KeySet) : Type 0 where
   pub ended : p.state ≡ peer_state.Ended
@@ -179,18 +187,28 @@ pub record Done (devices : List Subscription) (packets : List SentPacket) (place
   pub is : PeerIs device packets sub p keys
 
 abbrev pub AllDone : List Subscription → List SentPacket → ℕ → ℕ → Peer → Option KeySet → Type 0
-AllDone devices packets place sub p won = (keys : KeySet) → won ≡ Some keys → Done devices packets place sub p keys
+AllDone devices packets place sub p won = (keys : KeySet) → won ≡ Some keys → p.resumed ≡ None → Done devices packets place sub p keys
+
+-- a peer that has won has ended
+abbrev pub HasEnded : Peer → Option KeySet → Type 0
+HasEnded p won = (keys : KeySet) → won ≡ Some keys → p.state ≡ peer_state.Ended
+
+-- its keys are those of its inputs
+abbrev pub Suits : List Subscription → ℕ → Peer → Type 0
+Suits devices place p = (device : Subscription) → slice_get devices place ≡ Some device → peer_laws.Fits device p
 
 pub record SessionFine (set : Setting) (devices : List Subscription) (packets : List SentPacket) (a : Session) : Type 0 where
   pub server : (s : ServerEnd) → a.server ≡ Some s → ServerFine set packets s
   pub card : (device : Subscription) (row : Row) → slice_get devices a.device ≡ Some device → slice_get set.rows a.sub ≡ Some row → device.secret ≡ row.secret
   pub live : Live devices packets a.device a.sub a.peer
   pub done : AllDone devices packets a.device a.sub a.peer a.peer_keys
+  pub over : HasEnded a.peer a.peer_keys
+  pub suits : Suits devices a.device a.peer
 
 pub record Holds (set : Setting) (devices : List Subscription) (packets : List SentPacket) (sessions : List Session) (released : List Number) : Type 0 where
   pub secrets : HaveSecrets set devices
-  pub drawn : (i : Inputs) → IsPosted packets i → IsDrawn set released i
-  pub alike : (i j : Inputs) → IsPosted packets i → IsPosted packets j → AreOfOneChallenge i j → i ≡ j
+  pub drawn : (i : FullInputs) → IsPosted packets i → IsDrawn set released i
+  pub alike : (i j : FullInputs) → IsPosted packets i → IsPosted packets j → AreOfOneChallenge i j → i ≡ j
   pub fine : All (SessionFine set devices packets) sessions
 
 abbrev pub HoldsOf : Setting → Net → Type 0
@@ -204,6 +222,7 @@ server_later set packets from inputs sent s f = record {
   fits = f.fits;
   was_posted = λ i e. posted_after packets from inputs sent i (f.was_posted i e);
   drawn = f.drawn;
+  renewed = f.renewed;
 }
 
 is_later : (device : Subscription) (packets : List SentPacket) (from : End) (inputs : Option Inputs) (sent : Option (List ℕ)) (sub : ℕ) (p : Peer) (keys : KeySet) → PeerIs device packets sub p keys
@@ -229,11 +248,13 @@ session_later : (set : Setting) (devices : List Subscription) (packets : List Se
 session_later set devices packets from inputs sent a f = record {
   server = λ s e. server_later set packets from inputs sent s (f.server s e);
   card = f.card;
-  live = λ device keys there e. is_later device packets from inputs sent a.sub a.peer keys (f.live device keys there e);
-  done = λ keys e. done_later devices packets from inputs sent a.device a.sub a.peer keys (f.done keys e);
+  live = λ device keys there e none. is_later device packets from inputs sent a.sub a.peer keys (f.live device keys there e none);
+  done = λ keys e none. done_later devices packets from inputs sent a.device a.sub a.peer keys (f.done keys e none);
+  over = f.over;
+  suits = f.suits;
 }
 
-drawn_later : (set : Setting) (released more : List Number) (i : Inputs) → IsDrawn set released i → IsDrawn set (released ++ more) i
+drawn_later : (set : Setting) (released more : List Number) (i : FullInputs) → IsDrawn set released i → IsDrawn set (released ++ more) i
 drawn_later set released more i d = record {
   n = d.n;
   options = d.options;
@@ -282,6 +303,8 @@ set_server set devices packets sessions place session s sent all there fine =
       card = old.card;
       live = old.live;
       done = old.done;
+      over = old.over;
+      suits = old.suits;
     })
     (All-weaker (SessionFine set devices packets) (SessionFine set devices after') (λ a f. session_later set devices packets end.Server (inputs_of_server s) sent a f) sessions all)
 
@@ -289,7 +312,7 @@ set_server set devices packets sessions place session s sent all there fine =
 server_kept : (set : Setting) (w : Net) (place : ℕ) (session : Session) (s : ServerEnd) (did : Step ServerWhy) (more : List Number) → HoldsOf set w → slice_get w.sessions place ≡ Some session
     → ServerFine set w.packets s → HoldsOf set (with_server w place session more s did)
 server_kept set w place session s did more h there fine =
-    let back : (i : Inputs) → IsPosted (posted w.packets end.Server (inputs_of_server s) (sent_by did)) i → IsPosted w.packets i =
+    let back : (i : FullInputs) → IsPosted (posted w.packets end.Server (inputs_of_server s) (sent_by did)) i → IsPosted w.packets i =
     λ i p. ⊎_elim (λ old. old) (λ own. fine.was_posted i own) (posted_cases w.packets (inputs_of_server s) (sent_by did) i p) in
     record {
       secrets = h.secrets;
@@ -299,7 +322,7 @@ server_kept set w place session s did more h there fine =
     }
 
 -- what a server posts with a packet
-posts : (packets : List SentPacket) (inputs : Option Inputs) (bytes : List ℕ) (i : Inputs) → inputs ≡ Some i → IsPosted (posted packets end.Server inputs (Some bytes)) i
+posts : (packets : List SentPacket) (inputs : Option Inputs) (bytes : List ℕ) (i : FullInputs) → inputs ≡ Some (inputs_of.Full i) → IsPosted (posted packets end.Server inputs (Some bytes)) i
 posts packets inputs bytes i e = record {
   packet = record { bytes = bytes; sender = end.Server; inputs = inputs };
   is_in = Contains-push packets (record { bytes = bytes; sender = end.Server; inputs = inputs });
@@ -308,7 +331,7 @@ posts packets inputs bytes i e = record {
 }
 
 -- the inputs of a vector's challenge
-abbrev pub inputs_new : ServerEnd → ℕ → Vector → Inputs
+abbrev pub inputs_new : ServerEnd → ℕ → Vector → FullInputs
 inputs_new s sub v = record {
   method = s.options.method;
   name = s.options.name;
@@ -328,7 +351,7 @@ contains_same : (xs : List Number) (x y : Number) → x ≡ y → Contains xs x 
 contains_same xs x y e c = subst (Contains xs) e c
 
 -- no inputs that were posted before are those of a number that is released now
-fresh : Laws → (set : Setting) (w : Net) (b : ServerOptions) (sub n : ℕ) (v : Vector) (i : Inputs) → AreSubscribers set.rows → HoldsOf set w → AreReleasedOnce (w.released ++ record { sub = sub; n = n } ∷ [])
+fresh : Laws → (set : Setting) (w : Net) (b : ServerOptions) (sub n : ℕ) (v : Vector) (i : FullInputs) → AreSubscribers set.rows → HoldsOf set w → AreReleasedOnce (w.released ++ record { sub = sub; n = n } ∷ [])
     → vector_at set b sub n ≡ Some v → IsPosted w.packets i → i.sub ≡ sub → i.rand ≡ v.rand → i.autn ≡ v.autn → ⊥
 fresh laws set w b sub n v i subscribers h once of p is rand autn =
     let d = h.drawn i p in
@@ -342,18 +365,18 @@ fresh laws set w b sub n v i subscribers h once of p is rand autn =
     (contains_same w.released (record { sub = i.sub; n = d.n }) x (same_subscriber i.sub sub d.n is ∙ same_number sub d.n n number) d.is_in)
 
 -- a turn that sends a new challenge
-server_new : Laws → (set : Setting) (w : Net) (place : ℕ) (session : Session) (s : ServerEnd) (did : Step ServerWhy) (sub n : ℕ) (v : Vector) (bytes : List ℕ)
-    → AreSubscribers set.rows → HoldsOf set w → slice_get w.sessions place ≡ Some session → Fits s → vector_at set s.options sub n ≡ Some v → s.challenged ≡ Some (challenge_of s sub v)
+server_new : Laws → (set : Setting) (w : Net) (place : ℕ) (session : Session) (s : ServerEnd) (did : Step ServerWhy) (sub n : ℕ) (v : Vector) (next : Option (List ℕ)) (bytes : List ℕ)
+    → AreSubscribers set.rows → HoldsOf set w → slice_get w.sessions place ≡ Some session → Fits s → RenewsFirst s → vector_at set s.options sub n ≡ Some v → s.challenged ≡ Some (challenge_of s sub n v next)
     → did ≡ step.Sent bytes → AreReleasedOnce (w.released ++ record { sub = sub; n = n } ∷ []) → HoldsOf set (with_server w place session (record { sub = sub; n = n } ∷ []) s did)
-server_new laws set w place session s did sub n v bytes subscribers h there fits of sent_is did_is once =
+server_new laws set w place session s did sub n v next bytes subscribers h there fits first of sent_is did_is once =
     let x : Number = record { sub = sub; n = n } in
     let j = inputs_new s sub v in
     let after' = posted w.packets end.Server (inputs_of_server s) (sent_by did) in
-    let own : inputs_of_server s ≡ Some j = ap (inputs_sent s.options s.identity) sent_is in
+    let own : inputs_of_server s ≡ Some (inputs_of.Full j) = ap (λ (c : Option Challenged). inputs_sent s.options.method s.options.name s.identity c s.resumed) sent_is in
     let here : IsPosted after' j =
     subst (λ (d : Step ServerWhy). IsPosted (posted w.packets end.Server (inputs_of_server s) (sent_by d)) j) (sym did_is) (posts w.packets (inputs_of_server s) bytes j own) in
-    let cases : (i : Inputs) → IsPosted after' i → IsPosted w.packets i ⊎ (j ≡ i) =
-    λ i p. ⊎_elim (λ old. inl old) (λ is. inr (one (inputs_of_server s) j i own is)) (posted_cases w.packets (inputs_of_server s) (sent_by did) i p) in
+    let cases : (i : FullInputs) → IsPosted after' i → IsPosted w.packets i ⊎ (j ≡ i) =
+    λ i p. ⊎_elim (λ old. inl old) (λ is. inr (one_full (inputs_of_server s) j i own is)) (posted_cases w.packets (inputs_of_server s) (sent_by did) i p) in
     let new : IsDrawn set (w.released ++ x ∷ []) j = record { n = n; options = s.options; vector = v; is_in = Contains-push w.released x; of_number = of; rand = refl; autn = refl } in
     record {
       secrets = h.secrets;
@@ -362,17 +385,18 @@ server_new laws set w place session s did sub n v bytes subscribers h there fits
           ⊎_elim
           (λ old. ⊎_elim
           (λ other. h.alike i k old other alike)
-          (λ is. absurd (fresh laws set w s.options sub n v i subscribers h once of old (alike.sub ∙ sym (ap (λ (y : Inputs). y.sub) is)) (alike.rand ∙ sym (ap (λ (y : Inputs). y.rand) is)) (alike.autn ∙ sym (ap (λ (y : Inputs). y.autn) is))))
+          (λ is. absurd (fresh laws set w s.options sub n v i subscribers h once of old (alike.sub ∙ sym (ap (λ (y : FullInputs). y.sub) is)) (alike.rand ∙ sym (ap (λ (y : FullInputs). y.rand) is)) (alike.autn ∙ sym (ap (λ (y : FullInputs). y.autn) is))))
           (cases k q))
           (λ is. ⊎_elim
-          (λ other. absurd (fresh laws set w s.options sub n v k subscribers h once of other (sym alike.sub ∙ sym (ap (λ (y : Inputs). y.sub) is)) (sym alike.rand ∙ sym (ap (λ (y : Inputs). y.rand) is)) (sym alike.autn ∙ sym (ap (λ (y : Inputs). y.autn) is))))
+          (λ other. absurd (fresh laws set w s.options sub n v k subscribers h once of other (sym alike.sub ∙ sym (ap (λ (y : FullInputs). y.sub) is)) (sym alike.rand ∙ sym (ap (λ (y : FullInputs). y.rand) is)) (sym alike.autn ∙ sym (ap (λ (y : FullInputs). y.autn) is))))
           (λ same. sym is ∙ same)
           (cases k q))
           (cases i p);
       fine = set_server set w.devices w.packets w.sessions place session s (sent_by did) h.fine there (record {
         fits = fits;
-        was_posted = λ i e. subst (IsPosted after') (one (inputs_of_server s) j i own e) here;
-        drawn = λ sent e. subst (λ (c : Challenged). (m : ℕ) × (vector_at set s.options c.sub m ≡ Some c.vector)) (one s.challenged (challenge_of s sub v) sent sent_is e) (n, of);
+        was_posted = λ i e. subst (IsPosted after') (one_full (inputs_of_server s) j i own e) here;
+        renewed = first;
+        drawn = λ sent e. subst (λ (c : Challenged). (m : ℕ) × (vector_at set s.options c.sub m ≡ Some c.vector)) (one s.challenged (challenge_of s sub n v next) sent sent_is e) (n, of);
       });
     }
 
@@ -380,8 +404,8 @@ server_new laws set w place session s did sub n v bytes subscribers h there fits
 
 set_peer : (set : Setting) (w : Net) (place : ℕ) (session : Session) (p : Peer) (did : Step PeerWhy) → HoldsOf set w → slice_get w.sessions place ≡ Some session
     → Live w.devices w.packets session.device session.sub p → AllDone w.devices w.packets session.device session.sub p (keys_won session.peer_keys did)
-    → HoldsOf set (with_peer w place session p did)
-set_peer set w place session p did h there live done =
+    → HasEnded p (keys_won session.peer_keys did) → Suits w.devices session.device p → HoldsOf set (with_peer w place session p did)
+set_peer set w place session p did h there live done over suits =
     let inputs = inputs_of_peer session.sub p in
     let sent = sent_by did in
     let after' = posted w.packets end.Peer inputs sent in
@@ -395,8 +419,10 @@ set_peer set w place session p did h there live done =
           (record {
             server = old.server;
             card = old.card;
-            live = λ device keys is e. is_later device w.packets end.Peer inputs sent session.sub p keys (live device keys is e);
-            done = λ keys e. done_later w.devices w.packets end.Peer inputs sent session.device session.sub p keys (done keys e);
+            live = λ device keys is e none. is_later device w.packets end.Peer inputs sent session.sub p keys (live device keys is e none);
+            done = λ keys e none. done_later w.devices w.packets end.Peer inputs sent session.device session.sub p keys (done keys e none);
+            over = over;
+            suits = suits;
           })
           (All-weaker (SessionFine set w.devices w.packets) (SessionFine set w.devices after') (λ a f. session_later set w.devices w.packets end.Peer inputs sent a f) w.sessions h.fine);
     }
@@ -425,30 +451,52 @@ vector_keys set o sub n v device c text e rand autn secret = by (slice_get set.r
         ∙ ap (λ (x : List ℕ). keys_with device.secret x u.autn) rands
         ∙ ap (λ (x : List ℕ). keys_with device.secret c.rand x) autns
 
-contained : {X : Type 0} (P : X → Type 0) (xs : List X) (x : X) → All P xs → Contains xs x → P x
+pub contained : {X : Type 0} (P : X → Type 0) (xs : List X) (x : X) → All P xs → Contains xs x → P x
 contained P xs x all c = subst P c.2 (all c.0 x c.1)
 
-pub agreed : (set : Setting) (w : Net) → HoldsOf set w → Agree w
-agreed set w h a b k l i j ina inb won other alike =
+-- inputs of a full authentication are those of a challenge
+sent_before : (s : ServerEnd) (i : FullInputs) → inputs_of_server s ≡ Some (inputs_of.Full i) → (sent : Challenged) × (s.challenged ≡ Some sent)
+sent_before s i e = by s.challenged s.resumed refl e
+  where
+    by : (c : Option Challenged) (r : Option Resumed) → s.challenged ≡ c → inputs_sent s.options.method s.options.name s.identity c r ≡ Some (inputs_of.Full i) → (sent : Challenged) × (s.challenged ≡ Some sent)
+    by None None f g = absurd cc
+    by None (Some r) f g = absurd cc
+    by (Some sent) r f g = (sent, f)
+
+pub not_resumed : (p : Peer) (sub : ℕ) (i : FullInputs) → inputs_of_peer sub p ≡ Some (inputs_of.Full i) → p.resumed ≡ None
+not_resumed p sub i e = by p.resumed refl e
+  where
+    by : (r : Option Context) → p.resumed ≡ r → inputs_accepted p.options.method p.network sub p.identity p.accepted r ≡ Some (inputs_of.Full i) → p.resumed ≡ None
+    by None f g = f
+    by (Some c) f g = absurd cc
+
+-- in a full authentication
+pub full_agreed : (set : Setting) (w : Net) → HoldsOf set w → (a b : Session) (k l : KeySet) (i j : FullInputs) → Contains w.sessions a → Contains w.sessions b
+    → ServerWon a k (inputs_of.Full i) → PeerWon b l (inputs_of.Full j) → AreOfOneChallenge i j → k ≡ l
+full_agreed set w h a b k l i j ina inb won other alike =
     let s = won.server in
     let p = b.peer in
     let fa = (contained (SessionFine set w.devices w.packets) w.sessions a h.fine ina).server s won.is in
     let fb = contained (SessionFine set w.devices w.packets) w.sessions b h.fine inb in
-    let done = fb.done l other.won in
-    let (sent, last, keys) = fa.fits.success k won.won in
+    let alone = not_resumed p b.sub j other.inputs in
+    let done = fb.done l other.won alone in
+    let (sent, last) = sent_before s i won.inputs in
+    let keys = fa.renewed.won k sent won.won last in
     let c = done.is.challenge in
     let text = text_or_none p.identity in
     let here = inputs_new s sent.sub sent.vector in
     let there = inputs_at b.sub c p in
-    let is_i : here ≡ i = one (inputs_of_server s) here i (ap (inputs_sent s.options s.identity) last) won.inputs in
-    let is_j : there ≡ j = one (inputs_of_peer b.sub p) there j (ap (inputs_accepted p.options.method p.network b.sub p.identity) done.is.was_accepted) other.inputs in
+    let is_i : here ≡ i = one_full (inputs_of_server s) here i (ap (λ (x : Option Challenged). inputs_sent s.options.method s.options.name s.identity x s.resumed) last) won.inputs in
+    let is_j : there ≡ j = one_full (inputs_of_peer b.sub p) there j
+    (ap (λ (x : Option Challenge). inputs_accepted p.options.method p.network b.sub p.identity x p.resumed) done.is.was_accepted
+    ∙ ap (λ (x : Option Context). inputs_accepted p.options.method p.network b.sub p.identity (Some c) x) alone) other.inputs in
     let both = h.alike i j (fa.was_posted i won.inputs) (subst (IsPosted w.packets) is_j done.is.was_posted) alike in
     let same : here ≡ there = is_i ∙ both ∙ sym is_j in
     let (n, of) = fa.drawn sent last in
-    keys ∙ fa.fits.keys sent last ∙ ap (λ (y : Inputs). keys_of s.options.method y.identity sent.vector.ik sent.vector.ck) same
-    ∙ vector_keys set s.options sent.sub n sent.vector done.device c text of (sym (ap (λ (y : Inputs). y.rand) same)) (sym (ap (λ (y : Inputs). y.autn) same))
-    (λ row e. fb.card done.device row done.there (ap (slice_get set.rows) (sym (ap (λ (y : Inputs). y.sub) same)) ∙ e))
-    ∙ ap (λ (y : Inputs). keys_of_inputs done.device y.method y.name c text) same ∙ sym done.is.same
+    keys ∙ fa.fits.keys sent last ∙ ap (λ (y : FullInputs). keys_of s.options.method y.identity sent.vector.ik sent.vector.ck) same
+    ∙ vector_keys set s.options sent.sub n sent.vector done.device c text of (sym (ap (λ (y : FullInputs). y.rand) same)) (sym (ap (λ (y : FullInputs). y.autn) same))
+    (λ row e. fb.card done.device row done.there (ap (slice_get set.rows) (sym (ap (λ (y : FullInputs). y.sub) same)) ∙ e))
+    ∙ ap (λ (y : FullInputs). keys_of_inputs done.device y.method y.name c text) same ∙ sym done.is.same
 
 -- ---- events
 
@@ -470,26 +518,29 @@ kept_next set w place session s did there fine = record {
   holds = λ h o. server_kept set w place session s did [] h there (fine h);
 }
 
-server_in : (set : Setting) (w : Net) (place : ℕ) (session : Session) (s : ServerEnd) → slice_get w.sessions place ≡ Some session → session.server ≡ Some s → HoldsOf set w → ServerFine set w.packets s
+pub server_in : (set : Setting) (w : Net) (place : ℕ) (session : Session) (s : ServerEnd) → slice_get w.sessions place ≡ Some session → session.server ≡ Some s → HoldsOf set w → ServerFine set w.packets s
 server_in set w place session s there is h = (at (SessionFine set w.devices w.packets) w.sessions place session h.fine there).server s is
 
 -- ---- a delivery to a server
 
-inputs_kept : (s t : ServerEnd) → KeepsChallenge s t → t.options ≡ s.options → (i : Inputs) → inputs_of_server t ≡ Some i → inputs_of_server s ≡ Some i
-inputs_kept s t k stays i e = by s.challenged refl
-  where
-    by : (o : Option Challenged) → s.challenged ≡ o → inputs_of_server s ≡ Some i
-    by None f = absurd (none_some (inputs_of_server t) i (ap (inputs_sent t.options t.identity) (k.challenge ∙ f)) e)
-    by (Some sent) f =
-        ap (inputs_sent s.options s.identity) f ∙ ap (λ (o : ServerOptions). inputs_sent o s.identity (Some sent)) (sym stays)
-        ∙ ap (λ (x : List ℕ). inputs_sent t.options x (Some sent)) (sym (k.identity sent f)) ∙ ap (inputs_sent t.options t.identity) (sym (k.challenge ∙ f)) ∙ e
+inputs_kept : (s t : ServerEnd) → KeepsChallenge s t → t.options ≡ s.options → (i : FullInputs) → inputs_of_server t ≡ Some (inputs_of.Full i)
+    → inputs_of_server s ≡ Some (inputs_of.Full i)
+inputs_kept s t k stays i e =
+    let (sent, last) = sent_before t i e in
+    let before : s.challenged ≡ Some sent = sym k.challenge ∙ last in
+    let with_it : (o : ServerOptions) (text : List ℕ) (c : Option Challenged) (r : Option Resumed) → Option Inputs = λ o text c r. inputs_sent o.method o.name text c r in
+    ap (λ (c : Option Challenged). with_it s.options s.identity c s.resumed) before
+    ∙ ap (λ (o : ServerOptions). with_it o s.identity (Some sent) s.resumed) (sym stays)
+    ∙ ap (λ (text : List ℕ). with_it t.options text (Some sent) s.resumed) (sym (k.identity sent before))
+    ∙ ap (λ (c : Option Challenged). with_it t.options t.identity c t.resumed) (sym last) ∙ e
 
-kept_fine : (set : Setting) (packets : List SentPacket) (s t : ServerEnd) → ServerFine set packets s → KeepsChallenge s t → t.options ≡ s.options → Fits t
+kept_fine : (set : Setting) (packets : List SentPacket) (s t : ServerEnd) → ServerFine set packets s → KeepsChallenge s t → t.options ≡ s.options → Fits t → RenewsFirst t
     → ServerFine set packets t
-kept_fine set packets s t f k stays fits = record {
+kept_fine set packets s t f k stays fits first = record {
   fits = fits;
   was_posted = λ i e. f.was_posted i (inputs_kept s t k stays i e);
   drawn = λ sent e. subst (λ (o : ServerOptions). (n : ℕ) × (vector_at set o sent.sub n ≡ Some sent.vector)) (sym stays) (f.drawn sent (sym k.challenge ∙ e));
+  renewed = first;
 }
 
 to_server_next : Laws → (set : Setting) (w : Net) (d : Delivery) (told : Told) (o : Option ServerEnd) → AreSubscribers set.rows → d.session.server ≡ o
@@ -497,22 +548,23 @@ to_server_next : Laws → (set : Setting) (w : Net) (d : Delivery) (told : Told)
 to_server_next laws set w d told None subscribers is there = still set w
 to_server_next laws set w d told (Some s) subscribers is there =
     let turn = server_turn set w s told in
-    let asked = asking (server_row set w.homes s told.seen) in
+    let asked = asking (server_row set w.homes s told.seen told.reply) in
     let more = released_by asked turn.1.notes.number in
     record {
       more = more;
       grows = refl;
       holds = λ h o.
           let old = server_in set w d.place d.session s there is h in
-          let fits = laws.server_fits set w.homes s told.seen told.notes old.fits in
+          let fits = laws.server_fits set w.homes s told.seen told.reply told.notes old.fits in
+          let first = turn_renews set w.homes s told.seen told.reply told.notes old.fits old.renewed in
           ⊎_elim
-          (λ kept. server_kept set w d.place d.session turn.0 turn.1.step more h there (kept_fine set w.packets s turn.0 old kept (turn_options set w.homes s told.seen told.notes) fits))
+          (λ kept. server_kept set w d.place d.session turn.0 turn.1.step more h there (kept_fine set w.packets s turn.0 old kept (turn_options set w.homes s told.seen told.reply told.notes) fits first))
           (λ (new : SendsChallenge set asked turn.0 turn.1).
           let x : Number = record { sub = new.request.sub; n = new.n } in
           let is_more : more ≡ x ∷ [] = ap (λ (a : Option Asking). released_by a turn.1.notes.number) new.of ∙ ap (released_by (Some new.request)) new.drawn in
           subst (λ (r : List Number). AreReleasedOnce (w.released ++ r) → HoldsOf set (with_server w d.place d.session r turn.0 turn.1.step)) (sym is_more)
-          (λ once. server_new laws set w d.place d.session turn.0 turn.1.step new.request.sub new.n new.vector turn.0.last subscribers h there fits new.of_number new.challenge new.sent once) o)
-          (laws.server_moves set w.homes s told.seen told.notes old.fits);
+          (λ once. server_new laws set w d.place d.session turn.0 turn.1.step new.request.sub new.n new.vector new.next turn.0.last subscribers h there fits first new.of_number new.challenge new.sent once) o)
+          (laws.server_moves set w.homes s told.seen told.reply told.notes old.fits);
     }
 
 -- ---- a delivery to a peer
@@ -532,7 +584,7 @@ peer_kept device packets sub p z keys f acc id opt net =
     record {
       challenge = c;
       was_accepted = acc ∙ f.was_accepted;
-      same = f.same ∙ ap (λ (y : Inputs). keys_of_inputs device y.method y.name c y.identity) same;
+      same = f.same ∙ ap (λ (y : FullInputs). keys_of_inputs device y.method y.name c y.identity) same;
       was_posted = subst (IsPosted packets) same f.was_posted;
     }
 
@@ -542,60 +594,68 @@ no_waiting s keys e f = cc
 no_ended : (s : PeerState) → s ≡ peer_state.Waiting → s ≡ peer_state.Ended → ⊥
 no_ended s e f = cc
 
-won_cases : (before : Option KeySet) (did : Step PeerWhy) (keys : KeySet) → keys_won before did ≡ Some keys → ((bytes : List ℕ) × (did ≡ step.Ended (outcome.Success keys) bytes)) ⊎ (before ≡ Some keys)
+pub won_cases : (before : Option KeySet) (did : Step PeerWhy) (keys : KeySet) → keys_won before did ≡ Some keys → ((bytes : List ℕ) × (did ≡ step.Ended (outcome.Success keys) bytes)) ⊎ (before ≡ Some keys)
 won_cases before (step.Ended (outcome.Success k) bytes) keys e = inl (bytes, ap (λ (x : KeySet). step.Ended (outcome.Success x) bytes) (one (Some k) k keys refl e))
 won_cases before (step.Ended (outcome.Failure cause) bytes) keys e = inr e
 won_cases before (step.Sent bytes) keys e = inr e
 won_cases before (step.Ignored cause) keys e = inr e
 
 to_peer_next : Laws → (set : Setting) (w : Net) (d : Delivery) (told : Told) (o : Option Subscription) → slice_get w.devices d.session.device ≡ o
-    → slice_get w.sessions d.place ≡ Some d.session → IsHonestFinding w.packets (peer_finds w d told o) → Next set w (to_peer w d told o)
+    → slice_get w.sessions d.place ≡ Some d.session → IsHonestFinding w.packets (peer_finds set w d told o) → Next set w (to_peer set w d told o)
 to_peer_next laws set w d told None is there honest = still set w
 to_peer_next laws set w d told (Some device) is there honest =
     let keeps = keeps_at w d.session.device in
-    let turn = peer_turn device keeps d.session told in
+    let turn = peer_turn set device keeps d.session told in
     let p = d.session.peer in
     let z = turn.0 in
     let sub = d.session.sub in
-    let m = laws.peer_moves device keeps p told.seen told.notes.usim told.inner in
+    let m = laws.peer_moves set.key device keeps p told.seen told.notes.usim told.inner in
     record {
       more = [];
       grows = sym (append-nil w.released);
       holds = λ h o.
           let old = at (SessionFine set w.devices w.packets) w.sessions d.place d.session h.fine there in
-          let fits = laws.peer_fits device keeps p told.seen told.notes.usim told.inner (λ keys e.
-          let f = old.live device keys is e in record { challenge = f.challenge; was_accepted = f.was_accepted; same = f.same }) in
+          let fits = laws.peer_fits set.key device keeps p told.seen told.notes.usim told.inner (old.suits device is) in
+          let none_before : z.resumed ≡ None → (p.state ≡ peer_state.Waiting → ⊥) → p.resumed ≡ None =
+          λ none apart. ⊎_elim (λ waits. absurd (apart waits)) (λ same. sym same ∙ none) m.resumed in
           let kept : (other : Subscription) (keys : KeySet) → PeerIs other w.packets sub p keys → (p.state ≡ peer_state.Waiting → ⊥) → PeerIs other w.packets sub z keys =
           λ other keys f apart. ⊎_elim (λ waits. absurd (apart waits))
           (λ same. ⊎_elim (λ waits. absurd (apart waits)) (λ stays. peer_kept other w.packets sub p z keys f same.0 same.1 m.options stays) m.network)
           m.keeps in
-          let fresh_keys : (keys : KeySet) → z.state ≡ peer_state.Answered keys → turn.1.checked ≡ true → PeerIs device w.packets sub z keys =
-          λ keys e checked.
-          let f = fits keys e in
+          let fresh_keys : (keys : KeySet) → z.state ≡ peer_state.Answered keys → z.resumed ≡ None → turn.1.checked ≡ true → PeerIs device w.packets sub z keys =
+          λ keys e none checked.
+          let f = subst (AreOf device z keys) none (fits keys e) in
           let s = honest checked in
           let own = inputs_at sub f.challenge z in
-          let same : s.own ≡ own = one (inputs_of_peer sub z) s.own own s.same_inputs (ap (inputs_accepted z.options.method z.network sub z.identity) f.was_accepted) in
+          let is_own : inputs_of_peer sub z ≡ Some (inputs_of.Full own) =
+          ap (λ (x : Option Challenge). inputs_accepted z.options.method z.network sub z.identity x z.resumed) f.was_accepted
+          ∙ ap (λ (x : Option Context). inputs_accepted z.options.method z.network sub z.identity (Some f.challenge) x) none in
+          let same : s.own ≡ inputs_of.Full own = one (inputs_of_peer sub z) s.own (inputs_of.Full own) s.same_inputs is_own in
           record {
             challenge = f.challenge;
             was_accepted = f.was_accepted;
             same = f.same;
-            was_posted = subst (IsPosted w.packets) same (record { packet = s.packet; is_in = s.is_in; role = s.role; with_inputs = s.with_inputs });
+            was_posted = record { packet = s.packet; is_in = s.is_in; role = s.role; with_inputs = s.with_inputs ∙ ap (λ (x : Inputs). Some x) same };
           } in
           set_peer set w d.place d.session z turn.1.step h there
-          (λ other keys at' e.
+          (λ other keys at' e none.
           ⊎_elim
-          (λ was. kept other keys (old.live other keys at' was) (λ waits. no_waiting p.state keys waits was))
-          (λ checked. subst (λ (x : Subscription). PeerIs x w.packets sub z keys) (one (slice_get w.devices d.session.device) device other is at') (fresh_keys keys e checked))
+          (λ was. let apart = no_waiting p.state keys in kept other keys (old.live other keys at' was (none_before none (λ waits. apart waits was))) (λ waits. apart waits was))
+          (λ checked. subst (λ (x : Subscription). PeerIs x w.packets sub z keys) (one (slice_get w.devices d.session.device) device other is at') (fresh_keys keys e none checked))
           (m.keys keys e))
-          (λ keys e.
+          (λ keys e none.
           ⊎_elim
           (λ success.
           let ends = m.success keys success.0 success.1 in
-          record { ended = ends.1; device = device; there = is; is = kept device keys (old.live device keys is ends.0) (λ waits. no_waiting p.state keys waits ends.0) })
+          let apart : p.state ≡ peer_state.Waiting → ⊥ = λ waits. no_waiting p.state keys waits ends.0 in
+          record { ended = ends.1; device = device; there = is; is = kept device keys (old.live device keys is ends.0 (none_before none apart)) apart })
           (λ before.
-          let f = old.done keys before in
-          record { ended = m.ended f.ended; device = f.device; there = f.there; is = kept f.device keys f.is (λ waits. no_ended p.state waits f.ended) })
-          (won_cases d.session.peer_keys turn.1.step keys e));
+          let apart : p.state ≡ peer_state.Waiting → ⊥ = λ waits. no_ended p.state waits (old.over keys before) in
+          let f = old.done keys before (none_before none apart) in
+          record { ended = m.ended f.ended; device = f.device; there = f.there; is = kept f.device keys f.is apart })
+          (won_cases d.session.peer_keys turn.1.step keys e))
+          (λ keys e. ⊎_elim (λ success. (m.success keys success.0 success.1).1) (λ before. m.ended (old.over keys before)) (won_cases d.session.peer_keys turn.1.step keys e))
+          (λ other at'. subst (λ (x : Subscription). peer_laws.Fits x z) (one (slice_get w.devices d.session.device) device other is at') fits);
     }
 
 -- ---- deliveries
@@ -643,15 +703,21 @@ no_ended_success keys e = cc
 nothing : {X : Type 0} (x : X) → ◌≡◌ {A = Option X} None (Some x) → ⊥
 nothing x e = cc
 
+no_inputs : (i : FullInputs) → ◌≡◌ {A = Option Inputs} None (Some (inputs_of.Full i)) → ⊥
+no_inputs i e = cc
+
 started_fine : (set : Setting) (packets : List SentPacket) (o : ServerOptions) → ServerFine set packets (started o)
 started_fine set packets o = record {
   fits = record {
     first = λ e. refl;
+    before = λ e. refl;
     keys = λ sent e. absurd (nothing sent e);
+    master = λ sent e. absurd (nothing sent e);
     success = λ keys e. absurd (no_ended_success keys e);
   };
-  was_posted = λ i e. absurd (nothing i e);
+  was_posted = λ i e. absurd (no_inputs i e);
   drawn = λ sent e. absurd (nothing sent e);
+  renewed = record { waits = λ e. refl; won = λ keys sent e f. absurd (nothing sent f) };
 }
 
 start_next : (set : Setting) (w : Net) (place : ℕ) (session : Session) (o : Option ServerEnd) → slice_get w.sessions place ≡ Some session → Next set w (start w place session o)
@@ -672,15 +738,24 @@ no_awaiting r e = cc
 no_success : (keys : KeySet) (cause : ServerWhy) → state.Ended (outcome.Failure cause) ≡ state.Ended (outcome.Success keys) → ⊥
 no_success keys cause e = cc
 
+no_reauth : (r : Outcome ServerWhy) → state.Ended r ≡ state.AwaitReauth → ⊥
+no_reauth r e = cc
+
 given_up_fine : (set : Setting) (packets : List SentPacket) (s : ServerEnd) → ServerFine set packets s → ServerFine set packets (given_up s)
 given_up_fine set packets s f = record {
   fits = record {
     first = λ e. absurd (no_awaiting (outcome.Failure why.GivenUp) e);
+    before = λ e. absurd (no_awaiting (outcome.Failure why.GivenUp) e);
     keys = f.fits.keys;
+    master = f.fits.master;
     success = λ keys e. absurd (no_success keys why.GivenUp e);
   };
   was_posted = f.was_posted;
   drawn = f.drawn;
+  renewed = record {
+    waits = λ e. absurd (no_reauth (outcome.Failure why.GivenUp) e);
+    won = λ keys sent e g. absurd (no_success keys why.GivenUp e);
+  };
 }
 
 server_gives_next : (set : Setting) (w : Net) (place : ℕ) (session : Session) (o : Option ServerEnd) → session.server ≡ o → slice_get w.sessions place ≡ Some session
@@ -695,6 +770,7 @@ server_gives_next set w place session (Some s) is there = by s.state
     by state.AwaitFull = kept_next set w place session (given_up s) (gave_up s state.AwaitFull).1 there (λ h. given_up_fine set w.packets s (server_in set w place session s there is h))
     by state.AwaitPermanent = kept_next set w place session (given_up s) (gave_up s state.AwaitPermanent).1 there (λ h. given_up_fine set w.packets s (server_in set w place session s there is h))
     by state.AwaitChallenge = kept_next set w place session (given_up s) (gave_up s state.AwaitChallenge).1 there (λ h. given_up_fine set w.packets s (server_in set w place session s there is h))
+    by state.AwaitReauth = kept_next set w place session (given_up s) (gave_up s state.AwaitReauth).1 there (λ h. given_up_fine set w.packets s (server_in set w place session s there is h))
     by (state.Notifying cause) = kept_next set w place session (given_up s) (gave_up s (state.Notifying cause)).1 there (λ h. given_up_fine set w.packets s (server_in set w place session s there is h))
 
 abbrev peer_over : Peer → Peer
@@ -713,13 +789,15 @@ peer_gives_next set w place session there = by session.peer.state
       holds = λ h o.
           let old = at (SessionFine set w.devices w.packets) w.sessions place session h.fine there in
           set_peer set w place session (peer_over session.peer) (step.Ended (outcome.Failure peer_why.GivenUp) []) h there
-          (λ device keys is e. absurd (no_answered keys e))
-          (λ keys e. let f = old.done keys e in record {
+          (λ device keys is e none. absurd (no_answered keys e))
+          (λ keys e none. let f = old.done keys e none in record {
             ended = refl;
             device = f.device;
             there = f.there;
             is = peer_kept f.device w.packets session.sub session.peer (peer_over session.peer) keys f.is refl refl refl refl;
-          });
+          })
+          (λ keys e. refl)
+          (λ device is keys e. absurd (no_answered keys e));
     }
 
     by : (st : PeerState) → Next set w (with_peer w place session (peer_gave_up session.peer st).0 (peer_gave_up session.peer st).1)
@@ -728,7 +806,7 @@ peer_gives_next set w place session there = by session.peer.state
       grows = sym (append-nil w.released);
       holds = λ h o.
           let old = at (SessionFine set w.devices w.packets) w.sessions place session h.fine there in
-          set_peer set w place session session.peer (peer_gave_up session.peer peer_state.Ended).1 h there old.live old.done;
+          set_peer set w place session session.peer (peer_gave_up session.peer peer_state.Ended).1 h there old.live old.done old.over old.suits;
     }
     by peer_state.Waiting = over
     by (peer_state.Answered keys) = over
@@ -754,8 +832,10 @@ opened_next set w opening None (Some place) e = record {
     fine = All-push (SessionFine set w.devices w.packets) w.sessions _ h.fine (record {
       server = λ s is. absurd (nothing s is);
       card = λ device row there is. h.secrets opening.sub place device row e there is;
-      live = λ device keys there is. absurd (no_waiting_answered keys is);
-      done = λ keys is. absurd (nothing keys is);
+      live = λ device keys there is none. absurd (no_waiting_answered keys is);
+      done = λ keys is none. absurd (nothing keys is);
+      over = λ keys is. absurd (nothing keys is);
+      suits = λ device there keys is. absurd (no_waiting_answered keys is);
     });
   };
 }
@@ -794,16 +874,21 @@ run_grows laws set w (h ∷ hs) subscribers honest =
     let rest = run_grows laws set (after_one set w h) hs subscribers honest.1 in
     (first.more ++ rest.0, rest.1 ∙ ap (λ (l : List Number). l ++ rest.0) first.grows ∙ append_assoc w.released first.more rest.0)
 
+-- after the first of some happenings
+pub one_holds : Laws → (set : Setting) (w : Net) (e : Happening) (es : List Happening) → AreSubscribers set.rows → IsHonest set w (e ∷ es) → HoldsOf set w
+    → AreReleasedOnce (after set w (e ∷ es)).released → HoldsOf set (after_one set w e)
+one_holds laws set w e es subscribers honest h once =
+    let first = one_next laws set w e subscribers honest.0 in
+    let rest = run_grows laws set (after_one set w e) es subscribers honest.1 in
+    first.holds h (once_front (after_one set w e).released rest.0 (subst AreReleasedOnce rest.1 once))
+
 pub run_holds : Laws → (set : Setting) (w : Net) (hs : List Happening) → AreSubscribers set.rows → IsHonest set w hs → HoldsOf set w → AreReleasedOnce (after set w hs).released
     → HoldsOf set (after set w hs)
 run_holds laws set w [] subscribers honest h once = h
 run_holds laws set w (e ∷ es) subscribers honest h once =
-    let first = one_next laws set w e subscribers honest.0 in
-    let rest = run_grows laws set (after_one set w e) es subscribers honest.1 in
-    run_holds laws set (after_one set w e) es subscribers honest.1
-    (first.holds h (once_front (after_one set w e).released rest.0 (subst AreReleasedOnce rest.1 once))) once
+    run_holds laws set (after_one set w e) es subscribers honest.1 (one_holds laws set w e es subscribers honest h once) once
 
-no_packet : (packets : List SentPacket) (i : Inputs) → packets ≡ [] → IsPosted packets i → ⊥
+no_packet : (packets : List SentPacket) (i : FullInputs) → packets ≡ [] → IsPosted packets i → ⊥
 no_packet packets i e p = let c = subst (λ (l : List SentPacket). Contains l p.packet) e p.is_in in let lt = c.1 in omega arith
 
 pub begins : (set : Setting) (w : Net) → HaveSecrets set w.devices → IsFresh w → HoldsOf set w
@@ -813,7 +898,3 @@ begins set w secrets new = record {
   alike = λ i j p q alike. absurd (no_packet w.packets i new.packets p);
   fine = subst (All (SessionFine set w.devices w.packets)) (sym new.sessions) (All-nil (SessionFine set w.devices w.packets));
 }
-
-pub honest_runs_agree : Laws → EachHonestRunAgrees
-honest_runs_agree laws set w hs subscribers secrets new once unbroken =
-    agreed set (after set w hs) (run_holds laws set w hs subscribers (honest_run set w hs unbroken).1 (begins set w secrets new) once)

@@ -160,6 +160,7 @@ event_beside set early own beside done net next e lines still gives = record {
   leads = gives.leads;
   received = gives.received;
   notes = gives.notes;
+  replies = gives.replies;
   centre = gives.centre;
   usim = by (presented_by net e gives.told) (presented_is_of (IsStill own beside) net e gives.told still) gives.usim;
 }

@@ -10,7 +10,7 @@ use Rattle.auc_server.specs.Server.{ServerEnd}
 use Rattle.auc_server.specs.Setting.{Setting}
 use Rattle.auc_vector.specs.Notes.{Asked}
 use Rattle.auc_world.proofs.ServingLemmas.{delivery_to, has_packet, nothing_told, unjudged}
-use Rattle.auc_world.specs.Came.{AreReceived, Came, AsksIn, TellsNotes, asking_in, came, came_delivered, came_in, came_opened, came_repeated, came_started, presented_in, received_at, server_came_to_give_up, session_of}
+use Rattle.auc_world.specs.Came.{AreReceived, Came, AsksIn, RepliesIn, TellsNotes, asking_in, came, came_delivered, came_in, came_opened, came_repeated, came_started, presented_in, received_at, server_came_to_give_up, session_of}
 use Rattle.auc_world.specs.Happened.{Delivery, Told, at_place, at_session, delivered, delivery_at, delivery_in, found_by, happened, in_session, opened, repeat, server_gives_up, start}
 use Rattle.auc_world.specs.InnerWorld.{Answers, IsReached, IsUnreached, Serves, came_of, net_of, refusal_of}
 use Rattle.auc_world.specs.Net.{Net, device_place, judged, packet_at, session_place}
@@ -96,6 +96,7 @@ module _ {S : Type 0} (goes : S → ℕ → List Entry → List (ℕ × Stop) �
         (opened_breach old.net opening (session_place old.net.sessions opening.session) (device_place set.rows old.net.devices opening.sub));
     received = tt;
     notes = opened_tells (session_place old.net.sessions opening.session) (device_place set.rows old.net.devices opening.sub);
+    replies = tt;
     centre = ((λ i. stays before i), (λ i. refl));
     drawn = tt;
     usims = ap (λ (w : WorldState). w.devices) leads;
@@ -115,6 +116,7 @@ module _ {S : Type 0} (goes : S → ℕ → List Entry → List (ℕ × Stop) �
       leads = leads_to deed.Start leads;
       received = tt;
       notes = session_tells old.net deed.Start (session_of old.net number);
+      replies = tt;
       centre = ((λ i. stays before i), (λ i. refl));
       drawn = tt;
       usims = ap (λ (w : WorldState). w.devices) leads;
@@ -128,6 +130,7 @@ module _ {S : Type 0} (goes : S → ℕ → List Entry → List (ℕ × Stop) �
       leads = leads_to deed.Repeat leads;
       received = tt;
       notes = session_tells old.net deed.Repeat (session_of old.net number);
+      replies = tt;
       centre = ((λ i. stays before i), (λ i. refl));
       drawn = tt;
       usims = ap (λ (w : WorldState). w.devices) leads;
@@ -141,6 +144,7 @@ module _ {S : Type 0} (goes : S → ℕ → List Entry → List (ℕ × Stop) �
       leads = leads_to (deed.GiveUp at') leads;
       received = tt;
       notes = session_tells old.net (deed.GiveUp at') (session_of old.net number);
+      replies = tt;
       centre = ((λ i. stays before i), (λ i. refl));
       drawn = tt;
       usims = ap (λ (w : WorldState). w.devices) leads;
@@ -166,6 +170,7 @@ module _ {S : Type 0} (goes : S → ℕ → List Entry → List (ℕ × Stop) �
     received = subst (λ (d : Option Delivery). AreReceived (received_at old.net end.Server d) nothing_told.seen) (sym un.0) tt;
     notes = subst (TellsNotes nothing_told) (ap Err un.1 ∙ came_unreached end.Server nothing_told (packet_at old.net.packets packet)
         ∙ ap (came_delivered set old.net end.Server nothing_told (packet_at old.net.packets packet)) (sym un.0)) tt;
+    replies = subst (RepliesIn end.Server nothing_told) (sym un.0) tt;
     centre = subst (λ (d : Option Delivery). Asked goes kept top (asking_in set old.net end.Server nothing_told d) nothing_told.notes before before) (sym un.0) ((λ i. stays before i), (λ i. refl));
     drawn = subst (AsksIn set old.net end.Server nothing_told) (sym un.0) tt;
     usims = subst (λ (d : Option Delivery). AreHanded (presented_in old.net end.Server nothing_told d) nothing_told old.devices old.devices) (sym un.0) refl;
@@ -179,6 +184,7 @@ module _ {S : Type 0} (goes : S → ℕ → List Entry → List (ℕ × Stop) �
     received = subst (λ (d : Option Delivery). AreReceived (received_at old.net end.Peer d) nothing_told.seen) (sym un.0) tt;
     notes = subst (TellsNotes nothing_told) (ap Err un.1 ∙ came_unreached end.Peer nothing_told (packet_at old.net.packets packet)
         ∙ ap (came_delivered set old.net end.Peer nothing_told (packet_at old.net.packets packet)) (sym un.0)) tt;
+    replies = subst (RepliesIn end.Peer nothing_told) (sym un.0) tt;
     centre = subst (λ (d : Option Delivery). Asked goes kept top (asking_in set old.net end.Peer nothing_told d) nothing_told.notes before before) (sym un.0) ((λ i. stays before i), (λ i. refl));
     drawn = subst (AsksIn set old.net end.Peer nothing_told) (sym un.0) tt;
     usims = subst (λ (d : Option Delivery). AreHanded (presented_in old.net end.Peer nothing_told d) nothing_told old.devices old.devices) (sym un.0) refl;
@@ -230,13 +236,14 @@ module _ {S : Type 0} (goes : S → ℕ → List Entry → List (ℕ × Stop) �
           leads = s.leads ∙ leads_there end.Server s.told;
           received = subst (λ (d : Option Delivery). AreReceived (received_at old.net end.Server d) s.told.seen) (sym here.within) s.received;
           notes = subst (TellsNotes s.told) is s.notes;
+          replies = subst (RepliesIn end.Server s.told) (sym here.within) s.replies;
           centre = subst (λ (d : Option Delivery). Asked goes kept top (asking_in set old.net end.Server s.told d) s.told.notes before after) (sym here.within) s.centre;
           drawn = subst (AsksIn set old.net end.Server s.told) (sym here.within) s.drawn;
           usims = subst (λ (d : Option Delivery). AreHanded (presented_in old.net end.Server s.told d) s.told old.devices new.devices) (sym here.within) s.devices;
         }
 
     -- one that reaches a peer
-    pub answered_applies : ((d : Delivery) → delivery_at old.net packet (Some place) ≡ Some d → Answers old d new result)
+    pub answered_applies : ((d : Delivery) → delivery_at old.net packet (Some place) ≡ Some d → Answers set old d new result)
         → Applies goes kept top set old (event.Deliver number end.Peer packet) before new result before
     answered_applies answers =
         let s = answers here.d here.at_place in
@@ -247,6 +254,7 @@ module _ {S : Type 0} (goes : S → ℕ → List Entry → List (ℕ × Stop) �
           leads = s.leads ∙ leads_there end.Peer s.told;
           received = subst (λ (d : Option Delivery). AreReceived (received_at old.net end.Peer d) s.told.seen) (sym here.within) s.received;
           notes = subst (TellsNotes s.told) is s.notes;
+          replies = subst (RepliesIn end.Peer s.told) (sym here.within) tt;
           centre = subst (λ (d : Option Delivery). Asked goes kept top (asking_in set old.net end.Peer s.told d) s.told.notes before before) (sym here.within) ((λ i. stays before i), (λ i. refl));
           drawn = subst (AsksIn set old.net end.Peer s.told) (sym here.within) tt;
           usims = subst (λ (d : Option Delivery). AreHanded (presented_in old.net end.Peer s.told d) s.told old.devices new.devices) (sym here.within) s.usims;

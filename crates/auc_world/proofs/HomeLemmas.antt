@@ -7,13 +7,14 @@ use Rattle.auc_edge.specs.Identity.{Identity}
 use Rattle.auc_ident.specs.Names.{resolved}
 use Rattle.auc_ident.specs.Permanent.{permanent_in, username}
 use Rattle.auc_ident.specs.declared.names.NameKind.TheVariants as kinds
-use Rattle.auc_server.specs.Asked.{asked_after}
-use Rattle.auc_server.specs.Rows.{held_place, if_held, is_held, named_place, permanent_subscriber, pseudonym_subscriber}
+use Rattle.auc_server.specs.Asked.{asked_after, sub_named}
+use Rattle.auc_server.specs.Rows.{held_place, if_held, is_held, named_place, permanent_subscriber, pseudonym_subscriber, subscriber_in}
 use Rattle.auc_server.specs.Server.{ServerEnd}
 use Rattle.auc_server.specs.Setting.{Setting}
 use Rattle.auc_server.specs.declared.server.Challenged.{Challenged}
+use Rattle.auc_server.specs.declared.server.Resumed.{Resumed}
 use Rattle.auc_server.specs.declared.setting.HomeRow.{HomeRow}
-use Rattle.auc_server.specs.Steps.{IsHeld}
+use Rattle.auc_server.specs.Steps.{IsHeld, IsHeldToo}
 use Rattle.auc_subs.specs.Subscriber.{place_of}
 use Rattle.auc_vector.specs.declared.notes.NumberNote.{NumberNote}
 use Rattle.auc_vector.specs.declared.notes.ResyncNote.{ResyncNote}
@@ -38,14 +39,19 @@ homes_alike P (h ∷ homes) (l ∷ later) same each =
     let rest : AreOfSame homes later = ap (λ (subs : List ℕ). drop 1 subs) same in
     All-cons Q l later (subst P (sym first) (All-head Q h homes each)) (homes_alike P homes later rest (All-tail Q h homes each))
 
--- a challenged subscriber stays one of them
+-- a challenged subscriber stays one of them, and so does one that re-authenticates
+pub challenged_alike : (homes later : List HomeRow) (c : Option Challenged) → AreOfSame homes later → IsHeld homes c → IsHeld later c
+challenged_alike homes later None same held = tt
+challenged_alike homes later (Some sent) same held = is_held_alike homes later sent.sub same ∙ held
+
+pub resumed_alike : (homes later : List HomeRow) (r : Option Resumed) → AreOfSame homes later → IsHeldToo homes r → IsHeldToo later r
+resumed_alike homes later None same held = tt
+resumed_alike homes later (Some r) same held = is_held_alike homes later r.sub same ∙ held
+
 pub held_alike : (homes later : List HomeRow) (s : Option ServerEnd) → AreOfSame homes later → HasHeld homes s → HasHeld later s
 held_alike homes later None same held = tt
-held_alike homes later (Some s) same held = by s.challenged held
-  where
-    by : (c : Option Challenged) → IsHeld homes c → IsHeld later c
-    by None held = tt
-    by (Some sent) held = is_held_alike homes later sent.sub same ∙ held
+held_alike homes later (Some s) same held =
+    (challenged_alike homes later s.challenged same held.0, resumed_alike homes later s.resumed same held.1, held.2)
 
 if_alike : (homes later : List HomeRow) (o : Option ℕ) → AreOfSame homes later → if_held later o ≡ if_held homes o
 if_alike homes later None same = refl
@@ -65,8 +71,10 @@ pub asked_same : (set : Setting) (homes later : List HomeRow) (s : ServerEnd) (r
 asked_same set homes later s None None same = refl
 asked_same set homes later s None (Some drawn) same =
     let m = s.options.method in
+    let found : subscriber_in m set later s.identity ≡ subscriber_in m set homes s.identity =
     ap (λ (o : Option ℕ). option_or o (pseudonym_subscriber m set later s.identity)) (permanent_alike set homes later (permanent_in m (username s.identity)) same)
-    ∙ ap (option_or (permanent_subscriber m set homes s.identity)) (named_alike homes later (resolved set.names kinds.Pseudonym m s.identity) same)
+    ∙ ap (option_or (permanent_subscriber m set homes s.identity)) (named_alike homes later (resolved set.names kinds.Pseudonym m s.identity) same) in
+    ap (sub_named s.resumed) found
 asked_same set homes later s (Some resync.BadAuts) drawn same = refl
 asked_same set homes later s (Some (resync.Moved seen seq)) drawn same = refl
 asked_same set homes later s (Some (resync.InRange seen seq)) drawn same = refl

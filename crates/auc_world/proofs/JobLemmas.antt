@@ -76,9 +76,9 @@ server_releases set w d told (Some s) is =
     let note = (server_turn set w s told).1.notes.number in
     record { grows = ap (λ (more : List Number). w.released ++ more) (turn_numbers asked note); known = turn_known set asked told.notes note is }
 
-peer_releases : (set : Setting) (w : Net) (d : Delivery) (told : Told) (o : Option Subscription) → Releases set w (to_peer w d told o) (came_at_peer w d told o)
-peer_releases set w d told None = stays set w (to_peer w d told None) (came_at_peer w d told None) refl refl
-peer_releases set w d told (Some device) = stays set w (to_peer w d told (Some device)) (came_at_peer w d told (Some device)) refl refl
+peer_releases : (set : Setting) (w : Net) (d : Delivery) (told : Told) (o : Option Subscription) → Releases set w (to_peer set w d told o) (came_at_peer set w d told o)
+peer_releases set w d told None = stays set w (to_peer set w d told None) (came_at_peer set w d told None) refl refl
+peer_releases set w d told (Some device) = stays set w (to_peer set w d told (Some device)) (came_at_peer set w d told (Some device)) refl refl
 
 none_releases : (set : Setting) (w : Net) (at' : End) (told : Told) (sent : Option SentPacket) → Releases set w (delivered set w at' told None) (came_delivered set w at' told sent None)
 none_releases set w at' told None = stays set w w (came_delivered set w at' told None None) refl refl

@@ -19,10 +19,11 @@ use Rattle.auc_peer.specs.Subscription.{Subscription}
 use Rattle.auc_released.specs.declared.numbers.Number.{Number}
 use Rattle.auc_subs.specs.Subscriber.{AreSubscribers, same_identity}
 use Rattle.auc_subs.specs.declared.row.Row.{Row}
-use Rattle.auc_world.specs.Agreement.{AreReleasedOnce, Happening, HaveSecrets, Occurs, after, after_one}
-use Rattle.auc_world.specs.Came.{came}
+use Rattle.auc_world.specs.Agreement.{AreReleasedOnce, AreSized, AreTold, DecryptsIn, Happening, HaveSecrets, IsRealm, Occurs, after, after_one}
+use Rattle.auc_world.specs.Came.{Presented, came, presented_by}
 use Rattle.auc_world.specs.Event.{asked_in, event_number, number_in}
-use Rattle.auc_world.specs.Given.{Before, EventGives, JobGives, LineGives, PlainGives, RelayGives, behind, packet_of}
+use Rattle.auc_world.specs.Given.{Before, EventGives, IsUsimAsked, JobGives, LineGives, PlainGives, RelayGives, behind, packet_of}
+use Rattle.auc_world.specs.Happened.{Told}
 use Rattle.auc_world.specs.Lines.{numbers_of, released_by}
 use Rattle.auc_world.specs.Net.{Net, other, place_with}
 use Rattle.auc_world.specs.Setting.{Setting}
@@ -31,7 +32,9 @@ use Rattle.auc_world.specs.declared.event.Event.{Event}
 use Rattle.auc_world.specs.declared.event.Event.TheVariants as event
 use Rattle.auc_world.specs.declared.record.LineRecord.{LineRecord}
 use Rattle.auc_world.specs.declared.record.LineRecord.TheVariants as record_of
-use Rattle.auc_world.proofs.AgreementLemmas.{HoldsOf, Laws}
+use Rattle.auc_world.proofs.AgainHomeLemmas.{run_is_sized}
+use Rattle.auc_world.proofs.AgainLemmas.{AgainOf, AllLaws}
+use Rattle.auc_world.proofs.AgreementLemmas.{HoldsOf}
 use Rattle.auc_world.proofs.JobLemmas.{moved_releases, number_of_line, numbers_in, of_sub, of_sub-append}
 use Rattle.auc_world.proofs.RunLemmas.{unbroken_run_holds}
 
@@ -45,6 +48,7 @@ IsKnown set x = x.sub < length set.rows
 record Runs (set : Setting) (w next : Net) (lines : List LineRecord) : Type 0 where
   happenings : List Happening
   leads : next ≡ after set w happenings
+  told : AreTold set w happenings
   counts : (sub n : ℕ) → times n (of_sub sub next.released) ≤ times n (of_sub sub w.released) + times n (numbers_of sub lines)
   known : All (IsKnown set) w.released → All (IsKnown set) next.released
 
@@ -52,11 +56,16 @@ after-append : (set : Setting) (w : Net) (hs gs : List Happening) → after set 
 after-append set w [] gs = refl
 after-append set w (h ∷ hs) gs = after-append set (after_one set w h) hs gs
 
+told-append : (set : Setting) (w : Net) (hs gs : List Happening) → AreTold set w hs → AreTold set (after set w hs) gs → AreTold set w (hs ++ gs)
+told-append set w [] gs first more = more
+told-append set w (h ∷ hs) gs first more = (first.0, told-append set (after_one set w h) hs gs first.1 more)
+
 -- lines that leave the network
 stands : (set : Setting) (w next : Net) (lines : List LineRecord) → next ≡ w → Runs set w next lines
 stands set w next lines is = record {
   happenings = [];
   leads = is;
+  told = tt;
   counts = λ sub n. let same = ap (λ (v : Net). times n (of_sub sub v.released)) is in omega (arith, same);
   known = λ all. subst (λ (v : Net). All (IsKnown set) v.released) (sym is) all;
 }
@@ -66,6 +75,7 @@ then_runs : (set : Setting) (w mid next : Net) (front rest : List LineRecord) �
 then_runs set w mid next front rest first more = record {
   happenings = first.happenings ++ more.happenings;
   leads = more.leads ∙ ap (λ (v : Net). after set v more.happenings) first.leads ∙ sym (after-append set w first.happenings more.happenings);
+  told = told-append set w first.happenings more.happenings first.told (subst (λ (v : Net). AreTold set v more.happenings) first.leads more.told);
   counts = λ sub n.
       let cut = ap (times n) (flat_map-append (released_by sub) front rest) ∙ times-append n (numbers_of sub front) (numbers_of sub rest) in
       let here = first.counts sub n in
@@ -73,6 +83,11 @@ then_runs set w mid next front rest first more = record {
       omega (arith, cut, here, there);
   known = λ all. more.known (first.known all);
 }
+
+-- what is told of the device that a packet reached
+told_is : (set : Setting) (before : Before) (o : Option Presented) (told : Told) → IsUsimAsked set before o told → DecryptsIn told o
+told_is set before None told is = tt
+told_is set before (Some p) told is = is.decrypts
 
 event_runs : (set : Setting) (before : Before) (w next : Net) (e : Event) (lines : List LineRecord) → EventGives set before w e lines next → Runs set w next lines
 event_runs set before w next e lines gives =
@@ -82,6 +97,7 @@ event_runs set before w next e lines gives =
     record {
       happenings = Occurs e gives.told ∷ [];
       leads = gives.leads;
+      told = (record { received = gives.received; decrypts = told_is set before (presented_by w e gives.told) gives.told gives.usim }, tt);
       counts = λ sub n.
           let cut = ap (λ (xs : List Number). times n (of_sub sub xs)) grows ∙ ap (times n) (of_sub-append sub w.released (numbers_in (event_number result)))
           ∙ times-append n (of_sub sub w.released) (of_sub sub (numbers_in (event_number result))) in
@@ -192,17 +208,19 @@ job_has_secrets set kept job are sub place device row found there known =
 pub record IsOfJob (set : Setting) (net : Net) (lines : List LineRecord) : Type 0 where
   pub counts : (sub n : ℕ) → times n (of_sub sub net.released) ≤ times n (numbers_of sub lines)
   pub known : All (IsKnown set) net.released
-  pub holds : AreReleasedOnce net.released → net.broken ≡ None → HoldsOf set net
+  pub sized : AreSized net.homes
+  pub holds : AreReleasedOnce net.released → net.broken ≡ None → HoldsOf set net × AgainOf set net
 
-pub job_runs : Laws → (set : Setting) (before : Before) (kept : List Kept) (job : List Line) (lines : List LineRecord) (net : Net) → AreSubscribers set.rows → JobGives set before (start_of set kept job) job lines net
-    → IsOfJob set net lines
-job_runs laws set before kept job lines net are gives =
+pub job_runs : AllLaws → (set : Setting) (before : Before) (kept : List Kept) (job : List Line) (lines : List LineRecord) (net : Net) → AreSubscribers set.rows → IsRealm set.realm
+    → AreSized (start_of set kept job).homes → JobGives set before (start_of set kept job) job lines net → IsOfJob set net lines
+job_runs laws set before kept job lines net are realm sized gives =
     let runs = lines_run set before (start_of set kept job) net job lines gives in
     record {
       counts = λ sub n. let all = runs.counts sub n in omega (arith, all);
       known = runs.known (All-nil (IsKnown set));
-      holds = λ once unbroken. subst (HoldsOf set) (sym runs.leads)
-          (unbroken_run_holds laws set (start_of set kept job) runs.happenings are (job_has_secrets set kept job are) (record { packets = refl; sessions = refl })
+      sized = subst (λ (v : Net). AreSized v.homes) (sym runs.leads) (run_is_sized set (start_of set kept job) runs.happenings sized (record { packets = refl; sessions = refl }));
+      holds = λ once unbroken. subst (λ (v : Net). HoldsOf set v × AgainOf set v) (sym runs.leads)
+          (unbroken_run_holds laws set (start_of set kept job) runs.happenings are realm (job_has_secrets set kept job are) sized (record { packets = refl; sessions = refl }) runs.told
           (subst (λ (v : Net). AreReleasedOnce v.released) runs.leads once) (subst (λ (v : Net). v.broken ≡ None) runs.leads unbroken));
     }
 

@@ -93,11 +93,11 @@ delivered_stays Q set w at' told packet (Some place) all = by (slice_get w.sessi
     to_server_stays d None own = all
     to_server_stays d (Some s) own =
         let turn = server_turn set w s told in
-        server_stays Q w d.place d.session (released_by (asking (server_row set w.homes s told.seen)) turn.1.notes.number) turn.0 turn.1.step all own
+        server_stays Q w d.place d.session (released_by (asking (server_row set w.homes s told.seen told.reply)) turn.1.notes.number) turn.0 turn.1.step all own
 
-    to_peer_stays : (d : Delivery) (o : Option Subscription) → Q d.session.sub d.session.device → AreAt Q (to_peer w d told o).sessions
+    to_peer_stays : (d : Delivery) (o : Option Subscription) → Q d.session.sub d.session.device → AreAt Q (to_peer set w d told o).sessions
     to_peer_stays d None own = all
-    to_peer_stays d (Some device) own = let turn = peer_turn device (keeps_at w d.session.device) d.session told in peer_stays Q w d.place d.session turn.0 turn.1.step all own
+    to_peer_stays d (Some device) own = let turn = peer_turn set device (keeps_at w d.session.device) d.session told in peer_stays Q w d.place d.session turn.0 turn.1.step all own
 
     by : (x : Option Session) (y : Option SentPacket) → slice_get w.sessions place ≡ x → (e : End)
         → AreAt Q (delivered set w e told (delivery_of packet place x y)).sessions
@@ -194,7 +194,7 @@ device_is_of P set w (event.Deliver session at' packet) told all = at_number (se
     at_server None = tt
     at_server (Some s) = tt
 
-    at_peer : (d : Delivery) (o : Option Subscription) → P d.session.sub → IsOf P (device_in (came_at_peer w d told o))
+    at_peer : (d : Delivery) (o : Option Subscription) → P d.session.sub → IsOf P (device_in (came_at_peer set w d told o))
     at_peer d None own = tt
     at_peer d (Some device) own = own
 
@@ -226,7 +226,7 @@ presented_is_at Q w (event.Repeat session) told all = tt
 presented_is_at Q w (event.GiveUp session at') told all = tt
 presented_is_at Q w (event.Deliver session at' packet) told all = at_number (session_place w.sessions session)
   where
-    to : (d : Delivery) (o : Option Subscription) → Q d.session.sub d.session.device → IsPresentedAt Q (presented_at d told o)
+    to : (d : Delivery) (o : Option Subscription) → Q d.session.sub d.session.device → IsPresentedAt Q (presented_at w d told o)
     to d None own = tt
     to d (Some device) own = own
 

@@ -1,8 +1,8 @@
 -- For plain sessions: the turns of a peer that answers a Challenge, and Success.
-use Rattle.std.proofs.Common.{◌≡◌, ℕ, Bool, true, false, not, if◌then◌else◌, List, [], Option, Some, None, refl, sym, ap, ◌∙◌, subst, arith, eq-eqb}
+use Rattle.std.proofs.Common.{◌≡◌, ℕ, ◌≤◌, Bool, true, false, not, if◌then◌else◌, List, [], length, Option, Some, None, refl, sym, ap, ◌∙◌, subst, arith, eq-eqb}
 use Rattle.std.specs.Prelude.{slice_index}
 use Rattle.std.proofs.lemmas.Slice.Eq.{bytes_eq-Decides}
-use Rattle.auc_aes.specs.Bytes.{IsBlock}
+use Rattle.auc_aes.specs.Bytes.{IsBlock, IsBytes}
 use Rattle.auc_hmac.specs.declared.keys.KeySet.{KeySet}
 use Rattle.auc_hmac.specs.declared.method.Method.{Method}
 use Rattle.auc_lines.specs.declared.part.SessionLine.{SessionLine}
@@ -18,7 +18,7 @@ use Rattle.auc_peer.specs.Attributes.{attrs_in, checkcode, differs, id_in, is_th
 use Rattle.auc_peer.specs.Messages.{response_bytes, sync_failure}
 use Rattle.auc_peer.specs.Rows.{ended_by, is_last, peer_row, repeats, row_headed, row_in}
 use Rattle.auc_peer.specs.Subscription.{Subscription}
-use Rattle.auc_peer.specs.Table.{accepted, accepting, by_answer, client, genuine, in_state, keys_at, keys_for, network_of, noted, opened, own_code, peer_does, peer_step, succeeded, text_or_none}
+use Rattle.auc_peer.specs.Table.{accepted, accepting, by_answer, client, context_from, genuine, in_state, keys_at, keys_for, master_at, network_of, noted, opened, own_code, peer_does, peer_step, succeeded, text_or_none, with_inner, with_next}
 use Rattle.auc_peer.specs.Told.{Told}
 use Rattle.auc_peer.specs.Turn.{Decrypts, Decryption, decryption_by, decryption_noted, decryption_under}
 use Rattle.auc_peer.specs.declared.decrypted.Decrypted.{Decrypted}
@@ -32,10 +32,11 @@ use Rattle.auc_peer.specs.declared.why.PeerWhy.{PeerWhy}
 use Rattle.auc_peer.specs.declared.why.PeerWhy.TheVariants as why
 use Rattle.auc_reauth.specs.Device.{Keeps}
 use Rattle.auc_request.specs.Request.{checkcode_of, first_value}
+use Rattle.auc_request.specs.declared.enclosed.Enclosed.{Enclosed}
 use Rattle.auc_seal.specs.Checkcode.{checkcode_of as code_of, value_bytes}
 use Rattle.auc_server.specs.Messages.{attrs_given, challenge_draft}
 use Rattle.auc_server.specs.Rounds.{checkcode as server_code}
-use Rattle.auc_server.specs.declared.naming.NewName.{NewName}
+use Rattle.auc_server.specs.declared.naming.GivenNames.{GivenNames}
 use Rattle.auc_usim.specs.Usim.{sqn_in}
 use Rattle.auc_usim.specs.declared.answer.Answer.{Answer}
 use Rattle.auc_vector.specs.Keys.{ck_by, ik_by, keys_of}
@@ -62,27 +63,21 @@ pub record SendsSync (opening : SessionLine) (device : Subscription) (text : Lis
   )
   pub waits : WaitsOn opening z text packets id
 
-pub sends_sync : (opening : SessionLine) (device : Subscription) (keeps : Keeps) (p : Peer) (seen : Seen) (text : List ℕ) (packets : List (List ℕ)) (id : ℕ) (rand autn sqn : List ℕ) (inner : Decrypted)
+pub sends_sync : (key : List ℕ) (opening : SessionLine) (device : Subscription) (keeps : Keeps) (p : Peer) (seen : Seen) (text : List ℕ) (packets : List (List ℕ)) (id : ℕ) (rand autn sqn : List ℕ) (inner : Decrypted)
     → Waits opening p text packets id → peer_row p seen ≡ row.Challenged (of_vector rand autn) → head_at seen.bytes ≡ Some (head_as 1 id (Some (method_type opening.method))) → slice_index seen.bytes 1 ≡ id
-    → SendsSync opening device text packets id rand sqn (peer_step device keeps p seen (Some (usim.Sync sqn)) inner)
-sends_sync opening device keeps p seen text packets id rand autn sqn inner w row_is head second =
+    → SendsSync opening device text packets id rand sqn (peer_step key device keeps p seen (Some (usim.Sync sqn)) inner)
+sends_sync key opening device keeps p seen text packets id rand autn sqn inner w row_is head second =
     let note = Some (usim.Sync sqn) in
     let sends : ℕ → Method → Peer × Turn PeerWhy = λ i m. (
-      record {
-        options = p.options;
+      record p {
         state = state.Waiting;
         last = Some (record { id = i; request = seen.bytes; answer = packet_text (sync_failure m i (auts device.secret.k device.secret.opc rand sqn)) });
-        identity = p.identity;
-        accepted = p.accepted;
-        network = p.network;
-        packets = p.packets;
-        pseudonym = p.pseudonym;
       },
       record { notes = noted note; step = step.Sent (packet_text (sync_failure m i (auts device.secret.k device.secret.opc rand sqn))); checked = false },
     ) in
     record {
       z = (sends id opening.method).0;
-      turn_is = ap (λ (r : Row). peer_does device keeps p seen r note inner) row_is ∙ ap (λ (i : ℕ). sends i p.options.method) (ap id_in head) ∙ ap (λ (x : Told). sends id x.method) w.options_are;
+      turn_is = ap (λ (r : Row). peer_does key device keeps p seen r note inner) row_is ∙ ap (λ (i : ℕ). sends i p.options.method) (ap id_in head) ∙ ap (λ (x : Told). sends id x.method) w.options_are;
       waits = λ later differ. record {
         options_are = w.options_are;
         waiting_is = refl;
@@ -110,10 +105,10 @@ pub record Responds (opening : SessionLine) (device : Subscription) (packets : L
   pub new : (bytes : List ℕ) → slice_index bytes 0 ≡ 3 → repeats z.last bytes ≡ false
 
 -- a Challenge of a session, and what a peer finds in it
-pub record IsChallenged (opening : SessionLine) (device : Subscription) (p : Peer) (seen : Seen) (text : List ℕ) (packets : List (List ℕ)) (id : ℕ) (rand autn : List ℕ) (given : Option NewName) (mac : List ℕ) (keys : KeySet) : Type 0 where
+pub record IsChallenged (opening : SessionLine) (device : Subscription) (p : Peer) (seen : Seen) (text : List ℕ) (packets : List (List ℕ)) (id : ℕ) (realm rand autn : List ℕ) (given : Option GivenNames) (mac : List ℕ) (keys : KeySet) : Type 0 where
   pub waits : Waits opening p text packets id
   pub passes : Passes autn opening
-  pub is : Is seen (with_mac (challenge_draft (server_options opening) id rand autn keys.k_encr given (server_code opening.method packets)) mac)
+  pub is : Is seen (with_mac (challenge_draft (server_options opening) realm id rand autn keys.k_encr given (server_code opening.method packets)) mac)
   pub first : slice_index seen.bytes 0 ≡ 1
   pub second : slice_index seen.bytes 1 ≡ id
   pub keys_are : keys_of opening.method text (ik_by opening.method opening.name autn (f3 device.secret.k device.secret.opc rand) (f4 device.secret.k device.secret.opc rand))
@@ -121,23 +116,25 @@ pub record IsChallenged (opening : SessionLine) (device : Subscription) (p : Pee
   pub right : is_sealed opening.method keys.k_aut [] seen ≡ true
   pub block : IsBlock keys.k_encr
   pub names : AreNewNames given
+  pub short : length realm ≤ 255
+  pub also : IsBytes realm
 
-pub challenged_row : (opening : SessionLine) (device : Subscription) (p : Peer) (seen : Seen) (text : List ℕ) (packets : List (List ℕ)) (id : ℕ) (rand autn : List ℕ) (given : Option NewName) (mac : List ℕ) (keys : KeySet)
-    → IsChallenged opening device p seen text packets id rand autn given mac keys → peer_row p seen ≡ row.Challenged (of_vector rand autn)
-challenged_row opening device p seen text packets id rand autn given mac keys c =
-    challenge_row opening p seen text packets id rand autn keys.k_encr given (server_code opening.method packets) mac c.waits c.passes c.is c.second
+pub challenged_row : (opening : SessionLine) (device : Subscription) (p : Peer) (seen : Seen) (text : List ℕ) (packets : List (List ℕ)) (id : ℕ) (realm rand autn : List ℕ) (given : Option GivenNames) (mac : List ℕ) (keys : KeySet)
+    → IsChallenged opening device p seen text packets id realm rand autn given mac keys → peer_row p seen ≡ row.Challenged (of_vector rand autn)
+challenged_row opening device p seen text packets id realm rand autn given mac keys c =
+    challenge_row opening p seen text packets id realm rand autn keys.k_encr given (server_code opening.method packets) mac c.waits c.passes c.is c.second
 
 -- its keys are the session's
-keys_found : (opening : SessionLine) (device : Subscription) (p : Peer) (seen : Seen) (text : List ℕ) (packets : List (List ℕ)) (id : ℕ) (rand autn : List ℕ) (given : Option NewName) (mac : List ℕ) (keys : KeySet)
-    → IsChallenged opening device p seen text packets id rand autn given mac keys
+keys_found : (opening : SessionLine) (device : Subscription) (p : Peer) (seen : Seen) (text : List ℕ) (packets : List (List ℕ)) (id : ℕ) (realm rand autn : List ℕ) (given : Option GivenNames) (mac : List ℕ) (keys : KeySet)
+    → IsChallenged opening device p seen text packets id realm rand autn given mac keys
     → keys_at p seen (of_vector rand autn) (f4 device.secret.k device.secret.opc rand) (f3 device.secret.k device.secret.opc rand) ≡ keys
-keys_found opening device p seen text packets id rand autn given mac keys h =
+keys_found opening device p seen text packets id realm rand autn given mac keys h =
     let m = opening.method in
     let ck = f3 device.secret.k device.secret.opc rand in
     let ik = f4 device.secret.k device.secret.opc rand in
     let c = of_vector rand autn in
     let code = server_code m packets in
-    let hidden = attrs_given keys.k_encr given in
+    let hidden = attrs_given realm keys.k_encr given in
     let list = list_with m opening.name opening.bidding rand autn hidden code mac in
     ap (λ (x : Told). keys_for x.method (network_of x.method (attrs_in seen.reading)) c (text_or_none p.identity) ik ck) h.waits.options_are
     ∙ ap (λ (r : Reading). keys_for m (network_of m (attrs_in r)) c (text_or_none p.identity) ik ck) h.is.packet_is
@@ -145,47 +142,47 @@ keys_found opening device p seen text packets id rand autn given mac keys h =
     ∙ keys_taken m opening.name opening.bidding hidden code mac c text ik ck ∙ h.keys_are
 
 -- its AT_CHECKCODE is the peer's own value
-code_found : (opening : SessionLine) (device : Subscription) (p : Peer) (seen : Seen) (text : List ℕ) (packets : List (List ℕ)) (id : ℕ) (rand autn : List ℕ) (given : Option NewName) (mac : List ℕ) (keys : KeySet)
-    → IsChallenged opening device p seen text packets id rand autn given mac keys → checkcode seen ≡ Some (server_code opening.method packets)
-code_found opening device p seen text packets id rand autn given mac keys h =
+code_found : (opening : SessionLine) (device : Subscription) (p : Peer) (seen : Seen) (text : List ℕ) (packets : List (List ℕ)) (id : ℕ) (realm rand autn : List ℕ) (given : Option GivenNames) (mac : List ℕ) (keys : KeySet)
+    → IsChallenged opening device p seen text packets id realm rand autn given mac keys → checkcode seen ≡ Some (server_code opening.method packets)
+code_found opening device p seen text packets id realm rand autn given mac keys h =
     ap (λ (r : Reading). first_value checkcode_of (attrs_in r)) h.is.packet_is
-    ∙ has_checkcode opening.method opening.name opening.bidding rand autn keys.k_encr given (server_code opening.method packets) mac
+    ∙ has_checkcode opening.method opening.name opening.bidding realm rand autn keys.k_encr given (server_code opening.method packets) mac
 
-own_is : (opening : SessionLine) (p : Peer) (text : List ℕ) (packets : List (List ℕ)) (id : ℕ) → Waits opening p text packets id → own_code p ≡ server_code opening.method packets
+pub own_is : (opening : SessionLine) (p : Peer) (text : List ℕ) (packets : List (List ℕ)) (id : ℕ) → Waits opening p text packets id → own_code p ≡ server_code opening.method packets
 own_is opening p text packets id w =
     ap (λ (x : Told). value_bytes (code_of x.method p.packets)) w.options_are ∙ ap (λ (l : List (List ℕ)). value_bytes (code_of opening.method l)) w.packets_are
     ∙ checkcode_is opening.method packets
 
-same_code : (code : List ℕ) → differs code (Some code) ≡ false
+pub same_code : (code : List ℕ) → differs code (Some code) ≡ false
 same_code code = ap (λ (b : Bool). not b) ((bytes_eq-Decides code code).1 refl)
 
 -- what is encrypted in it is decrypted
-opens : Laws → (opening : SessionLine) (device : Subscription) (p : Peer) (seen : Seen) (text : List ℕ) (packets : List (List ℕ)) (id : ℕ) (rand autn : List ℕ) (given : Option NewName) (mac : List ℕ) (keys : KeySet) (sqn : List ℕ) (inner : Decrypted)
-    → IsChallenged opening device p seen text packets id rand autn given mac keys
-    → Decrypts (decryption_noted device p seen (Some (of_vector rand autn)) (Some (usim.Accepted sqn))) inner → (next : Option (List ℕ)) × (inner ≡ decrypted.Attributes next)
-opens laws opening device p seen text packets id rand autn given mac keys sqn inner h decrypts =
+opens : Laws → (opening : SessionLine) (device : Subscription) (p : Peer) (seen : Seen) (text : List ℕ) (packets : List (List ℕ)) (id : ℕ) (realm rand autn : List ℕ) (given : Option GivenNames) (mac : List ℕ) (keys : KeySet) (sqn : List ℕ) (inner : Decrypted)
+    → IsChallenged opening device p seen text packets id realm rand autn given mac keys
+    → Decrypts (decryption_noted device p seen (Some (of_vector rand autn)) (Some (usim.Accepted sqn))) inner → (e : Enclosed) × (inner ≡ decrypted.Attributes e)
+opens laws opening device p seen text packets id realm rand autn given mac keys sqn inner h decrypts =
     let m = opening.method in
     let c = of_vector rand autn in
     let code = server_code m packets in
-    let own = keys_found opening device p seen text packets id rand autn given mac keys h in
-    let list = list_with m opening.name opening.bidding rand autn (attrs_given keys.k_encr given) code mac in
+    let own = keys_found opening device p seen text packets id realm rand autn given mac keys h in
+    let list = list_with m opening.name opening.bidding rand autn (attrs_given realm keys.k_encr given) code mac in
     let by : Bool → Option Decryption = λ b. if b then None else Some (record { k_encr = keys.k_encr; list = attrs_in seen.reading }) in
     let decryption : decryption_noted device p seen (Some c) (Some (usim.Accepted sqn)) ≡ Some (record { k_encr = keys.k_encr; list = list }) =
     ap (decryption_by p seen c) (acceptance_is device.secret rand autn) ∙ ap (decryption_under p seen) own
     ∙ ap (λ (x : Told). if not (is_sealed x.method keys.k_aut [] seen) then None else by (differs (own_code p) (checkcode seen))) h.waits.options_are
     ∙ ap (λ (b : Bool). if not b then None else by (differs (own_code p) (checkcode seen))) h.right
     ∙ ap (λ (l : List ℕ). by (differs l (checkcode seen))) (own_is opening p text packets id h.waits)
-    ∙ ap (λ (o : Option (List ℕ)). by (differs code o)) (code_found opening device p seen text packets id rand autn given mac keys h)
+    ∙ ap (λ (o : Option (List ℕ)). by (differs code o)) (code_found opening device p seen text packets id realm rand autn given mac keys h)
     ∙ ap by (same_code code)
     ∙ ap (λ (r : Reading). Some (record { k_encr = keys.k_encr; list = attrs_in r })) h.is.packet_is in
-    reads_inner laws m opening.name opening.bidding keys.k_encr rand autn given code mac inner h.block h.names (subst (λ (d : Option Decryption). Decrypts d inner) decryption decrypts)
+    reads_inner laws m opening.name opening.bidding realm keys.k_encr rand autn given code mac inner h.short h.also h.block h.names (subst (λ (d : Option Decryption). Decrypts d inner) decryption decrypts)
 
 -- the peer answers with RES, under the keys of its identity
-pub responds : Laws → (opening : SessionLine) (device : Subscription) (keeps : Keeps) (p : Peer) (seen : Seen) (text : List ℕ) (packets : List (List ℕ)) (id : ℕ) (rand autn : List ℕ) (given : Option NewName) (mac : List ℕ) (keys : KeySet) (sqn : List ℕ) (inner : Decrypted)
-    → IsChallenged opening device p seen text packets id rand autn given mac keys
+pub responds : Laws → (key : List ℕ) (opening : SessionLine) (device : Subscription) (keeps : Keeps) (p : Peer) (seen : Seen) (text : List ℕ) (packets : List (List ℕ)) (id : ℕ) (realm rand autn : List ℕ) (given : Option GivenNames) (mac : List ℕ) (keys : KeySet) (sqn : List ℕ) (inner : Decrypted)
+    → IsChallenged opening device p seen text packets id realm rand autn given mac keys
     → Decrypts (decryption_noted device p seen (Some (of_vector rand autn)) (Some (usim.Accepted sqn))) inner
-    → Responds opening device packets id rand keys (peer_step device keeps p seen (Some (usim.Accepted sqn)) inner)
-responds laws opening device keeps p seen text packets id rand autn given mac keys sqn inner h decrypts =
+    → Responds opening device packets id rand keys (peer_step key device keeps p seen (Some (usim.Accepted sqn)) inner)
+responds laws key opening device keeps p seen text packets id realm rand autn given mac keys sqn inner h decrypts =
     let m = opening.method in
     let c = of_vector rand autn in
     let code = server_code m packets in
@@ -193,37 +190,32 @@ responds laws opening device keeps p seen text packets id rand autn given mac ke
     let taken_sqn = sqn_in device.secret rand autn in
     let note : Option UsimNote = Some (usim.Accepted taken_sqn) in
     let accepts = acceptance_is device.secret rand autn in
-    let own = keys_found opening device p seen text packets id rand autn given mac keys h in
+    let own = keys_found opening device p seen text packets id realm rand autn given mac keys h in
     let mine = own_is opening p text packets id h.waits in
-    let found = code_found opening device p seen text packets id rand autn given mac keys h in
-    let inside = opens laws opening device p seen text packets id rand autn given mac keys sqn inner h decrypts in
+    let found = code_found opening device p seen text packets id realm rand autn given mac keys h in
+    let inside = opens laws opening device p seen text packets id realm rand autn given mac keys sqn inner h decrypts in
     let taking = accepting p seen c in
-    let tested : Bool → Peer × Turn PeerWhy = λ b. if b then client taking seen why.WrongCheckcode note true else opened taking seen res taken_sqn keys inner in
+    let master = master_at p seen c (f4 device.secret.k device.secret.opc rand) (f3 device.secret.k device.secret.opc rand) in
+    let tested : Bool → Peer × Turn PeerWhy = λ b. if b then client taking seen why.WrongCheckcode note true else opened taking seen res taken_sqn keys master inner in
     let sends : ℕ → Option (List ℕ) → List ℕ → Method → Peer × Turn PeerWhy = λ i o l x. (
-      record {
-        options = p.options;
+      record (with_next (with_inner taking (decrypted.Attributes inside.0)) (context_from keys master taken_sqn inside.0.identity)) {
         state = state.Answered keys;
         last = Some (record { id = i; request = seen.bytes; answer = response_bytes x i keys.k_aut res (is_there o) l });
-        identity = p.identity;
-        accepted = Some c;
-        network = taking.network;
-        packets = p.packets;
-        pseudonym = inside.0;
       },
       record { notes = noted note; step = step.Sent (response_bytes x i keys.k_aut res (is_there o) l); checked = true },
     ) in
     record {
       z = (sends id (Some code) code m).0;
       accepted_sqn = taken_sqn;
-      turn_is = ap (λ (r : Row). peer_does device keeps p seen r (Some (usim.Accepted sqn)) inner) (challenged_row opening device p seen text packets id rand autn given mac keys h)
+      turn_is = ap (λ (r : Row). peer_does key device keeps p seen r (Some (usim.Accepted sqn)) inner) (challenged_row opening device p seen text packets id realm rand autn given mac keys h)
           ∙ ap (λ (a : Answer). by_answer p seen c a inner) accepts
-          ∙ ap (λ (x : KeySet). accepted p seen c res taken_sqn x inner) own
-          ∙ ap (λ (x : Told). if not (is_sealed x.method keys.k_aut [] seen) then client p seen why.WrongMac note false else genuine taking seen res taken_sqn keys inner) h.waits.options_are
-          ∙ ap (λ (b : Bool). if not b then client p seen why.WrongMac note false else genuine taking seen res taken_sqn keys inner) h.right
+          ∙ ap (λ (x : KeySet). accepted p seen c res taken_sqn x master inner) own
+          ∙ ap (λ (x : Told). if not (is_sealed x.method keys.k_aut [] seen) then client p seen why.WrongMac note false else genuine taking seen res taken_sqn keys master inner) h.waits.options_are
+          ∙ ap (λ (b : Bool). if not b then client p seen why.WrongMac note false else genuine taking seen res taken_sqn keys master inner) h.right
           ∙ ap (λ (l : List ℕ). tested (differs l (checkcode seen))) mine
           ∙ ap (λ (o : Option (List ℕ)). tested (differs code o)) found
           ∙ ap tested (same_code code)
-          ∙ ap (opened taking seen res taken_sqn keys) inside.1
+          ∙ ap (opened taking seen res taken_sqn keys master) inside.1
           ∙ ap (λ (i : ℕ). sends i (checkcode seen) (own_code p) p.options.method) (ap id_in h.is.head)
           ∙ ap (λ (o : Option (List ℕ)). sends id o (own_code p) p.options.method) found
           ∙ ap (λ (l : List ℕ). sends id (Some code) l p.options.method) mine
@@ -243,9 +235,9 @@ pub record Ends (keys : KeySet) (turn : Peer × Turn PeerWhy) : Type 0 where
   pub turn_is : turn ≡ (z, record { notes = noted None; step = step.Ended (outcome.Success keys) []; checked = false })
 
 -- the keys of the answered Challenge are those of Success
-pub ends : (device : Subscription) (keeps : Keeps) (p : Peer) (seen : Seen) (n : Option UsimNote) (id : ℕ) (keys : KeySet) (inner : Decrypted) → p.state ≡ state.Answered keys → is_last p.last id ≡ true
-    → repeats p.last seen.bytes ≡ false → Is seen (packet.Success id) → Ends keys (peer_step device keeps p seen n inner)
-ends device keeps p seen n id keys inner answered_is last_id new is =
+pub ends : (key : List ℕ) (device : Subscription) (keeps : Keeps) (p : Peer) (seen : Seen) (n : Option UsimNote) (id : ℕ) (keys : KeySet) (inner : Decrypted) → p.state ≡ state.Answered keys → is_last p.last id ≡ true
+    → repeats p.last seen.bytes ≡ false → Is seen (packet.Success id) → Ends keys (peer_step key device keeps p seen n inner)
+ends key device keeps p seen n id keys inner answered_is last_id new is =
     let at' : PeerState = state.Answered keys in
     let row_is : peer_row p seen ≡ row.Success =
     ap (λ (s : PeerState). row_in p.options s p.last seen) answered_is ∙ ap (row_headed p.options at' p.last seen) is.head
@@ -253,5 +245,5 @@ ends device keeps p seen n id keys inner answered_is last_id new is =
     ∙ ap (λ (b : Bool). if not b then row.Ignore reason.Unexpected else row.Success) last_id in
     record {
       z = in_state p state.Ended;
-      turn_is = ap (λ (r : Row). peer_does device keeps p seen r n inner) row_is ∙ ap (succeeded p) answered_is;
+      turn_is = ap (λ (r : Row). peer_does key device keeps p seen r n inner) row_is ∙ ap (succeeded p) answered_is;
     }

@@ -1,7 +1,7 @@
 -- For plain sessions: the attributes of a Challenge, and what is encrypted among them.
-use Rattle.std.proofs.Common.{◌≡◌, ℕ, Bool, true, false, List, [], ◌∷◌, ◌++◌, Option, Some, None, Result, Ok, Err, refl, ◌∙◌}
+use Rattle.std.proofs.Common.{◌≡◌, ℕ, ◌≤◌, Bool, true, false, List, [], ◌∷◌, ◌++◌, length, Option, Some, None, Result, Ok, Err, refl, ◌∙◌}
 use Rattle.std.specs.List.{list_all}
-use Rattle.auc_aes.specs.Bytes.{IsBlock}
+use Rattle.auc_aes.specs.Bytes.{IsBlock, IsBytes}
 use Rattle.auc_aes.specs.Cbc.{cbc_encrypted}
 use Rattle.auc_attr.proofs.Facts.{written_attributes_are_read}
 use Rattle.auc_attr.specs.Laws.{is_value}
@@ -19,9 +19,10 @@ use Rattle.auc_request.specs.Request.{checkcode_of, first_value}
 use Rattle.auc_seal.specs.Encrypted.{Decrypts, IsDecrypted, decrypted_bytes, padded}
 use Rattle.auc_seal.specs.declared.refusal.SealRefusal.{SealRefusal}
 use Rattle.auc_seal.specs.declared.refusal.SealRefusal.TheVariants as refusal
-use Rattle.auc_server.proofs.Facts.{names_bytes, names_may}
+use Rattle.auc_request.specs.declared.enclosed.Enclosed.{Enclosed}
+use Rattle.auc_server.proofs.Facts.{names_encryptable}
 use Rattle.auc_server.specs.Messages.{attrs_by, attrs_given, names_in}
-use Rattle.auc_server.specs.declared.naming.NewName.{NewName}
+use Rattle.auc_server.specs.declared.naming.GivenNames.{GivenNames}
 use Rattle.auc_vector.specs.Keys.{ck_by, ik_by, keys_of}
 use Rattle.auc_world.proofs.PlainKeyLemmas.{AreNewNames}
 use Rattle.auc_world.proofs.PlainPacketLemmas.{Laws}
@@ -36,24 +37,24 @@ abbrev pub list_with : Method → List ℕ → Bool → List ℕ → List ℕ �
 list_with m name bid rand autn hidden check mac = attrs_with m name bid rand autn hidden check ++ attr.Mac mac ∷ []
 
 -- their numbers have 16 bits
-pub challenge_values : (m : Method) (name : List ℕ) (bid : Bool) (rand autn k_encr : List ℕ) (given : Option NewName) (check : List ℕ)
-    → list_all is_value (attrs_with m name bid rand autn (attrs_given k_encr given) check) ≡ true
-challenge_values method.Aka name true rand autn k_encr None check = refl
-challenge_values method.Aka name false rand autn k_encr None check = refl
-challenge_values method.Prime name bid rand autn k_encr None check = refl
-challenge_values method.Aka name true rand autn k_encr (Some g) check = refl
-challenge_values method.Aka name false rand autn k_encr (Some g) check = refl
-challenge_values method.Prime name bid rand autn k_encr (Some g) check = refl
+pub challenge_values : (m : Method) (name : List ℕ) (bid : Bool) (realm rand autn k_encr : List ℕ) (given : Option GivenNames) (check : List ℕ)
+    → list_all is_value (attrs_with m name bid rand autn (attrs_given realm k_encr given) check) ≡ true
+challenge_values method.Aka name true realm rand autn k_encr None check = refl
+challenge_values method.Aka name false realm rand autn k_encr None check = refl
+challenge_values method.Prime name bid realm rand autn k_encr None check = refl
+challenge_values method.Aka name true realm rand autn k_encr (Some g) check = refl
+challenge_values method.Aka name false realm rand autn k_encr (Some g) check = refl
+challenge_values method.Prime name bid realm rand autn k_encr (Some g) check = refl
 
 -- AT_CHECKCODE is among them
-pub has_checkcode : (m : Method) (name : List ℕ) (bid : Bool) (rand autn k_encr : List ℕ) (given : Option NewName) (check mac : List ℕ)
-    → first_value checkcode_of (list_with m name bid rand autn (attrs_given k_encr given) check mac) ≡ Some check
-has_checkcode method.Aka name true rand autn k_encr None check mac = refl
-has_checkcode method.Aka name false rand autn k_encr None check mac = refl
-has_checkcode method.Prime name bid rand autn k_encr None check mac = refl
-has_checkcode method.Aka name true rand autn k_encr (Some g) check mac = refl
-has_checkcode method.Aka name false rand autn k_encr (Some g) check mac = refl
-has_checkcode method.Prime name bid rand autn k_encr (Some g) check mac = refl
+pub has_checkcode : (m : Method) (name : List ℕ) (bid : Bool) (realm rand autn k_encr : List ℕ) (given : Option GivenNames) (check mac : List ℕ)
+    → first_value checkcode_of (list_with m name bid rand autn (attrs_given realm k_encr given) check mac) ≡ Some check
+has_checkcode method.Aka name true realm rand autn k_encr None check mac = refl
+has_checkcode method.Aka name false realm rand autn k_encr None check mac = refl
+has_checkcode method.Prime name bid realm rand autn k_encr None check mac = refl
+has_checkcode method.Aka name true realm rand autn k_encr (Some g) check mac = refl
+has_checkcode method.Aka name false realm rand autn k_encr (Some g) check mac = refl
+has_checkcode method.Prime name bid realm rand autn k_encr (Some g) check mac = refl
 
 -- the keys are of the server's name
 pub keys_taken : (m : Method) (name : List ℕ) (bid : Bool) (hidden : List Attr) (check mac : List ℕ) (c : Challenge) (text ik ck : List ℕ)
@@ -79,18 +80,19 @@ same_hidden method.Aka name false k_encr rand autn iv ciphertext check mac = ref
 same_hidden method.Prime name bid k_encr rand autn iv ciphertext check mac = refl
 
 -- the attributes that a Challenge decrypts to
-abbrev inner_of : Option NewName → List Attr
-inner_of None = []
-inner_of (Some g) = names_in g.text
+abbrev inner_of : List ℕ → Option GivenNames → List Attr
+inner_of realm None = []
+inner_of realm (Some g) = names_in realm g.names
 
-decrypts_to : Laws → (m : Method) (name : List ℕ) (bid : Bool) (k_encr rand autn : List ℕ) (given : Option NewName) (check mac : List ℕ) → IsBlock k_encr → AreNewNames given
-    → Decrypts k_encr (list_with m name bid rand autn (attrs_given k_encr given) check mac) (Ok (inner_of given))
-decrypts_to laws m name bid k_encr rand autn None check mac block are =
+decrypts_to : Laws → (m : Method) (name : List ℕ) (bid : Bool) (realm k_encr rand autn : List ℕ) (given : Option GivenNames) (check mac : List ℕ) → length realm ≤ 255 → IsBytes realm → IsBlock k_encr
+    → AreNewNames given → Decrypts k_encr (list_with m name bid rand autn (attrs_given realm k_encr given) check mac) (Ok (inner_of realm given))
+decrypts_to laws m name bid realm k_encr rand autn None check mac short also block are =
     record { bytes = []; plain = none_hidden m name bid k_encr rand autn check mac; whole = []; reads = written_attributes_are_read [] refl; rest = refl }
-decrypts_to laws m name bid k_encr rand autn (Some g) check mac block are =
-    let inner = names_in g.text in
+decrypts_to laws m name bid realm k_encr rand autn (Some g) check mac short also block are =
+    let inner = names_in realm g.names in
+    let can = names_encryptable realm g.names short also are.names in
     let alone : IsDecrypted k_encr (attr.Iv g.iv ∷ attr.EncrData (cbc_encrypted k_encr g.iv (spelling (padded inner))) ∷ []) inner =
-    laws.decrypted k_encr g.iv inner [] block are.iv (names_may g.text are.size) (names_bytes g.text are.size are.bytes) (record { iv = refl; ciphertext = refl }) in
+    laws.decrypted k_encr g.iv inner [] block are.iv can.may can.bytes (record { iv = refl; ciphertext = refl }) in
     record {
       bytes = alone.bytes;
       plain = same_hidden m name bid k_encr rand autn g.iv (cbc_encrypted k_encr g.iv (spelling (padded inner))) check mac ∙ alone.plain;
@@ -100,9 +102,9 @@ decrypts_to laws m name bid k_encr rand autn (Some g) check mac block are =
     }
 
 -- a peer can read it
-pub reads_inner : Laws → (m : Method) (name : List ℕ) (bid : Bool) (k_encr rand autn : List ℕ) (given : Option NewName) (check mac : List ℕ) (inner : Decrypted) → IsBlock k_encr → AreNewNames given
-    → IsInner k_encr (list_with m name bid rand autn (attrs_given k_encr given) check mac) inner → (next : Option (List ℕ)) × (inner ≡ decrypted.Attributes next)
-reads_inner laws m name bid k_encr rand autn given check mac (decrypted.Attributes next) block are is = (next, refl)
-reads_inner laws m name bid k_encr rand autn given check mac decrypted.Unreadable block are (refused, opens) =
-    absurd (laws.opened k_encr (list_with m name bid rand autn (attrs_given k_encr given) check mac) (Err refused) (Ok (inner_of given)) (no_error (inner_of given) refusal.NoMemory) opens
-    (decrypts_to laws m name bid k_encr rand autn given check mac block are))
+pub reads_inner : Laws → (m : Method) (name : List ℕ) (bid : Bool) (realm k_encr rand autn : List ℕ) (given : Option GivenNames) (check mac : List ℕ) (inner : Decrypted) → length realm ≤ 255 → IsBytes realm
+    → IsBlock k_encr → AreNewNames given → IsInner k_encr (list_with m name bid rand autn (attrs_given realm k_encr given) check mac) inner → (e : Enclosed) × (inner ≡ decrypted.Attributes e)
+reads_inner laws m name bid realm k_encr rand autn given check mac (decrypted.Attributes e) short also block are is = (e, refl)
+reads_inner laws m name bid realm k_encr rand autn given check mac decrypted.Unreadable short also block are (refused, opens) =
+    absurd (laws.opened k_encr (list_with m name bid rand autn (attrs_given realm k_encr given) check mac) (Err refused) (Ok (inner_of realm given)) (no_error (inner_of realm given) refusal.NoMemory) opens
+    (decrypts_to laws m name bid realm k_encr rand autn given check mac short also block are))

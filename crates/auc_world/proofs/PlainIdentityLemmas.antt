@@ -11,10 +11,11 @@ use Rattle.auc_hmac.specs.declared.method.Method.TheVariants as method
 use Rattle.auc_ident.specs.Permanent.{permanent_in, permanent_text, up_to, username}
 use Rattle.auc_lines.specs.declared.part.Identity.{Identity}
 use Rattle.auc_lines.specs.declared.part.Identity.TheVariants as identity
-use Rattle.auc_peer.specs.Identities.{asked_text, first_text, held_text, pseudonym_or}
+use Rattle.auc_peer.specs.Identities.{asked_text, context_or, first_text, full_name, full_text, held_text, pseudonym_or}
 use Rattle.auc_peer.specs.Subscription.{Subscription, identity_text, with_realm}
 use Rattle.auc_reauth.specs.Device.{Keeps}
 use Rattle.auc_reauth.specs.Store.{entry}
+use Rattle.auc_reauth.specs.declared.context.Context.{Context}
 use Rattle.auc_request.specs.declared.identities.IdentityRequest.{IdentityRequest}
 use Rattle.auc_request.specs.declared.identities.IdentityRequest.TheVariants as request
 use Rattle.auc_server.specs.Rows.{held_place, if_held, is_held, permanent_subscriber}
@@ -26,7 +27,7 @@ use Rattle.auc_world.proofs.PlainListLemmas.{position_is}
 use Rattle.auc_world.proofs.PlainPacketLemmas.{Laws}
 use Rattle.auc_world.proofs.VectorLemmas.{all_at}
 use Rattle.auc_world.specs.Happened.{first_of}
-use Rattle.auc_world.specs.Plain.{IsOwnIdentity, IsPseudonym}
+use Rattle.auc_world.specs.Plain.{IsContext, IsOwnIdentity, IsPseudonym}
 
 -- ---- the username
 
@@ -83,7 +84,7 @@ username_is m imsi (letter ∷ letters) =
 
 -- ---- sizes
 
-realm_size : (text realm : List ℕ) → length (with_realm text realm) ≤ length text + 1 + length realm
+pub realm_size : (text realm : List ℕ) → length (with_realm text realm) ≤ length text + 1 + length realm
 realm_size text [] = omega arith
 realm_size text (letter ∷ letters) = omega (arith, length-append text (64 ∷ letter ∷ letters))
 
@@ -92,25 +93,33 @@ permanent_size m device few short =
     let digits : length (digits_of device.imsi) ≡ device.imsi.digits = length-last_digits device.imsi.digits device.imsi.number in
     omega (arith, realm_size (permanent_text m device.imsi) device.realm, digits, few, short)
 
-held_size : (m : Method) (device : Subscription) (keeps : Keeps) → device.imsi.digits ≤ 15 → length device.realm ≤ 255 → IsPseudonym (entry m keeps.pseudonyms) → length (held_text m device keeps) ≤ 1016
-held_size m device keeps few short is = by (entry m keeps.pseudonyms) is
+full_size : (m : Method) (device : Subscription) (keeps : Keeps) → device.imsi.digits ≤ 15 → length device.realm ≤ 255 → IsPseudonym (entry m keeps.pseudonyms) → length (full_text m device keeps) ≤ 1016
+full_size m device keeps few short is = by (entry m keeps.pseudonyms) is
   where
     by : (name : Option (List ℕ)) → IsPseudonym name → length (with_realm (pseudonym_or (permanent_text m device.imsi) name) device.realm) ≤ 1016
     by None is = permanent_size m device few short
     by (Some name) is = omega (arith, realm_size name device.realm, is, short)
 
+held_size : (m : Method) (device : Subscription) (keeps : Keeps) → device.imsi.digits ≤ 15 → length device.realm ≤ 255 → IsPseudonym (entry m keeps.pseudonyms) → IsContext (entry m keeps.contexts)
+    → length (held_text m device keeps) ≤ 1016
+held_size m device keeps few short is has = by (entry m keeps.contexts) has
+  where
+    by : (c : Option Context) → IsContext c → length (with_realm (context_or (full_name m device keeps) c) device.realm) ≤ 1016
+    by None has = full_size m device keeps few short is
+    by (Some c) has = omega (arith, realm_size c.identity device.realm, has, short)
+
 -- a device's identities fit AT_IDENTITY
 pub first_size : (m : Method) (device : Subscription) (keeps : Keeps) (identity : Identity) → device.imsi.digits ≤ 15 → length device.realm ≤ 255 → IsPseudonym (entry m keeps.pseudonyms)
-    → IsOwnIdentity identity → length (first_text m device keeps (first_of identity)) ≤ 1016
-first_size m device keeps identity.Held few short is own = held_size m device keeps few short is
-first_size m device keeps identity.Permanent few short is own = permanent_size m device few short
-first_size m device keeps (identity.Text text) few short is own = absurd own
+    → IsContext (entry m keeps.contexts) → IsOwnIdentity identity → length (first_text m device keeps (first_of identity)) ≤ 1016
+first_size m device keeps identity.Held few short is has own = held_size m device keeps few short is has
+first_size m device keeps identity.Permanent few short is has own = permanent_size m device few short
+first_size m device keeps (identity.Text text) few short is has own = absurd own
 
 pub asked_size : (m : Method) (device : Subscription) (keeps : Keeps) (kind : IdentityRequest) → device.imsi.digits ≤ 15 → length device.realm ≤ 255 → IsPseudonym (entry m keeps.pseudonyms)
-    → length (asked_text m device keeps kind) ≤ 1016
-asked_size m device keeps request.Any few short is = held_size m device keeps few short is
-asked_size m device keeps request.Fullauth few short is = held_size m device keeps few short is
-asked_size m device keeps request.Permanent few short is = permanent_size m device few short
+    → IsContext (entry m keeps.contexts) → length (asked_text m device keeps kind) ≤ 1016
+asked_size m device keeps request.Any few short is has = held_size m device keeps few short is has
+asked_size m device keeps request.Fullauth few short is has = full_size m device keeps few short is
+asked_size m device keeps request.Permanent few short is has = permanent_size m device few short
 
 -- ---- the row
 

@@ -19,6 +19,7 @@ use Rattle.auc_hmac.specs.Piece.{piece}
 use Rattle.auc_hmac.specs.declared.method.Method.{Method}
 use Rattle.auc_hmac.specs.declared.method.Method.TheVariants as method
 use Rattle.auc_ident.specs.Names.{name_block, name_digit, name_text}
+use Rattle.auc_ident.specs.declared.names.NameKind.{NameKind}
 use Rattle.auc_ident.specs.declared.names.NameKind.TheVariants as kinds
 use Rattle.auc_kdf.specs.Prime.{prf_block, prf_blocks}
 use Rattle.auc_prf.specs.Generator.{bytes_of, word_of, words, xkey_after, number_of}
@@ -26,13 +27,16 @@ use Rattle.auc_prf.specs.Keys.{aka_mk, stream}
 use Rattle.auc_random.specs.Random.{nonce_of}
 use Rattle.auc_seal.specs.Checkcode.{IsHash, checkcode_of, value_bytes}
 use Rattle.auc_seal.specs.Laws.{EncryptedIsWritable}
-use Rattle.auc_server.proofs.Facts.{name_is_small}
-use Rattle.auc_server.specs.InnerMessages.{IsGiven}
+use Rattle.auc_server.proofs.Facts.{is_small, names_encryptable}
+use Rattle.auc_server.specs.InnerMessages.{AreNames, IsGiven, IsName}
+use Rattle.auc_server.specs.Messages.{names_in}
+use Rattle.auc_server.specs.Ordinals.{homes_given, ordinal_given}
 use Rattle.auc_server.specs.Rounds.{checkcode}
 use Rattle.auc_server.specs.Server.{ServerEnd}
 use Rattle.auc_server.specs.Setting.{Setting}
-use Rattle.auc_server.specs.Table.{name_of}
-use Rattle.auc_server.specs.declared.naming.NewName.{NewName}
+use Rattle.auc_server.specs.Table.{both_of, identity_given, name_of, names_given, pseudonym_given, random_at, under}
+use Rattle.auc_server.specs.declared.naming.GivenNames.{GivenNames}
+use Rattle.auc_server.specs.declared.setting.HomeRow.{HomeRow}
 use Rattle.auc_vector.specs.Keys.{keys_of}
 use Rattle.auc_world.proofs.PlainVectorLemmas.{high_first_are, sixteen_block}
 
@@ -166,50 +170,62 @@ aes_size key block =
     let last : length (round_key key 10) ≡ 16 = ap (λ (l : List ℕ). length l) (last_key key) ∙ next_size (round_key key 9) (round_constant 9) in
     length_xor state (round_key key 10) (omega (arith, shift_size (sub_bytes (state_after key block 9)), last)) ∙ shift_size (sub_bytes (state_after key block 9))
 
-name_size : (key : List ℕ) (m : Method) (sub ordinal : ℕ) → length (name_text key kinds.Pseudonym m sub ordinal) ≡ 33
-name_size key m sub ordinal =
-    let hidden = aes key (name_block kinds.Pseudonym m sub ordinal) in
-    omega (arith, length-encode_with lower_digits hidden, aes_size key (name_block kinds.Pseudonym m sub ordinal))
+pub name_size : (key : List ℕ) (kind : NameKind) (m : Method) (sub ordinal : ℕ) → length (name_text key kind m sub ordinal) ≡ 33
+name_size key kind m sub ordinal =
+    let hidden = aes key (name_block kind m sub ordinal) in
+    omega (arith, length-encode_with lower_digits hidden, aes_size key (name_block kind m sub ordinal))
 
 below_by : (bytes : List ℕ) → list_all (λ (b : ℕ). ltb b 128) bytes ≡ true → (i : ℕ) → slice_index bytes i < 128
 below_by [] e i = omega arith
 below_by (b ∷ bytes) e zero = ltb-true b 128 (and_parts (ltb b 128) (list_all (λ (b : ℕ). ltb b 128) bytes) e).0
 below_by (b ∷ bytes) e (suc i) = below_by bytes (and_parts (ltb b 128) (list_all (λ (b : ℕ). ltb b 128) bytes) e).1 i
 
-digit_byte : (m : Method) → name_digit kinds.Pseudonym m < 256
-digit_byte method.Aka = omega arith
-digit_byte method.Prime = omega arith
+digit_byte : (kind : NameKind) (m : Method) → name_digit kind m < 256
+digit_byte kinds.Pseudonym method.Aka = omega arith
+digit_byte kinds.Pseudonym method.Prime = omega arith
+digit_byte kinds.Reauth method.Aka = omega arith
+digit_byte kinds.Reauth method.Prime = omega arith
 
-name_are : (key : List ℕ) (m : Method) (sub ordinal : ℕ) → IsBytes (name_text key kinds.Pseudonym m sub ordinal)
-name_are key m sub ordinal zero = digit_byte m
-name_are key m sub ordinal (suc i) =
-    let low : slice_index (encode_lower (aes key (name_block kinds.Pseudonym m sub ordinal))) i < 128 =
-    IsAscii-encode_with lower_digits (aes key (name_block kinds.Pseudonym m sub ordinal)) (below_by lower_digits refl) i in
+name_are : (key : List ℕ) (kind : NameKind) (m : Method) (sub ordinal : ℕ) → IsBytes (name_text key kind m sub ordinal)
+name_are key kind m sub ordinal zero = digit_byte kind m
+name_are key kind m sub ordinal (suc i) =
+    let low : slice_index (encode_lower (aes key (name_block kind m sub ordinal))) i < 128 =
+    IsAscii-encode_with lower_digits (aes key (name_block kind m sub ordinal)) (below_by lower_digits refl) i in
     omega (arith, low)
 
-nonce_block : (key : List ℕ) (session k : ℕ) → IsBlock (nonce_of key session k)
+pub nonce_block : (key : List ℕ) (session k : ℕ) → IsBlock (nonce_of key session k)
 unfolding nonce_of
 nonce_block key session k = sixteen_block key (4294967296 + session) (4 * k)
 
--- a name that can be encrypted: its initialisation vector is a block, and its text has 33 bytes
-pub record IsNewName (name : NewName) : Type 0 where
-  pub iv : IsBlock name.iv
-  pub size : length name.text ≡ 33
-  pub bytes : IsBytes name.text
+-- names that can be encrypted: their initialisation vector is a block, and each has 33 bytes
+pub record IsNewNames (given : GivenNames) : Type 0 where
+  pub iv : IsBlock given.iv
+  pub names : AreNames given.names
 
-abbrev pub AreNewNames : Option NewName → Type 0
+abbrev pub AreNewNames : Option GivenNames → Type 0
 AreNewNames None = Unit {0}
-AreNewNames (Some name) = IsNewName name
+AreNewNames (Some given) = IsNewNames given
 
-pub name_is : (set : Setting) (s : ServerEnd) (sub : ℕ) (ordinal : Option ℕ) → AreNewNames (name_of set s sub ordinal)
-name_is set s sub None = tt
-name_is set s sub (Some ordinal) = record {
-  iv = nonce_block set.key s.options.session s.next_iv;
-  size = name_size set.names s.options.method sub ordinal;
-  bytes = name_are set.names s.options.method sub ordinal;
-}
+-- a name of an ordinal is one
+pub name_named : (set : Setting) (kind : NameKind) (s : ServerEnd) (sub : ℕ) (ordinal : Option ℕ) → IsName (name_of set kind s sub ordinal)
+name_named set kind s sub None = tt
+name_named set kind s sub (Some ordinal) =
+    record { size = name_size set.names kind s.options.method sub ordinal; bytes = name_are set.names kind s.options.method sub ordinal }
 
--- it is small enough for a Challenge
-pub name_fits : EncryptedIsWritable → (k_encr : List ℕ) (given : Option NewName) → IsBlock k_encr → AreNewNames given → IsGiven k_encr given
-name_fits law k_encr None block is = tt
-name_fits law k_encr (Some name) block is = name_is_small law k_encr name.iv name.text block is.iv is.size is.bytes
+under_both : (iv : List ℕ) (a b : Option (List ℕ)) → IsBlock iv → IsName a → IsName b → AreNewNames (under iv (both_of a b))
+under_both iv None None block a b = tt
+under_both iv (Some text) None block a b = record { iv = block; names = a }
+under_both iv None (Some other) block a b = record { iv = block; names = b }
+under_both iv (Some text) (Some other) block a b = record { iv = block; names = (a, b) }
+
+pub names_are : (set : Setting) (homes : List HomeRow) (s : ServerEnd) (sub : ℕ) → AreNewNames (names_given set homes s sub)
+names_are set homes s sub =
+    under_both (random_at set s s.next_iv) (pseudonym_given set homes s sub) (identity_given set homes s sub) (nonce_block set.key s.options.session s.next_iv)
+    (name_named set kinds.Pseudonym s sub (ordinal_given s.options.pseudonym homes sub))
+    (name_named set kinds.Reauth s sub (ordinal_given s.options.reauth (homes_given s.options.pseudonym homes sub) sub))
+
+-- they are small enough for a Challenge
+pub names_fit : EncryptedIsWritable → (realm k_encr : List ℕ) (given : Option GivenNames) → length realm ≤ 255 → IsBytes realm → IsBlock k_encr → AreNewNames given → IsGiven realm k_encr given
+names_fit law realm k_encr None short also block is = tt
+names_fit law realm k_encr (Some given) short also block is =
+    is_small law k_encr given.iv (names_in realm given.names) block is.iv (names_encryptable realm given.names short also is.names)

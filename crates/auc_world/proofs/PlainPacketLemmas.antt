@@ -83,14 +83,19 @@ reads_itself laws seen p may values received e =
     let reads : ReadsPacket seen.bytes p = subst (λ (b : List ℕ). ReadsPacket b p) (sym whole) (laws.written p [] may) in
     is_read seen p received (ap (λ (s : Seen). s.reading) (laws.alike seen other refl received (record { reads = (reads, values); placed = received.placed })))
 
--- a sealed message is received as itself, with a right AT_MAC
+-- a sealed message is received as itself, with a right AT_MAC, whatever that authenticates besides
+pub reads_sealed_with : Laws → (k_aut extra : List ℕ) (d : Draft) (seen : Seen) → MayBeSealed d → list_all is_value d.attrs ≡ true → IsReceived seen → seen.bytes ≡ sealed k_aut extra d
+    → Is seen (with_mac d (draft_mac k_aut extra d)) × (is_sealed d.method k_aut extra seen ≡ true)
+reads_sealed_with laws k_aut extra d seen may values received e =
+    let whole : seen.bytes ≡ sealed k_aut extra d ++ [] = e ∙ sym (append-nil (sealed k_aut extra d)) in (
+      is_read seen (with_mac d (draft_mac k_aut extra d)) received (laws.sealed_read k_aut extra [] d seen may values received whole),
+      laws.sealed_right k_aut extra [] d seen may received whole,
+    )
+
+-- which is mostly nothing
 pub reads_sealed : Laws → (k_aut : List ℕ) (d : Draft) (seen : Seen) → MayBeSealed d → list_all is_value d.attrs ≡ true → IsReceived seen → seen.bytes ≡ sealed k_aut [] d
     → Is seen (with_mac d (draft_mac k_aut [] d)) × (is_sealed d.method k_aut [] seen ≡ true)
-reads_sealed laws k_aut d seen may values received e =
-    let whole : seen.bytes ≡ sealed k_aut [] d ++ [] = e ∙ sym (append-nil (sealed k_aut [] d)) in (
-      is_read seen (with_mac d (draft_mac k_aut [] d)) received (laws.sealed_read k_aut [] [] d seen may values received whole),
-      laws.sealed_right k_aut [] [] d seen may received whole,
-    )
+reads_sealed laws k_aut d seen may values received e = reads_sealed_with laws k_aut [] d seen may values received e
 
 -- ---- its length
 

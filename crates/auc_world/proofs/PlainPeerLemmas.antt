@@ -37,7 +37,7 @@ use Rattle.auc_request.specs.declared.identities.IdentityRequest.{IdentityReques
 use Rattle.auc_request.specs.declared.identities.IdentityRequest.TheVariants as request
 use Rattle.auc_seal.specs.Checkcode.{counted}
 use Rattle.auc_server.specs.Messages.{aka_identity, attrs_given, challenge_draft, identity_request}
-use Rattle.auc_server.specs.declared.naming.NewName.{NewName}
+use Rattle.auc_server.specs.declared.naming.GivenNames.{GivenNames}
 use Rattle.auc_vector.specs.declared.notes.UsimNote.{UsimNote}
 use Rattle.auc_vector.specs.declared.turn.Reason.TheVariants as reason
 use Rattle.auc_vector.specs.declared.turn.Step.TheVariants as step
@@ -75,29 +75,24 @@ pub record SendsIdentity (opening : SessionLine) (text : List ℕ) (packets : Li
 pub first_row : (o : Told) (seen : Seen) (id : ℕ) → Is seen (identity_request id) → peer_row (new_peer o) seen ≡ row.First
 first_row o seen id is = ap (row_headed o state.Waiting None seen) is.head ∙ ap (waiting o) is.packet_is
 
-pub identifies : (opening : SessionLine) (device : Subscription) (keeps : Keeps) (seen : Seen) (n : Option UsimNote) (inner : Decrypted) (id : ℕ) → Is seen (identity_request id)
+pub identifies : (key : List ℕ) (opening : SessionLine) (device : Subscription) (keeps : Keeps) (seen : Seen) (n : Option UsimNote) (inner : Decrypted) (id : ℕ) → Is seen (identity_request id)
     → seen.bytes ≡ packet_text (identity_request id)
     → SendsIdentity opening (first_text opening.method device keeps (peer_options opening).first) [] id (packet_text (identity_response id (first_text opening.method device keeps (peer_options opening).first)))
-    (peer_step device keeps (new_peer (peer_options opening)) seen n inner)
-identifies opening device keeps seen n inner id is e =
+    (peer_step key device keeps (new_peer (peer_options opening)) seen n inner)
+identifies key opening device keeps seen n inner id is e =
     let o = peer_options opening in
     let text = first_text opening.method device keeps o.first in
     let sends : ℕ → Peer × Turn PeerWhy = λ i. (
-      record {
-        options = o;
+      record (new_peer o) {
         state = state.Waiting;
         last = Some (record { id = i; request = seen.bytes; answer = packet_text (identity_response i text) });
         identity = Some text;
-        accepted = None;
-        network = [];
-        packets = [];
-        pseudonym = None;
       },
       record { notes = noted None; step = step.Sent (packet_text (identity_response i text)); checked = false },
     ) in
     record {
       z = (sends id).0;
-      turn_is = ap (λ (r : Row). peer_does device keeps (new_peer o) seen r n inner) (first_row o seen id is) ∙ ap sends (ap id_in is.head);
+      turn_is = ap (λ (r : Row). peer_does key device keeps (new_peer o) seen r n inner) (first_row o seen id is) ∙ ap sends (ap id_in is.head);
       waits = λ later differ. record {
         options_are = refl;
         waiting_is = refl;
@@ -115,7 +110,7 @@ own_kind method.Aka = refl
 own_kind method.Prime = refl
 
 -- it is looked at, if the peer waits for its Identifier
-awaited : (opening : SessionLine) (p : Peer) (seen : Seen) (text : List ℕ) (packets : List (List ℕ)) (id : ℕ) → Waits opening p text packets id
+pub awaited : (opening : SessionLine) (p : Peer) (seen : Seen) (text : List ℕ) (packets : List (List ℕ)) (id : ℕ) → Waits opening p text packets id
     → head_at seen.bytes ≡ Some (head_as 1 id (Some (method_type opening.method))) → slice_index seen.bytes 1 ≡ id → peer_row p seen ≡ waiting (peer_options opening) seen.reading
 awaited opening p seen text packets id w head second =
     let m = opening.method in
@@ -142,23 +137,19 @@ abbrev pub packets_with : SessionLine → ℕ → IdentityRequest → List ℕ �
 packets_with opening id kind text packets =
     counted (packet_text (identity_answer opening.method id text)) (counted (packet_text (aka_identity opening.method id kind)) packets)
 
-pub identifies_again : (opening : SessionLine) (device : Subscription) (keeps : Keeps) (p : Peer) (seen : Seen) (n : Option UsimNote) (inner : Decrypted) (text : List ℕ) (packets : List (List ℕ)) (id : ℕ) (kind : IdentityRequest)
+pub identifies_again : (key : List ℕ) (opening : SessionLine) (device : Subscription) (keeps : Keeps) (p : Peer) (seen : Seen) (n : Option UsimNote) (inner : Decrypted) (text : List ℕ) (packets : List (List ℕ)) (id : ℕ) (kind : IdentityRequest)
     → MayBeWritten (aka_identity opening.method id kind) → Waits opening p text packets id → Is seen (aka_identity opening.method id kind) → seen.bytes ≡ packet_text (aka_identity opening.method id kind)
     → SendsIdentity opening (asked_text opening.method device keeps kind) (packets_with opening id kind (asked_text opening.method device keeps kind) packets) id
-    (packet_text (identity_answer opening.method id (asked_text opening.method device keeps kind))) (peer_step device keeps p seen n inner)
-identifies_again opening device keeps p seen n inner text packets id kind may w is e =
+    (packet_text (identity_answer opening.method id (asked_text opening.method device keeps kind))) (peer_step key device keeps p seen n inner)
+identifies_again key opening device keeps p seen n inner text packets id kind may w is e =
     let m = opening.method in
     let request = packet_text (aka_identity m id kind) in
     let own = asked_text m device keeps kind in
-    let after : Method → List ℕ → ℕ → Peer = λ x t i. record {
-      options = p.options;
+    let after : Method → List ℕ → ℕ → Peer = λ x t i. record p {
       state = state.Waiting;
       last = Some (record { id = i; request = seen.bytes; answer = packet_text (identity_answer x i t) });
       identity = Some t;
-      accepted = p.accepted;
-      network = p.network;
       packets = counted (packet_text (identity_answer x i t)) (counted (packet_in seen.bytes) p.packets);
-      pseudonym = p.pseudonym;
     } in
     let sends : Method → ℕ → Peer × Turn PeerWhy = λ x i. (
       after x (asked_text x device keeps kind) i,
@@ -168,7 +159,7 @@ identifies_again opening device keeps p seen n inner text packets id kind may w 
     ap (λ (b : List ℕ). counted (packet_in b) p.packets) e ∙ ap (λ (b : List ℕ). counted b p.packets) (packet_there (aka_identity m id kind) may) ∙ ap (counted request) w.packets_are in
     record {
       z = (sends m id).0;
-      turn_is = ap (λ (r : Row). peer_does device keeps p seen r n inner) (identity_row opening p seen text packets id kind w is e)
+      turn_is = ap (λ (r : Row). peer_does key device keeps p seen r n inner) (identity_row opening p seen text packets id kind w is e)
           ∙ ap (λ (i : ℕ). sends p.options.method i) (ap id_in is.head) ∙ ap (λ (x : Told). sends x.method id) w.options_are;
       waits = λ later differ. record {
         options_are = w.options_are;
@@ -211,28 +202,28 @@ abbrev after_bid : List ℕ → List ℕ → Bool → Row
 after_bid rand autn down = if down then row.Reject why.Downgrade else row.Challenged (of_vector rand autn)
 
 -- with nothing encrypted in it, or a pseudonym
-taken : (session : ℕ) (m : Method) (own : Option (List ℕ)) (has : Bool) (first : FirstIdentity) (opening : SessionLine) (id : ℕ) (rand autn k_encr : List ℕ) (given : Option NewName) (check mac : List ℕ)
+taken : (session : ℕ) (m : Method) (own : Option (List ℕ)) (has : Bool) (first : FirstIdentity) (opening : SessionLine) (id : ℕ) (realm rand autn k_encr : List ℕ) (given : Option GivenNames) (check mac : List ℕ)
     → own ≡ opening.peer_name → has ≡ opening.has_prime → PassesBy m autn opening
     → waiting (record { session = session; method = m; name = own; has_prime = has; first = first })
-    (reading.Read (packet.Aka true id m subtype.Challenge (list_with m opening.name opening.bidding rand autn (attrs_given k_encr given) check mac))) ≡ row.Challenged (of_vector rand autn)
-taken session method.Prime own has first opening id rand autn k_encr None check mac named is passes =
+    (reading.Read (packet.Aka true id m subtype.Challenge (list_with m opening.name opening.bidding rand autn (attrs_given realm k_encr given) check mac))) ≡ row.Challenged (of_vector rand autn)
+taken session method.Prime own has first opening id realm rand autn k_encr None check mac named is passes =
     ap (λ (o : Option (List ℕ)). after_name rand autn (is_right_name o opening.name)) named ∙ ap (after_name rand autn) passes.1 ∙ ap (after_separation rand autn) passes.0
-taken session method.Prime own has first opening id rand autn k_encr (Some g) check mac named is passes =
+taken session method.Prime own has first opening id realm rand autn k_encr (Some g) check mac named is passes =
     ap (λ (o : Option (List ℕ)). after_name rand autn (is_right_name o opening.name)) named ∙ ap (after_name rand autn) passes.1 ∙ ap (after_separation rand autn) passes.0
-taken session method.Aka own has first opening id rand autn k_encr given check mac named is passes = by opening.bidding given (ap (λ (b : Bool). b && opening.bidding) is ∙ passes)
+taken session method.Aka own has first opening id realm rand autn k_encr given check mac named is passes = by opening.bidding given (ap (λ (b : Bool). b && opening.bidding) is ∙ passes)
   where
-    by : (bid : Bool) (given : Option NewName) → (has && bid) ≡ false
+    by : (bid : Bool) (given : Option GivenNames) → (has && bid) ≡ false
         → waiting (record { session = session; method = method.Aka; name = own; has_prime = has; first = first })
-        (reading.Read (packet.Aka true id method.Aka subtype.Challenge (list_with method.Aka opening.name bid rand autn (attrs_given k_encr given) check mac))) ≡ row.Challenged (of_vector rand autn)
+        (reading.Read (packet.Aka true id method.Aka subtype.Challenge (list_with method.Aka opening.name bid rand autn (attrs_given realm k_encr given) check mac))) ≡ row.Challenged (of_vector rand autn)
     by true None down = ap (after_bid rand autn) down
     by false None down = ap (after_bid rand autn) down
     by true (Some g) down = ap (after_bid rand autn) down
     by false (Some g) down = ap (after_bid rand autn) down
 
 -- a Challenge is handed to the USIM
-pub challenge_row : (opening : SessionLine) (p : Peer) (seen : Seen) (text : List ℕ) (packets : List (List ℕ)) (id : ℕ) (rand autn k_encr : List ℕ) (given : Option NewName) (check mac : List ℕ)
-    → Waits opening p text packets id → Passes autn opening → Is seen (with_mac (challenge_draft (server_options opening) id rand autn k_encr given check) mac) → slice_index seen.bytes 1 ≡ id
+pub challenge_row : (opening : SessionLine) (p : Peer) (seen : Seen) (text : List ℕ) (packets : List (List ℕ)) (id : ℕ) (realm rand autn k_encr : List ℕ) (given : Option GivenNames) (check mac : List ℕ)
+    → Waits opening p text packets id → Passes autn opening → Is seen (with_mac (challenge_draft (server_options opening) realm id rand autn k_encr given check) mac) → slice_index seen.bytes 1 ≡ id
     → peer_row p seen ≡ row.Challenged (of_vector rand autn)
-challenge_row opening p seen text packets id rand autn k_encr given check mac w passes is second =
+challenge_row opening p seen text packets id realm rand autn k_encr given check mac w passes is second =
     awaited opening p seen text packets id w is.head second ∙ ap (waiting (peer_options opening)) is.packet_is
-    ∙ taken opening.session opening.method opening.peer_name opening.has_prime (peer_options opening).first opening id rand autn k_encr given check mac refl refl passes
+    ∙ taken opening.session opening.method opening.peer_name opening.has_prime (peer_options opening).first opening id realm rand autn k_encr given check mac refl refl passes

@@ -4,16 +4,21 @@ use Rattle.std.proofs.lemmas.Bool.{and_from, and_parts, eqb-true, false≢true}
 use Rattle.std.proofs.lemmas.List.Folds.{Any-from_list_any, list_any-from_Any}
 use Rattle.std.proofs.lemmas.Slice.Eq.{bytes_eq-Decides}
 use Rattle.std.specs.Str.{bytes_eq}
+use Rattle.auc_hmac.specs.declared.keys.Master.{Master}
+use Rattle.auc_hmac.specs.declared.keys.Master.TheVariants as master
 use Rattle.auc_hmac.specs.declared.method.Method.{Method}
 use Rattle.auc_hmac.specs.declared.method.Method.TheVariants as method
 use Rattle.auc_server.specs.Setting.{Setting}
 use Rattle.auc_world.specs.Agreement.{BreachIsFirst, BrokenTells, Happening, IsFirst, IsHonest, IsHonestAt, IsHonestFinding, Noted, Occurs, SentBefore, after, after_one}
 use Rattle.auc_world.specs.Happened.{found}
-use Rattle.auc_world.specs.Net.{Finding, Net, breaks, judged, other, same_challenge, same_end, same_inputs, same_method, share_inputs, was_sent}
+use Rattle.auc_world.specs.Net.{Finding, Net, breaks, judged, other, same_challenge, same_end, same_fast, same_full, same_inputs, same_keys, same_master, same_method, share_inputs, was_sent}
 use Rattle.auc_lines.specs.declared.part.End.{End}
 use Rattle.auc_lines.specs.declared.part.End.TheVariants as end
 use Rattle.auc_world.specs.declared.net.Breach.{Breach}
+use Rattle.auc_world.specs.declared.net.FastInputs.{FastInputs}
+use Rattle.auc_world.specs.declared.net.FullInputs.{FullInputs}
 use Rattle.auc_world.specs.declared.net.Inputs.{Inputs}
+use Rattle.auc_world.specs.declared.net.Inputs.TheVariants as inputs
 use Rattle.auc_world.specs.declared.net.SentPacket.{SentPacket}
 
 -- ---- what was sent
@@ -38,8 +43,8 @@ method_itself : (a : Method) → same_method a a ≡ true
 method_itself method.Aka = refl
 method_itself method.Prime = refl
 
-one_inputs : (a b : Inputs) → same_inputs a b ≡ true → a ≡ b
-one_inputs a b e =
+one_full : (a b : FullInputs) → same_full a b ≡ true → a ≡ b
+one_full a b e =
     let (by, named) = and_parts (same_method a.method b.method) (bytes_eq a.name b.name && same_challenge a b) e in
     let (name, whole) = and_parts (bytes_eq a.name b.name) (same_challenge a b) named in
     let (sub, rest) = and_parts (a.sub == b.sub) (bytes_eq a.rand b.rand && (bytes_eq a.autn b.autn && bytes_eq a.identity b.identity)) whole in
@@ -53,13 +58,56 @@ one_inputs a b e =
     let i = (bytes_eq-Decides a.identity b.identity).0 identity in
     λ j. record { method = m j; name = n j; sub = s j; rand = r j; autn = t j; identity = i j }
 
-inputs_itself : (a : Inputs) → same_inputs a a ≡ true
-inputs_itself a =
+full_itself : (a : FullInputs) → same_full a a ≡ true
+full_itself a =
     and_from (same_method a.method a.method) (bytes_eq a.name a.name && same_challenge a a) (method_itself a.method)
     (and_from (bytes_eq a.name a.name) (same_challenge a a) ((bytes_eq-Decides a.name a.name).1 refl)
     (and_from (a.sub == a.sub) (bytes_eq a.rand a.rand && (bytes_eq a.autn a.autn && bytes_eq a.identity a.identity)) (eq-eqb a.sub a.sub refl)
     (and_from (bytes_eq a.rand a.rand) (bytes_eq a.autn a.autn && bytes_eq a.identity a.identity) ((bytes_eq-Decides a.rand a.rand).1 refl)
     (and_from (bytes_eq a.autn a.autn) (bytes_eq a.identity a.identity) ((bytes_eq-Decides a.autn a.autn).1 refl) ((bytes_eq-Decides a.identity a.identity).1 refl)))))
+
+one_master : (a b : Master) → same_master a b ≡ true → a ≡ b
+one_master (master.Aka a) (master.Aka b) e = ap master.Aka ((bytes_eq-Decides a b).0 e)
+one_master (master.Prime a) (master.Prime b) e = ap master.Prime ((bytes_eq-Decides a b).0 e)
+one_master (master.Aka a) (master.Prime b) e = absurd (false≢true e)
+one_master (master.Prime a) (master.Aka b) e = absurd (false≢true e)
+
+master_itself : (a : Master) → same_master a a ≡ true
+master_itself (master.Aka a) = (bytes_eq-Decides a a).1 refl
+master_itself (master.Prime a) = (bytes_eq-Decides a a).1 refl
+
+one_fast : (a b : FastInputs) → same_fast a b ≡ true → a ≡ b
+one_fast a b e =
+    let (sub, whole) = and_parts (a.sub == b.sub) (same_method a.method b.method && (bytes_eq a.identity b.identity && same_keys a b)) e in
+    let (by, rest) = and_parts (same_method a.method b.method) (bytes_eq a.identity b.identity && same_keys a b) whole in
+    let (identity, keys) = and_parts (bytes_eq a.identity b.identity) (same_keys a b) rest in
+    let (encr, tail) = and_parts (bytes_eq a.k_encr b.k_encr) (bytes_eq a.k_aut b.k_aut && same_master a.master b.master) keys in
+    let (aut, own) = and_parts (bytes_eq a.k_aut b.k_aut) (same_master a.master b.master) tail in
+    let s = eqb-true a.sub b.sub sub in
+    let m = one_method a.method b.method by in
+    let i = (bytes_eq-Decides a.identity b.identity).0 identity in
+    let k = (bytes_eq-Decides a.k_encr b.k_encr).0 encr in
+    let l = (bytes_eq-Decides a.k_aut b.k_aut).0 aut in
+    let o = one_master a.master b.master own in
+    λ j. record { method = m j; sub = s j; identity = i j; k_encr = k j; k_aut = l j; master = o j }
+
+fast_itself : (a : FastInputs) → same_fast a a ≡ true
+fast_itself a =
+    and_from (a.sub == a.sub) (same_method a.method a.method && (bytes_eq a.identity a.identity && same_keys a a)) (eq-eqb a.sub a.sub refl)
+    (and_from (same_method a.method a.method) (bytes_eq a.identity a.identity && same_keys a a) (method_itself a.method)
+    (and_from (bytes_eq a.identity a.identity) (same_keys a a) ((bytes_eq-Decides a.identity a.identity).1 refl)
+    (and_from (bytes_eq a.k_encr a.k_encr) (bytes_eq a.k_aut a.k_aut && same_master a.master a.master) ((bytes_eq-Decides a.k_encr a.k_encr).1 refl)
+    (and_from (bytes_eq a.k_aut a.k_aut) (same_master a.master a.master) ((bytes_eq-Decides a.k_aut a.k_aut).1 refl) (master_itself a.master)))))
+
+one_inputs : (a b : Inputs) → same_inputs a b ≡ true → a ≡ b
+one_inputs (inputs.Full a) (inputs.Full b) e = ap inputs.Full (one_full a b e)
+one_inputs (inputs.Fast a) (inputs.Fast b) e = ap inputs.Fast (one_fast a b e)
+one_inputs (inputs.Full a) (inputs.Fast b) e = absurd (false≢true e)
+one_inputs (inputs.Fast a) (inputs.Full b) e = absurd (false≢true e)
+
+inputs_itself : (a : Inputs) → same_inputs a a ≡ true
+inputs_itself (inputs.Full a) = full_itself a
+inputs_itself (inputs.Fast a) = fast_itself a
 
 shared : (a b : Option Inputs) → share_inputs a b ≡ true → (own : Inputs) × (a ≡ Some own) × (b ≡ Some own)
 shared (Some a) (Some b) e = (a, refl, ap Some (sym (one_inputs a b e)))

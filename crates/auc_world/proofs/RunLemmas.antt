@@ -1,49 +1,98 @@
 -- For the crates that join the runs of several jobs: what an unbroken run keeps, and of which number a success is.
 use Rattle.std.proofs.Common.{◌≡◌, ℕ, ◌≤◌, List, Option, Some, None, All, Contains, sym, ap, ◌∙◌, subst}
 use Rattle.auc_hmac.specs.declared.keys.KeySet.{KeySet}
+use Rattle.auc_ident.specs.Permanent.{username}
+use Rattle.auc_peer.specs.declared.peer.Challenge.{Challenge}
+use Rattle.auc_reauth.specs.declared.context.Context.{Context}
 use Rattle.auc_released.specs.declared.numbers.Number.{Number}
 use Rattle.auc_server.specs.Table.{vector_at}
+use Rattle.auc_server.specs.declared.server.Resumed.{Resumed}
 use Rattle.auc_sqn.specs.Number.{max_seq}
 use Rattle.auc_subs.specs.Subscriber.{AreSubscribers}
-use Rattle.auc_world.specs.Agreement.{AreOfOneChallenge, AreReleasedOnce, Happening, HaveSecrets, IsFresh, PeerWon, ServerWon, after}
+use Rattle.auc_world.specs.Agreement.{AreOfOneChallenge, AreReleasedOnce, AreSized, AreTold, Happening, HaveSecrets, IsFresh, IsRealm, PeerWon, ServerWon, after}
 use Rattle.auc_world.specs.Net.{Net, inputs_accepted, inputs_of_peer}
+use Rattle.auc_world.specs.Resumption.{resumptions}
 use Rattle.auc_world.specs.Setting.{Setting}
-use Rattle.auc_world.specs.declared.net.Inputs.{Inputs}
+use Rattle.auc_world.specs.declared.net.FastInputs.{FastInputs}
+use Rattle.auc_world.specs.declared.net.FullInputs.{FullInputs}
+use Rattle.auc_world.specs.declared.net.Inputs.TheVariants as inputs_of
 use Rattle.auc_world.specs.declared.net.Session.{Session}
-use Rattle.auc_world.proofs.AgreementLemmas.{HoldsOf, IsDrawn, IsPosted, Laws, SessionFine, begins, inputs_at, one_number, run_holds}
+use Rattle.auc_world.proofs.AgainLemmas.{AgainOf, AllLaws, at_place_of, begins_again, both_hold, peer_inputs, server_inputs}
+use Rattle.auc_world.proofs.AgainListLemmas.{is_resumed}
+use Rattle.auc_world.proofs.AgreementLemmas.{HoldsOf, IsDrawn, IsPosted, Laws, SessionFine, begins, inputs_at, not_resumed, one_full, one_number}
 use Rattle.auc_world.proofs.PremiseLemmas.{honest_run}
 
 -- what holds of a network after an unbroken run from its beginning
-pub unbroken_run_holds : Laws → (set : Setting) (w : Net) (hs : List Happening) → AreSubscribers set.rows → HaveSecrets set w.devices → IsFresh w
-    → AreReleasedOnce (after set w hs).released → (after set w hs).broken ≡ None → HoldsOf set (after set w hs)
-unbroken_run_holds laws set w hs subscribers secrets new once unbroken =
-    run_holds laws set w hs subscribers (honest_run set w hs unbroken).1 (begins set w secrets new) once
+pub unbroken_run_holds : AllLaws → (set : Setting) (w : Net) (hs : List Happening) → AreSubscribers set.rows → IsRealm set.realm → HaveSecrets set w.devices → AreSized w.homes → IsFresh w
+    → AreTold set w hs → AreReleasedOnce (after set w hs).released → (after set w hs).broken ≡ None → HoldsOf set (after set w hs) × AgainOf set (after set w hs)
+unbroken_run_holds laws set w hs subscribers realm secrets sized new told once unbroken =
+    both_hold laws set w hs subscribers realm told (honest_run set w hs unbroken).1 (begins set w secrets new) (begins_again set w sized new) once
 
 contained : {X : Type 0} (P : X → Type 0) (xs : List X) (x : X) → All P xs → Contains xs x → P x
 contained P xs x all c = subst P c.2 (all c.0 x c.1)
 
-one : {X : Type 0} (o : Option X) (a b : X) → o ≡ Some a → o ≡ Some b → a ≡ b
-one o a b e f = cc
-
 -- the inputs under which a server ended in Success are of a number that its job released
-pub server_success_is_drawn : (set : Setting) (w : Net) (a : Session) (keys : KeySet) (i : Inputs) → HoldsOf set w → Contains w.sessions a → ServerWon a keys i
+pub server_success_is_drawn : (set : Setting) (w : Net) (a : Session) (keys : KeySet) (i : FullInputs) → HoldsOf set w → Contains w.sessions a → ServerWon a keys (inputs_of.Full i)
     → IsDrawn set w.released i
 server_success_is_drawn set w a keys i h there won =
     let fine = contained (SessionFine set w.devices w.packets) w.sessions a h.fine there in
     h.drawn i ((fine.server won.server won.is).was_posted i won.inputs)
 
 -- and so are those of a peer
-pub peer_success_is_drawn : (set : Setting) (w : Net) (b : Session) (keys : KeySet) (j : Inputs) → HoldsOf set w → Contains w.sessions b → PeerWon b keys j
+pub peer_success_is_drawn : (set : Setting) (w : Net) (b : Session) (keys : KeySet) (j : FullInputs) → HoldsOf set w → Contains w.sessions b → PeerWon b keys (inputs_of.Full j)
     → IsDrawn set w.released j
 peer_success_is_drawn set w b keys j h there won =
     let fine = contained (SessionFine set w.devices w.packets) w.sessions b h.fine there in
-    let done = fine.done keys won.won in
-    let same : inputs_at b.sub done.is.challenge b.peer ≡ j =
-    one (inputs_of_peer b.sub b.peer) (inputs_at b.sub done.is.challenge b.peer) j (ap (inputs_accepted b.peer.options.method b.peer.network b.sub b.peer.identity) done.is.was_accepted) won.inputs in
+    let alone = not_resumed b.peer b.sub j won.inputs in
+    let done = fine.done keys won.won alone in
+    let c = done.is.challenge in
+    let p = b.peer in
+    let same : inputs_at b.sub c p ≡ j = one_full (inputs_of_peer b.sub p) (inputs_at b.sub c p) j
+    (ap (λ (x : Option Challenge). inputs_accepted p.options.method p.network b.sub p.identity x p.resumed) done.is.was_accepted
+    ∙ ap (λ (x : Option Context). inputs_accepted p.options.method p.network b.sub p.identity (Some c) x) alone) won.inputs in
     h.drawn j (subst (IsPosted w.packets) same done.is.was_posted)
 
+-- inputs of a re-authentication are those of one that a server of the job took up
+pub record IsOfResumption (sessions : List Session) (i : FastInputs) : Type 0 where
+  pub resumed : Resumed
+  pub is_in : Contains (resumptions sessions) resumed
+  pub sub : resumed.sub ≡ i.sub
+  pub identity : resumed.context.identity ≡ username i.identity
+
+-- those under which a server ended in Success
+pub server_success_is_resumed : (set : Setting) (w : Net) (a : Session) (keys : KeySet) (i : FastInputs) → AgainOf set w → Contains w.sessions a → ServerWon a keys (inputs_of.Fast i)
+    → IsOfResumption w.sessions i
+server_success_is_resumed set w a keys i again there won =
+    let s = won.server in
+    let (place, at_place) = at_place_of w.sessions a there in
+    let own = server_inputs s i won.inputs in
+    let named = ((again.each place a at_place).server s won.is).taken own.resumed own.has in
+    record {
+      resumed = own.resumed;
+      is_in = is_resumed w.sessions place s own.resumed (record { session = a; there = at_place; is = won.is; has = own.has });
+      sub = ap (λ (v : FastInputs). v.sub) own.same;
+      identity = sym named.named ∙ ap (λ (v : FastInputs). username v.identity) own.same;
+    }
+
+-- and those of a peer
+pub peer_success_is_resumed : (set : Setting) (w : Net) (b : Session) (keys : KeySet) (j : FastInputs) → AgainOf set w → Contains w.sessions b → PeerWon b keys (inputs_of.Fast j)
+    → IsOfResumption w.sessions j
+peer_success_is_resumed set w b keys j again there won =
+    let (place, at_place) = at_place_of w.sessions b there in
+    let (c, has, is_j) = peer_inputs b.peer b.sub j won.inputs in
+    let f = (again.each place b at_place).won keys c won.won has in
+    let g = f.source.resumes in
+    let named = ((again.each f.source.place g.session g.there).server f.source.server g.is).taken f.resumed g.has in
+    let same = f.source.same ∙ is_j in
+    record {
+      resumed = f.resumed;
+      is_in = is_resumed w.sessions f.source.place f.source.server f.resumed g;
+      sub = ap (λ (v : FastInputs). v.sub) same;
+      identity = sym named.named ∙ ap (λ (v : FastInputs). username v.identity) same;
+    }
+
 -- inputs of one challenge are of one number, whichever jobs released it
-pub one_challenge_is_of_one_number : Laws → (set : Setting) (released others : List Number) (i j : Inputs) → AreSubscribers set.rows
+pub one_challenge_is_of_one_number : Laws → (set : Setting) (released others : List Number) (i j : FullInputs) → AreSubscribers set.rows
     → All (λ number. number.n ≤ max_seq) released → All (λ number. number.n ≤ max_seq) others
     → (d : IsDrawn set released i) → (e : IsDrawn set others j) → AreOfOneChallenge i j → d.n ≡ e.n
 one_challenge_is_of_one_number laws set released others i j subscribers within also_within d e alike =

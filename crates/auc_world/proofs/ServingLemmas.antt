@@ -17,6 +17,8 @@ use Rattle.auc_server.specs.Server.{ServerEnd}
 use Rattle.auc_server.specs.Setting.{Setting}
 use Rattle.auc_server.specs.Steps.{Steps, asking}
 use Rattle.auc_server.specs.Table.{homes_after, silent}
+use Rattle.auc_server.specs.Laws.{Fits}
+use Rattle.auc_server.specs.declared.reply.Reply.TheVariants as replies
 use Rattle.auc_server.specs.declared.setting.HomeRow.{HomeRow}
 use Rattle.auc_server.specs.declared.why.ServerWhy.{ServerWhy}
 use Rattle.auc_vector.specs.Notes.{Asked, Asking}
@@ -27,7 +29,7 @@ use Rattle.auc_vector.specs.declared.parts.Vector.{Vector}
 use Rattle.auc_vector.specs.declared.turn.Turn.{Turn}
 use Rattle.auc_world.proofs.ActingLemmas.{numbered}
 use Rattle.auc_world.proofs.HomeLemmas.{asked_same}
-use Rattle.auc_world.specs.Came.{AreReceived, Came, AsksAt, asked_sub, asking_at, by_server, came_at_server, packet_number, received_by, vector_sent}
+use Rattle.auc_world.specs.Came.{AreReceived, Came, AsksAt, RepliesAt, asked_sub, asking_at, by_server, came_at_server, packet_number, received_by, vector_sent}
 use Rattle.auc_world.specs.Happened.{Delivery, Told, breach_at, delivery_at, released_by, sent_by, server_finds, to_server, with_server}
 use Rattle.auc_world.specs.InnerWorld.{Serves, number_after, refusal_of, released_for, state_of}
 use Rattle.auc_world.specs.Net.{Net, inputs_of_server, judged, packet_at, posted}
@@ -42,7 +44,7 @@ use Rattle.auc_world.specs.declared.net.Session.{Session}
 
 -- what is told where nothing was received
 abbrev pub nothing_told : Told
-nothing_told = record { seen = record { bytes = []; reading = reading.Fault refusal.Short; place = None }; notes = silent; inner = decrypted.Unreadable }
+nothing_told = record { seen = record { bytes = []; reading = reading.Fault refusal.Short; place = None }; notes = silent; inner = decrypted.Unreadable; reply = replies.Wrong }
 
 -- without a finding the breach stays
 pub unjudged : (packets : List SentPacket) (broken : Option Breach) → broken ≡ judged packets broken None
@@ -121,6 +123,7 @@ module _ {S : Type 0} (goes : S → ℕ → List Entry → List (ℕ × Stop) �
         ∙ ap (λ (s : Option ServerEnd). record (to_server set old.net d0 nothing_told s) { broken = judged packets broken (server_finds set old.net d0 nothing_told s) }) (sym none);
     received = subst (λ (s : Option ServerEnd). AreReceived (received_by sent_packet.bytes s) nothing_told.seen) (sym none) tt;
     notes = tt;
+    replies = subst (RepliesAt nothing_told) (sym none) tt;
     centre = subst (λ (s : Option ServerEnd). Asked goes kept top (asking_at set old.net nothing_told s) nothing_told.notes before before) (sym none) ((λ i. stays before i), (λ i. refl));
     drawn = subst (AsksAt set old.net nothing_told) (sym none) tt;
     devices = refl;
@@ -131,24 +134,24 @@ module _ {S : Type 0} (goes : S → ℕ → List Entry → List (ℕ × Stop) �
   reported_of (Some request) notes before after asked = (kept before request.sub, asked.resynced)
 
   module _ (s new : ServerEnd) (turn : Turn ServerWhy) (before after : S) (bytes : List ℕ) (is : session.server ≡ Some s) (of_packet : bytes ≡ sent_packet.bytes)
-      (later : List HomeRow) (steps : Steps goes kept top set homes s bytes before new turn later after) (alike : AreOfSame homes later) where
+      (later : List HomeRow) (steps : Steps goes kept top set homes s bytes before new turn later after) (alike : AreOfSame homes later) (fits : Fits s) where
     abbrev told : Told
-    told = record { seen = steps.seen; notes = turn.notes; inner = decrypted.Unreadable }
+    told = record { seen = steps.seen; notes = turn.notes; inner = decrypted.Unreadable; reply = steps.reply }
 
     abbrev asks : Option Asking
-    asks = asking (server_row set homes s steps.seen)
+    asks = asking (server_row set homes s steps.seen steps.reply)
 
     -- for whom the centre was asked
     asked_for : asked_after set homes new turn.notes.resync turn.notes.number ≡ asked_sub asks
     asked_for =
         ap (λ (x : ServerEnd × Turn ServerWhy). asked_after set homes x.0 turn.notes.resync turn.notes.number) steps.same
-        ∙ asked_is set homes s steps.seen turn.notes steps.drawn (reported_of asks turn.notes before after steps.asked) (ap (λ (x : ServerEnd × Turn ServerWhy). x.1.notes) (sym steps.same))
+        ∙ asked_is set homes s steps.seen steps.reply turn.notes fits steps.drawn (reported_of asks turn.notes before after steps.asked) (ap (λ (x : ServerEnd × Turn ServerWhy). x.1.notes) (sym steps.same))
         ∙ same_sub asks
 
     -- the network after a turn
     abbrev after_turn : ServerEnd × Turn ServerWhy → Net
     after_turn x = record (with_server old.net place session (released_by asks x.1.notes.number) x.0 x.1.step) {
-      homes = homes_after set homes s steps.seen turn.notes;
+      homes = homes_after set homes s steps.seen steps.reply turn.notes;
       broken = judged packets broken (Some (record { checked = x.1.checked; inputs = inputs_of_server s; bytes = sent_packet.bytes; delivery = breach_at d0 end.Server }));
     }
 
@@ -190,6 +193,7 @@ module _ {S : Type 0} (goes : S → ℕ → List Entry → List (ℕ × Stop) �
               ∙ ap (λ (o : Option ServerEnd). record (to_server set old.net d0 told o) { broken = judged packets broken (server_finds set old.net d0 told o) }) (sym is);
           received = subst (λ (o : Option ServerEnd). AreReceived (received_by sent_packet.bytes o) steps.seen) (sym is) (steps.received, steps.of ∙ of_packet);
           notes = refl;
+          replies = subst (RepliesAt told) (sym is) steps.replies;
           centre = subst (λ (o : Option ServerEnd). Asked goes kept top (asking_at set old.net told o) turn.notes before after) (sym is) steps.asked;
           drawn = subst (AsksAt set old.net told) (sym is) steps.drawn;
           devices = refl;

@@ -315,7 +315,8 @@ same_session session s new is same =
 -- what a server needs of it
 pub served_there : (rows : List Row) (subs : ℕ) (top : ℕ → ℕ) (homes : List HomeRow) (session : Session) (s : ServerEnd) → session.server ≡ Some s
     → HasHeld homes session.server → All (λ home. IsHome rows subs top home.sub) homes → IsServed rows subs top homes s
-served_there rows subs top homes session s is held each = record { each = each; held = subst (HasHeld homes) is held }
+served_there rows subs top homes session s is held each =
+    let own : HasHeld homes (Some s) = subst (HasHeld homes) is held in record { each = each; held = own.0; resumed = own.1 }
 
 -- ---- a peer in its session
 

@@ -1,20 +1,34 @@
 -- Runs of a job's sessions: when a run is honest, and that the ends of one challenge then agree on the keys.
-use Rattle.std.specs.Prelude.{◌≡◌, ◌≢◌, ◌↔◌, ℕ, ◌≤◌, true, List, [], ◌∷◌, ◌++◌, Option, Some, None, slice_get, All, AllPairs, Contains}
+use Rattle.std.specs.Prelude.{◌≡◌, ◌≢◌, ◌↔◌, ℕ, ◌<◌, ◌≤◌, true, List, [], ◌∷◌, ◌++◌, length, Option, Some, None, slice_get, All, AllPairs, Contains}
+use Rattle.auc_aes.specs.Bytes.{IsBlock}
+use Rattle.auc_attr.specs.Laws.{AreBytes}
 use Rattle.auc_hmac.specs.declared.keys.KeySet.{KeySet}
+use Rattle.auc_hmac.specs.declared.method.Method.{Method}
+use Rattle.auc_ident.specs.Permanent.{username}
 use Rattle.auc_peer.specs.Subscription.{Subscription}
+use Rattle.auc_peer.specs.Turn.{Decrypts}
+use Rattle.auc_reauth.specs.Store.{entry}
+use Rattle.auc_reauth.specs.declared.context.Context.{Context}
+use Rattle.auc_server.specs.Ordinals.{home_at}
 use Rattle.auc_server.specs.Server.{ServerEnd}
 use Rattle.auc_server.specs.Setting.{Setting}
 use Rattle.auc_server.specs.declared.server.ServerState.TheVariants as state
+use Rattle.auc_server.specs.declared.setting.HomeRow.{HomeRow}
 use Rattle.auc_sqn.specs.Number.{max_seq}
 use Rattle.auc_subs.specs.Subscriber.{AreSubscribers}
 use Rattle.auc_subs.specs.declared.row.Row.{Row}
 use Rattle.auc_vector.specs.declared.turn.Outcome.TheVariants as outcome
+use Rattle.auc_world.specs.Came.{AreReceived, Presented, bytes_named, presented_by}
 use Rattle.auc_world.specs.Happened.{Told, found, happened}
 use Rattle.auc_world.specs.Net.{Finding, Net, device_place, inputs_of_peer, inputs_of_server, other}
 use Rattle.auc_lines.specs.declared.part.End.{End}
 use Rattle.auc_world.specs.declared.event.Event.{Event}
 use Rattle.auc_world.specs.declared.net.Breach.{Breach}
+use Rattle.auc_world.specs.Resumption.{AreResumedOnce, resumptions}
+use Rattle.auc_world.specs.declared.net.FastInputs.{FastInputs}
+use Rattle.auc_world.specs.declared.net.FullInputs.{FullInputs}
 use Rattle.auc_world.specs.declared.net.Inputs.{Inputs}
+use Rattle.auc_world.specs.declared.net.Inputs.TheVariants as inputs
 use Rattle.auc_released.specs.declared.numbers.Number.{Number}
 use Rattle.auc_world.specs.declared.net.SentPacket.{SentPacket}
 use Rattle.auc_world.specs.declared.net.Session.{Session}
@@ -34,6 +48,27 @@ after_one set w (Noted number) = record w { released = w.released ++ number ∷ 
 abbrev pub after : Setting → Net → List Happening → Net
 after set w [] = w
 after set w (h ∷ hs) = after set (after_one set w h) hs
+
+-- ---- what is told
+
+-- the peer that a packet reached has decrypted what was encrypted in it
+abbrev pub DecryptsIn : Told → Option Presented → Type 0
+DecryptsIn told None = Unit {0}
+DecryptsIn told (Some p) = Decrypts p.decryption told.inner
+
+-- what is told of an event is so: what an end received, and what a peer decrypted
+pub record IsTold (w : Net) (e : Event) (told : Told) : Type 0 where
+  pub received : AreReceived (bytes_named w e) told.seen
+  pub decrypts : DecryptsIn told (presented_by w e told)
+
+abbrev pub IsToldAt : Net → Happening → Type 0
+IsToldAt w (Occurs e told) = IsTold w e told
+IsToldAt w (Noted number) = Unit {0}
+
+-- so is what is told of each event of a run
+abbrev pub AreTold : Setting → Net → List Happening → Type 0
+AreTold set w [] = Unit {0}
+AreTold set w (h ∷ hs) = IsToldAt w h × AreTold set (after_one set w h) hs
 
 -- ---- the premise
 
@@ -98,16 +133,41 @@ abbrev pub HaveSecrets : Setting → List Subscription → Type 0
 HaveSecrets set devices = (sub place : ℕ) (device : Subscription) (row : Row) → device_place set.rows devices sub ≡ Some place
     → slice_get devices place ≡ Some device → slice_get set.rows sub ≡ Some row → device.secret ≡ row.secret
 
+-- a realm has at most 255 bytes
+pub record IsRealm (realm : List ℕ) : Type 0 where
+  pub short : length realm ≤ 255
+  pub bytes : AreBytes realm
+
+-- a context is as it can be sent: K_encr has 16 bytes, and the counter 16 bits
+pub record IsSized (c : Context) : Type 0 where
+  pub k_encr : IsBlock c.k_encr
+  pub counter : c.counter < 65536
+
+-- each context of the homes is
+abbrev pub AreSized : List HomeRow → Type 0
+AreSized homes = (m : Method) (place : ℕ) (c : Context) → entry m (home_at homes place).store ≡ Some c → IsSized c
+
 -- no number was released twice, and each is one that a vector may have
 pub record AreReleasedOnce (released : List Number) : Type 0 where
   pub once : AllPairs ◌≢◌ released
   pub numbers : All (λ number. number.n ≤ max_seq) released
 
 -- inputs are of one challenge of a subscriber, under whatever identities
-pub record AreOfOneChallenge (i j : Inputs) : Type 0 where
+pub record AreOfOneChallenge (i j : FullInputs) : Type 0 where
   pub sub : i.sub ≡ j.sub
   pub rand : i.rand ≡ j.rand
   pub autn : i.autn ≡ j.autn
+
+-- inputs are of one fast re-authentication of a subscriber: under one identity, whatever its realm
+pub record AreOfOneResumption (i j : FastInputs) : Type 0 where
+  pub sub : i.sub ≡ j.sub
+  pub identity : username i.identity ≡ username j.identity
+
+-- inputs of a server and of a peer are those of the two ends of one authentication
+abbrev pub AreOfOne : Inputs → Inputs → Type 0
+AreOfOne (inputs.Full i) (inputs.Full j) = AreOfOneChallenge i j
+AreOfOne (inputs.Fast i) (inputs.Fast j) = AreOfOneResumption i j
+AreOfOne i j = ⊥
 
 -- the server of a session ended in Success under these keys, with these inputs
 pub record ServerWon (a : Session) (keys : KeySet) (i : Inputs) : Type 0 where
@@ -121,11 +181,13 @@ pub record PeerWon (b : Session) (keys : KeySet) (j : Inputs) : Type 0 where
   pub won : b.peer_keys ≡ Some keys
   pub inputs : inputs_of_peer b.sub b.peer ≡ Some j
 
--- a server and a peer, of one session or of two, that ended in Success over one challenge have equal keys
+-- a server and a peer, of one session or of two, that ended in Success in one authentication have equal keys
 abbrev pub Agree : Net → Type 0
 Agree w = (a b : Session) (k l : KeySet) (i j : Inputs) → Contains w.sessions a → Contains w.sessions b
-    → ServerWon a k i → PeerWon b l j → AreOfOneChallenge i j → k ≡ l
+    → ServerWon a k i → PeerWon b l j → AreOfOne i j → k ≡ l
 
 abbrev pub EachHonestRunAgrees : Type 0
-EachHonestRunAgrees = (set : Setting) (w : Net) (hs : List Happening) → AreSubscribers set.rows → HaveSecrets set w.devices → IsFresh w
-    → AreReleasedOnce (after set w hs).released → (after set w hs).broken ≡ None → Agree (after set w hs)
+EachHonestRunAgrees = (set : Setting) (w : Net) (hs : List Happening) → AreSubscribers set.rows → IsRealm set.realm → HaveSecrets set w.devices
+    → AreSized w.homes → IsFresh w → AreTold set w hs
+    → AreReleasedOnce (after set w hs).released → AreResumedOnce (resumptions (after set w hs).sessions)
+    → (after set w hs).broken ≡ None → Agree (after set w hs)

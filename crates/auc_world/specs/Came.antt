@@ -6,9 +6,10 @@ use Rattle.auc_packet.specs.Received.{Seen, IsReceived}
 use Rattle.auc_peer.specs.Rows.{peer_row}
 use Rattle.auc_peer.specs.Subscription.{Subscription}
 use Rattle.auc_peer.specs.Table.{gave_up as peer_gave_up}
-use Rattle.auc_peer.specs.Turn.{asked}
+use Rattle.auc_peer.specs.Turn.{Decryption, asked, decryption_made}
 use Rattle.auc_peer.specs.declared.peer.Challenge.{Challenge}
 use Rattle.auc_peer.specs.declared.why.PeerWhy.{PeerWhy}
+use Rattle.auc_server.specs.Replies.{Replies}
 use Rattle.auc_server.specs.Rows.{server_row}
 use Rattle.auc_server.specs.Server.{ServerEnd, started}
 use Rattle.auc_server.specs.Setting.{Setting}
@@ -84,7 +85,7 @@ of_opening = record { notes = silent; step = did.Opened; packet = None; asked = 
 -- whom a server that received something asks the centre for
 abbrev pub asking_at : Setting → Net → Told → Option ServerEnd → Option Asking
 asking_at set w told None = None
-asking_at set w told (Some s) = asking (server_row set w.homes s told.seen)
+asking_at set w told (Some s) = asking (server_row set w.homes s told.seen told.reply)
 
 abbrev pub came_at_server : Setting → Net → Told → Option ServerEnd → Came
 came_at_server set w told None = Err refused.NoSuchEnd
@@ -92,17 +93,17 @@ came_at_server set w told (Some s) =
     let turn = server_turn set w s told in
     Ok (by_server w turn.1.notes turn.1.step (asking_at set w told (Some s)) (vector_sent turn.1.notes.number turn.0.challenged))
 
-abbrev pub came_at_peer : Net → Delivery → Told → Option Subscription → Came
-came_at_peer w d told None = Err refused.NoSuchEnd
-came_at_peer w d told (Some device) =
-    let turn = peer_turn device (keeps_at w d.session.device) d.session told in Ok (by_peer w turn.1.notes turn.1.step (Some d.session.sub))
+abbrev pub came_at_peer : Setting → Net → Delivery → Told → Option Subscription → Came
+came_at_peer set w d told None = Err refused.NoSuchEnd
+came_at_peer set w d told (Some device) =
+    let turn = peer_turn set device (keeps_at w d.session.device) d.session told in Ok (by_peer w turn.1.notes turn.1.step (Some d.session.sub))
 
 -- the packet is looked for before the end
 abbrev pub came_delivered : Setting → Net → End → Told → Option SentPacket → Option Delivery → Came
 came_delivered set w at' told None d = Err refused.NoSuchPacket
 came_delivered set w at' told (Some sent) None = Err refused.NoSuchEnd
 came_delivered set w end.Server told (Some sent) (Some d) = came_at_server set w told d.session.server
-came_delivered set w end.Peer told (Some sent) (Some d) = came_at_peer w d told (slice_get w.devices d.session.device)
+came_delivered set w end.Peer told (Some sent) (Some d) = came_at_peer set w d told (slice_get w.devices d.session.device)
 
 -- ---- the other events
 
@@ -188,7 +189,7 @@ asking_of set w other told = None
 -- a number is asked for exactly if the server's turn needs one
 abbrev pub AsksAt : Setting → Net → Told → Option ServerEnd → Type 0
 AsksAt set w told None = Unit {0}
-AsksAt set w told (Some s) = AsksAsNeeded (server_row set w.homes s told.seen) told.notes
+AsksAt set w told (Some s) = AsksAsNeeded (server_row set w.homes s told.seen told.reply) told.notes
 
 abbrev pub AsksIn : Setting → Net → End → Told → Option Delivery → Type 0
 AsksIn set w at' told None = Unit {0}
@@ -199,20 +200,40 @@ abbrev pub AsksWhatItNeeds : Setting → Net → Event → Told → Type 0
 AsksWhatItNeeds set w (event.Deliver session at' packet) told = AsksIn set w at' told (delivery_in w session packet)
 AsksWhatItNeeds set w other told = Unit {0}
 
--- a packet that reaches a peer: at which place its device is, and what the USIM is handed
+-- what a server that received something made of the reply to its re-authentication
+abbrev pub RepliesAt : Told → Option ServerEnd → Type 0
+RepliesAt told None = Unit {0}
+RepliesAt told (Some s) = Replies s.resumed told.seen.reading told.reply
+
+abbrev pub RepliesIn : End → Told → Option Delivery → Type 0
+RepliesIn at' told None = Unit {0}
+RepliesIn end.Server told (Some d) = RepliesAt told d.session.server
+RepliesIn end.Peer told (Some d) = Unit {0}
+
+abbrev pub TellsReply : Net → Event → Told → Type 0
+TellsReply w (event.Deliver session at' packet) told = RepliesIn at' told (delivery_in w session packet)
+TellsReply w other told = Unit {0}
+
+-- a packet that reaches a peer: its device with what that keeps, what the USIM is handed, and what is decrypted
 pub record Presented : Type 0 where
   pub delivery : Delivery
   pub device : Subscription
   pub challenge : Option Challenge
+  pub decryption : Option Decryption
 
-abbrev pub presented_at : Delivery → Told → Option Subscription → Option Presented
-presented_at d told None = None
-presented_at d told (Some device) = Some (record { delivery = d; device = device; challenge = asked (peer_row d.session.peer told.seen) })
+abbrev pub presented_at : Net → Delivery → Told → Option Subscription → Option Presented
+presented_at w d told None = None
+presented_at w d told (Some device) = Some (record {
+  delivery = d;
+  device = device;
+  challenge = asked (peer_row d.session.peer told.seen);
+  decryption = decryption_made device (keeps_at w d.session.device) d.session.peer told.seen (peer_row d.session.peer told.seen) told.notes.usim;
+})
 
 abbrev pub presented_in : Net → End → Told → Option Delivery → Option Presented
 presented_in w at' told None = None
 presented_in w end.Server told (Some d) = None
-presented_in w end.Peer told (Some d) = presented_at d told (slice_get w.devices d.session.device)
+presented_in w end.Peer told (Some d) = presented_at w d told (slice_get w.devices d.session.device)
 
 abbrev pub presented_by : Net → Event → Told → Option Presented
 presented_by w (event.Deliver session at' packet) told = presented_in w at' told (delivery_in w session packet)

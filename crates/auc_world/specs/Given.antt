@@ -13,7 +13,7 @@ use Rattle.auc_lines.specs.declared.part.End.TheVariants as end
 use Rattle.auc_lines.specs.declared.part.Line.{Line}
 use Rattle.auc_lines.specs.declared.part.Line.TheVariants as line
 use Rattle.auc_peer.specs.Asking.{answer_noted}
-use Rattle.auc_peer.specs.Turn.{Decrypts, decryption_noted}
+use Rattle.auc_peer.specs.Turn.{Decrypts}
 use Rattle.auc_peer.specs.declared.peer.Challenge.{Challenge}
 use Rattle.auc_sqn.specs.Number.{ind_of, max_seq, seq_of, sqn_bytes}
 use Rattle.auc_sqn.specs.Past.{Past, opening_past, verdict_of, IsSqnMs}
@@ -32,7 +32,7 @@ use Rattle.auc_vector.specs.declared.notes.NumberNote.TheVariants as number
 use Rattle.auc_vector.specs.declared.notes.ResyncNote.{ResyncNote}
 use Rattle.auc_vector.specs.declared.notes.ResyncNote.TheVariants as resync
 use Rattle.auc_vector.specs.declared.notes.UsimNote.{UsimNote}
-use Rattle.auc_world.specs.Came.{AreReceived, Came, Presented, TellsNotes, asking_of, bytes_named, came, presented_by}
+use Rattle.auc_world.specs.Came.{AreReceived, Came, Presented, TellsNotes, TellsReply, asking_of, bytes_named, came, presented_by}
 use Rattle.auc_world.specs.Happened.{Told, happened}
 use Rattle.auc_world.specs.Net.{Net, other}
 use Rattle.auc_world.specs.Start.{Kept, start_of}
@@ -216,7 +216,7 @@ pub record AsksUsim (set : Setting) (before : Before) (p : Presented) (told : To
   pub row : Row
   pub there : slice_get set.rows p.delivery.session.sub ≡ Some row
   pub answers : UsimNotes p.device.secret (past_before before row p.delivery.session.sub) p.challenge told.notes.usim
-  pub decrypts : Decrypts (decryption_noted p.device p.delivery.session.peer told.seen p.challenge told.notes.usim) told.inner
+  pub decrypts : Decrypts p.decryption told.inner
 
 abbrev pub IsUsimAsked : Setting → Before → Option Presented → Told → Type 0
 IsUsimAsked set before None told = Unit {0}
@@ -229,6 +229,7 @@ pub record EventGives (set : Setting) (before : Before) (net : Net) (e : Event) 
   pub leads : next ≡ happened set net e told
   pub received : AreReceived (bytes_named net e) told.seen
   pub notes : TellsNotes told (came set net e told)
+  pub replies : TellsReply net e told
   pub centre : IsCentreAsked set (asking_of set net e told) told.notes
   pub usim : IsUsimAsked set before (presented_by net e told) told
 

@@ -18,6 +18,7 @@ use Rattle.auc_server.specs.Setting.{Setting}
 use Rattle.auc_server.specs.Steps.{asking}
 use Rattle.auc_server.specs.Table.{gave_up as server_gave_up, homes_after, repeated, server_step}
 use Rattle.auc_server.specs.declared.options.ServerOptions.{ServerOptions}
+use Rattle.auc_server.specs.declared.reply.Reply.{Reply}
 use Rattle.auc_server.specs.declared.why.ServerWhy.{ServerWhy}
 use Rattle.auc_vector.specs.Notes.{Asking}
 use Rattle.auc_vector.specs.declared.notes.Notes.{Notes}
@@ -40,11 +41,13 @@ use Rattle.auc_released.specs.declared.numbers.Number.{Number}
 use Rattle.auc_world.specs.declared.net.SentPacket.{SentPacket}
 use Rattle.auc_world.specs.declared.net.Session.{Session}
 
--- what is told of an event: what an end received, what the centre or the USIM answered, and what was decrypted
+-- what is told of an event: what an end received, what the centre or the USIM answered, what a peer decrypted, and which
+-- reply to a re-authentication a server did
 pub record Told : Type 0 where
   pub seen : Seen
   pub notes : Notes
   pub inner : Decrypted
+  pub reply : Reply
 
 -- ---- what steps leave
 
@@ -104,35 +107,35 @@ delivery_in w session packet = delivery_at w packet (session_place w.sessions se
 
 -- the turns of the two ends
 abbrev pub server_turn : Setting → Net → ServerEnd → Told → ServerEnd × Turn ServerWhy
-server_turn set w s told = server_step set w.homes s told.seen told.notes
+server_turn set w s told = server_step set w.homes s told.seen told.reply told.notes
 
-abbrev pub peer_turn : Subscription → Keeps → Session → Told → Peer × Turn PeerWhy
-peer_turn device keeps session told = peer_step device keeps session.peer told.seen told.notes.usim told.inner
+abbrev pub peer_turn : Setting → Subscription → Keeps → Session → Told → Peer × Turn PeerWhy
+peer_turn set device keeps session told = peer_step set.key device keeps session.peer told.seen told.notes.usim told.inner
 
 -- what the device of a session keeps after a turn of the session's peer
-abbrev pub kept_after : Keeps → Session → Told → Keeps
-kept_after keeps session told = kept_by (peer_row session.peer told.seen) session.peer keeps
+abbrev pub kept_after : Keeps → Session → Told → Turn PeerWhy → Keeps
+kept_after keeps session told turn = kept_by (peer_row session.peer told.seen) session.peer turn.notes.counter keeps
 
 abbrev pub to_server : Setting → Net → Delivery → Told → Option ServerEnd → Net
 to_server set w d told None = w
 to_server set w d told (Some s) =
     let turn = server_turn set w s told in
-    record (with_server w d.place d.session (released_by (asking (server_row set w.homes s told.seen)) turn.1.notes.number) turn.0 turn.1.step) {
-      homes = homes_after set w.homes s told.seen told.notes;
+    record (with_server w d.place d.session (released_by (asking (server_row set w.homes s told.seen told.reply)) turn.1.notes.number) turn.0 turn.1.step) {
+      homes = homes_after set w.homes s told.seen told.reply told.notes;
     }
 
-abbrev pub to_peer : Net → Delivery → Told → Option Subscription → Net
-to_peer w d told None = w
-to_peer w d told (Some device) =
-    let turn = peer_turn device (keeps_at w d.session.device) d.session told in
+abbrev pub to_peer : Setting → Net → Delivery → Told → Option Subscription → Net
+to_peer set w d told None = w
+to_peer set w d told (Some device) =
+    let turn = peer_turn set device (keeps_at w d.session.device) d.session told in
     record (with_peer w d.place d.session turn.0 turn.1.step) {
-      stores = slice_set w.stores d.session.device (kept_after (keeps_at w d.session.device) d.session told);
+      stores = slice_set w.stores d.session.device (kept_after (keeps_at w d.session.device) d.session told turn.1);
     }
 
 abbrev pub delivered : Setting → Net → End → Told → Option Delivery → Net
 delivered set w at' told None = w
 delivered set w end.Server told (Some d) = to_server set w d told d.session.server
-delivered set w end.Peer told (Some d) = to_peer w d told (slice_get w.devices d.session.device)
+delivered set w end.Peer told (Some d) = to_peer set w d told (slice_get w.devices d.session.device)
 
 -- what an end finds: a server under the inputs that it had before the turn, a peer under those that it has after it
 abbrev pub breach_at : Delivery → End → Breach
@@ -147,11 +150,11 @@ server_finds set w d told (Some s) = Some (record {
   delivery = breach_at d end.Server;
 })
 
-abbrev pub peer_finds : Net → Delivery → Told → Option Subscription → Option Finding
-peer_finds w d told None = None
-peer_finds w d told (Some device) = Some (record {
-  checked = (peer_turn device (keeps_at w d.session.device) d.session told).1.checked;
-  inputs = inputs_of_peer d.session.sub (peer_turn device (keeps_at w d.session.device) d.session told).0;
+abbrev pub peer_finds : Setting → Net → Delivery → Told → Option Subscription → Option Finding
+peer_finds set w d told None = None
+peer_finds set w d told (Some device) = Some (record {
+  checked = (peer_turn set device (keeps_at w d.session.device) d.session told).1.checked;
+  inputs = inputs_of_peer d.session.sub (peer_turn set device (keeps_at w d.session.device) d.session told).0;
   bytes = d.bytes;
   delivery = breach_at d end.Peer;
 })
@@ -159,7 +162,7 @@ peer_finds w d told (Some device) = Some (record {
 abbrev pub found_by : Setting → Net → End → Told → Option Delivery → Option Finding
 found_by set w at' told None = None
 found_by set w end.Server told (Some d) = server_finds set w d told d.session.server
-found_by set w end.Peer told (Some d) = peer_finds w d told (slice_get w.devices d.session.device)
+found_by set w end.Peer told (Some d) = peer_finds set w d told (slice_get w.devices d.session.device)
 
 -- ---- the other events
 
@@ -170,6 +173,7 @@ server_options opening = record {
   method = opening.method;
   name = opening.name;
   pseudonym = opening.pseudonym;
+  reauth = opening.reauth;
   bidding = opening.bidding;
   any = opening.any;
 }

@@ -14,7 +14,7 @@ use Rattle.auc_subs.specs.Subscriber.{same_identity}
 use Rattle.auc_vector.specs.Notes.{Asked}
 use Rattle.auc_vector.specs.declared.notes.NumberNote.{NumberNote}
 use Rattle.auc_vector.specs.declared.notes.NumberNote.TheVariants as number
-use Rattle.auc_world.specs.Came.{AreReceived, Came, AsksAt, TellsNotes, asking_at, came_at_peer, came_at_server, came_given_up, came_repeated, came_started, presented_at, received_by}
+use Rattle.auc_world.specs.Came.{AreReceived, Came, AsksAt, RepliesAt, TellsNotes, asking_at, came_at_peer, came_at_server, came_given_up, came_repeated, came_started, presented_at, received_by}
 use Rattle.auc_world.specs.Happened.{Delivery, Told, delivery_in, give_up, peer_finds, repeat, server_finds, start, to_peer, to_server}
 use Rattle.auc_world.specs.Net.{Net, judged, packet_at}
 use Rattle.auc_world.specs.World.{AreHanded, HasHeld, IsWorld, WorldState}
@@ -138,15 +138,16 @@ pub record Serves {S : Type 0} (goes : S → ℕ → List Entry → List (ℕ ×
   pub leads : new.net ≡ record (to_server set old.net d told d.session.server) { broken = judged old.net.packets old.net.broken (server_finds set old.net d told d.session.server) }
   pub received : AreReceived (received_by d.bytes d.session.server) told.seen
   pub notes : TellsNotes told result
+  pub replies : RepliesAt told d.session.server
   pub centre : Asked goes kept top (asking_at set old.net told d.session.server) told.notes before after
   pub drawn : AsksAt set old.net told d.session.server
   pub devices : new.devices ≡ old.devices
 
 -- what a peer in it makes of it
-pub record Answers (old : WorldState) (d : Delivery) (new : WorldState) (result : Came) : Type 0 where
+pub record Answers (set : Setting) (old : WorldState) (d : Delivery) (new : WorldState) (result : Came) : Type 0 where
   pub told : Told
-  pub is : result ≡ came_at_peer old.net d told (slice_get old.net.devices d.session.device)
-  pub leads : new.net ≡ record (to_peer old.net d told (slice_get old.net.devices d.session.device)) { broken = judged old.net.packets old.net.broken (peer_finds old.net d told (slice_get old.net.devices d.session.device)) }
+  pub is : result ≡ came_at_peer set old.net d told (slice_get old.net.devices d.session.device)
+  pub leads : new.net ≡ record (to_peer set old.net d told (slice_get old.net.devices d.session.device)) { broken = judged old.net.packets old.net.broken (peer_finds set old.net d told (slice_get old.net.devices d.session.device)) }
   pub received : AreReceived (received_by d.bytes (slice_get old.net.devices d.session.device)) told.seen
   pub notes : TellsNotes told result
-  pub usims : AreHanded (presented_at d told (slice_get old.net.devices d.session.device)) told old.devices new.devices
+  pub usims : AreHanded (presented_at old.net d told (slice_get old.net.devices d.session.device)) told old.devices new.devices

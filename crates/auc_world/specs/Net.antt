@@ -2,6 +2,8 @@
 use Rattle.std.specs.Prelude.{ℕ, ◌==◌, ◌&&◌, not, Bool, true, false, zero, suc, List, [], ◌∷◌, ◌++◌, Option, Some, None, slice_get, position, if◌then◌else◌}
 use Rattle.std.specs.List.{list_any}
 use Rattle.std.specs.Str.{bytes_eq}
+use Rattle.auc_hmac.specs.declared.keys.Master.{Master}
+use Rattle.auc_hmac.specs.declared.keys.Master.TheVariants as master
 use Rattle.auc_hmac.specs.declared.method.Method.{Method}
 use Rattle.auc_hmac.specs.declared.method.Method.TheVariants as method
 use Rattle.auc_peer.specs.Subscription.{Subscription}
@@ -9,16 +11,20 @@ use Rattle.auc_peer.specs.Table.{text_or_none}
 use Rattle.auc_peer.specs.declared.peer.Challenge.{Challenge}
 use Rattle.auc_peer.specs.declared.peer.Peer.{Peer}
 use Rattle.auc_reauth.specs.Device.{Keeps, nothing_kept}
+use Rattle.auc_reauth.specs.declared.context.Context.{Context}
 use Rattle.auc_server.specs.Server.{ServerEnd}
-use Rattle.auc_server.specs.declared.options.ServerOptions.{ServerOptions}
 use Rattle.auc_server.specs.declared.server.Challenged.{Challenged}
+use Rattle.auc_server.specs.declared.server.Resumed.{Resumed}
 use Rattle.auc_server.specs.declared.setting.HomeRow.{HomeRow}
 use Rattle.auc_subs.specs.Subscriber.{same_identity}
 use Rattle.auc_subs.specs.declared.row.Row.{Row}
 use Rattle.auc_lines.specs.declared.part.End.{End}
 use Rattle.auc_lines.specs.declared.part.End.TheVariants as end
 use Rattle.auc_world.specs.declared.net.Breach.{Breach}
+use Rattle.auc_world.specs.declared.net.FastInputs.{FastInputs}
+use Rattle.auc_world.specs.declared.net.FullInputs.{FullInputs}
 use Rattle.auc_world.specs.declared.net.Inputs.{Inputs}
+use Rattle.auc_world.specs.declared.net.Inputs.TheVariants as inputs
 use Rattle.auc_released.specs.declared.numbers.Number.{Number}
 use Rattle.auc_world.specs.declared.net.SentPacket.{SentPacket}
 use Rattle.auc_world.specs.declared.net.Session.{Session}
@@ -30,7 +36,7 @@ pub record Net : Type 0 where
   pub sessions : List Session
   -- the numbers that were released so far
   pub released : List Number
-  -- the subscribers that the servers serve, with the ordinals of their names
+  -- the subscribers that the servers serve, with the ordinals of their names and the contexts
   pub homes : List HomeRow
   -- what the peers take from the devices
   pub devices : List Subscription
@@ -41,36 +47,50 @@ pub record Net : Type 0 where
 
 -- ---- the inputs of keys
 
--- a server's: those of its last challenge, by its method and its network's name
-abbrev pub inputs_sent : ServerOptions → List ℕ → Option Challenged → Option Inputs
-inputs_sent options text None = None
-inputs_sent options text (Some sent) = Some (record {
-  method = options.method;
-  name = options.name;
+-- those of a fast re-authentication with a context, by a method, a subscriber and an identity
+abbrev pub inputs_of_context : Method → ℕ → List ℕ → Context → FastInputs
+inputs_of_context m sub text c = record {
+  method = m;
+  sub = sub;
+  identity = text;
+  k_encr = c.k_encr;
+  k_aut = c.k_aut;
+  master = c.master;
+}
+
+-- a server's: those of its last challenge, by its method and its network's name; before the first challenge those of its
+-- re-authentication
+abbrev pub inputs_sent : Method → List ℕ → List ℕ → Option Challenged → Option Resumed → Option Inputs
+inputs_sent m name text None None = None
+inputs_sent m name text None (Some r) = Some (inputs.Fast (inputs_of_context m r.sub text r.context))
+inputs_sent m name text (Some sent) r = Some (inputs.Full (record {
+  method = m;
+  name = name;
   sub = sent.sub;
   rand = sent.vector.rand;
   autn = sent.vector.autn;
   identity = text;
-})
+}))
 
 abbrev pub inputs_of_server : ServerEnd → Option Inputs
-inputs_of_server s = inputs_sent s.options s.identity s.challenged
+inputs_of_server s = inputs_sent s.options.method s.options.name s.identity s.challenged s.resumed
 
--- a peer's: those of the challenge that it accepted last, at its subscriber's device, by its method and the name in that
--- challenge
-abbrev pub inputs_accepted : Method → List ℕ → ℕ → Option (List ℕ) → Option Challenge → Option Inputs
-inputs_accepted m name sub text None = None
-inputs_accepted m name sub text (Some c) = Some (record {
+-- a peer's, at its subscriber's device: those of the context under which it found a right MAC, if it did so after the challenge
+-- that it accepted last; else those of that challenge, by its method and the name in that challenge
+abbrev pub inputs_accepted : Method → List ℕ → ℕ → Option (List ℕ) → Option Challenge → Option Context → Option Inputs
+inputs_accepted m name sub text accepted (Some c) = Some (inputs.Fast (inputs_of_context m sub (text_or_none text) c))
+inputs_accepted m name sub text None None = None
+inputs_accepted m name sub text (Some c) None = Some (inputs.Full (record {
   method = m;
   name = name;
   sub = sub;
   rand = c.rand;
   autn = c.autn;
   identity = text_or_none text;
-})
+}))
 
 abbrev pub inputs_of_peer : ℕ → Peer → Option Inputs
-inputs_of_peer sub p = inputs_accepted p.options.method p.network sub p.identity p.accepted
+inputs_of_peer sub p = inputs_accepted p.options.method p.network sub p.identity p.accepted p.resumed
 
 -- ---- packets
 
@@ -100,12 +120,30 @@ same_method method.Prime method.Prime = true
 same_method _ _ = false
 
 -- of one challenge, under one identity
-abbrev pub same_challenge : Inputs → Inputs → Bool
+abbrev pub same_challenge : FullInputs → FullInputs → Bool
 same_challenge a b = a.sub == b.sub && (bytes_eq a.rand b.rand && (bytes_eq a.autn b.autn && bytes_eq a.identity b.identity))
 
 -- and by one method, for one network
+abbrev pub same_full : FullInputs → FullInputs → Bool
+same_full a b = same_method a.method b.method && (bytes_eq a.name b.name && same_challenge a b)
+
+abbrev pub same_master : Master → Master → Bool
+same_master (master.Aka a) (master.Aka b) = bytes_eq a b
+same_master (master.Prime a) (master.Prime b) = bytes_eq a b
+same_master _ _ = false
+
+-- of one context's keys
+abbrev pub same_keys : FastInputs → FastInputs → Bool
+same_keys a b = bytes_eq a.k_encr b.k_encr && (bytes_eq a.k_aut b.k_aut && same_master a.master b.master)
+
+-- and of one subscriber, by one method, under one identity
+abbrev pub same_fast : FastInputs → FastInputs → Bool
+same_fast a b = a.sub == b.sub && (same_method a.method b.method && (bytes_eq a.identity b.identity && same_keys a b))
+
 abbrev pub same_inputs : Inputs → Inputs → Bool
-same_inputs a b = same_method a.method b.method && (bytes_eq a.name b.name && same_challenge a b)
+same_inputs (inputs.Full a) (inputs.Full b) = same_full a b
+same_inputs (inputs.Fast a) (inputs.Fast b) = same_fast a b
+same_inputs _ _ = false
 
 -- an end without keys shares no inputs
 abbrev pub share_inputs : Option Inputs → Option Inputs → Bool

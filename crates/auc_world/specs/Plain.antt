@@ -1,9 +1,11 @@
 -- Completeness of a plain session: one whose packets reach the other end, each once and in their order, ends in Success at both
 -- ends under the same keys (RFC 4187 §3), unless a line of it tells why not.
-use Rattle.std.specs.Prelude.{◌≡◌, ℕ, ◌≤◌, ◌&&◌, Bool, true, false, List, [], ◌∷◌, length, flat_map, All, Option, Some, None, slice_get, slice_index}
+use Rattle.std.specs.Prelude.{◌≡◌, ◌≢◌, ◌⊎◌, ℕ, ◌≤◌, ◌&&◌, Bool, true, false, List, [], ◌∷◌, length, flat_map, All, Option, Some, None, Ok, Err, slice_get, slice_index}
+use Rattle.std.specs.Option.{option_to_list}
 use Rattle.auc_hmac.specs.declared.keys.KeySet.{KeySet}
 use Rattle.auc_hmac.specs.declared.method.Method.{Method}
 use Rattle.auc_hmac.specs.declared.method.Method.TheVariants as method
+use Rattle.auc_lines.specs.Part.{IsShortIdentity}
 use Rattle.auc_lines.specs.declared.part.Identity.{Identity}
 use Rattle.auc_lines.specs.declared.part.Identity.TheVariants as identity
 use Rattle.auc_lines.specs.declared.part.SessionLine.{SessionLine}
@@ -11,18 +13,24 @@ use Rattle.auc_peer.specs.Subscription.{Subscription}
 use Rattle.auc_peer.specs.Table.{new_peer}
 use Rattle.auc_reauth.specs.Device.{Keeps}
 use Rattle.auc_reauth.specs.Store.{entry}
+use Rattle.auc_reauth.specs.declared.context.Context.{Context}
 use Rattle.auc_server.specs.Rows.{is_held}
+use Rattle.auc_server.specs.Server.{ServerEnd}
 use Rattle.auc_server.specs.Setting.{Setting}
+use Rattle.auc_server.specs.declared.server.Resumed.{Resumed}
 use Rattle.auc_subs.specs.Subscriber.{AreSubscribers}
 use Rattle.auc_subs.specs.declared.row.Row.{Row}
+use Rattle.auc_vector.specs.declared.notes.CounterNote.{CounterNote}
+use Rattle.auc_vector.specs.declared.notes.CounterNote.TheVariants as counts
 use Rattle.auc_vector.specs.declared.notes.NumberNote.{NumberNote}
 use Rattle.auc_vector.specs.declared.notes.NumberNote.TheVariants as number
 use Rattle.auc_vector.specs.declared.notes.ResyncNote.{ResyncNote}
 use Rattle.auc_vector.specs.declared.notes.ResyncNote.TheVariants as resync
 use Rattle.auc_vector.specs.declared.notes.UsimNote.{UsimNote}
 use Rattle.auc_vector.specs.declared.notes.UsimNote.TheVariants as usim
+use Rattle.auc_world.specs.Agreement.{AreSized, IsRealm, IsSized}
 use Rattle.auc_world.specs.Came.{Came, session_of}
-use Rattle.auc_world.specs.Event.{asked_in, number_in, resync_in, usim_in}
+use Rattle.auc_world.specs.Event.{asked_in, number_in, number_released, resync_in, usim_in}
 use Rattle.auc_world.specs.Given.{Before, PlainGives}
 use Rattle.auc_world.specs.Happened.{peer_options, server_options}
 use Rattle.auc_world.specs.Net.{Net}
@@ -71,8 +79,13 @@ abbrev pub IsPseudonym : Option (List ℕ) → Type 0
 IsPseudonym None = Unit {0}
 IsPseudonym (Some text) = length text ≡ 33
 
+-- so has the identity of a context
+abbrev pub IsContext : Option Context → Type 0
+IsContext None = Unit {0}
+IsContext (Some c) = length c.identity ≡ 33
+
 -- a session was opened with such options and nothing has happened in it; its device is that of its subscriber, and its server
--- serves that subscriber. Whatever pseudonym the device keeps, it may be one that the server can't resolve
+-- serves that subscriber. Whatever pseudonym and context the device keeps, they may be ones that the server can't resolve
 pub record IsReady (set : Setting) (net : Net) (session : ℕ) : Type 0 where
   pub own : Session
   pub is : session_of net session ≡ Some own
@@ -89,7 +102,45 @@ pub record IsReady (set : Setting) (net : Net) (session : ℕ) : Type 0 where
   pub keeps : Keeps
   pub stored : slice_get net.stores own.device ≡ Some keeps
   pub pseudonym : IsPseudonym (entry opening.method keeps.pseudonyms)
+  pub context : IsContext (entry opening.method keeps.contexts)
   pub held : is_held net.homes own.sub ≡ true
+  pub sized : AreSized net.homes
+
+-- the context of a device's method is that of a re-authentication: it has the same identity, keys and counter
+pub record HasSameContext (m : Method) (keeps : Keeps) (c : Context) : Type 0 where
+  pub own : Context
+  pub has : entry m keeps.contexts ≡ Some own
+  pub identity : own.identity ≡ c.identity
+  pub k_encr : own.k_encr ≡ c.k_encr
+  pub k_aut : own.k_aut ≡ c.k_aut
+  pub master : own.master ≡ c.master
+  pub counter : own.counter ≡ c.counter
+
+-- a session was opened and nothing has happened in it, and its device has the context of a re-authentication
+pub record IsReadyAgain (set : Setting) (net : Net) (session : ℕ) (c : Context) : Type 0 where
+  pub own : Session
+  pub is : session_of net session ≡ Some own
+  pub opening : SessionLine
+  pub short : IsName opening.name
+  pub first : IsShortIdentity opening.identity
+  pub options : own.options ≡ server_options opening
+  pub server : own.server ≡ None
+  pub peer : own.peer ≡ new_peer (peer_options opening)
+  pub device : Subscription
+  pub there : slice_get net.devices own.device ≡ Some device
+  pub realm : device.realm ≡ set.realm
+  pub keeps : Keeps
+  pub stored : slice_get net.stores own.device ≡ Some keeps
+  pub sized : IsSized c
+  pub same : HasSameContext opening.method keeps c
+
+-- the server of a session took up a context again
+pub record HasResumed (net : Net) (session : ℕ) (r : Resumed) : Type 0 where
+  pub own : Session
+  pub is : session_of net session ≡ Some own
+  pub server : ServerEnd
+  pub started : own.server ≡ Some server
+  pub resumed : server.resumed ≡ Some r
 
 -- it ended in Success at both ends under the same keys, and its verdict says so
 pub record Succeeds (net : Net) (session : ℕ) : Type 0 where
@@ -136,24 +187,56 @@ sqn_reported (Some (usim.Accepted sqn)) = []
 sqn_reported (Some (usim.Sync sqn)) = sqn ∷ []
 sqn_reported (Some usim.WrongMac) = []
 
+-- the counter of the context that a server took up again
+abbrev pub counter_resumed : Came → List ℕ
+counter_resumed (Ok note) = option_to_list note.notes.resumed
+counter_resumed (Err why) = []
+
+-- the counter that a device accepted
+abbrev pub counter_taken : Option CounterNote → List ℕ
+counter_taken None = []
+counter_taken (Some (counts.Taken counter)) = counter ∷ []
+counter_taken (Some (counts.Small counter)) = []
+
+abbrev pub counter_accepted : Came → List ℕ
+counter_accepted (Ok note) = counter_taken note.notes.counter
+counter_accepted (Err why) = []
+
 -- the centre was asked for this subscriber, if it was asked
 abbrev pub IsAskedFor : ℕ → Option ℕ → Type 0
 IsAskedFor sub None = Unit {0}
 IsAskedFor sub (Some other) = other ≡ sub
 
+-- a number was drawn, so that there was a challenge, and the device accepted no counter
+pub record TellAnother (lines : List LineRecord) : Type 0 where
+  pub drawn : flat_map (λ came. number_released (number_in came)) (results lines) ≢ []
+  pub none : flat_map counter_accepted (results lines) ≡ []
+
+-- lines tell of no re-authentication, or of a challenge after it: a server that takes up a context again draws no number, unless
+-- the counter is too small
+abbrev pub TellChallenge : List LineRecord → Type 0
+TellChallenge lines = (flat_map counter_resumed (results lines) ≡ []) ⊎ TellAnother lines
+
 -- no line tells why a session of a subscriber fails: the centre was asked for that subscriber, it gave each number that it was
 -- asked for, its number was never too far above the SEQ that the USIM reported, and the USIM reported no more than so many
--- synchronisation failures
+-- synchronisation failures; and a context that was taken up again led to a challenge, since the device accepted no counter
 pub record TellNoCause (sub syncs : ℕ) (lines : List LineRecord) : Type 0 where
   pub own : All (λ came. IsAskedFor sub (asked_in came)) (results lines)
   pub given : All (λ came. is_refused (number_in came) ≡ false) (results lines)
   pub near : All (λ came. is_too_far (resync_in came) ≡ false) (results lines)
   pub once : length (flat_map (λ came. sqn_reported (usim_in came)) (results lines)) ≤ syncs
+  pub challenge : TellChallenge lines
 
 -- ---- the law
 
 -- a plain session succeeds, if its lines tell no cause of a failure; one synchronisation failure is none
 abbrev pub EachPlainSessionSucceeds : Type 0
 EachPlainSessionSucceeds = (set : Setting) (before : Before) (net next : Net) (session : ℕ) (lines : List LineRecord) → AreSubscribers set.rows
-    → length set.realm ≤ 255 → (ready : IsReady set net session) → PlainGives set before net session lines next
+    → IsRealm set.realm → (ready : IsReady set net session) → PlainGives set before net session lines next
     → TellNoCause ready.own.sub 1 lines → Succeeds next session
+
+-- a plain session whose server takes up a context again succeeds, if the device has the same one (RFC 4187 §5)
+abbrev pub EachResumedSessionSucceeds : Type 0
+EachResumedSessionSucceeds = (set : Setting) (before : Before) (net next : Net) (session : ℕ) (lines : List LineRecord) (r : Resumed)
+    → AreSubscribers set.rows → IsRealm set.realm → PlainGives set before net session lines next → HasResumed next session r
+    → IsReadyAgain set net session r.context → Succeeds next session

@@ -30,6 +30,7 @@ keys_in state.AwaitAny = None
 keys_in state.AwaitFull = None
 keys_in state.AwaitPermanent = None
 keys_in state.AwaitChallenge = None
+keys_in state.AwaitReauth = None
 keys_in (state.Notifying why) = None
 
 abbrev pub server_keys : Option ServerEnd → Option KeySet

@@ -12,11 +12,15 @@ use Rattle.auc_world.specs.Net.{Net}
 
 -- ---- what passes from job to job
 
+-- what is kept of a subscriber, by its home and what its device keeps
+abbrev pub kept_now : HomeRow → Keeps → Kept
+kept_now home keeps = record { ordinals = home.ordinals; home = home.store; device = keeps }
+
 -- what homes and devices keep is put back in the places of their subscribers; no two are of one
 abbrev pub put_back : List Kept → List HomeRow → List Keeps → List Kept
 put_back kept [] stores = kept
 put_back kept (home ∷ homes) [] = kept
-put_back kept (home ∷ homes) (keeps ∷ stores) = slice_set (put_back kept homes stores) home.sub (home.ordinals, keeps)
+put_back kept (home ∷ homes) (keeps ∷ stores) = slice_set (put_back kept homes stores) home.sub (kept_now home keeps)
 
 -- after a job, by its network after the last line
 abbrev pub kept_with : List Kept → Net → List Kept
@@ -29,7 +33,7 @@ kept_by_jobs kept nets = fold kept_with kept nets
 -- ---- the network
 
 abbrev pub home_of : List Kept → ℕ → HomeRow
-home_of kept sub = record { sub = sub; ordinals = (kept_of kept sub).0 }
+home_of kept sub = record { sub = sub; ordinals = (kept_of kept sub).ordinals; store = (kept_of kept sub).home }
 
 -- the subscription of a row, with the realm of the home network
 abbrev pub subscription_by : Setting → Option Row → List Subscription
@@ -45,7 +49,7 @@ keeps_by None keeps = []
 keeps_by (Some row) keeps = keeps ∷ []
 
 abbrev pub keeps_of : Setting → List Kept → ℕ → List Keeps
-keeps_of set kept sub = keeps_by (slice_get set.rows sub) (kept_of kept sub).1
+keeps_of set kept sub = keeps_by (slice_get set.rows sub) (kept_of kept sub).device
 
 -- a network of the homes and the devices of some subscribers, in which nothing has happened
 abbrev pub fresh_net : Setting → List Kept → List ℕ → Net

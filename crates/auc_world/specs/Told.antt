@@ -53,6 +53,7 @@ told_opening session = record {
   name = [];
   peer_name = None;
   pseudonym = false;
+  reauth = false;
   bidding = false;
   any = false;
   has_prime = false;

@@ -4,18 +4,19 @@ use Rattle.auc_edge.specs.declared.stop.Stop.{Stop}
 use Rattle.auc_history.specs.declared.entry.Entry.{Entry}
 use Rattle.auc_lines.specs.Part.{IsShortIdentity}
 use Rattle.auc_peer.specs.Subscription.{subscription_of}
-use Rattle.auc_peer.specs.Turn.{Asked as AsksDevice, Decrypts, decryption_noted}
+use Rattle.auc_peer.specs.Turn.{Asked as AsksDevice, Decrypts}
 use Rattle.auc_peer.specs.declared.device.Device.{Device}
+use Rattle.auc_server.specs.Laws.{Fits}
 use Rattle.auc_server.specs.Server.{ServerEnd}
 use Rattle.auc_server.specs.Setting.{Setting}
-use Rattle.auc_server.specs.Steps.{IsHeld, IsHome}
+use Rattle.auc_server.specs.Steps.{IsHeld, IsHeldToo, IsHome}
 use Rattle.auc_server.specs.declared.setting.HomeRow.{HomeRow}
 use Rattle.auc_sqn.specs.Past.{Past, Remembers}
 use Rattle.auc_subs.specs.declared.row.Row.{Row}
 use Rattle.auc_usim.specs.Usim.{Memory, IsAnswer, past_after_answer}
 use Rattle.auc_usim.specs.declared.answer.Answer.{Answer}
 use Rattle.auc_vector.specs.Notes.{Asked}
-use Rattle.auc_world.specs.Came.{AreReceived, AsksWhatItNeeds, Came, Presented, TellsNotes, asking_of, bytes_named, came, presented_by}
+use Rattle.auc_world.specs.Came.{AreReceived, AsksWhatItNeeds, Came, Presented, TellsNotes, TellsReply, asking_of, bytes_named, came, presented_by}
 use Rattle.auc_world.specs.Happened.{Told, happened}
 use Rattle.auc_world.specs.Net.{Net, device_place}
 use Rattle.auc_world.specs.declared.event.Event.{Event}
@@ -40,10 +41,11 @@ usim_of rows w sub = usim_at w.devices (device_place rows w.net.devices sub)
 
 -- ---- what is needed
 
--- each server's challenged subscriber is one of the homes
+-- each server's challenged subscriber is one of the homes, and so is one that re-authenticates; its keys are those of its
+-- inputs
 abbrev pub HasHeld : List HomeRow → Option ServerEnd → Type 0
 HasHeld homes None = Unit {0}
-HasHeld homes (Some s) = IsHeld homes s.challenged
+HasHeld homes (Some s) = IsHeld homes s.challenged × IsHeldToo homes s.resumed × Fits s
 
 -- a network's name has at most 255 bytes
 abbrev pub IsName : List ℕ → Type 0
@@ -98,7 +100,7 @@ pub record IsHanded (p : Presented) (told : Told) (old new : List Device) : Type
   pub others : (place : ℕ) → place ≢ p.delivery.session.device → slice_get new place ≡ slice_get old place
   pub asked : AsksDevice p.device p.challenge told.notes.usim before.usim.array after.usim.array
   pub decrypts : (past : Past) → Remembers before.usim.array past
-      → Decrypts (decryption_noted p.device p.delivery.session.peer told.seen p.challenge told.notes.usim) told.inner
+      → Decrypts p.decryption told.inner
 
 abbrev pub AreHanded : Option Presented → Told → List Device → List Device → Type 0
 AreHanded None told old new = new ≡ old
@@ -111,6 +113,7 @@ pub record Applies {S : Type 0} (goes : S → ℕ → List Entry → List (ℕ �
   pub leads : new.net ≡ happened set old.net e told
   pub received : AreReceived (bytes_named old.net e) told.seen
   pub notes : TellsNotes told (came set old.net e told)
+  pub replies : TellsReply old.net e told
   -- the centre was asked what the turn says, and answered as the notes tell
   pub centre : Asked goes kept top (asking_of set old.net e told) told.notes before after
   pub drawn : AsksWhatItNeeds set old.net e told

@@ -62,6 +62,7 @@ fn copy_options(alloc: Global, options: &ServerOptions) -> Result<ServerOptions,
         method: options.method,
         name: copy_of(alloc, &options.name)?,
         pseudonym: options.pseudonym,
+        reauth: options.reauth,
         bidding: options.bidding,
         any: options.any,
     })

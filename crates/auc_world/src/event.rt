@@ -41,6 +41,7 @@ impl Event {
             name: copy_of(alloc, &line.name)?,
             peer_name: copy_if_any(alloc, &line.peer_name)?,
             pseudonym: line.pseudonym,
+            reauth: line.reauth,
             bidding: line.bidding,
             any: line.any,
             has_prime: line.has_prime,

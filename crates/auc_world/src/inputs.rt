@@ -4,17 +4,63 @@
 ghost use Rattle.std.specs.Prelude.{◌≡◌, ◌≤◌, ◌<◌, ◌&&◌, [], length, Some, IfOk};
 ghost use Rattle.std.specs.Str.{bytes_eq};
 ghost use Rattle.auc_peer.specs.Table.{text_or_none};
-ghost use Rattle.auc_world.specs.Net.{inputs_of_peer, inputs_of_server, judged, other, same_challenge, same_end, same_inputs, same_method, share_inputs, was_sent};
+ghost use Rattle.auc_world.specs.Net.{inputs_of_context, inputs_of_peer, inputs_of_server, inputs_sent, judged, other, same_challenge, same_end, same_fast, same_full, same_inputs, same_keys, same_master, same_method, share_inputs, was_sent};
 
 use crate::copying::copy_of;
-use crate::net::{Breach, Inputs, SentPacket};
+use crate::net::{Breach, FastInputs, FullInputs, Inputs, SentPacket};
 use auc_edge::{NoMemory, Octets, Room};
-use auc_hmac::Method;
+use auc_hmac::{Master, Method};
 use auc_lines::End;
 use auc_peer::{Challenge, Peer};
-use auc_server::{Challenged, Server};
+use auc_reauth::Context;
+use auc_server::{Challenged, Resumed, Server};
 use auc_vector::Vector;
 use std::alloc::Global;
+
+/// What an end derives its keys from in a re-authentication with a context.
+fn inputs_of_context(method: Method, sub: u32, identity: Octets, context: Context) -> FastInputs
+    ensures { result ≡ inputs_of_context method sub identity context }
+{
+    let Context {
+        k_encr,
+        k_aut,
+        master,
+        ..
+    } = context;
+    FastInputs {
+        method,
+        sub,
+        identity,
+        k_encr,
+        k_aut,
+        master,
+    }
+}
+
+/// What a server derives its keys from, by its last challenge and its re-authentication.
+fn inputs_sent(
+    method: Method,
+    name: Octets,
+    identity: Octets,
+    challenged: Option<Challenged>,
+    resumed: Option<Resumed>,
+) -> Option<Inputs>
+    ensures { result ≡ inputs_sent method name identity challenged resumed }
+{
+    if let Some(Challenged { sub, vector, .. }) = challenged {
+        let Vector { rand, autn, .. } = vector;
+        return Some(Inputs::Full(FullInputs {
+            method,
+            name,
+            sub,
+            rand,
+            autn,
+            identity,
+        }));
+    }
+    let Resumed { sub, context, .. } = resumed?;
+    Some(Inputs::Fast(inputs_of_context(method, sub, identity, context)))
+}
 
 /// What a server derives its keys from, in memory that was taken before, with a copy of its network's name.
 pub(crate) fn put_server_inputs(room: Room, name: Octets, server: &Server) -> Option<Inputs>
@@ -23,18 +69,15 @@ pub(crate) fn put_server_inputs(room: Room, name: Octets, server: &Server) -> Op
     requires name { name ≡ server.now.options.name }
     ensures { result ≡ inputs_of_server server.now }
 {
-    let Challenged { sub, vector, .. } = server.challenged()?;
-    let Vector { rand, autn, .. } = vector;
     let mut room = room;
     room.put(server.identity());
-    Some(Inputs {
-        method: server.options().method,
+    inputs_sent(
+        server.options().method,
         name,
-        sub,
-        rand,
-        autn,
-        identity: room.into_octets(),
-    })
+        room.into_octets(),
+        server.challenged(),
+        server.resumed(),
+    )
 }
 
 /// A copy of the name of a server's network.
@@ -74,18 +117,23 @@ fn method_of(peer: &Peer) -> Method
 pub(crate) fn peer_inputs(alloc: Global, sub: u32, peer: &Peer) -> Result<Option<Inputs>, NoMemory>
     ensures { IfOk result (λ inputs. inputs ≡ inputs_of_peer sub peer.now) }
 {
+    let method = method_of(peer);
+    if let Some(context) = peer.resumed {
+        let identity = Octets::copied_from(alloc, text(peer))?;
+        return Ok(Some(Inputs::Fast(inputs_of_context(method, sub, identity, context))));
+    }
     let Some(challenge) = peer.accepted else {
         return Ok(None);
     };
     let Challenge { rand, autn } = challenge;
-    Ok(Some(Inputs {
-        method: method_of(peer),
+    Ok(Some(Inputs::Full(FullInputs {
+        method,
         name: copy_of(alloc, &peer.network)?,
         sub,
         rand,
         autn,
         identity: Octets::copied_from(alloc, text(peer))?,
-    }))
+    })))
 }
 
 /// Whether an end sends to another.
@@ -107,7 +155,7 @@ fn same_method(a: Method, b: Method) -> bool
     }
 }
 
-fn same_challenge(a: &Inputs, b: &Inputs) -> bool
+fn same_challenge(a: &FullInputs, b: &FullInputs) -> bool
     ensures { result ≡ same_challenge a.now b.now }
 {
     a.sub == b.sub
@@ -116,11 +164,46 @@ fn same_challenge(a: &Inputs, b: &Inputs) -> bool
                 && a.identity.as_slice() == b.identity.as_slice()))
 }
 
-fn same_inputs(a: &Inputs, b: &Inputs) -> bool
-    ensures { result ≡ same_inputs a.now b.now }
+fn same_full(a: &FullInputs, b: &FullInputs) -> bool
+    ensures { result ≡ same_full a.now b.now }
 {
     same_method(a.method, b.method)
         && (a.name.as_slice() == b.name.as_slice() && same_challenge(a, b))
+}
+
+fn same_master(a: Master, b: Master) -> bool
+    ensures { result ≡ same_master a b }
+{
+    match (a, b) {
+        (Master::Aka(a), Master::Aka(b)) => a.as_slice() == b.as_slice(),
+        (Master::Prime(a), Master::Prime(b)) => a.as_slice() == b.as_slice(),
+        (Master::Aka(_), Master::Prime(_)) | (Master::Prime(_), Master::Aka(_)) => false,
+    }
+}
+
+fn same_keys(a: &FastInputs, b: &FastInputs) -> bool
+    ensures { result ≡ same_keys a.now b.now }
+{
+    a.k_encr.as_slice() == b.k_encr.as_slice()
+        && (a.k_aut.as_slice() == b.k_aut.as_slice() && same_master(a.master, b.master))
+}
+
+fn same_fast(a: &FastInputs, b: &FastInputs) -> bool
+    ensures { result ≡ same_fast a.now b.now }
+{
+    a.sub == b.sub
+        && (same_method(a.method, b.method)
+            && (a.identity.as_slice() == b.identity.as_slice() && same_keys(a, b)))
+}
+
+fn same_inputs(a: &Inputs, b: &Inputs) -> bool
+    ensures { result ≡ same_inputs a.now b.now }
+{
+    match (a, b) {
+        (Inputs::Full(a), Inputs::Full(b)) => same_full(a, b),
+        (Inputs::Fast(a), Inputs::Fast(b)) => same_fast(a, b),
+        (Inputs::Full(_), Inputs::Fast(_)) | (Inputs::Fast(_), Inputs::Full(_)) => false,
+    }
 }
 
 fn share_inputs(a: &Option<Inputs>, b: &Option<Inputs>) -> bool

@@ -8,12 +8,14 @@
 //! between the steps of different jobs.
 //!
 //! A [`World`] is a job's network with the homes and the devices of its subscribers: its sessions of EAP-AKA and EAP-AKA',
-//! the packets that their ends sent, the ordinals of the homes' names and what the devices keep (`specs/Net`). What the
+//! the packets that their ends sent, the ordinals of the homes' names, the homes' contexts and what the devices keep (`specs/Net`). What the
 //! last two leave passes from round to round (`specs/Start`). [`World::apply`] makes an [`Event`] happen and answers a
 //! [`Note`] (`specs/Happened`, `specs/Came`). The premise is that each right MAC that an end finds is of a packet that an
 //! end of the other role sent with the same inputs of its keys; a [`Breach`] is the first delivery that breaks it. Laws say
-//! that a server and a peer of one challenge then agree on the keys ([`each_honest_run_agrees`]), and that a plain session,
-//! whose packets reach the other end in their order, succeeds ([`each_plain_session_succeeds`]).
+//! that a server and a peer of one challenge or of one fast re-authentication then agree on the keys
+//! ([`each_honest_run_agrees`]), and that a plain session, whose packets reach the other end in their order, succeeds
+//! ([`each_plain_session_succeeds`], [`each_resumed_session_succeeds`]). Each event moves the contexts of a home or of a device
+//! as `auc_reauth` says (`specs/Places`, [`each_event_moves_contexts_once`]).
 //!
 //! Two laws are about a round that several workers serve, each without the others' lines (`specs/Pieces`).
 //! Put together, the workers' pieces are what the jobs give, and their entries split the same history. Two more
@@ -49,8 +51,9 @@ mod verdicts;
 mod world;
 
 pub use agreement::{
-    breach_is_the_first_delivery_that_is_not_honest, each_honest_run_agrees,
-    each_plain_session_succeeds,
+    breach_is_the_first_delivery_that_is_not_honest, each_acceptance_is_of_the_own_context,
+    each_event_moves_contexts_once, each_honest_run_agrees, each_plain_session_succeeds,
+    each_resumed_session_succeeds,
 };
 pub use auc_lines::End;
 pub use auc_server::Setting;
@@ -63,7 +66,7 @@ pub use law::{
     jobs_give_after_all_lines, past_has_each_accepted_sqn, pieces_split_the_round,
     restart_opens_above_released_numbers,
 };
-pub use net::{Breach, Inputs, SentPacket, Session};
+pub use net::{Breach, FastInputs, FullInputs, Inputs, SentPacket, Session};
 pub use noting::{note, note_all};
 pub use record::{
     Closing, GiveVerdict, JobRecord, JobSessions, JobVectors, LineRecord, PartRecord, Premise,

@@ -1,21 +1,42 @@
 //! The network of a job's sessions: packets, sessions, and the first breach of the premise of equal keys.
 
 use auc_edge::Octets;
-use auc_hmac::{KeySet, Method};
+use auc_hmac::{KeySet, Master, Method};
 use auc_lines::End;
 use auc_peer::Peer;
 use auc_server::{Server, ServerOptions};
 
-/// What an end derives its keys from (RFC 4187 §7, RFC 9048 §3.3): the method and the network's name, which is empty for
-/// EAP-AKA; the subscriber, with its secret; RAND and AUTN of the challenge; and the identity.
+/// What an end derives its keys from in a full authentication (RFC 4187 §7, RFC 9048 §3.3): the method and the network's
+/// name, which is empty for EAP-AKA; the subscriber, with its secret; RAND and AUTN of the challenge; and the identity.
 #[derive(Drop)]
-pub struct Inputs {
+pub struct FullInputs {
     pub method: Method,
     pub name: Octets,
     pub sub: u32,
     pub rand: [u8; 16],
     pub autn: [u8; 16],
     pub identity: Octets,
+}
+
+/// What an end derives its keys from in a fast re-authentication, beside the counter and NONCE_S that its messages carry
+/// (RFC 4187 §7, RFC 9048 §3.3): the method; the subscriber; the identity; and K_encr, K_aut and the master key of the context.
+#[derive(Drop)]
+pub struct FastInputs {
+    pub method: Method,
+    pub sub: u32,
+    pub identity: Octets,
+    pub k_encr: [u8; 16],
+    pub k_aut: [u8; 32],
+    pub master: Master,
+}
+
+/// What an end derives its keys from.
+#[derive(Drop)]
+pub enum Inputs {
+    /// In a full authentication.
+    Full(FullInputs),
+    /// In a fast re-authentication.
+    Fast(FastInputs),
 }
 
 /// A packet that an end sent.

@@ -26,6 +26,7 @@ pub(crate) fn new_session(
         method: opening.method,
         name: copy_of(alloc, &opening.name)?,
         pseudonym: opening.pseudonym,
+        reauth: opening.reauth,
         bidding: opening.bidding,
         any: opening.any,
     };

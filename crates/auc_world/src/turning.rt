@@ -3,7 +3,7 @@
 ghost use Rattle.std.specs.Prelude.{◌≡◌, ◌≤◌, ℕ, length, IfOk, OnErr};
 ghost use Rattle.auc_peer.specs.Subscription.{subscription_of};
 ghost use Rattle.auc_peer.specs.Turn.{Steps as StepsPeer};
-ghost use Rattle.auc_server.specs.Steps.{IsHeld, IsServed, Steps as StepsServer};
+ghost use Rattle.auc_server.specs.Steps.{IsHeld, IsHeldToo, IsServed, Steps as StepsServer};
 ghost use Rattle.auc_world.specs.Happened.{keys_won, sent_by};
 ghost use Rattle.auc_world.specs.Net.{inputs_of_peer, inputs_of_server};
 ghost use Rattle.auc_world.specs.World.{AreOfSame};
@@ -15,13 +15,15 @@ use crate::posting::{copy_sent, put_sent};
 use auc_edge::{NoMemory, Octets, Room};
 use auc_hmac::KeySet;
 use auc_peer::{Device, FirstIdentity, Last, Peer, PeerOptions, PeerWhy};
+use auc_random::Rands;
 use auc_server::{HomeRow, Server, ServerWhy, Setting};
 use auc_vector::{Centre, Outcome, Step, Turn};
 use std::alloc::Global;
 use std::sync::Wait;
 
-/// The greatest message that a server sends, the Challenge with a name of 255 bytes, a checkcode and a pseudonym: 440 bytes.
-const MOST: usize = 440;
+/// The greatest message that a server sends, the Challenge with a name of 255 bytes, a checkcode, a pseudonym and a
+/// re-authentication identity with a realm of 255 bytes: 728 bytes.
+const MOST: usize = 728;
 
 /// A turn of an end.
 #[derive(Drop)]
@@ -43,12 +45,14 @@ pub(crate) fn serve<C: Centre, R: Wait>(
     server: &mut Server,
     bytes: &[u8],
 ) -> Result<Taken<ServerWhy>, NoMemory>
-    requires { IsServed set.now.rows (C.subs centre.old) (C.top centre.old) homes.old.items server.old }
+    requires served { IsServed set.now.rows (C.subs centre.old) (C.top centre.old) homes.old.items server.old }
+    requires realm { length set.now.realm ≤ 255 }
 
     ensures step { IfOk result (λ t. StepsServer C.goes C.kept C.top set.now homes.old.items server.old bytes.now centre.old server.new t.turn homes.new.items centre.new) }
     ensures inputs { IfOk result (λ t. t.inputs ≡ inputs_of_server server.new) }
     ensures sent { IfOk result (λ t. t.sent ≡ sent_by t.turn.step) }
     ensures held { IsHeld homes.new.items server.new.challenged }
+    ensures resumed { IsHeldToo homes.new.items server.new.resumed }
     ensures same { AreOfSame homes.old.items homes.new.items }
     ensures subs { C.subs centre.new ≡ C.subs centre.old }
     ensures top { (i : ℕ) → C.top centre.new i ≡ C.top centre.old i }
@@ -118,7 +122,10 @@ fn copy(alloc: Global, peer: &Peer) -> Result<Peer, NoMemory>
         accepted: peer.accepted,
         network: copy_of(alloc, &peer.network)?,
         packets: peer.packets.copy(alloc)?,
-        pseudonym: peer.pseudonym,
+        inner: peer.inner,
+        resumed: peer.resumed,
+        next: peer.next,
+        next_iv: peer.next_iv,
     })
 }
 
@@ -126,6 +133,7 @@ fn copy(alloc: Global, peer: &Peer) -> Result<Peer, NoMemory>
 /// is there.
 pub(crate) fn answer(
     alloc: Global,
+    rands: &Rands,
     device: &mut Device,
     sub: u32,
     peer: &mut Peer,
@@ -133,7 +141,7 @@ pub(crate) fn answer(
 ) -> Result<Taken<PeerWhy>, NoMemory>
     requires { length device.old.realm ≤ 255 }
 
-    ensures step { IfOk result (λ t. StepsPeer (subscription_of device.old) device.old.store peer.old bytes.now
+    ensures step { IfOk result (λ t. StepsPeer rands.now (subscription_of device.old) device.old.store peer.old bytes.now
         device.old.usim.array peer.new t.turn device.new.store device.new.usim.array) }
     ensures inputs { IfOk result (λ t. t.inputs ≡ inputs_of_peer sub peer.new) }
     ensures sent { IfOk result (λ t. t.sent ≡ sent_by t.turn.step) }
@@ -143,7 +151,7 @@ pub(crate) fn answer(
 {
     let mut own = copy(alloc, peer)?;
     let mut card = device.copy()?;
-    let turn = own.on_bytes(alloc, &mut card, bytes)?;
+    let turn = own.on_bytes(alloc, rands, &mut card, bytes)?;
     let inputs = peer_inputs(alloc, sub, &own)?;
     let sent = copy_sent(alloc, &turn.step)?;
     *peer = own;

@@ -34,7 +34,7 @@ use std::alloc::Global;
 use std::marker::Model;
 use std::sync::Wait;
 
-/// The subscribers whose USIMs a job holds, with the ordinals of their names.
+/// The subscribers whose USIMs a job holds, with the ordinals of their names and their contexts.
 pub type HomeList = Vec<HomeRow>;
 
 /// Their devices, in the same order.
@@ -154,6 +154,7 @@ impl World {
     ) -> Result<Result<Note, WorldRefusal>, NoMemory>
         requires known { IsKnownEvent (length set.now.rows) event.now }
         requires homes { AreHomes set.now.rows (C.subs centre.old) (C.top centre.old) self.old.net.homes }
+        requires realm { length set.now.realm ≤ 255 }
 
         ensures applied { IfOk result (λ came. RememberPasts self.old.devices
             → Applies C.goes C.kept C.top set.now self.old event.now centre.old self.new came centre.new) }
@@ -179,7 +180,7 @@ impl World {
             } => match (self.reached(session, packet), end) {
                 (Err(why), _) => Ok(Err(why)),
                 (Ok(place), End::Server) => self.to_server(rt, alloc, set, centre, place, packet),
-                (Ok(place), End::Peer) => self.to_peer(alloc, place, packet),
+                (Ok(place), End::Peer) => self.to_peer(alloc, set, place, packet),
             },
         }
     }
@@ -249,6 +250,7 @@ impl World {
     ) -> Result<Came, NoMemory>
         requires homes { AreHomes set.now.rows (C.subs centre.old) (C.top centre.old) self.old.net.homes }
         requires reached { IsReached self.old.net place packet }
+        requires realm { length set.now.realm ≤ 255 }
 
         ensures served { IfOk result (λ came. (d : Delivery) → delivery_at self.old.net packet (Some place) ≡ Some d
             → Serves C.goes C.kept C.top set.now self.old d centre.old self.new came centre.new) }
@@ -302,10 +304,16 @@ impl World {
     }
 
     /// Delivers a packet to the peer of the session at a place, at its subscriber's device.
-    fn to_peer(&mut self, alloc: Global, place: usize, packet: u32) -> Result<Came, NoMemory>
+    fn to_peer(
+        &mut self,
+        alloc: Global,
+        set: &Setting,
+        place: usize,
+        packet: u32,
+    ) -> Result<Came, NoMemory>
         requires { IsReached self.old.net place packet }
         ensures answered { IfOk result (λ came. RememberPasts self.old.devices → (d : Delivery)
-            → delivery_at self.old.net packet (Some place) ≡ Some d → Answers self.old d self.new came) }
+            → delivery_at self.old.net packet (Some place) ≡ Some d → Answers set.now self.old d self.new came) }
         ensures asked { IfOk result (λ came. asked_in came ≡ None) }
         ensures homes { self.new.net.homes ≡ self.old.net.homes }
         ensures devices { self.new.net.devices ≡ self.old.net.devices }
@@ -324,7 +332,8 @@ impl World {
         let near = packet as usize - 1;
         let bytes = self.packets[near].bytes.as_slice();
         let sub = session.sub;
-        let Taken { turn, inputs, sent } = answer(alloc, device, sub, &mut session.peer, bytes)?;
+        let peer = &mut session.peer;
+        let Taken { turn, inputs, sent } = answer(alloc, set.rands, device, sub, peer, bytes)?;
         session.peer_keys = keys_won(session.peer_keys, &turn.step);
         let checked = turn.checked;
         self.broken = judged(

@@ -1,4 +1,5 @@
-use Rattle.std.proofs.Common.{inl}
+use Rattle.std.proofs.Common.{inl, subst}
+use Rattle.auc_world.specs.Agreement.{IsRealm}
 use Rattle.auc_run.specs.Crash.{MayLeave}
 use Rattle.auc_run.specs.Inner.{status_in}
 use Rattle.auc_run.proofs.KnownLemmas.{known}
@@ -15,6 +16,7 @@ returns-in-Ok-clause-ran g c = λ told files read.
     let old = g.K.Sink.written c.args.out.now in
     let new = g.K.Sink.written c.serve_parts.new.out in
     let begins = c.in-Ok.ensures.opened in
+    let realm = subst IsRealm c.as_slice.ensures c.is_realm.ensures in
     let laws : Laws = record {
       told = c.each_told_transcript_is_one.ensures;
       nets = c.each_breach_is_told.ensures.nets;
@@ -22,14 +24,17 @@ returns-in-Ok-clause-ran g c = λ told files read.
       breaches = c.each_breach_is_told.ensures.told;
       in_sessions = c.each_failure_in_sessions_is_by_place.ensures.stretches;
       macs = c.each_failure_in_sessions_is_by_place.ensures.mac;
+      contexts = c.each_transcript_keeps_contexts.ensures;
       plain = c.each_plain_session_agrees.ensures;
+      resumed = c.each_resumed_session_agrees.ensures;
     } in
     leave_runs told files (g.D.Disk.seen c.args.disk) (MayLeave g.D.Disk.seen g.D.Disk.may_leave c.args.disk c.serve_parts.result.disk) ended old new
     (files_run laws g.D.Disk.seen g.D.Disk.may_leave g.D.Disk.faults told files script rows c.args.disk c.serve_parts.result.disk c.in-Ok.journal ended old new
-    read (known rows script c.requires) begins (c.serve_parts.ensures.ran c.args.disk begins))
+    read (known rows script c.requires realm) begins (c.serve_parts.ensures.ran c.args.disk begins))
 
 pub serve_parts-requires-clause-known : goal.serve_parts-requires-clause-known
-serve_parts-requires-clause-known g c = λ κs within. (known c.args.input.now.subs c.args.input.now.script c.requires).parts
+serve_parts-requires-clause-known g c = λ κs within.
+    (known c.args.input.now.subs c.args.input.now.script c.requires (subst IsRealm c.as_slice.ensures c.is_realm.ensures)).parts
 
 pub returns-in-Err-clause-refused : goal.returns-in-Err-clause-refused
 returns-in-Err-clause-refused g c =

@@ -13,5 +13,5 @@ message-requires-clause-writable c =
 
 pub message-requires-clause-small : goal.message-requires-clause-small
 message-requires-clause-small c =
-    subst (λ (list : List Attr). length (packet_text (packet.Aka true c.args.id c.args.method subtype.Identity list)) ≤ 440)
+    subst (λ (list : List Attr). length (packet_text (packet.Aka true c.args.id c.args.method subtype.Identity list)) ≤ 728)
     (sym (c.one.ensures ∙ ap (λ (a : Attr). a ∷ []) c.id_req.ensures)) (identity_size c.args.method c.args.id c.args.kind)

@@ -12,4 +12,4 @@ message-requires-clause-writable c =
 
 pub message-requires-clause-small : goal.message-requires-clause-small
 message-requires-clause-small c =
-    subst (λ (list : List Attr). length (packet_text (packet.Aka true c.args.id c.args.method subtype.Notification list)) ≤ 440) (sym c.one.ensures) (notification_size c.args.method c.args.id)
+    subst (λ (list : List Attr). length (packet_text (packet.Aka true c.args.id c.args.method subtype.Notification list)) ≤ 728) (sym c.one.ensures) (notification_size c.args.method c.args.id)

@@ -19,8 +19,8 @@ job_world-requires-clause-known g c =
     let known = known_at inside c.args.self.now c.args.job c.as_slice-asked.result.now c.self.view_is c.requires.servable there in
     known
 
-pub new-worker-requires : goal.new-worker-requires
-new-worker-requires g c =
+pub new-worker-requires-clause-rows : goal.new-worker-requires-clause-rows
+new-worker-requires-clause-rows g c =
     let inside : Shared = record { set = c.self.inside.set.now; released = c.self.inside.released.now; usims = c.self.inside.usims.now; stores = c.self.inside.stores.now; jobs = c.self.inside.jobs.now; full = c.self.inside.full } in
     let servable : IsServable inside = subst IsServable (sym c.self.view_is) c.requires.servable in
     let there = job_at inside c.args.self.now c.args.job c.index-self-job.result c.as_slice-asked.result.now c.self.view_is c.requires.job c.index-self-job.is c.as_slice-asked.ensures in
@@ -28,6 +28,12 @@ new-worker-requires g c =
     subst (AreForRows inside.set.rows (g.C.Centre.subs c.args.centre.now) (g.C.Centre.top c.args.centre.now)) (sym c.in_ok-world.ensures)
     (starts_for_rows inside.set inside.usims inside.stores c.as_slice-asked.result.now (g.C.Centre.subs c.args.centre.now) (g.C.Centre.top c.args.centre.now) servable.subscribers servable.rows known
     (subst (λ (s : Shared). IsCentreOf (length s.set.rows) (g.C.Centre.subs c.args.centre.now) (g.C.Centre.top c.args.centre.now)) (sym c.self.view_is) c.requires.centre))
+
+pub new-worker-requires-clause-realm : goal.new-worker-requires-clause-realm
+new-worker-requires-clause-realm g c =
+    let inside : Shared = record { set = c.self.inside.set.now; released = c.self.inside.released.now; usims = c.self.inside.usims.now; stores = c.self.inside.stores.now; jobs = c.self.inside.jobs.now; full = c.self.inside.full } in
+    let servable : IsServable inside = subst IsServable (sym c.self.view_is) c.requires.servable in
+    servable.realm
 
 pub serve_lines-served-requires-clause-known : goal.serve_lines-served-requires-clause-known
 serve_lines-served-requires-clause-known g c =

@@ -1,4 +1,4 @@
-use Rattle.std.proofs.Common.{◌≡◌, ◌-◌, ◌+◌, ◌++◌, ◌∙◌, arith, ap, subst, true, false}
+use Rattle.std.proofs.Common.{◌≡◌, ◌≤◌, ◌-◌, ◌+◌, ◌++◌, ◌∙◌, arith, ap, length, subst, true, false}
 use Rattle.std.proofs.Math.Nat.{sub-zero}
 use Rattle.auc_world.specs.Given.{DrawGives}
 use Rattle.auc_jobs.specs.InnerServing.{AreTold, is_vector}
@@ -9,7 +9,8 @@ use Rattle.auc_jobs.proofs.worker.Worker.draw.Goals as goal
 
 pub loop-init : goal.loop-init
 loop-init g c = record {
-  rows = subst (λ (w : WorkerState g.row.C.Denot). AreForRows w.set.rows (g.C.Centre.subs c.self.inside.centre.now) (g.C.Centre.top c.self.inside.centre.now) w.world) c.self.view_is c.self.invariant;
+  rows = subst (λ (w : WorkerState g.row.C.Denot). AreForRows w.set.rows (g.C.Centre.subs c.self.inside.centre.now) (g.C.Centre.top c.self.inside.centre.now) w.world) c.self.view_is c.self.invariant.0;
+  realm = subst (λ (w : WorkerState g.row.C.Denot). length w.set.realm ≤ 255) c.self.view_is c.self.invariant.1;
   set = ap (λ (w : WorkerState g.row.C.Denot). w.set) c.self.view_is;
   released = ap (λ (w : WorkerState g.row.C.Denot). w.released) c.self.view_is;
   world = ap (λ (w : WorkerState g.row.C.Denot). w.world) c.self.view_is;
@@ -48,6 +49,7 @@ loop-preserved g c = record {
     homes = c.loop.invariant.rows.homes;
     placed = c.loop.invariant.rows.placed;
   };
+  realm = c.loop.invariant.realm;
   set = c.loop.invariant.set;
   released = c.loop.invariant.released;
   world = c.loop.invariant.world;

@@ -1,4 +1,4 @@
-use Rattle.std.proofs.Common.{◌≡◌, ◌-◌, ◌++◌, List}
+use Rattle.std.proofs.Common.{◌≡◌, ◌≤◌, ◌-◌, ◌++◌, List, length}
 use Rattle.auc_world.specs.declared.record.LineRecord.{LineRecord}
 use Rattle.auc_jobs.specs.InnerServing.{AreTold}
 use Rattle.auc_jobs.specs.InnerWorker.{AreForRows}
@@ -8,6 +8,7 @@ use Rattle.auc_jobs.proofs.worker.Worker.draw.Given as goal
 abbrev pub invariant-loop : goal.invariant-loop
 invariant-loop g l = record {
   rows : AreForRows l.fn.self.set.rows (g.C.Centre.subs l.self-inside.centre.now) (g.C.Centre.top l.self-inside.centre.now) l.fn.self.world;
+  realm : length l.fn.self.set.realm ≤ 255;
   set : l.self-inside.set.now ≡ l.fn.self.set;
   released : l.self-inside.released.now ≡ l.fn.self.released;
   world : l.self-inside.world ≡ l.fn.self.world;

@@ -1,11 +1,13 @@
-use Rattle.std.proofs.Common.{◌≡◌, ◌≤◌, ◌∙◌, length, refl, sym, ap, subst}
+use Rattle.std.proofs.Common.{◌≡◌, ◌≤◌, ◌∙◌, ℕ, List, length, refl, sym, ap, subst}
 use Rattle.std.specs.Prelude.{slice_set}
 use Rattle.std.proofs.lemmas.Option.{slice_get_past, slice_get_read}
 use Rattle.indexmap.proofs.CallerLemmas.{keys-with_value_at}
 use Rattle.indexmap.specs.IndexMap.{get, keys, values, with_value_at}
 use Rattle.auc_peer.specs.Subscription.{subscription_of}
+use Rattle.auc_peer.specs.Turn.{Steps}
 use Rattle.auc_peer.specs.declared.device.Device.{Device}
 use Rattle.auc_peer.specs.declared.peer.Peer.{Peer}
+use Rattle.auc_server.specs.Setting.{Setting}
 use Rattle.auc_world.proofs.AnsweringLemmas.{answers, answers_nobody, answers_now}
 use Rattle.auc_world.proofs.ServingLemmas.{has_packet, packet_read}
 use Rattle.auc_world.proofs.WorldLemmas.{answered_states, kept_device, kept_session, map_same, of_all, on_error, set_same, values_set}
@@ -32,9 +34,9 @@ returns-in_default-clause-answered c =
     ≡ state_of inside.packets.items (values inside.sessions) inside.released.items inside.homes.items inside.broken inside.devices.items
     = answered_states _ inside.packets.items _ (values inside.sessions) inside.released.items inside.homes.items inside.broken _ inside.devices.items
     c.in_ok-make_place.ensures.same (values_set inside.sessions.entries c.args.place session ∙ set_same (values inside.sessions) c.args.place session c.index_mut-session.ensures.value) refl in
-    answers_now inside.packets.items (values inside.sessions) inside.released.items inside.homes.items inside.broken inside.devices.items c.args.place c.args.packet session there.sent
+    answers_now inside.packets.items (values inside.sessions) inside.released.items inside.homes.items inside.broken inside.devices.items c.args.place c.args.packet session there.sent c.args.set.now
     c.index_mut-session.ensures.value there.of_number c.args.self.now c.self.view_is _ _
-    (λ pasts. answers_nobody inside.packets.items (values inside.sessions) inside.released.items inside.homes.items inside.broken inside.devices.items c.args.place c.args.packet session there.sent
+    (λ pasts. answers_nobody inside.packets.items (values inside.sessions) inside.released.items inside.homes.items inside.broken inside.devices.items c.args.place c.args.packet session there.sent c.args.set.now
     (slice_get_past inside.devices.items session.device c.in_default.ensures.item.3) _ same)
 
 pub invariant_of-self-in_err-turn : goal.invariant_of-self-in_err-turn
@@ -88,10 +90,12 @@ returns-clause-answered c =
     let there = slice_get_read inside.devices.items (length inside.devices.items) session.device device refl c.in-Some.ensures.item.3.0 c.in-Some.ensures.value in
     let last : c.args.packet ≤ length inside.packets.items = subst (λ (w : WorldState). c.args.packet ≤ length w.net.packets) (sym c.self.view_is) c.requires.last in
     let here = packet_read inside.packets.items c.make_place.new.packets.items c.args.packet c.index.result.now c.in_ok-make_place.ensures.same c.requires.first last c.index.ensures in
-    answers_now inside.packets.items (values inside.sessions) inside.released.items inside.homes.items inside.broken inside.devices.items c.args.place c.args.packet session c.index.result.now
+    let step = subst (λ (key : List ℕ). Steps key (subscription_of device) device.store session.peer c.as_slice-bytes.result.now device.usim.array c.answer.new.peer c.in_ok-turn.field-0.turn c.answer.new.device.store c.answer.new.device.usim.array)
+    (ap (λ (s : Setting). s.key) c.set.view_is) c.in_ok-turn.ensures.step in
+    answers_now inside.packets.items (values inside.sessions) inside.released.items inside.homes.items inside.broken inside.devices.items c.args.place c.args.packet session c.index.result.now c.args.set.now
     c.index_mut-session.ensures.value here c.args.self.now c.self.view_is _ _
-    (λ pasts. answers inside.packets.items (values inside.sessions) inside.released.items inside.homes.items inside.broken inside.devices.items c.args.place c.args.packet session c.index.result.now
-    device c.answer.new.device c.answer.new.peer c.in_ok-turn.field-0.turn c.as_slice-bytes.result.now there c.in_ok-turn.ensures.subscription c.as_slice-bytes.ensures c.in_ok-turn.ensures.step pasts
+    (λ pasts. answers inside.packets.items (values inside.sessions) inside.released.items inside.homes.items inside.broken inside.devices.items c.args.place c.args.packet session c.index.result.now c.args.set.now
+    device c.answer.new.device c.answer.new.peer c.in_ok-turn.field-0.turn c.as_slice-bytes.result.now there c.in_ok-turn.ensures.subscription c.as_slice-bytes.ensures step pasts
     c.make_place.new.packets.items c.deref.result.now c.post.new.packets.items (values (with_value_at inside.sessions c.args.place new)) c.judged-self-inside.result
     c.in_ok-turn.field-0.inputs c.in_ok-turn.field-0.sent c.post.result c.keys_won-session.result
     c.in_ok-make_place.ensures.same (c.deref.ensures.value ∙ c.in_ok-make_place.ensures.same) c.in_ok-turn.ensures.inputs c.in_ok-turn.ensures.sent

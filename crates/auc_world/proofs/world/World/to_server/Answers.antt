@@ -2,9 +2,10 @@ use Rattle.std.proofs.Common.{◌≡◌, ℕ, ◌<◌, ◌≤◌, ◌∙◌, Lis
 use Rattle.std.specs.Prelude.{IfSome, Option, slice_set}
 use Rattle.auc_server.specs.Asked.{asked_after}
 use Rattle.auc_server.specs.declared.setting.HomeRow.{HomeRow}
-use Rattle.auc_server.specs.Steps.{IsHeld}
+use Rattle.auc_server.specs.Server.{ServerEnd}
 use Rattle.auc_world.proofs.AskedLemmas.{asked_listed}
-use Rattle.auc_world.proofs.HomeLemmas.{asked_same, held_alike}
+use Rattle.auc_world.proofs.FitLemmas.{turn_fits}
+use Rattle.auc_world.proofs.HomeLemmas.{asked_same, challenged_alike, held_alike, resumed_alike}
 use Rattle.indexmap.proofs.CallerLemmas.{keys-with_value_at}
 use Rattle.indexmap.specs.IndexMap.{get, keys, values}
 use Rattle.auc_world.proofs.ServingLemmas.{has_packet, packet_read, serves, serves_nobody, serves_now}
@@ -59,8 +60,8 @@ returns-in_err-before-clause-world g c =
     ∙ set_same (values inside.sessions) c.args.place session c.index_mut-session.ensures.value)
     c.in_ok-reserve.ensures.items refl ∙ c.self.view_is)
 
-pub serve-requires : goal.serve-requires
-serve-requires g c =
+pub serve-requires-clause-served : goal.serve-requires-clause-served
+serve-requires-clause-served g c =
     let inside = c.self.inside in
     let session = c.index_mut-session.result.now in
     served_there c.args.set.now.rows _ _ inside.homes.items session c.in-Some.server c.in-Some.is
@@ -75,7 +76,8 @@ invariant_of-self-in_err-turn g c =
     kept_homes _ _ _ _ _ inside.homes.items _ _ _ c.in_err-turn.ensures.homes
     (kept_session (keys inside.sessions) (get is_key inside.places) inside.packets.items (values inside.sessions) inside.released.items inside.homes.items inside.broken inside.devices.items c.self.invariant
     _ _ _ _ _ c.args.place session same (keys-with_value_at inside.sessions c.args.place same) (values_set inside.sessions.entries c.args.place same) c.index_mut-session.ensures.value refl refl
-    (subst (λ (hs : List HomeRow). IsHeld hs c.serve.new.server.challenged) c.in_err-turn.ensures.homes c.in_err-turn.ensures.held))
+    (subst (λ (t : ServerEnd). HasHeld inside.homes.items (Some t)) (sym c.in_err-turn.ensures.server)
+    (subst (HasHeld inside.homes.items) c.in-Some.is (of_all (λ (s : Session). HasHeld inside.homes.items s.server) (values inside.sessions) c.args.place session c.self.invariant.world.held c.index_mut-session.ensures.value))))
 
 pub returns-in_err-turn-clause-world : goal.returns-in_err-turn-clause-world
 returns-in_err-turn-clause-world g c =
@@ -93,23 +95,29 @@ invariant_of-self-2 g c =
     let inside = c.self.inside in
     let session = c.index_mut-session.result.now in
     let new : Session = record session { server = Some c.serve.new.server } in
+    let held_before : HasHeld inside.homes.items (Some c.in-Some.server) = subst (HasHeld inside.homes.items) c.in-Some.is
+    (of_all (λ (s : Session). HasHeld inside.homes.items s.server) (values inside.sessions) c.args.place session c.self.invariant.world.held c.index_mut-session.ensures.value) in
+    let step = c.in_ok-turn.ensures.step in
+    let fits = turn_fits c.args.set.now _ c.in-Some.server c.serve.new.server step.seen step.reply c.in_ok-turn.field-0.turn step.same held_before.2 in
     kept_alike _ _ _ _ _ inside.homes.items _ _ _ c.in_ok-turn.ensures.same
     (kept_session (keys inside.sessions) (get is_key inside.places) inside.packets.items (values inside.sessions) inside.released.items inside.homes.items inside.broken inside.devices.items c.self.invariant
     _ _ _ _ _ c.args.place session new (keys-with_value_at inside.sessions c.args.place new) (values_set inside.sessions.entries c.args.place new) c.index_mut-session.ensures.value refl refl
-    (held_alike c.serve.new.homes.items inside.homes.items (Some c.serve.new.server) (sym c.in_ok-turn.ensures.same) c.in_ok-turn.ensures.held))
+    (held_alike c.serve.new.homes.items inside.homes.items (Some c.serve.new.server) (sym c.in_ok-turn.ensures.same) (c.in_ok-turn.ensures.held, c.in_ok-turn.ensures.resumed, fits)))
 
 pub returns-clause-served : goal.returns-clause-served
 returns-clause-served g c =
     let inside = c.self.inside in
     let session = c.index_mut-session.result.now in
     let new : Session = record session { server = Some c.serve.new.server } in
+    let held_before : HasHeld inside.homes.items (Some c.in-Some.server) = subst (HasHeld inside.homes.items) c.in-Some.is
+    (of_all (λ (s : Session). HasHeld inside.homes.items s.server) (values inside.sessions) c.args.place session c.self.invariant.world.held c.index_mut-session.ensures.value) in
     let last : c.args.packet ≤ length inside.packets.items = subst (λ (w : WorldState). c.args.packet ≤ length w.net.packets) (sym c.self.view_is) c.requires.reached.last in
     let here = packet_read inside.packets.items c.make_place.new.packets.items c.args.packet c.index.result.now c.in_ok-make_place.ensures.same c.requires.reached.first last c.index.ensures in
     serves_now g.C.Centre.goes g.C.Centre.kept g.C.Centre.top c.args.set.now inside.packets.items (values inside.sessions) inside.released.items inside.homes.items inside.broken inside.devices.items
     c.args.place c.args.packet session c.index.result.now c.index_mut-session.ensures.value here c.args.self.now c.self.view_is _ c.args.centre.now c.serve.new.centre _
     (serves g.C.Centre.goes g.C.Centre.kept g.C.Centre.top c.args.set.now inside.packets.items (values inside.sessions) inside.released.items inside.homes.items inside.broken inside.devices.items
     c.args.place c.args.packet session c.index.result.now c.in-Some.server c.serve.new.server c.in_ok-turn.field-0.turn c.args.centre.now c.serve.new.centre c.as_slice-bytes.result.now
-    c.in-Some.is c.as_slice-bytes.ensures c.serve.new.homes.items c.in_ok-turn.ensures.step c.in_ok-turn.ensures.same
+    c.in-Some.is c.as_slice-bytes.ensures c.serve.new.homes.items c.in_ok-turn.ensures.step c.in_ok-turn.ensures.same held_before.2
     c.make_place.new.packets.items c.deref.result.now c.post.new.packets.items _ c.reserve.new.self.items c.release.new.released.items c.as_slice.result.now c.serve.new.homes.items
     c.judged-self-inside.result c.in_ok-turn.field-0.inputs c.in_ok-before.before c.in_ok-turn.field-0.sent c.asked-asked.result c.post.result
     c.in_ok-make_place.ensures.same (c.deref.ensures.value ∙ c.in_ok-make_place.ensures.same) c.in_ok-reserve.ensures.items c.as_slice.ensures.value refl
@@ -127,7 +135,8 @@ returns-clause-asked g c =
     ∙ asked_same c.args.set.now inside.homes.items c.serve.new.homes.items c.serve.new.server notes.resync notes.number c.in_ok-turn.ensures.same in
     subst (λ (o : Option ℕ). IfSome o (λ sub. sub < length c.args.set.now.rows)) (sym asked)
     (asked_listed c.args.set.now (g.C.Centre.subs c.args.centre.now) (g.C.Centre.top c.args.centre.now) inside.homes.items c.serve.new.server notes.resync notes.number homes
-    (held_alike c.serve.new.homes.items inside.homes.items (Some c.serve.new.server) (sym c.in_ok-turn.ensures.same) c.in_ok-turn.ensures.held))
+    (challenged_alike c.serve.new.homes.items inside.homes.items c.serve.new.server.challenged (sym c.in_ok-turn.ensures.same) c.in_ok-turn.ensures.held)
+    (resumed_alike c.serve.new.homes.items inside.homes.items c.serve.new.server.resumed (sym c.in_ok-turn.ensures.same) c.in_ok-turn.ensures.resumed))
 
 pub returns-clause-homes : goal.returns-clause-homes
 returns-clause-homes g c =

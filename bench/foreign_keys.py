@@ -1,0 +1,73 @@
+#!/usr/bin/env python3
+"""Compares the keys of fast re-authentications with those of hostapd's server and wpa_supplicant's peer.
+
+    bench/foreign_keys.py
+
+By each method the two run a full authentication and two fast re-authentications with each other. The keys that hostapd
+writes into its log have to be those that bench/network.py makes from the same master key, identity, counter and NONCE_S
+(RFC 4187 §7, RFC 9048 §3.3); network.py in its turn is compared with the program by bench/random_sessions.py. It needs
+Debian's packages hostapd and eapoltest, and Python's `cryptography`. The exit status is 0 only if all keys are equal.
+"""
+import re
+import sys
+from collections import namedtuple
+
+import hostapd
+from network import TYPES, Renewed
+
+Master = namedtuple("Master", "encr aut master")
+METHODS = {"aka": "AKA", "prime": "AKA'"}
+RENEWALS = 2
+# What a line of the log tells; a text, a counter and bytes in hex are told apart by their groups.
+TOLD = {
+    "identity": re.compile(r"Reauth username '(.*)'"),
+    "counter": re.compile(r"\*AT_COUNTER \((\d+)\)"),
+    "encr": re.compile(r"K_encr - hexdump\(len=16\): (.*)"),
+    "aut": re.compile(r"^(?!.*MAC).*K_aut - hexdump\(len=\d+\): (.*)"),
+    "master": re.compile(r"(?:MK|K_re) - hexdump\(len=\d+\): (.*)"),
+    "nonce": re.compile(r"NONCE_S - hexdump\(len=16\): (.*)"),
+    "msk": re.compile(r"(?:\(MSK\)| MSK) - hexdump\(len=64\): (.*)"),
+    "emsk": re.compile(r"EMSK - hexdump\(len=64\): (.*)"),
+}
+
+
+def read(what, text):
+    return {"identity": str.encode, "counter": int}.get(what, bytes.fromhex)(text)
+
+
+def renewals(log):
+    """What the log tells at each re-authentication, when its counter is written into the message."""
+    told = {}
+    for line in log.splitlines():
+        for what, form in TOLD.items():
+            if found := form.search(line):
+                told[what] = read(what, found[1])
+                if what == "counter":
+                    yield dict(told)
+
+
+def are_equal(method, told):
+    master = Master(told["encr"], told["aut"], told["master"])
+    keys = Renewed(TYPES[method], master, told["identity"], told["counter"], told["nonce"])
+    return keys.words[3:5] == [told["msk"], told["emsk"]]
+
+
+def main():
+    if len(sys.argv) > 1:
+        raise SystemExit(__doc__)
+    if not hostapd.are_there():
+        raise SystemExit("hostapd and eapol_test are not there: apt-get install hostapd eapoltest")
+    failed = 0
+    for method, name in METHODS.items():
+        found = list(renewals(hostapd.log_of(1 + RENEWALS, name)))
+        if len(found) != RENEWALS:
+            raise SystemExit(f"{method}: hostapd tells of {len(found)} re-authentications")
+        for told in found:
+            equal = are_equal(method, told)
+            failed += not equal
+            print(f"{method:>5} counter {told['counter']}: the keys are {'equal' if equal else 'DIFFERENT'}")
+    raise SystemExit(failed > 0)
+
+
+if __name__ == "__main__":
+    main()

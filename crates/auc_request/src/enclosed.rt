@@ -1,0 +1,92 @@
+//! What a message has encrypted.
+
+ghost use Rattle.std.specs.Prelude.{◌≡◌};
+ghost use Rattle.std.specs.Option.{option_copied};
+ghost use Rattle.auc_request.specs.Request.{Gives, Has, block_in, next_name, number_in};
+
+use auc_attr::value_in;
+use auc_ident::username;
+
+/// What a message gives in its encrypted attributes (RFC 4187 §10.12). A name is the username of a text, if it has 33 bytes:
+/// a device keeps no other.
+#[derive(Clone, Copy, Debug, PartialEq, Eq)]
+pub struct Enclosed {
+    /// The next pseudonym (RFC 4187 §10.10), without its realm.
+    pub pseudonym: Option<[u8; 33]>,
+    /// The next re-authentication identity (RFC 4187 §10.11), without its realm.
+    pub identity: Option<[u8; 33]>,
+    /// The counter of a fast re-authentication (RFC 4187 §10.16).
+    pub counter: Option<u16>,
+    /// NONCE_S of a fast re-authentication (RFC 4187 §10.18).
+    pub nonce: Option<[u8; 16]>,
+}
+
+/// What decrypted attributes give.
+pub fn enclosed_in(bytes: &[u8]) -> Enclosed
+    ensures { Gives bytes.now result }
+{
+    Enclosed {
+        pseudonym: name_in(bytes, 132),
+        identity: name_in(bytes, 133),
+        counter: counter_in(bytes),
+        nonce: nonce_in(bytes),
+    }
+}
+
+/// The counter among decrypted attributes.
+pub fn counter_in(bytes: &[u8]) -> Option<u16>
+    ensures { Has number_in 19 bytes.now result }
+{
+    number_of(value_in(bytes, 19))
+}
+
+/// NONCE_S among decrypted attributes.
+fn nonce_in(bytes: &[u8]) -> Option<[u8; 16]>
+    ensures { Has block_in 21 bytes.now result }
+{
+    block_of(value_in(bytes, 21))
+}
+
+/// The name of a type among decrypted attributes.
+fn name_in(bytes: &[u8], kind: u8) -> Option<[u8; 33]>
+    ensures { Has next_name kind bytes.now result }
+{
+    name_of(value_in(bytes, kind))
+}
+
+/// The name in the value of AT_NEXT_PSEUDONYM or AT_NEXT_REAUTH_ID: its username, if that has 33 bytes.
+fn name_of(value: Option<&[u8]>) -> Option<[u8; 33]>
+    ensures { result ≡ next_name (option_copied value.entry) }
+{
+    let name = username(value?);
+    if name.len() != 33 {
+        return None;
+    }
+    let mut text = [0; 33];
+    text.copy_from_slice(name);
+    Some(text)
+}
+
+/// The number in the value of AT_COUNTER.
+fn number_of(value: Option<&[u8]>) -> Option<u16>
+    ensures { result ≡ number_in (option_copied value.entry) }
+{
+    let value = value?;
+    if value.len() != 2 {
+        return None;
+    }
+    Some(u16::from_be_bytes([value[0], value[1]]))
+}
+
+/// The sixteen bytes in the value of AT_NONCE_S.
+fn block_of(value: Option<&[u8]>) -> Option<[u8; 16]>
+    ensures { result ≡ block_in (option_copied value.entry) }
+{
+    let value = value?;
+    if value.len() != 16 {
+        return None;
+    }
+    let mut block = [0; 16];
+    block.copy_from_slice(value);
+    Some(block)
+}

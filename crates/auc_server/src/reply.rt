@@ -1,0 +1,107 @@
+//! What the response to a fast re-authentication has encrypted (RFC 4187 §9.8).
+
+ghost use Rattle.std.specs.Prelude.{◌≡◌, ◌≤◌, [], length, Some};
+ghost use Rattle.std.specs.Option.{option_copied};
+ghost use Rattle.auc_seal.specs.Encrypted.{ciphertext_of};
+ghost use Rattle.auc_server.specs.Attributes.{attrs_in};
+ghost use Rattle.auc_server.specs.Replies.{Counts, IsReply, Replies, reply_of, small_or_right};
+
+use crate::server::{Resumed, Server};
+use auc_attr::{AttrList, value_in};
+use auc_edge::Room;
+use auc_packet::{Packet, Reading};
+use auc_request::counter_in;
+use auc_seal::{ciphertext_size, open_attrs};
+
+/// The reply to the counter of a fast re-authentication.
+#[derive(Clone, Copy, Debug, PartialEq, Eq)]
+pub enum Reply {
+    /// The encrypted attributes can't be read, or haven't the counter (RFC 4187 §10.16).
+    Wrong,
+    /// They have the counter and say that it is too small (RFC 4187 §10.17).
+    TooSmall,
+    /// They have the counter alone.
+    Right,
+}
+
+/// The reply of attributes with the counter, by the value of AT_COUNTER_TOO_SMALL.
+fn small_or_right(value: Option<&[u8]>) -> Reply
+    ensures { result ≡ small_or_right (option_copied value.entry) }
+{
+    match value {
+        None => Reply::Right,
+        Some(_) => Reply::TooSmall,
+    }
+}
+
+/// The reply to a counter, by the counter that was found and the value of AT_COUNTER_TOO_SMALL.
+fn reply_of(counter: u16, found: Option<u16>, value: Option<&[u8]>) -> Reply
+    ensures { result ≡ reply_of counter found (option_copied value.entry) }
+{
+    match found {
+        None => Reply::Wrong,
+        Some(n) => {
+            if n != counter {
+                return Reply::Wrong;
+            }
+            small_or_right(value)
+        }
+    }
+}
+
+/// The reply of decrypted attributes.
+fn counted(counter: u16, bytes: &[u8]) -> Reply
+    ensures { Counts counter bytes.now result }
+{
+    reply_of(counter, counter_in(bytes), value_in(bytes, 20))
+}
+
+/// The reply of a list's encrypted attributes under K_encr.
+fn reply_under(k_encr: [u8; 16], counter: u16, list: &AttrList, plain: Room) -> Reply
+    requires empty { plain.written ≡ [] }
+    requires room { length (ciphertext_of list.now) ≤ plain.left }
+    ensures { IsReply k_encr counter list.now result }
+{
+    match open_attrs(k_encr, list, plain) {
+        Ok(bytes) => counted(counter, bytes.as_slice()),
+        Err(_) => Reply::Wrong,
+    }
+}
+
+/// How many bytes a message has encrypted.
+pub(crate) fn ciphertext_in(reading: &Reading) -> usize
+    ensures { result ≡ length (ciphertext_of (attrs_in reading.now)) }
+{
+    match reading {
+        Reading::Read(Packet::Aka { attrs, .. }) => ciphertext_size(attrs),
+        _ => 0,
+    }
+}
+
+/// The reply of a message to a re-authentication.
+fn reply_to(sent: &Resumed, reading: &Reading, plain: Room) -> Reply
+    requires empty { plain.written ≡ [] }
+    requires room { length (ciphertext_of (attrs_in reading.now)) ≤ plain.left }
+    ensures { Replies (Some sent.now) reading.now result }
+{
+    match reading {
+        Reading::Read(Packet::Aka { attrs, .. }) => {
+            reply_under(sent.context.k_encr, sent.context.counter, attrs, plain)
+        }
+        _ => Reply::Wrong,
+    }
+}
+
+impl Server {
+    /// The reply of a message to the re-authentication.
+    pub(crate) fn reply_in(&self, reading: &Reading, plain: Room) -> Reply
+        requires empty { plain.written ≡ [] }
+        requires room { length (ciphertext_of (attrs_in reading.now)) ≤ plain.left }
+        ensures { Replies self.now.resumed reading.now result }
+    {
+        match &self.resumed {
+            None => Reply::Wrong,
+            Some(sent) => reply_to(sent, reading, plain),
+        }
+    }
+}

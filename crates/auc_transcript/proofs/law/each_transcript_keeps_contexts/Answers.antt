@@ -1,0 +1,26 @@
+-- The law is a lemma on transcripts for each of its parts, by the laws of moves, of names, of events and of a peer's turns.
+use Rattle.auc_transcript.proofs.ContextLemmas.{acceptances_are_own, counters_accepted_once}
+use Rattle.auc_transcript.proofs.HomeLawLemmas.{HomeLaws, identities_come_once, resumed_differ}
+use Rattle.auc_transcript.proofs.law.each_transcript_keeps_contexts.Goals as goal
+
+pub returns : goal.returns
+returns c set reserved stop parts records nets are block held lawful lead =
+    let homes : HomeLaws = record {
+      rise = c.no_turn_gives_an_ordinal_back.ensures;
+      names = c.each_name_is_given_once.ensures;
+      moves = c.each_event_moves_contexts_once.ensures.homes;
+      identities = c.no_identity_is_resumed_twice.ensures;
+    } in
+    record {
+      counters = record {
+        resumed = resumed_differ homes set reserved stop parts records nets are block held lawful lead c.no_counter_is_used_twice.ensures;
+        accepted = counters_accepted_once c.no_counter_is_used_twice.ensures c.each_event_moves_contexts_once.ensures.devices set parts records nets are held lead;
+      };
+      identities = identities_come_once homes set reserved stop parts records nets are block held lawful lead;
+      own = acceptances_are_own (record {
+        moves = c.each_turn_moves_at_most_one_context.ensures;
+        of_method = c.each_turn_keeps_contexts_of_the_method.ensures;
+        leaves = c.each_turn_leaves_the_other_method.ensures;
+        options = c.each_turn_keeps_what_keys_are_made_from.ensures;
+      }) set parts records nets lead;
+    }
