@@ -19,7 +19,7 @@ use crate::messages::{challenge_response, sync_failure, value};
 use crate::next::NextContext;
 use crate::peer::{Challenge, Peer, PeerState};
 use crate::reading::{differs, has_checkcode, id_of, inner_in};
-use crate::rooms::Rooms;
+use crate::rooms::{Copies, Rooms};
 use crate::turns::noted;
 use crate::why::PeerWhy;
 use auc_edge::{Octets, Room};
@@ -99,19 +99,17 @@ impl Peer {
         &mut self,
         device: &mut Device,
         received: &Received,
-        request: Octets,
-        network: Octets,
-        inner: Room,
+        copies: Copies,
         challenge: Challenge,
         rooms: Rooms,
     ) -> Turn<PeerWhy>
         requires is { IsReceived (seen_of received.now) }
-        requires request { request ≡ (seen_of received.now).bytes }
-        requires network { network ≡ network_in self.old (seen_of received.now) }
-        requires name { length network ≤ 65535 }
+        requires request { copies.request ≡ (seen_of received.now).bytes }
+        requires network { copies.network ≡ network_in self.old (seen_of received.now) }
+        requires name { length copies.network ≤ 65535 }
         requires rooms { 76 ≤ rooms }
-        requires empty { inner.written ≡ [] }
-        requires room { length (ciphertext_of (attrs_in received.now.reading)) ≤ inner.left }
+        requires empty { copies.inner.written ≡ [] }
+        requires room { length (ciphertext_of (attrs_in received.now.reading)) ≤ copies.inner.left }
 
         ensures step { (past : Past) → Remembers device.old.usim.array past
             → (self.new, result) ≡ challenged (subscription_of device.old) self.old (seen_of received.now)
@@ -124,6 +122,12 @@ impl Peer {
         ensures store { device.new.store ≡ device.old.store }
         ensures subscription { subscription_of device.new ≡ subscription_of device.old }
     {
+        let Copies {
+            request,
+            network,
+            inner,
+            ..
+        } = copies;
         let answer = ask(&mut device.usim, challenge);
         self.on_answer(received, request, network, inner, challenge, answer, rooms)
     }

@@ -9,11 +9,10 @@ use crate::decrypted::Decrypted;
 use crate::device::Device;
 use crate::next::NextContext;
 use crate::options::PeerOptions;
-use crate::reading::ciphertext_in;
-use crate::rooms::{Copies, Rooms, room_for};
+use crate::rooms::{Rooms, room_for};
 use crate::rows::Row;
 use crate::why::PeerWhy;
-use auc_edge::{NoMemory, Octets, Room};
+use auc_edge::{NoMemory, Octets};
 use auc_hmac::KeySet;
 use auc_packet::receive;
 use auc_random::Rands;
@@ -130,15 +129,9 @@ impl Peer {
         if let Row::Reauthentication = row {
             return self.on_reauthentication(alloc, rands, device, &received);
         }
-        let identity = device.first_identity(alloc, &self.options)?;
-        let rooms = Rooms::new(alloc, room_for(row, identity.len()))?;
-        let copies = Copies {
-            request: Octets::copied_from(alloc, bytes)?,
-            identity,
-            again: self.last_answer(alloc)?,
-            network: self.network_copy(alloc, &received)?,
-            inner: Room::new(alloc, ciphertext_in(&received.reading))?,
-        };
+        let copies = self.copies(alloc, device, &received)?;
+        // The value of the most parts is taken last: no early return has to give it back.
+        let rooms = Rooms::new(alloc, room_for(row, copies.identity.len()))?;
         Ok(self.on_row(row, device, &received, copies, rooms))
     }
 

@@ -134,16 +134,16 @@ impl Peer {
     {
         if lacks_reauthentication(&received.reading) {
             let why = PeerWhy::Missing;
-            return self.client(received, request, why, None, false, rooms.rooms);
+            return self.client(received, request, why, None, false, rooms.into_rooms());
         }
         if !is_sealed(received, self.options.method, &context.k_aut, &[]) {
             let why = PeerWhy::WrongMac;
-            return self.client(received, request, why, None, false, rooms.rooms);
+            return self.client(received, request, why, None, false, rooms.into_rooms());
         }
         self.resumed = Some(context);
         if differs(self.own_code().as_slice(), &received.reading) {
             let why = PeerWhy::WrongCheckcode;
-            return self.client(received, request, why, None, true, rooms.rooms);
+            return self.client(received, request, why, None, true, rooms.into_rooms());
         }
         self.inner = inner_in(
             context.k_encr,
@@ -186,7 +186,7 @@ impl Peer {
             ),
             _ => {
                 let why = PeerWhy::Undecryptable;
-                self.client(received, request, why, None, true, rooms.rooms)
+                self.client(received, request, why, None, true, rooms.into_rooms())
             }
         }
     }

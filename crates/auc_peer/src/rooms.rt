@@ -1,12 +1,17 @@
 //! Memory for a turn, which is taken before the USIM is asked.
 
-ghost use Rattle.std.specs.Prelude.{◌≡◌, ◌≤◌, length, IfOk};
+ghost use Rattle.std.specs.Prelude.{◌≡◌, ◌≤◌, [], length, IfOk};
 ghost use Rattle.auc_packet.specs.Received.{IsReceived, seen_of};
+ghost use Rattle.auc_peer.specs.Attributes.{attrs_in};
+ghost use Rattle.auc_peer.specs.Identities.{first_text};
+ghost use Rattle.auc_peer.specs.Subscription.{subscription_of};
 ghost use Rattle.auc_peer.specs.Table.{answer_or_none, network_in};
+ghost use Rattle.auc_seal.specs.Encrypted.{ciphertext_of};
 ghost use Rattle.auc_peer.specs.InnerRooms.{room_for};
 
+use crate::device::Device;
 use crate::peer::{Last, Peer};
-use crate::reading::network_in;
+use crate::reading::{ciphertext_in, network_in};
 use crate::rows::Row;
 use auc_attr::{Attr, AttrList};
 use auc_edge::{NoMemory, Octets, Places, Room};
@@ -62,6 +67,14 @@ impl Rooms {
             no_attrs: AttrList::new(alloc),
         })
     }
+
+    /// An empty text. All other memory is given back.
+    pub(crate) fn into_none(self) -> Octets
+        ensures { result ≡ [] }
+    {
+        let Rooms { none, .. } = self;
+        none
+    }
 }
 
 /// The size of a Reauthentication response with AT_IV, AT_ENCR_DATA of one block, AT_CHECKCODE of 32 bytes and AT_MAC.
@@ -91,11 +104,19 @@ impl ReauthRooms {
     /// Memory for the answer to a Reauthentication.
     pub(crate) fn new(alloc: Global) -> Result<ReauthRooms, NoMemory> {
         Ok(ReauthRooms {
-            rooms: Rooms::new(alloc, REAUTHENTICATION)?,
             places: Places::new(alloc, 3)?,
             counter: Places::new(alloc, 2)?,
             encryption: EncryptionRoom::new(alloc)?,
+            rooms: Rooms::new(alloc, REAUTHENTICATION)?,
         })
+    }
+
+    /// The memory for another message of the turn. The rest is given back.
+    pub(crate) fn into_rooms(self) -> Rooms
+        ensures { result ≡ 104 }
+    {
+        let ReauthRooms { rooms, .. } = self;
+        rooms
     }
 }
 
@@ -112,6 +133,37 @@ pub(crate) struct Copies {
     pub(crate) network: Octets,
     /// Memory for what is decrypted.
     pub(crate) inner: Room,
+}
+
+impl Copies {
+    /// What was received. All other memory is given back.
+    pub(crate) fn into_request(self) -> Octets
+        ensures { result ≡ self.request }
+    {
+        let Copies { request, .. } = self;
+        request
+    }
+
+    /// The last answer. All other memory is given back.
+    pub(crate) fn into_again(self) -> Octets
+        ensures { result ≡ self.again }
+    {
+        let Copies { again, .. } = self;
+        again
+    }
+}
+
+/// Gives all memory of a turn back.
+pub(crate) fn give_back(_copies: Copies, _rooms: Rooms) {}
+
+/// Gives the memory for messages back.
+pub(crate) fn give_rooms_back(_rooms: Rooms) {}
+
+/// An empty text. All memory of a turn is given back.
+pub(crate) fn none_of(_copies: Copies, rooms: Rooms) -> Octets
+    ensures { result ≡ [] }
+{
+    rooms.into_none()
 }
 
 /// For how many bytes a row needs memory, given the size of the first identity.
@@ -147,6 +199,35 @@ impl Peer {
         ensures size { IfOk result (λ copy. length copy ≤ 1016) }
     {
         Octets::copied_from(alloc, network_in(self.options.method, received))
+    }
+
+    /// What a turn may need a copy of.
+    pub(crate) fn copies(
+        &self,
+        alloc: Global,
+        device: &Device,
+        received: &Received,
+    ) -> Result<Copies, NoMemory>
+        requires is { IsReceived (seen_of received.now) }
+        requires realm { length device.now.realm ≤ 255 }
+
+        ensures request { IfOk result (λ copies. copies.request ≡ (seen_of received.now).bytes) }
+        ensures identity { IfOk result (λ copies. copies.identity
+            ≡ first_text self.now.options.method (subscription_of device.now) device.now.store self.now.options.first) }
+        ensures size { IfOk result (λ copies. length copies.identity ≤ 289) }
+        ensures again { IfOk result (λ copies. copies.again ≡ answer_or_none self.now.last) }
+        ensures network { IfOk result (λ copies. copies.network ≡ network_in self.now (seen_of received.now)) }
+        ensures name { IfOk result (λ copies. length copies.network ≤ 1016) }
+        ensures empty { IfOk result (λ copies. copies.inner.written ≡ []) }
+        ensures room { IfOk result (λ copies. copies.inner.left ≡ length (ciphertext_of (attrs_in received.now.reading))) }
+    {
+        Ok(Copies {
+            request: Octets::copied_from(alloc, received.bytes)?,
+            identity: device.first_identity(alloc, &self.options)?,
+            again: self.last_answer(alloc)?,
+            network: self.network_copy(alloc, received)?,
+            inner: Room::new(alloc, ciphertext_in(&received.reading))?,
+        })
     }
 }
 

@@ -18,7 +18,7 @@ use crate::device::Device;
 use crate::messages::{client_error, identity_response, notified, reject};
 use crate::peer::{Last, Peer, PeerState};
 use crate::reading::id_of;
-use crate::rooms::{Copies, Rooms};
+use crate::rooms::{Copies, Rooms, give_back, give_rooms_back, none_of};
 use crate::rows::Row;
 use crate::why::PeerWhy;
 use auc_edge::{Octets, Room};
@@ -84,27 +84,28 @@ impl Peer {
         ensures stored { device.new.store ≡ kept_by row self.old result.notes.counter device.old.store }
         ensures subscription { subscription_of device.new ≡ subscription_of device.old }
     {
-        let Copies {
-            request,
-            identity,
-            again,
-            network,
-            inner,
-        } = copies;
         match row {
-            Row::Ignore(why) => self.ignore(why),
-            Row::Again => self.again(again),
-            Row::First => self.first(received, request, identity, rooms),
-            Row::Client(why) => self.client(received, request, why, None, false, rooms),
-            Row::Reject(why) => self.reject(received, request, why, None, rooms),
-            Row::Notified(code) => self.notify(received, request, code, rooms),
+            Row::Ignore(why) => {
+                give_back(copies, rooms);
+                self.ignore(why)
+            }
+            Row::Again => {
+                give_rooms_back(rooms);
+                self.again(copies.into_again())
+            }
+            Row::First => self.first(received, copies, rooms),
+            Row::Client(why) => {
+                self.client(received, copies.into_request(), why, None, false, rooms)
+            }
+            Row::Reject(why) => self.reject(received, copies.into_request(), why, None, rooms),
+            Row::Notified(code) => self.notify(received, copies.into_request(), code, rooms),
             Row::Challenged(challenge) => {
-                self.on_challenge(device, received, request, network, inner, challenge, rooms)
+                self.on_challenge(device, received, copies, challenge, rooms)
             }
             Row::Identity(_) => unreachable!(),
             Row::Reauthentication => unreachable!(),
-            Row::Success => self.succeed(device, rooms.none),
-            Row::Failure(why) => self.end(Outcome::Failure(why), rooms.none),
+            Row::Success => self.succeed(device, none_of(copies, rooms)),
+            Row::Failure(why) => self.end(Outcome::Failure(why), none_of(copies, rooms)),
         }
     }
 
@@ -269,18 +270,17 @@ impl Peer {
     }
 
     /// Sends the first identity.
-    fn first(
-        &mut self,
-        received: &Received,
-        request: Octets,
-        text: Octets,
-        rooms: Rooms,
-    ) -> Turn<PeerWhy>
-        requires request { request ≡ (seen_of received.now).bytes }
-        requires size { length text ≤ 289 }
-        requires rooms { 5 + length text ≤ rooms }
-        ensures { (self.new, result) ≡ first self.old (seen_of received.now) text }
+    fn first(&mut self, received: &Received, copies: Copies, rooms: Rooms) -> Turn<PeerWhy>
+        requires request { copies.request ≡ (seen_of received.now).bytes }
+        requires size { length copies.identity ≤ 289 }
+        requires rooms { 5 + length copies.identity ≤ rooms }
+        ensures { (self.new, result) ≡ first self.old (seen_of received.now) copies.identity }
     {
+        let Copies {
+            request,
+            identity: text,
+            ..
+        } = copies;
         let Rooms {
             plain,
             bytes,

@@ -10,7 +10,7 @@ ghost use Rattle.auc_server.specs.Steps.{AsksAsNeeded, IsHeld, IsHome, IsServed,
 ghost use Rattle.auc_server.specs.Table.{homes_after, homes_done, packets_after, server_does, server_step};
 
 use crate::reply::{Reply, ciphertext_in};
-use crate::rooms::Rooms;
+use crate::rooms::{Rooms, give_back, let_go};
 use crate::rows::{Row, text_in};
 use crate::server::Server;
 use crate::setting::{HomeRow, Setting};
@@ -49,13 +49,14 @@ impl Server {
         ensures homes { OnErr result (homes.new ≡ homes.old) }
         ensures centre { OnErr result (centre.new ≡ centre.old) }
     {
-        let rooms = Rooms::new(alloc, self.options.name.as_slice())?;
         let received = receive(alloc, bytes)?;
         let text = Octets::copied_from(alloc, text_in(&received.reading))?;
         let plain = Room::new(alloc, ciphertext_in(&received.reading))?;
         let reply = self.reply_in(&received.reading, plain);
         let row = self.row_of(set, homes, centre, &received, reply);
         let packets = self.packets_after(alloc, &received, row)?;
+        // The value of the most parts is taken last: no early return has to give it back.
+        let rooms = Rooms::new(alloc, self.options.name.as_slice())?;
         Ok(self.on_received(
             rt, set, homes, centre, &received, reply, row, text, packets, rooms,
         ))
@@ -142,31 +143,69 @@ impl Server {
         ensures name { C.name centre.new ≡ C.name centre.old }
     {
         match row {
-            Row::Ignore(why) => self.ignore(why),
+            Row::Ignore(why) => {
+                give_back(text, packets, rooms);
+                self.ignore(why)
+            }
             Row::Ask(kind) => self.ask(kind, text, packets, rooms),
             Row::UnknownIdentity => self.refuse_identity(text, packets, rooms),
             Row::Challenge(sub) => {
                 self.challenge_first(rt, set, homes, centre, sub, text, packets, rooms)
             },
             Row::Resume(sub) => self.resume(set, homes, sub, text, packets, rooms),
-            Row::TooSmall(sub) => { self.challenge_instead(rt, set, homes, centre, sub, rooms) },
-            Row::WrongCounter => self.notify(ServerWhy::WrongCounter, silent(), true, rooms),
-            Row::Reauthenticated => self.succeed_again(homes, rooms),
-            Row::WrongMac => self.notify(ServerWhy::WrongMac, silent(), false, rooms),
-            Row::WrongRes => self.notify(ServerWhy::WrongRes, silent(), true, rooms),
-            Row::WrongCheckcode => self.notify(ServerWhy::WrongCheckcode, silent(), true, rooms),
-            Row::Success => self.succeed(homes, rooms),
-            Row::SecondSync => self.notify(ServerWhy::SecondSync, silent(), false, rooms),
+            Row::TooSmall(sub) => {
+                let_go(text, packets);
+                self.challenge_instead(rt, set, homes, centre, sub, rooms)
+            },
+            Row::WrongCounter => {
+                let_go(text, packets);
+                self.notify(ServerWhy::WrongCounter, silent(), true, rooms)
+            }
+            Row::Reauthenticated => {
+                let_go(text, packets);
+                self.succeed_again(homes, rooms)
+            }
+            Row::WrongMac => {
+                let_go(text, packets);
+                self.notify(ServerWhy::WrongMac, silent(), false, rooms)
+            }
+            Row::WrongRes => {
+                let_go(text, packets);
+                self.notify(ServerWhy::WrongRes, silent(), true, rooms)
+            }
+            Row::WrongCheckcode => {
+                let_go(text, packets);
+                self.notify(ServerWhy::WrongCheckcode, silent(), true, rooms)
+            }
+            Row::Success => {
+                let_go(text, packets);
+                self.succeed(homes, rooms)
+            }
+            Row::SecondSync => {
+                let_go(text, packets);
+                self.notify(ServerWhy::SecondSync, silent(), false, rooms)
+            }
             Row::BadAuts => {
                 let notes = noted(Some(ResyncNote::BadAuts), None);
+                let_go(text, packets);
                 self.notify(ServerWhy::BadAuts, notes, false, rooms)
             }
             Row::Resynchronise(sub, seq) => {
+                let_go(text, packets);
                 self.resynchronise(rt, set, homes, centre, sub, seq, rooms)
             },
-            Row::Rejected => self.fail(ServerWhy::Rejected, rooms),
-            Row::ClientError(code) => self.fail(ServerWhy::ClientError(code), rooms),
-            Row::Notified(why) => self.fail(why, rooms),
+            Row::Rejected => {
+                let_go(text, packets);
+                self.fail(ServerWhy::Rejected, rooms)
+            }
+            Row::ClientError(code) => {
+                let_go(text, packets);
+                self.fail(ServerWhy::ClientError(code), rooms)
+            }
+            Row::Notified(why) => {
+                let_go(text, packets);
+                self.fail(why, rooms)
+            }
         }
     }
 }

@@ -146,10 +146,11 @@ impl Server {
         ensures challenged { self.new.challenged ≡ self.old.challenged }
         ensures resumed { self.new.resumed ≡ self.old.resumed }
     {
+        let room = rooms.into_message();
         match self.resumed {
             None => self.ignore(Reason::Unexpected),
             Some(sent) => {
-                let bytes = message(&Packet::Success(self.id), rooms.message);
+                let bytes = message(&Packet::Success(self.id), room);
                 let keys = self.resumed_keys(&sent);
                 keep_context(self.options.method, homes, sent.sub, context_after(&sent));
                 self.end(Outcome::Success(keys), bytes, true)

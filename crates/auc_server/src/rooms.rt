@@ -1,10 +1,11 @@
 //! Memory for a turn.
 
 ghost use Rattle.std.specs.Prelude.{◌≡◌, IfOk};
+ghost use Rattle.auc_server.specs.InnerRooms.{HasPlaces, IsFresh};
 
 use auc_attr::Attr;
 use auc_edge::{NoMemory, Octets, Places, Room};
-use auc_seal::EncryptionRoom;
+use auc_seal::{EncryptionRoom, IdentityPackets};
 use std::alloc::Global;
 use std::marker::Model;
 
@@ -82,7 +83,35 @@ impl NameRooms {
     }
 }
 
+/// Memory for a message.
+pub(crate) fn message_room(alloc: Global) -> Result<Room, NoMemory>
+    ensures { IfOk result (λ room. IsFresh room) }
+{
+    Room::new(alloc, MOST)
+}
+
+/// Places for the attributes of a message.
+pub(crate) fn attr_places(alloc: Global) -> Result<Places<Attr>, NoMemory>
+    ensures { IfOk result (λ places. HasPlaces places) }
+{
+    Places::new(alloc, ATTRIBUTES)
+}
+
+/// Gives back what most rows don't need.
+pub(crate) fn let_go(_text: Octets, _packets: IdentityPackets) {}
+
+/// Gives all memory of a turn back.
+pub(crate) fn give_back(_text: Octets, _packets: IdentityPackets, _rooms: Rooms) {}
+
 impl Rooms {
+    /// The memory for the message. The rest is given back.
+    pub(crate) fn into_message(self) -> Room
+        ensures { IsFresh result }
+    {
+        let Rooms { message, .. } = self;
+        message
+    }
+
     /// Memory for a turn, with a copy of the network name.
     pub(crate) fn new(alloc: Global, name: &[u8]) -> Result<Rooms, NoMemory>
         ensures { IfOk result (λ rooms. rooms ≡ name.now) }

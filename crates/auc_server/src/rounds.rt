@@ -9,7 +9,7 @@ ghost use Rattle.auc_server.specs.Rounds.{checkcode, heard, packet_in};
 ghost use Rattle.auc_server.specs.Table.{packets_after};
 
 use crate::messages::aka_identity;
-use crate::rooms::Rooms;
+use crate::rooms::{attr_places, message_room};
 use crate::rows::Row;
 use crate::server::Server;
 use auc_attr::length_of;
@@ -86,7 +86,8 @@ impl Server {
         hear(alloc, &mut packets, received)?;
         match row {
             Row::Ask(kind) => {
-                let Rooms { attrs, message, .. } = Rooms::new(alloc, &[])?;
+                let attrs = attr_places(alloc)?;
+                let message = message_room(alloc)?;
                 let id = self.id.wrapping_add(1);
                 let request = aka_identity(self.options.method, id, kind, attrs, message);
                 packets.add(alloc, request.as_slice())?;

@@ -11,7 +11,7 @@ ghost use Rattle.auc_server.specs.Table.{asked, awaiting, ended, failed, gave_up
 use crate::contexts::{context_of, keep_context};
 use crate::messages::{aka_identity, message, notification};
 use crate::options::ServerOptions;
-use crate::rooms::Rooms;
+use crate::rooms::{Rooms, message_room};
 use crate::server::{Challenged, Resumed, Server, ServerState};
 use crate::setting::HomeRow;
 use crate::why::ServerWhy;
@@ -137,7 +137,7 @@ impl Server {
         ensures step { (self.new, result) ≡ failed self.old why }
         ensures small { length (bytes_of result.step) ≤ 728 }
     {
-        let bytes = message(&Packet::Failure(self.id), rooms.message);
+        let bytes = message(&Packet::Failure(self.id), rooms.into_message());
         self.end(Outcome::Failure(why), bytes, false)
     }
 
@@ -149,10 +149,11 @@ impl Server {
         ensures challenged { self.new.challenged ≡ self.old.challenged }
         ensures resumed { self.new.resumed ≡ self.old.resumed }
     {
+        let room = rooms.into_message();
         match self.challenged {
             None => self.ignore(Reason::Unexpected),
             Some(sent) => {
-                let bytes = message(&Packet::Success(self.id), rooms.message);
+                let bytes = message(&Packet::Success(self.id), room);
                 keep_context(self.options.method, homes, sent.sub, context_of(&sent));
                 self.end(Outcome::Success(sent.keys), bytes, true)
             }
@@ -206,13 +207,13 @@ impl Server {
         ensures server { IfOk result (λ started_with. started_with.0 ≡ started options) }
         ensures sent { IfOk result (λ started_with. started_with.1 ≡ (started options).last) }
     {
-        let rooms = Rooms::new(alloc, &[])?;
+        let room = message_room(alloc)?;
         let packet = Packet::Identity {
             request: true,
             id: 1,
             text: Octets::new(alloc),
         };
-        let bytes = message(&packet, rooms.message);
+        let bytes = message(&packet, room);
         let last = Octets::copied_from(alloc, bytes.as_slice())?;
         let server = Server {
             options,
