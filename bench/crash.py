@@ -26,7 +26,10 @@ import time
 from pathlib import Path
 
 from journal import FRAME, NAME, NotJournal, imsi, limits_of, run, subscriber, vectors_in, write_scenario
-from measure import program
+from measure import TOP, program
+
+sys.path.append(str(TOP / "tools"))
+from ends import run_main
 
 SUBSCRIBERS, ROUNDS, JOBS, COUNT = 8, 40, 8, 20
 FRESH = 100
@@ -156,4 +159,5 @@ def main():
         kills(folder, count, rng)
 
 
-main()
+if __name__ == "__main__":
+    run_main(main, __doc__)

@@ -17,7 +17,8 @@ from pathlib import Path
 
 from measure import TOP, program
 
-sys.path.append(str(TOP / "examples"))
+sys.path += [str(TOP / "examples"), str(TOP / "tools")]
+from ends import run_main
 from full import transcripts
 
 METHODS = (23, 50)
@@ -111,4 +112,5 @@ def main():
             sys.exit(f"{name}: the capture has other packets")
 
 
-main()
+if __name__ == "__main__":
+    run_main(main, __doc__)

@@ -14,12 +14,16 @@ row is the median of five runs of 2,000 appends. On a disk that syncs twice in a
 import os
 import statistics
 import subprocess
+import sys
 import tempfile
 import time
 from pathlib import Path
 
 from journal import NAME, imsi, subscriber, write_scenario
-from measure import program
+from measure import TOP, program
+
+sys.path.append(str(TOP / "tools"))
+from ends import run_main
 
 APPENDS, PROBES, TIMES = 2000, 400, 5
 
@@ -64,4 +68,5 @@ def main():
             print(f"{subscribers:11} {workers:7} {draws:9.0f} {disk:9.0f} {ratio:5.2f}")
 
 
-main()
+if __name__ == "__main__":
+    run_main(main, __doc__)

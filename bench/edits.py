@@ -27,6 +27,9 @@ from concurrent.futures import ThreadPoolExecutor
 from pathlib import Path
 
 TOP = Path(__file__).resolve().parent.parent
+sys.path.append(str(TOP / "tools"))
+from ends import run_main
+
 REFUSED, KEPT = "refused", "refused, by an earlier run"
 VERDICTS = {it: it for it in ("NOT REFUSED", "BAD EDIT", "NOT TRIED")} | {"refused, as it must be": REFUSED}
 
@@ -177,4 +180,5 @@ def main():
     sys.exit(1 if others else 0)
 
 
-main()
+if __name__ == "__main__":
+    run_main(main)

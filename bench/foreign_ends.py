@@ -1,6 +1,11 @@
 #!/usr/bin/env python3
 """Runs our peer with hostapd's server, and our server with wpa_supplicant's peer, by each method.
 
+    bench/foreign_ends.py [--ends PROGRAM] [--hostapd PROGRAM] [--packets]
+
+PROGRAM of our ends is crates/auc_ends_cli/out/auc_ends_cli, and hostapd is the one on the PATH, unless they are given. --packets
+prints the lines that our ends get, and their answers.
+
 Our ends are those of the program of crates/auc_ends_cli, which is kept running and gets each foreign packet as a line. This
 script speaks RADIUS with the foreign end. The vectors for hostapd and the answers of wpa_supplicant's USIM are made by the
 Milenage of tools/eap_rows.py, under the key of the program's subscriber. The USIM is ahead at first, so the first challenge
@@ -33,6 +38,11 @@ import radius
 from measure import TOP
 
 sys.path.append(str(TOP / "tools"))
+from ends import needs, run_main
+
+if __name__ == "__main__":
+    needs("cryptography", __doc__)
+
 from eap_rows import Functions, Usim, auts_of, autn_of, packet, rand_of, xor
 
 # hostapd's name of a method, and what our ends are told of it: the name of hostapd's network is fixed.
@@ -244,4 +254,4 @@ def main():
 
 
 if __name__ == "__main__":
-    main()
+    run_main(main, __doc__)

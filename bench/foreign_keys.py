@@ -13,6 +13,14 @@ import sys
 from collections import namedtuple
 
 import hostapd
+from measure import TOP
+
+sys.path.append(str(TOP / "tools"))
+from ends import needs, run_main
+
+if __name__ == "__main__":
+    needs("cryptography", __doc__)
+
 from network import TYPES, Renewed
 
 Master = namedtuple("Master", "encr aut master")
@@ -70,4 +78,4 @@ def main():
 
 
 if __name__ == "__main__":
-    main()
+    run_main(main, __doc__)

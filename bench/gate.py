@@ -22,6 +22,9 @@ import time
 from pathlib import Path
 
 TOP = Path(__file__).resolve().parent.parent
+sys.path.append(str(TOP / "tools"))
+from ends import run_main
+
 PAGE = TOP / "CONTRIBUTING.md"
 BEGIN, END = "<!-- begin: bench/gate.py -->\n", "<!-- end: bench/gate.py -->\n"
 TICKS = os.sysconf("SC_CLK_TCK")
@@ -170,4 +173,5 @@ def main():
     sys.exit(status)
 
 
-main()
+if __name__ == "__main__":
+    run_main(main)

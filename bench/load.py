@@ -12,7 +12,10 @@ import subprocess
 import sys
 import time
 
-from measure import program
+from measure import TOP, program
+
+sys.path.append(str(TOP / "tools"))
+from ends import run_main
 
 KEY, JOBS = 7, 100_000
 
@@ -43,4 +46,5 @@ def main():
             print(f"{subscribers:>11} {workers:>7} {seconds:>8.2f} {seconds / alone:>12.2f}", flush=True)
 
 
-main()
+if __name__ == "__main__":
+    run_main(main, __doc__)

@@ -16,6 +16,9 @@ import tempfile
 from pathlib import Path
 
 TOP = Path(__file__).resolve().parent.parent
+sys.path.append(str(TOP / "tools"))
+from ends import run_main
+
 FEW, MANY, REPEATS = 200_000, 2_200_000, 3
 LOOP = r"""
 #include <stdio.h>
@@ -82,4 +85,5 @@ def main():
             print(f"{a:>10.0f} {b:>11.0f} {a / b:>6.2f}")
 
 
-main()
+if __name__ == "__main__":
+    run_main(main, __doc__)

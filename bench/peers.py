@@ -25,12 +25,16 @@ import os
 import signal
 import socket
 import subprocess
+import sys
 import tempfile
 import time
 from pathlib import Path
 
 from journal import run, write_scenario
 from measure import KEYS, TOP
+
+sys.path.append(str(TOP / "tools"))
+from ends import run_main
 
 K, OPC, AMF, IMSI = KEYS[0], KEYS[2], KEYS[3], "001010000000001"
 PAGE = TOP / "README.md"
@@ -366,4 +370,5 @@ def main():
         write(text)
 
 
-main()
+if __name__ == "__main__":
+    run_main(main)

@@ -18,6 +18,13 @@ import tempfile
 from pathlib import Path
 
 from measure import TOP, program
+
+sys.path.append(str(TOP / "tools"))
+from ends import needs, run_main
+
+if __name__ == "__main__":
+    needs("cryptography", __doc__)
+
 from network import Job, Names, Peer, World, is_readable
 
 # ---- scenarios
@@ -153,4 +160,5 @@ def main():
     sys.exit(0 if all(same + drawn) else 1)
 
 
-main()
+if __name__ == "__main__":
+    run_main(main, __doc__)

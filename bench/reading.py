@@ -14,7 +14,10 @@ import sys
 import tempfile
 from pathlib import Path
 
-from measure import KEYS, measured, ratio
+from measure import KEYS, TOP, measured, ratio
+
+sys.path.append(str(TOP / "tools"))
+from ends import run_main
 
 SUBSCRIBERS = 100
 
@@ -55,4 +58,5 @@ def main():
             before = row("jobs", count, ["run", str(path)], 3, b"refused scenario ", before)
 
 
-main()
+if __name__ == "__main__":
+    run_main(main, __doc__)

@@ -22,7 +22,10 @@ import tempfile
 from pathlib import Path
 
 import hostapd
-from measure import KEYS, measured, ratio
+from measure import KEYS, TOP, measured, ratio
+
+sys.path.append(str(TOP / "tools"))
+from ends import run_main
 
 COUNTS = (1_000, 10_000)
 THEIRS = 200
@@ -110,4 +113,5 @@ def main():
     theirs(found)
 
 
-main()
+if __name__ == "__main__":
+    run_main(main, __doc__)

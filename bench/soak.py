@@ -24,7 +24,10 @@ import time
 from collections import Counter, defaultdict
 from pathlib import Path
 
-from measure import KEYS, program
+from measure import KEYS, TOP, program
+
+sys.path.append(str(TOP / "tools"))
+from ends import run_main
 
 SUBSCRIBERS, JOBS, WORKERS, HOT = 65_536, 200_000, 64, 64
 HEADER = "imsi,k,kind,op,amf,seq,usim"
@@ -113,4 +116,5 @@ def main():
     sys.exit(kept != times)
 
 
-main()
+if __name__ == "__main__":
+    run_main(main, __doc__)

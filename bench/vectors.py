@@ -16,7 +16,10 @@ import sys
 import tempfile
 from pathlib import Path
 
-from measure import KEYS, measured, ratio
+from measure import KEYS, TOP, measured, ratio
+
+sys.path.append(str(TOP / "tools"))
+from ends import run_main
 
 SUBSCRIBERS = 100
 MOST_BYTES = {"brief": 64, "full": 310}
@@ -46,4 +49,5 @@ def main():
                 sys.exit(f"more than {MOST_BYTES[print_]} bytes a vector")
 
 
-main()
+if __name__ == "__main__":
+    run_main(main, __doc__)

@@ -15,7 +15,8 @@ from pathlib import Path
 
 TOP = Path(__file__).resolve().parent.parent
 CHARTS = TOP / "docs/charts"
-sys.path.append(str(TOP / "examples"))
+sys.path += [str(TOP / "examples"), str(TOP / "tools")]
+from ends import run_main
 from full import transcripts
 
 
@@ -52,4 +53,5 @@ def main():
     sys.exit(1 if wrong else 0)
 
 
-main()
+if __name__ == "__main__":
+    run_main(main)

@@ -20,6 +20,9 @@ import sys
 from pathlib import Path
 
 TOP = Path(__file__).resolve().parent.parent
+sys.path.append(str(TOP / "tools"))
+from ends import run_main
+
 PAGES = ["README.md", "CONTRIBUTING.md", *sorted(str(it.relative_to(TOP)) for it in (TOP / "docs").glob("*.md"))]
 QUOTED = r"`([^`]+)`"
 NAME = re.compile(r"[\w*'-]+(?:::[\w-]+)?")
@@ -112,10 +115,10 @@ def broken_crates(row):
                 yield f"{name} isn't in {' or '.join(crates)}"
 
 
-def main(words):
-    if words:
+def main():
+    if sys.argv[1:]:
         print(__doc__.strip())
-        sys.exit(0 if words in (["--help"], ["-h"]) else 2)
+        sys.exit(2)
     broken = []
     for page in PAGES:
         text = (TOP / page).read_text()
@@ -129,4 +132,5 @@ def main(words):
     print(f"citations: what {len(PAGES)} pages cite is there")
 
 
-main(sys.argv[1:])
+if __name__ == "__main__":
+    run_main(main, __doc__)

@@ -20,6 +20,9 @@ import sys
 from pathlib import Path
 
 TOP = Path(__file__).resolve().parent.parent
+sys.path.append(str(TOP / "tools"))
+from ends import run_main
+
 LIST = TOP / "crates.txt"
 PAGE = TOP / "docs/ARCHITECTURE.md"
 BEGIN, END = "<!-- drawn by docs/layers.py -->\n```text\n", "```\n"
@@ -169,10 +172,11 @@ def broken_picture(picture):
         yield f"{PAGE.relative_to(TOP)}: the picture isn't that of crates.txt; run docs/layers.py --write"
 
 
-def main(words):
+def main():
+    words = sys.argv[1:]
     if words not in ([], ["--write"]):
         print(__doc__.strip())
-        sys.exit(0 if words in (["--help"], ["-h"]) else 2)
+        sys.exit(2)
     layers = read_layers(LIST.read_text())
     uses = {name: libraries for layer in layers for name, libraries in layer.uses.items()}
     picture = drawn(layers, uses)
@@ -191,4 +195,5 @@ def main(words):
     print(f"layers: {len(uses)} crates in {len(layers)} layers, each edge downward and used; the longest chain has {longest}")
 
 
-main(sys.argv[1:])
+if __name__ == "__main__":
+    run_main(main, __doc__)

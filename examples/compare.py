@@ -18,6 +18,9 @@ import tempfile
 from pathlib import Path
 
 HERE = Path(__file__).resolve().parent
+sys.path.append(str(HERE.parent / "tools"))
+from ends import run_main
+
 BUILT = HERE.parent / "crates/auc_cli/out/auc_cli"
 SUBSCRIBERS = {"day": "subscribers.csv"}
 SECONDS = 60
@@ -97,4 +100,5 @@ def main():
     sys.exit(1 if failed else 0)
 
 
-main()
+if __name__ == "__main__":
+    run_main(main)

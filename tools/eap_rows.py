@@ -14,6 +14,12 @@ import hmac
 import struct
 import sys
 from types import SimpleNamespace
+
+from ends import needs, run_main
+
+if __name__ == "__main__":
+    needs("cryptography", __doc__)
+
 from cryptography.hazmat.primitives.ciphers import Cipher, algorithms, modes
 
 MAX_SEQ = 2**43 - 1
@@ -1567,4 +1573,4 @@ def main():
 
 
 if __name__ == "__main__":
-    main()
+    run_main(main, __doc__)

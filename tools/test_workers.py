@@ -10,6 +10,8 @@ import sys
 import tempfile
 from pathlib import Path
 
+from ends import run_main
+
 TOP = Path(__file__).resolve().parent.parent
 A = "001010000000001"
 KEYS = "465b5ce8b199b49faa5f0a2ee238a6bc opc cd63cb71954a9f4e48a5994e37a02baf 8000"
@@ -68,4 +70,5 @@ def main():
     print("workers: each rule holds")
 
 
-main()
+if __name__ == "__main__":
+    run_main(main, __doc__)
