@@ -1,14 +1,18 @@
 #!/usr/bin/env python3
-"""Tests of tools/import: each kind of line and row, and the number that each subscriber starts at."""
+"""Tests of tools/import: each kind of line, row and database, and the number that each subscriber starts at."""
 import io
+import shutil
 import sqlite3
 import subprocess
 import sys
 import tempfile
 import unittest
+from contextlib import closing
 from importlib.machinery import SourceFileLoader
 from importlib.util import module_from_spec, spec_from_loader
 from pathlib import Path
+
+from ends import run_main
 
 TOOL = Path(__file__).resolve().parent / "import"
 LOADER = SourceFileLoader("import_tool", str(TOOL))
@@ -19,6 +23,10 @@ LOADER.exec_module(tool)
 K = "90dca4eda45b53cf0f12d7c9c3bc6a89"
 OPC = "cb9cccc4b9258e6dca4760379fb82581"
 IMSI = "232010000000000"
+
+
+def ran(*words):
+    return subprocess.run([TOOL, *words], capture_output=True, text=True)
 
 
 def own_sqn(number):
@@ -75,9 +83,29 @@ class Hostapd(unittest.TestCase):
 
     def test_later_line_of_one_imsi_counts_from_the_greater_number(self):
         lines = [("line 1", f"{IMSI} {K} {OPC} 61df 000000000400"), ("line 2", f"{IMSI} {OPC} {K} 8000 000000000040")]
-        subscribers, left_out = tool.brought_over(lines, self.read)
+        subscribers, reasons = tool.brought_over(lines, self.read)
         self.assertEqual([subscriber.row() for subscriber in subscribers], [[IMSI, OPC, "opc", K, "8000", 32, 32]])
-        self.assertEqual(len(left_out), 1)
+        same = f"replaced by line 2, which has the same IMSI {IMSI}; it starts at the greater number of both"
+        self.assertEqual(reasons, [("line 1", same)])
+
+    def test_each_earlier_line_of_an_imsi_is_named_and_the_last_one_stays(self):
+        sqns = ("000000000040", "000000000400", "wrong", "000000000080")
+        lines = [(f"line {place}", f"{IMSI} {K} {OPC} {place:04} {sqn}") for place, sqn in enumerate(sqns, 1)]
+        subscribers, reasons = tool.brought_over(lines, self.read)
+        self.assertEqual([subscriber.row() for subscriber in subscribers], [[IMSI, K, "opc", OPC, "0004", 32, 32]])
+        said = [(place, reason.partition(",")[0]) for place, reason in reasons]
+        wrong = ("line 3", "left out: SQN isn't 12 hexadecimal digits")
+        self.assertEqual(said, [("line 1", "replaced by line 2"), wrong, ("line 2", "replaced by line 4")])
+
+    def test_replaced_line_is_told_by_its_place(self):
+        with tempfile.TemporaryDirectory() as folder:
+            path = Path(folder) / "milenage"
+            path.write_text(f"# SQNs\n{IMSI} {K} {OPC} 61df 000000000400\n{IMSI} {K} {OPC} 8000 000000000040\n")
+            done = ran("hostapd", path, "--handed-out", "0")
+        self.assertEqual(done.returncode, 1)
+        self.assertEqual(done.stdout.splitlines()[1:], [f"{IMSI},{K},opc,{OPC},8000,32,32"])
+        self.assertEqual(done.stderr, f"import: line 2 is replaced by line 3, which has the same IMSI {IMSI};"
+                                      " it starts at the greater number of both\n")
 
 
 class OsmoHlr(unittest.TestCase):
@@ -97,25 +125,158 @@ class OsmoHlr(unittest.TestCase):
             except tool.LeftOut as reason:
                 self.assertTrue(str(reason).startswith(wanted), (row, str(reason)))
 
+
+
+class Databases(unittest.TestCase):
+    """Databases of SQLite that were stopped, copied or killed in each way."""
+
+    def setUp(self):
+        self.folder = Path(self.enterContext(tempfile.TemporaryDirectory()))
+        (self.folder / "live").mkdir()
+        (self.folder / "copy").mkdir()
+        self.path = self.folder / "copy" / "hlr.db"
+
+    def live(self, mode):
+        """An open database with the tables of osmo-hlr, in a mode of its journal. Nothing is moved out of its -wal by itself."""
+        database = self.enterContext(closing(sqlite3.connect(self.folder / "live" / "hlr.db", isolation_level=None)))
+        self.assertEqual(database.execute(f"PRAGMA journal_mode={mode}").fetchone(), (mode,))
+        database.execute("PRAGMA wal_autocheckpoint=0")
+        database.execute("CREATE TABLE subscriber (id INTEGER PRIMARY KEY, imsi VARCHAR(15))")
+        database.execute("CREATE TABLE auc_3g (subscriber_id, algo_id_3g, k, op, opc, sqn, ind_bitlen)")
+        return database
+
+    def add(self, database, place=1):
+        with database:
+            database.execute("BEGIN")
+            database.execute("INSERT INTO subscriber VALUES (?, ?)", (place, f"{int(IMSI) + place - 1}"))
+            database.execute("INSERT INTO auc_3g VALUES (?, 5, ?, NULL, ?, 1000, 5)", (place, K, OPC))
+
+    def copy(self, *endings):
+        for ending in endings:
+            shutil.copy(self.folder / "live" / f"hlr.db{ending}", f"{self.path}{ending}")
+
+    def imported(self, path=None):
+        """What the import does, after it was seen that it leaves the folder as it is."""
+        before = {it.name: (it.read_bytes(), it.stat().st_mtime_ns) for it in self.path.parent.iterdir()}
+        self.path.parent.chmod(0o555)
+        try:
+            done = ran("osmo-hlr", path or self.path)
+        finally:
+            self.path.parent.chmod(0o755)
+        self.assertEqual({it.name: (it.read_bytes(), it.stat().st_mtime_ns) for it in self.path.parent.iterdir()}, before)
+        return done
+
+    def is_imported(self, places=(1,), path=None):
+        done = self.imported(path)
+        rows = [f"{int(IMSI) + place - 1},{K},opc,{OPC},8000,31,31" for place in places]
+        self.assertEqual((done.returncode, done.stdout.splitlines()[1:]), (0, rows), done.stderr)
+        return done.stderr
+
+    def is_refused(self, *reasons):
+        done = self.imported()
+        self.assertEqual((done.returncode, done.stdout), (2, ""))
+        for reason in reasons:
+            self.assertIn(reason, done.stderr)
+
     def test_database_is_read(self):
-        with tempfile.TemporaryDirectory() as folder:
-            path = str(Path(folder) / "hlr.db")
-            with sqlite3.connect(path) as database:
-                database.execute("CREATE TABLE subscriber (id INTEGER PRIMARY KEY, imsi VARCHAR(15))")
-                database.execute("CREATE TABLE auc_3g (subscriber_id, algo_id_3g, k, op, opc, sqn, ind_bitlen)")
-                database.execute("INSERT INTO subscriber VALUES (1, ?)", (IMSI,))
-                database.execute("INSERT INTO auc_3g VALUES (1, 5, ?, NULL, ?, 1000, 5)", (K, OPC))
-            done = subprocess.run([TOOL, "osmo-hlr", path], capture_output=True, text=True)
-        self.assertEqual((done.returncode, done.stderr), (0, ""))
-        self.assertEqual(done.stdout.splitlines()[1:], [f"{IMSI},{K},opc,{OPC},8000,31,31"])
+        self.add(self.live("delete"))
+        self.copy("")
+        self.assertEqual(self.is_imported(), "")
+
+    def test_database_whose_rows_are_all_in_its_wal_is_refused(self):
+        database = self.live("wal")
+        database.execute("PRAGMA wal_checkpoint(TRUNCATE)")
+        self.add(database)
+        self.copy("")
+        self.is_refused(f"{self.path} is in WAL mode, and there is no {self.path}-wal", "no subscriber came over")
+
+    def test_copy_that_lacks_some_changes_comes_over_with_a_warning(self):
+        database = self.live("wal")
+        self.add(database)
+        database.execute("PRAGMA wal_checkpoint(TRUNCATE)")
+        self.add(database, 2)
+        self.copy("")
+        self.assertIn("changes may be missing in it", self.is_imported([1]))
+
+    def test_wal_that_is_not_empty_is_refused_until_it_is_moved_into_the_database(self):
+        database = self.live("wal")
+        self.add(database)
+        for endings in (("", "-wal"), ("", "-wal", "-shm")):
+            self.copy(*endings)
+            command = f"sqlite3 {self.path} 'PRAGMA wal_checkpoint(TRUNCATE)'"
+            self.is_refused(f"{self.path}-wal has changes", command)
+        with closing(sqlite3.connect(self.path)) as mended:
+            mended.execute("PRAGMA wal_checkpoint(TRUNCATE)")
+        self.is_imported()
+
+    def test_wal_is_looked_for_beside_the_database_that_a_link_names(self):
+        self.add(self.live("wal"))
+        self.copy("", "-wal")
+        link = self.folder / "link.db"
+        link.symlink_to(self.path)
+        done = self.imported(link)
+        self.assertEqual((done.returncode, done.stdout), (2, ""))
+        self.assertIn(f"{self.path}-wal has changes", done.stderr)
+
+    def test_wal_that_is_empty_or_was_removed_is_no_fault(self):
+        database = self.live("wal")
+        self.add(database)
+        database.execute("PRAGMA wal_checkpoint(TRUNCATE)")
+        self.copy("", "-wal")
+        self.assertEqual(self.is_imported(), "")
+        self.copy("-shm")
+        self.assertEqual(self.is_imported(), "")
+        for ending in "-wal", "-shm":
+            Path(f"{self.path}{ending}").unlink()
+        self.is_imported()
+
+    def test_journal_of_an_interrupted_change_is_refused_until_it_is_undone(self):
+        database = self.live("delete")
+        self.add(database)
+        # A cache of one page makes SQLite write the change into the database before it is committed.
+        database.execute("PRAGMA cache_size=1")
+        database.execute("BEGIN")
+        database.execute("CREATE TABLE large AS WITH RECURSIVE n(i) AS (SELECT 1 UNION SELECT i + 1 FROM n WHERE i < 5000)"
+                         " SELECT i, hex(randomblob(50)) FROM n")
+        database.execute("UPDATE auc_3g SET sqn = 0")
+        self.copy("", "-journal")
+        self.is_refused(f"{self.path}-journal is there", f"sqlite3 {self.path} 'SELECT count(*) FROM subscriber'")
+        with closing(sqlite3.connect(self.path)) as mended:
+            self.assertEqual(mended.execute("SELECT count(*) FROM subscriber").fetchone(), (1,))
+        self.assertEqual(self.is_imported(), "")
+
+    def test_name_of_a_database_may_have_any_character(self):
+        self.add(self.live("wal"))
+        self.path = self.path.with_name("a?mode=rw#b%20 c.db")
+        self.copy("", "-wal")
+        self.is_refused(f"sqlite3 '{self.path}' 'PRAGMA")
+        with closing(sqlite3.connect(self.path)) as mended:
+            mended.execute("PRAGMA wal_checkpoint(TRUNCATE)")
+        self.is_imported()
 
 
 class Inputs(unittest.TestCase):
     def test_unreadable_input_is_status_2_and_prints_nothing(self):
         for source, path in (("hostapd", "/no/such/file"), ("osmo-hlr", "/no/such/file"), ("osmo-hlr", str(TOOL))):
-            done = subprocess.run([TOOL, source, path], capture_output=True, text=True)
+            done = ran(source, path)
             self.assertEqual((done.returncode, done.stdout), (2, ""), (source, path))
             self.assertIn("import: ", done.stderr)
+
+    def test_input_that_brings_nobody_is_status_2_and_writes_nothing(self):
+        with tempfile.TemporaryDirectory() as folder:
+            path, database = Path(folder) / "milenage", Path(folder) / "hlr.db"
+            for text, left_out in (("", 0), ("# nobody\n\n", 0), ("abc\ndef\n", 2)):
+                path.write_text(text)
+                done = ran("hostapd", path)
+                self.assertEqual((done.returncode, done.stdout), (2, ""), text)
+                self.assertEqual(done.stderr.count(" is left out: "), left_out)
+                self.assertTrue(done.stderr.endswith(f"import: {path}: no subscriber came over\n"), done.stderr)
+            with closing(sqlite3.connect(database)) as tables:
+                tables.execute("CREATE TABLE subscriber (id INTEGER PRIMARY KEY, imsi VARCHAR(15))")
+                tables.execute("CREATE TABLE auc_3g (subscriber_id, algo_id_3g, k, op, opc, sqn, ind_bitlen)")
+            done = ran("osmo-hlr", database)
+        self.assertEqual((done.returncode, done.stdout), (2, ""))
+        self.assertEqual(done.stderr, f"import: {database}: no subscriber came over\n")
 
     def test_written_file_has_the_header_and_one_row_a_subscriber(self):
         out = io.StringIO()
@@ -124,4 +285,4 @@ class Inputs(unittest.TestCase):
 
 
 if __name__ == "__main__":
-    unittest.main()
+    run_main(unittest.main, __doc__)
