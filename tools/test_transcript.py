@@ -4,6 +4,7 @@ import struct
 import subprocess
 import sys
 import tempfile
+import time
 import unittest
 from importlib.machinery import SourceFileLoader
 from importlib.util import module_from_spec, spec_from_loader
@@ -12,6 +13,7 @@ from unittest import mock
 from xml.etree import ElementTree
 
 import transcript
+from ends import UNWRITTEN, Missing, run_main
 
 TOOLS = Path(__file__).resolve().parent
 EXAMPLES = TOOLS.parent / "examples"
@@ -138,6 +140,37 @@ class Charts(unittest.TestCase):
             self.assertEqual([it for it in labels if it not in shown], [], path.name)
 
 
+class Growth(unittest.TestCase):
+    """Eight times the lines take some 8 times the processor time, and not 64 times."""
+
+    def seconds(self, lines):
+        text = "".join(line + "\n" for line in ["round 1", "job 1", *lines])
+        began = time.process_time()
+        chart.picture([chart.ladder_of(session) for session in transcript.sessions_in(text)])
+        return time.process_time() - began
+
+    def is_linear(self, lines_of):
+        few, many = list(lines_of(500)), list(lines_of(4000))
+        # Other work on the machine may lengthen one try, and hardly each.
+        ratios = []
+        while not ratios or ratios[-1] > 22 and len(ratios) < 4:
+            short = min(self.seconds(few) for _ in range(3))
+            ratios.append(self.seconds(many) / short)
+        self.assertLess(ratios[-1], 22, ratios)
+
+    def test_chart_of_many_sessions(self):
+        self.is_linear(lambda count: (line for number in range(1, count + 1) for line in (
+            f"job {number}", f"session {number} open", f"start {number} sent 1", f"deliver {number} peer 1 sent 2",
+            f"deliver {number} server 2 ended failure")))
+
+    def test_chart_of_many_packets_of_a_session(self):
+        self.is_linear(lambda count: ["session 1 open", "start 1 sent 1", *(line for number in range(2, count + 2) for line in (
+            f"repeat 1 sent {number}", f"packet {number} 01010005{number:08x}"))])
+
+    def test_chart_of_many_deliveries_of_a_packet(self):
+        self.is_linear(lambda count: ["session 1 open", "start 1 sent 1", *["deliver 1 peer 1 ignored closed"] * count])
+
+
 class Names(unittest.TestCase):
     def test_message_has_the_name_of_its_method(self):
         cases = [
@@ -193,8 +226,12 @@ class Identities(unittest.TestCase):
         for key in (None, bytes(16)):
             challenge.session.k_encr = key
             self.assertEqual((transcript.shown_in(challenge), transcript.marks_of(challenge)), ([], ["AT_ENCR_DATA"]))
+
+    def test_without_cryptography_a_pseudonym_that_is_given_is_told_to_be_missing(self):
         with mock.patch.object(transcript, "Cipher", None):
-            self.assertEqual(self.comments(), [])
+            self.assertEqual(transcript.shown_in(self.packets()[0]), [])
+            with self.assertRaisesRegex(Missing, "cryptography is missing: apt-get install python3-cryptography"):
+                self.comments()
 
 
 class Reauthentications(unittest.TestCase):
@@ -271,10 +308,8 @@ class Inputs(unittest.TestCase):
         cases = [
             (["pcap", brief, "/dev/null"], "line 4: the bytes of packet 1 are missing; run the scenario with `print full`"),
             (["pcap", empty, "/dev/null"], "no session sends a packet"),
-            (["pcap", FULL, "/no/such/folder/file"], "No such file or directory"),
             (["chart", empty], "it has no session"),
             (["chart", "/no/such/file"], "No such file or directory"),
-            (["chart", FULL, "--svg", "/no/such/folder/file"], "No such file or directory"),
         ]
         for (name, *words), reason in cases:
             done = subprocess.run([TOOLS / name, *words], capture_output=True, text=True)
@@ -282,6 +317,13 @@ class Inputs(unittest.TestCase):
             self.assertIn(f"{name}: ", done.stderr)
             self.assertIn(reason, done.stderr)
 
+    def test_tools_tell_what_they_cannot_write(self):
+        path = "/no/such/folder/file"
+        for name, *words in ["pcap", FULL, path], ["chart", FULL, "--svg", path]:
+            done = subprocess.run([TOOLS / name, *words], capture_output=True, text=True)
+            wanted = (UNWRITTEN, "", f"{name}: {path}: No such file or directory\n")
+            self.assertEqual((done.returncode, done.stdout, done.stderr), wanted)
+
 
 if __name__ == "__main__":
-    unittest.main()
+    run_main(unittest.main, __doc__)

@@ -7,6 +7,8 @@ import re
 import sys
 from dataclasses import dataclass, field
 
+from ends import missing
+
 try:
     from cryptography.hazmat.primitives.ciphers import Cipher, algorithms, modes
 except ImportError:
@@ -15,6 +17,7 @@ except ImportError:
 # How many words follow the first one of a note, and the ends that they come from.
 CENTRE_NOTES = {"moved": 2, "inrange": 2, "beyond": 2, "drew": 1, "exhausted": 1, "withheld": 2}
 OWN_NOTES = {"badauts": 0, "resumed": 1, "accepted": 1, "sync": 1, "wrongmac": 0, "counter": 1, "small": 1}
+NOTES = CENTRE_NOTES | OWN_NOTES
 # The first words of the lines that tell nothing of a session's packets.
 OTHER_LINES = {"restart", "vector", "bytes", "withheld", "exhausted", "sync", "give", "closed"}
 # Of an event's line, the words before its notes.
@@ -34,7 +37,7 @@ AT_IDENTITY, AT_IV, AT_ENCR_DATA, AT_NEXT_PSEUDONYM = 14, 129, 130, 132
 FORMS = {"permanent": rb"[06][0-9]{6,15}", "pseudonym": rb"[27][0-9a-f]{32}", "re-authentication": rb"[48][0-9a-f]{32}"}
 # How the value of an encrypted attribute is shown.
 ENCRYPTED = {
-    19: lambda value: f"AT_COUNTER {int.from_bytes(value)}",
+    19: lambda value: f"AT_COUNTER {int.from_bytes(value, 'big')}",
     20: lambda value: "AT_COUNTER_TOO_SMALL",
     21: lambda value: f"AT_NONCE_S {value[2:].hex()}",
     AT_NEXT_PSEUDONYM: lambda value: f"AT_NEXT_PSEUDONYM {text_in(value).decode(errors='replace')}",
@@ -56,6 +59,8 @@ class Packet:
     data: bytes | None = None
     # The events that deliver it.
     deliveries: list = field(default_factory=list)
+    # The number of the first packet of its session and sender that has its bytes, if that is another one.
+    original: int | None = None
 
 
 @dataclass
@@ -67,6 +72,8 @@ class Event:
     # The end that acts: the server for `start` and `repeat`.
     end: str
     delivered: Packet | None = None
+    # Whether the packet reaches an end.
+    arrives: bool = False
     notes: list = field(default_factory=list)
     sent: Packet | None = None
     # What is left of the line: `ended success`, `ignored closed`, `nosuchpacket`; nothing if a packet is all that came.
@@ -139,15 +146,17 @@ def identity_in(packet):
 
 def decrypted(key, iv, data):
     """What AT_ENCR_DATA was before it was encrypted (RFC 4187 §10.12)."""
+    if Cipher is None:
+        raise missing("cryptography")
     decryptor = Cipher(algorithms.AES(key), modes.CBC(iv)).decryptor()
     return decryptor.update(data) + decryptor.finalize()
 
 
 def encrypted_in(packet):
-    """The attributes that a message has encrypted, as `attributes_in` has them, if their key is known and there is Python's
-    `cryptography`. Under the key of another challenge they don't read as any."""
+    """The attributes that a message has encrypted, as `attributes_in` has them, if their key is known. Under the key of another
+    challenge they don't read as any."""
     found, key = attributes_of(packet), packet.session.k_encr
-    if Cipher is None or key is None or len(found.get(AT_IV, b"")) != 18 or len(found.get(AT_ENCR_DATA, b"")) % 16 != 2:
+    if key is None or len(found.get(AT_IV, b"")) != 18 or len(found.get(AT_ENCR_DATA, b"")) % 16 != 2:
         return {}
     inner = attributes_in(decrypted(key, found[AT_IV][2:], found[AT_ENCR_DATA][2:]))
     return inner if inner.keys() <= ENCRYPTED.keys() | {AT_PADDING} else {}
@@ -238,7 +247,8 @@ class Reader:
         rest = words[EVENTS[word]:]
         if word == "deliver":
             event.delivered = self.delivered(self.number(words[3]), rest)
-            if event.delivered and rest != ["nosuchend"]:
+            event.arrives = event.delivered is not None and rest != ["nosuchend"]
+            if event.arrives:
                 event.delivered.deliveries.append(event)
         self.read_notes(event, rest)
         self.read_step(event, rest)
@@ -254,8 +264,8 @@ class Reader:
 
     def read_notes(self, event, rest):
         """Takes the notes from the front of the words."""
-        while rest and rest[0] in CENTRE_NOTES | OWN_NOTES:
-            count = 1 + (CENTRE_NOTES | OWN_NOTES)[rest[0]]
+        while rest and rest[0] in NOTES:
+            count = 1 + NOTES[rest[0]]
             if len(rest) <= count:
                 raise Unreadable(f"{event.text[:60]!r} ends after its notes")
             event.notes.append(" ".join(rest[:count]))
@@ -275,6 +285,15 @@ class Reader:
         event.step = " ".join(rest)
 
 
+def find_copies(session):
+    """Tells each packet that has the bytes of an earlier one of its sender which one that is."""
+    first = {}
+    for packet in session.packets:
+        number = first.setdefault((packet.sender, packet.data), packet.number)
+        if packet.data is not None and number != packet.number:
+            packet.original = number
+
+
 def sessions_in(text):
     """The sessions of a transcript, in the order in which they are opened."""
     reader = Reader()
@@ -284,6 +303,8 @@ def sessions_in(text):
                 reader.read(line, words)
         except Unreadable as reason:
             raise Unreadable(f"line {line}: {reason}") from None
+    for session in reader.sessions.values():
+        find_copies(session)
     return list(reader.sessions.values())
 
 
