@@ -4,11 +4,11 @@ ghost use Rattle.std.specs.Prelude.{◌≡◌, ◌≤◌, None, IsErr, MatchResu
 ghost use Rattle.auc_edge.specs.Faults.{raised};
 
 use crate::disk::Disk;
-use auc_edge::Failed;
+use auc_edge::{Failed, above_standard_streams};
 use std::fs::{File, OpenOptions};
 use std::io::{self, ErrorKind};
 use std::marker::Model;
-use std::os::unix::fs::FileExt;
+use std::os::unix::fs::{FileExt, OpenOptionsExt};
 use std::rt::Files;
 
 // The file, and the folder that it stands in.
@@ -16,9 +16,13 @@ const NAME: &str = "auc.journal";
 
 const FOLDER: &str = ".";
 
-/// The file `auc.journal` in the current folder. The first call opens it, makes it if it is missing, locks
-/// it, and syncs it and its folder; the lock stands until the disk is dropped. If another process holds the
-/// lock, each call is a fault. Contracts know no content.
+// Only the owner may read and write a file that is made: who reads it learns how many vectors each subscriber got.
+const MODE: u32 = 0o600;
+
+/// The file `auc.journal` in the current folder. The first call opens it, makes it with mode 0600 if it is
+/// missing, locks it, and syncs it and its folder; the lock stands until the disk is dropped. If another
+/// process holds the lock, or the file got the place of a standard stream, each call is a fault. Contracts
+/// know no content.
 #[derive(Drop)]
 pub struct FileDisk<R: Files<File = File>> {
     rt: R,
@@ -96,8 +100,8 @@ fn opened<'a, R: Files<File = File>>(rt: &R, file: &'a mut Option<File>) -> io::
 // The file, opened, locked and synced. Without the folder's sync a crash may take a new file away.
 fn open<R: Files<File = File>>(rt: &R) -> io::Result<File> {
     let mut options = OpenOptions::new();
-    options.read(true).write(true).create(true);
-    let file = options.open(rt, NAME)?;
+    options.read(true).write(true).create(true).mode(MODE);
+    let file = above_standard_streams(options.open(rt, NAME)?)?;
     file.try_lock()?;
     file.sync_all()?;
     File::open(rt, FOLDER)?.sync_all()?;

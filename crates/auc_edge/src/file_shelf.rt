@@ -4,6 +4,7 @@ ghost use Rattle.std.specs.Prelude.{◌≡◌, ◌≤◌, None, length, IfOk};
 
 use crate::failed::{Failed, counted};
 use crate::shelf::Shelf;
+use crate::standard_streams::above_standard_streams;
 use std::fs::File;
 use std::io::{self, ErrorKind};
 use std::marker::Model;
@@ -15,8 +16,8 @@ use std::str;
 const TRIES: u32 = 1000;
 
 /// The files of the operating system, by their paths. Each read opens its file anew and may find
-/// another file than the previous read, so contracts know no content. A name that isn't UTF-8, a folder
-/// and a missing file are faults. One count serves every name.
+/// another file than the previous read, so contracts know no content. A name that isn't UTF-8, a folder,
+/// a missing file and a file that got the place of a standard stream are faults. One count serves every name.
 #[derive(Drop)]
 pub struct FileShelf<R: Files<File = File>> {
     rt: R,
@@ -79,6 +80,6 @@ fn read_once<R: Files<File = File>>(
     let Ok(path) = str::from_utf8(name) else {
         return Err(ErrorKind::InvalidInput.into());
     };
-    let file = File::open(rt, path)?;
+    let file = above_standard_streams(File::open(rt, path)?)?;
     file.read_at(buf, from)
 }

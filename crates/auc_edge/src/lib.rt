@@ -3,7 +3,8 @@
 //! A [`Shelf`] is a set of files that is read, a [`Sink`] an output that is written. Contracts see a
 //! count of faults, and the contents if the object reveals them: a call fails only if the object's count
 //! rose. [`MemShelf`] and [`MemSink`] reveal everything; [`FileShelf`] and [`StdSink`], the real ones,
-//! no content. The layers above call [`read_all`] and [`write_whole`].
+//! no content. The layers above call [`read_all`] and [`write_whole`]. No file gets the place of a standard stream
+//! ([`fill_standard_streams`]).
 //!
 //! [`Octets`] is a string of bytes and [`Items`] a list of records; contracts see both as lists.
 //! [`Imsi`] is a subscriber's identity (TS 23.003 §2.2), which contracts see as the record of how many
@@ -31,6 +32,7 @@ mod reading;
 mod room;
 mod shelf;
 mod sink;
+mod standard_streams;
 mod std_sink;
 mod stop;
 mod writing;
@@ -51,6 +53,7 @@ pub use reading::read_all;
 pub use room::Room;
 pub use shelf::Shelf;
 pub use sink::Sink;
+pub use standard_streams::{above_standard_streams, fill_standard_streams};
 pub use std_sink::StdSink;
 pub use stop::Stop;
 pub use writing::write_whole;
