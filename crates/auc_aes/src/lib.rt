@@ -7,7 +7,7 @@
 //!
 //! Contracts see a `Key` as the 16 bytes of the key, and not its round keys. They cite the standard's
 //! functions on lists, in `specs/`; the code uses tables, and each entry is proved to follow its rule.
-//! Nothing here takes memory, waits or can fail.
+//! Nothing here takes memory, waits or can fail. The tests stand in `auc_byte_tests`.
 #![tactic(auto)]
 
 mod block;
@@ -16,8 +16,6 @@ mod key;
 mod law;
 mod round;
 mod tables;
-#[cfg(test)]
-mod tests;
 mod words;
 
 pub use block::{block_at, put_block, rot, xor};

@@ -5,7 +5,7 @@
 //! A [`KeySet`] holds the keys of a full authentication, a [`Pair`] those of a fast re-authentication,
 //! and a [`Master`] the key that the pair is derived from. [`piece_of`] cuts a key out of a string of
 //! bytes. [`mac_at`] and [`mac_of`] calculate the value of AT_MAC. [`Method`] tells EAP-AKA and EAP-AKA'
-//! apart. Nothing here takes memory, waits or fails.
+//! apart. Nothing here takes memory, waits or fails. The tests stand in `auc_byte_tests`.
 #![tactic(auto)]
 
 mod block;
@@ -15,8 +15,6 @@ mod keys;
 mod mac;
 mod method;
 mod piece;
-#[cfg(test)]
-mod tests;
 
 pub use hmac_sha1::HmacSha1;
 pub use hmac_sha256::HmacSha256;

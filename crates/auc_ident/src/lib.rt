@@ -5,7 +5,7 @@
 //! the subscriber of each one; [`Ordinals`] counts those of a subscriber.
 //!
 //! Contracts see a [`Permanent`] as the list of its bytes, [`Names`] as a key of AES, and [`Ordinals`] as the last that was
-//! given. Nothing here takes memory or waits.
+//! given. Nothing here takes memory or waits. The tests stand in `auc_byte_tests`.
 #![tactic(auto)]
 
 mod identity;
@@ -13,8 +13,6 @@ mod law;
 mod names;
 mod naming;
 mod ordinals;
-#[cfg(test)]
-mod tests;
 
 pub use identity::Permanent;
 pub use law::{

@@ -3,7 +3,7 @@
 //! [`prime_ck_ik`] derives CK' and IK' for one access network (TS 33.402 Annex A.2), [`prime_keys`] all
 //! keys of a full authentication, and [`prime_reauth_keys`] those of a fast re-authentication. The last
 //! two use PRF' (RFC 9048 §3.4.1), whose blocks are HMAC-SHA-256. Contracts give each key as bytes of the
-//! RFC's MK. Nothing here takes memory, waits or fails.
+//! RFC's MK. Nothing here takes memory, waits or fails. The tests stand in `auc_byte_tests`.
 #![tactic(auto)]
 
 mod bytes;
@@ -11,8 +11,6 @@ mod full;
 mod prf;
 mod primed;
 mod reauth;
-#[cfg(test)]
-mod tests;
 
 pub use full::prime_keys;
 pub use primed::prime_ck_ik;

@@ -7,15 +7,13 @@
 //! [`Milenage::f12345`] computes all that one vector needs, with five AES blocks.
 //!
 //! Contracts are the standard's equations on lists of bytes, over the AES-128 of `auc_aes`. They see a
-//! `Milenage` as its secret. Nothing here takes memory, waits or can fail.
+//! `Milenage` as its secret. Nothing here takes memory, waits or can fail. The tests stand in `auc_byte_tests`.
 #![tactic(auto)]
 
 mod auts;
 mod functions;
 mod milenage;
 mod secret;
-#[cfg(test)]
-mod tests;
 
 pub use auts::make_auts;
 pub use functions::{f1, f1_star, f5_star, f2345};

@@ -8,7 +8,7 @@
 //!
 //! `specs/Packet` relates bytes to packets and leaves reserved bytes, fill and the bytes after Length free. A
 //! written packet is read as the same packet, whatever follows it. Contracts see a [`Received`] as its `Seen`.
-//! `read_packet`, `receive` and `write_packet` take memory; no other call does.
+//! `read_packet`, `receive` and `write_packet` take memory; no other call does. The tests stand in `auc_byte_tests`.
 #![tactic(auto)]
 
 mod first_bytes;
@@ -36,6 +36,3 @@ pub use refusal::PacketRefusal;
 pub use sealing::{Draft, put_sealed};
 pub use subtype::Subtype;
 pub use writing::{put_packet, write_packet};
-
-#[cfg(test)]
-mod tests;

@@ -4,6 +4,7 @@
 //! gives a word of 20 bytes from XKEY, and the next XKEY. [`aka_keys`] makes all keys of a full
 //! authentication, and [`aka_reauth_keys`] those of a fast re-authentication. Contracts see XKEY as a number
 //! below 2^160, and the generator as a recursion on such numbers; the code works on strings of 20 bytes. Nothing here takes memory, waits or fails.
+//! The tests stand in `auc_byte_tests`.
 #![tactic(auto)]
 
 mod compression;
@@ -11,8 +12,6 @@ mod generator;
 mod keys;
 mod schedule;
 mod sum;
-#[cfg(test)]
-mod tests;
 
 pub use generator::next_word;
 pub use keys::{aka_keys, aka_reauth_keys};

@@ -4,13 +4,11 @@
 //! any place of any stream. [`RandStream`] gives the RANDs of one subscriber with one generator.
 //!
 //! Contracts see a `Rands` as the 32 bytes of its key and a `RandStream` as key and subscriber; `specs/Random` says which
-//! stream and place each value has. Nothing here takes memory, waits or fails.
+//! stream and place each value has. Nothing here takes memory, waits or fails. The tests stand in `auc_byte_tests`.
 #![tactic(auto)]
 
 mod rand_stream;
 mod rands;
-#[cfg(test)]
-mod tests;
 
 pub use rand_stream::RandStream;
 pub use rands::Rands;

@@ -7,7 +7,7 @@
 //!
 //! Contracts see a `ServerStore` as `Contexts`, the context of each method, and a `DeviceStore` as `Keeps`, which has
 //! the pseudonym of each method, too. The laws speak of every list of calls. Nothing here takes memory, waits or
-//! fails.
+//! fails. The tests stand in `auc_byte_tests`.
 #![tactic(auto)]
 
 mod context;
@@ -15,8 +15,6 @@ mod device_store;
 mod kept;
 mod law;
 mod server_store;
-#[cfg(test)]
-mod tests;
 
 pub use context::Context;
 pub use device_store::DeviceStore;

@@ -7,12 +7,10 @@
 //! hexadecimal digits; both answer `None` for any other text.
 //!
 //! Contracts see texts, lines and words as lists of bytes. Only [`joined`] takes memory; nothing here
-//! waits.
+//! waits. The tests stand in `auc_byte_tests`.
 #![tactic(auto)]
 
 mod field;
-#[cfg(test)]
-mod tests;
 mod text;
 
 pub use field::{are_digits, read_decimal, read_octets};

@@ -4,8 +4,8 @@ ghost use Rattle.std.specs.Prelude.{◌≡◌};
 ghost use Rattle.auc_reauth.specs.Store.{method_of};
 ghost use Rattle.auc_hmac.specs.declared.method.Method.TheVariants as methods;
 
-use crate::{Context, DeviceStore, ServerStore};
 use auc_hmac::{Master, Method};
+use auc_reauth::{Context, DeviceStore, ServerStore};
 
 // A re-authentication identity of EAP-AKA.
 const NAME: [u8; 33] = *b"40123456789abcdef0123456789abcdef";
@@ -83,11 +83,15 @@ fn each_method_has_its_own_pseudonym_and_context(rt: HostRuntime) {
     store.set_pseudonym(Method::Aka, [b'2'; 33]);
     store.set_pseudonym(Method::Prime, [b'7'; 33]);
     store.set_pseudonym(Method::Aka, NAME);
-    assert_eq!(rt; store.pseudonym(Method::Aka), Some(NAME));
-    assert_eq!(rt; store.pseudonym(Method::Prime), Some([b'7'; 33]));
+    assert_eq!(rt;
+        (store.pseudonym(Method::Aka), store.pseudonym(Method::Prime)),
+        (Some(NAME), Some([b'7'; 33]))
+    );
     store.set_context(Method::Aka, Some(context(NAME, 1)));
-    assert_eq!(rt; store.context(Method::Aka), Some(context(NAME, 1)));
-    assert_eq!(rt; store.context(Method::Prime), None);
+    assert_eq!(rt;
+        (store.context(Method::Aka), store.context(Method::Prime)),
+        (Some(context(NAME, 1)), None)
+    );
     store.set_context(Method::Aka, None);
     assert_eq!(rt; store.context(Method::Aka), None);
 }

@@ -1,6 +1,6 @@
 //! Tables of texts, and the lines, words, numbers and octets in them.
 
-use crate::{are_digits, joined, next_line, next_word, read_decimal, read_octets, word_count};
+use auc_text::{are_digits, joined, next_line, next_word, read_decimal, read_octets, word_count};
 use std::test::Fail;
 
 // By hand.
@@ -24,9 +24,7 @@ fn the_first_line_ends_with_lf_or_crlf_or_the_text(rt: HostRuntime) {
         ),
     ];
     for (text, line, behind) in cases {
-        let first = next_line(text);
-        assert_eq!(rt; first.0, line, "at {text:?}");
-        assert_eq!(rt; first.1, behind, "at {text:?}");
+        assert_eq!(rt; next_line(text), (line, behind), "at {text:?}");
     }
 }
 

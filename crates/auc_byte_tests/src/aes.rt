@@ -1,6 +1,6 @@
 //! Vectors of the standards.
 
-use crate::Key;
+use auc_aes::Key;
 
 /// The bytes of four blocks, which the standard prints as numbers.
 fn bytes_of(blocks: [u128; 4]) -> [u8; 64] {

@@ -1,5 +1,7 @@
-use super::*;
+//! The keys of EAP-AKA' by the published cases.
+
 use auc_hmac::{KeySet, Pair};
+use auc_kdf::{prime_ck_ik, prime_keys, prime_reauth_keys};
 
 // RFC 5448 Appendix C, which RFC 9048 repeats: the inputs of test cases 1 and 2, which differ only in the
 // network name.
@@ -171,13 +173,11 @@ fn keys_of_a_reauthentication_agree_with_a_second_implementation(rt: HostRuntime
             0x1d, 0x67, 0x51, 0x04, 0xc7, 0x9c, 0xa1, 0x63,
         ],
     };
-    assert_eq!(rt;
-        prime_reauth_keys(
-            b"4reauth@wlan.mnc001.mcc001.3gppnetwork.org",
-            258,
-            nonce,
-            k_re
-        ),
-        pair
+    let found = prime_reauth_keys(
+        b"4reauth@wlan.mnc001.mcc001.3gppnetwork.org",
+        258,
+        nonce,
+        k_re,
     );
+    assert!(rt; found == pair);
 }

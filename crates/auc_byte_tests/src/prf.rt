@@ -1,6 +1,7 @@
-use super::*;
-use crate::generator::stream;
+//! The generator and the keys of EAP-AKA by the published cases.
+
 use auc_hmac::{KeySet, Master, Pair};
+use auc_prf::{aka_keys, aka_reauth_keys, next_word};
 
 // The first word of FIPS 186-2 with change notice 1 for this XKEY, and the word that follows it.
 #[test]
@@ -60,6 +61,17 @@ fn next_xkey_is_one_plus_xkey_plus_the_word(rt: HostRuntime) {
     }
 }
 
+/// The eight words of the generator from XKEY on, one after the other.
+fn eight_words(mut xkey: [u8; 20]) -> [u8; 160] {
+    let mut out = [0; 160];
+    for i in 0..8 {
+        let (word, next) = next_word(xkey);
+        out[20 * i..20 * i + 20].copy_from_slice(&word);
+        xkey = next;
+    }
+    out
+}
+
 // RFC 4186 Appendix A: the 160 bytes that its MK gives.
 #[test]
 fn eight_words_are_those_of_rfc_4186(rt: HostRuntime) {
@@ -80,7 +92,7 @@ fn eight_words_are_those_of_rfc_4186(rt: HostRuntime) {
         0x14, 0xce, 0xed, 0x0d, 0x9a, 0x8e, 0xd3, 0x3c, 0x38, 0x7c, 0x9d, 0xfd, 0xab, 0x92, 0xff,
         0xbd, 0xf2, 0x40, 0xfc, 0xec, 0xf6, 0x5a, 0x2c, 0x93, 0xb9,
     ];
-    assert_eq!(rt; stream(mk), bytes);
+    assert_eq!(rt; eight_words(mk), bytes);
 }
 
 const IDENTITY: &[u8] = b"0232010000000000@wlan.mnc001.mcc232.3gppnetwork.org";
@@ -156,5 +168,5 @@ fn keys_of_a_reauthentication_agree_with_a_second_implementation(rt: HostRuntime
         ],
     };
     let found = aka_reauth_keys(REAUTHENTICATION_IDENTITY, 258, NONCE_S, MK);
-    assert_eq!(rt; found, pair);
+    assert!(rt; found == pair);
 }

@@ -1,6 +1,8 @@
-use super::*;
+//! Permanent identities, and the names of a server by another implementation.
+
 use auc_edge::Imsi;
 use auc_hmac::Method;
+use auc_ident::{NameKind, Names, Ordinals, Spent, permanent, permanent_in, username};
 
 // RFC 4187 §4.1.1.6 and RFC 9048 §5.1, by hand: the leading digit and the IMSI.
 #[test]
@@ -115,10 +117,10 @@ fn only_names_are_resolved(rt: HostRuntime) {
 #[test]
 fn each_ordinal_is_given_once(rt: HostRuntime) {
     let mut ordinals = Ordinals::at(0);
-    assert_eq!(rt; ordinals.next(), Ok(1));
-    assert_eq!(rt; ordinals.next(), Ok(2));
+    assert_eq!(rt; [ordinals.next(), ordinals.next()], [Ok(1), Ok(2)]);
     let mut last = Ordinals::at(281474976710654);
-    assert_eq!(rt; last.next(), Ok(281474976710655));
-    assert_eq!(rt; last.next(), Err(Spent));
-    assert_eq!(rt; last.next(), Err(Spent));
+    assert_eq!(rt;
+        [last.next(), last.next(), last.next()],
+        [Ok(281474976710655), Err(Spent), Err(Spent)]
+    );
 }

@@ -1,4 +1,6 @@
-use super::*;
+//! HMAC by the published cases.
+
+use auc_hmac::{HmacSha1, HmacSha256};
 
 fn hmac_sha1(key: &[u8], front: &[u8], rest: &[u8]) -> [u8; 20] {
     let mut mac = HmacSha1::new(key);

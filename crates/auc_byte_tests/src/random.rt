@@ -1,6 +1,6 @@
 //! Values from another implementation.
 
-use super::*;
+use auc_random::Rands;
 
 /// The key of the 32 bytes from 0 to 31.
 fn rands() -> Rands {

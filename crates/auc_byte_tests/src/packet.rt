@@ -1,12 +1,13 @@
-// Each Subtype, each attribute at its least and its greatest size, and a packet of 4096 bytes: see the stored run of
-// auc_packet_cli.
-use super::{
-    Draft, Head, PacketRefusal, Subtype, head, is_malformed, is_missing, is_sealed, put_packet,
-    put_sealed, read_packet, receive, write_packet,
-};
+//! Packets by hand. Each Subtype, each attribute at its least and its greatest size, and a packet of 4096 bytes stand in
+//! the stored run of `auc_packet_cli`.
+
 use auc_attr::{Attr, AttrList, AttrRefusal, read_attrs};
 use auc_edge::{Octets, Room};
 use auc_hmac::Method;
+use auc_packet::{
+    Draft, Head, PacketRefusal, Subtype, head, is_malformed, is_missing, is_sealed, put_packet,
+    put_sealed, read_packet, receive, write_packet,
+};
 use std::test::Fail;
 
 // RFC 3748 §4, RFC 4187 §8.1 and §10, by hand.
@@ -86,12 +87,17 @@ fn packet_is_read_and_written_again(rt: HostRuntime) -> Result<(), Fail> {
 #[test]
 fn head_tells_code_identifier_and_type(rt: HostRuntime) {
     let head_as = |code, kind| Some(Head { code, id: 9, kind });
-    assert_eq!(rt; head(&[3, 9, 0, 4]), head_as(3, None));
-    assert_eq!(rt; head(&[4, 9, 0, 4]), head_as(4, None));
-    assert_eq!(rt; head(&[2, 9, 0, 5, 1]), head_as(2, Some(1)));
-    assert_eq!(rt; head(&[1, 9, 0, 5, 3]), head_as(1, Some(3)));
-    assert_eq!(rt; head(&[1, 9, 0, 8, 23, 3, 0, 0]), head_as(1, Some(23)));
-    assert_eq!(rt; head(&[1, 9, 0, 7, 23, 3, 0, 0]), None);
+    let cases: [(&[u8], Option<Head>); 6] = [
+        (&[3, 9, 0, 4], head_as(3, None)),
+        (&[4, 9, 0, 4], head_as(4, None)),
+        (&[2, 9, 0, 5, 1], head_as(2, Some(1))),
+        (&[1, 9, 0, 5, 3], head_as(1, Some(3))),
+        (&[1, 9, 0, 8, 23, 3, 0, 0], head_as(1, Some(23))),
+        (&[1, 9, 0, 7, 23, 3, 0, 0], None),
+    ];
+    for (bytes, expected) in cases {
+        assert_eq!(rt; head(bytes), expected, "at {bytes:?}");
+    }
 }
 
 // 0x20, 0x21, .. 0x3f.
