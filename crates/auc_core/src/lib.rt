@@ -10,14 +10,12 @@
 //! since numbers would be drawn again.
 //!
 //! The laws say of every list of events that it leaves a legal history of each subscriber's numbers, and that
-//! no number comes twice. Only [`Core::new`] takes memory.
+//! no number comes twice. Only [`Core::new`] takes memory. The tests stand in `auc_number_tests`.
 #![tactic(auto)]
 
 mod centre;
 mod event;
 mod law;
-#[cfg(test)]
-mod tests;
 
 pub use centre::Core;
 pub use event::{Event, Reply};

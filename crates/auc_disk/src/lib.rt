@@ -10,7 +10,7 @@
 //! [`FileDisk`] is a real file, locked against other processes; it reveals no content.
 //!
 //! A `MemDisk` takes memory with each write and each sync; a `FileDisk` takes none. Nothing here waits for
-//! another thread.
+//! another thread. The tests stand in `auc_number_tests`.
 #![tactic(auto)]
 
 mod call;
@@ -28,6 +28,3 @@ pub use fail_list::FailList;
 pub use file_disk::FileDisk;
 pub use law::each_choice_leaves_an_image;
 pub use mem_disk::MemDisk;
-
-#[cfg(test)]
-mod tests;

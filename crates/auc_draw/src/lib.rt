@@ -9,7 +9,7 @@
 //! takes all passes and gives their lists and the words, for every interleaving of the steps.
 //!
 //! A draw after the greatest number leaves a mark and is refused; so a word is at most 64 above the greatest number.
-//! Only [`Book::open`] takes memory. Nothing here waits.
+//! Only [`Book::open`] takes memory. Nothing here waits. The tests stand in `auc_number_tests`.
 #![tactic(auto)]
 
 mod book;
@@ -20,8 +20,6 @@ mod pass;
 mod place;
 mod rule;
 mod step;
-#[cfg(test)]
-mod tests;
 
 pub use book::Book;
 pub use closed::Closed;

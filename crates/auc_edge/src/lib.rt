@@ -13,7 +13,7 @@
 //!
 //! A [`Gate`] is told which jobs of a round begin and end. It means nothing to a contract: [`OpenGate`] holds nobody, and
 //! at a [`TurnGate`] two jobs wait for each other, which is how a test sees that they are served at the same time. Nothing
-//! else here waits for another thread.
+//! else here waits for another thread. The tests stand in `auc_number_tests`.
 #![tactic(auto)]
 
 mod failed;
@@ -57,6 +57,3 @@ pub use standard_streams::{above_standard_streams, fill_standard_streams};
 pub use std_sink::StdSink;
 pub use stop::Stop;
 pub use writing::write_whole;
-
-#[cfg(test)]
-mod tests;

@@ -8,14 +8,12 @@
 //! or its entries are put into other lists. [`is_legal`] tests a history slowly, for tests.
 //!
 //! A subscriber's greatest number is a parameter of all definitions. Nothing here takes memory, waits
-//! or fails.
+//! or fails. The tests stand in `auc_number_tests`.
 #![tactic(auto)]
 
 mod entry;
 mod law;
 mod legal;
-#[cfg(test)]
-mod tests;
 
 pub use entry::Entry;
 pub use law::{

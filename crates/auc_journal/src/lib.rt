@@ -11,7 +11,7 @@
 //! for every disk.
 //!
 //! An opening takes memory for the whole file and for the limits; an append takes none and makes at most
-//! four calls of the disk. Nothing here waits for another thread.
+//! four calls of the disk. Nothing here waits for another thread. The tests stand in `auc_number_tests`.
 #![tactic(auto)]
 
 mod append_refusal;
@@ -30,6 +30,3 @@ pub use journal::Journal;
 pub use limit_list::LimitList;
 pub use open_refused::OpenRefused;
 pub use open_why::OpenWhy;
-
-#[cfg(test)]
-mod tests;

@@ -7,11 +7,9 @@
 //! whether a subscriber's number stands in it (`specs/Numbers`). [`Numbers::add`] takes memory. If memory runs out, the
 //! set is as it was; that is the only refusal. A caller that adds all of some numbers or none makes room for each of them
 //! first, notes them after that, which takes no memory, and drops the room if memory runs out (`specs/Room`). Nothing
-//! here waits.
+//! here waits. The tests stand in `auc_number_tests`.
 #![tactic(auto)]
 
 mod numbers;
-#[cfg(test)]
-mod tests;
 
 pub use numbers::{Number, Numbers};

@@ -8,14 +8,12 @@
 //! Contracts see an `SqnArray` through the list of all that it has accepted; the 32 entries are the
 //! code's own.
 //!
-//! Nothing here takes memory, waits or fails.
+//! Nothing here takes memory, waits or fails. The tests stand in `auc_number_tests`.
 #![tactic(auto)]
 
 mod law;
 mod number;
 mod sqn_array;
-#[cfg(test)]
-mod tests;
 mod verdict;
 
 pub use law::{each_number_has_its_own_sqn, max_seq_is_the_greatest_number, split_undoes_sqn_of};

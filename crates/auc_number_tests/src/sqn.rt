@@ -1,6 +1,6 @@
 //! Numbers and their SQNs by the standard, and the index array by hand.
 
-use crate::{MAX_SEQ, SqnArray, Verdict, split, sqn_of};
+use auc_sqn::{MAX_SEQ, SqnArray, Verdict, split, sqn_of};
 
 // TS 33.102 Annex C.1.1.1: SEQ and IND side by side, of 43 bits and 5; IND is SEQ modulo 32.
 #[test]
@@ -14,8 +14,11 @@ fn sqn_of_spells_seq_and_ind_and_split_reads_them(rt: HostRuntime) {
         (MAX_SEQ, [0xff, 0xff, 0xff, 0xff, 0xff, 0xff], 31),
     ];
     for (number, sqn, ind) in cases {
-        assert_eq!(rt; sqn_of(number), sqn, "at {number}");
-        assert_eq!(rt; split(sqn), (number, ind), "at {number}");
+        assert_eq!(rt;
+            (sqn_of(number), split(sqn)),
+            (sqn, (number, ind)),
+            "at {number}"
+        );
     }
 }
 
@@ -35,12 +38,14 @@ fn untouched_array_refuses_seq_0_and_accepts_up_to_its_reach(rt: HostRuntime) {
     ];
     for (sqn, seq, ind, verdict) in cases {
         let mut array = SqnArray::opening(0);
-        assert_eq!(rt; split(sqn), (seq, ind), "at {seq} and {ind}");
-        assert_eq!(rt; array.check(sqn), verdict, "at {seq} and {ind}");
+        assert!(rt;
+            (split(sqn), array.check(sqn)) == ((seq, ind), verdict),
+            "at {seq} and {ind}"
+        );
     }
     let mut spent = SqnArray::opening(MAX_SEQ);
     assert_eq!(rt; spent.highest(), [255; 6]);
-    assert_eq!(rt; spent.check([255; 6]), Verdict::Old(MAX_SEQ));
+    assert!(rt; spent.check([255; 6]) == Verdict::Old(MAX_SEQ));
 }
 
 // By hand, TS 33.102 Annex C.2.1: 1 comes 32 places before 33 and shares its IND, and 2 to 32 have INDs of
@@ -61,7 +66,7 @@ fn each_verdict_comes_where_it_should(rt: HostRuntime) {
         (2, Verdict::Old(34)),
     ];
     for (number, verdict) in cases {
-        assert_eq!(rt; array.check(sqn_of(number)), verdict, "at {number}");
+        assert!(rt; array.check(sqn_of(number)) == verdict, "at {number}");
     }
     assert_eq!(rt; array.highest(), sqn_of(33 + 268435456));
 }
@@ -80,6 +85,6 @@ fn opening_counts_the_numbers_up_to_it(rt: HostRuntime) {
         (501, Verdict::Fresh),
         (469, Verdict::Old(501)),
     ] {
-        assert_eq!(rt; array.check(sqn_of(number)), verdict, "at {number}");
+        assert!(rt; array.check(sqn_of(number)) == verdict, "at {number}");
     }
 }

@@ -1,6 +1,6 @@
 //! A set of numbers, number by number.
 
-use crate::{Number, Numbers};
+use auc_released::{Number, Numbers};
 use std::test::Fail;
 
 // By hand: 63 and 64 stand in different blocks, and 64 of another subscriber is another number.

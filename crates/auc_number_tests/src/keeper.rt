@@ -3,11 +3,11 @@
 ghost use Rattle.std.specs.Prelude.{◌≡◌, ◌<◌, ◌≤◌, ℕ, length, IfOk, false};
 ghost use Rattle.auc_sqn.specs.Number.{max_seq};
 
-use crate::*;
 use auc_disk::{DiskCall, FailList, MemDisk};
 use auc_draw::Book;
 use auc_edge::{Imsi, NoMemory, Octets, Stop};
 use auc_journal::Journal;
+use auc_keeper::{Ensured, Keeper};
 use auc_sqn::MAX_SEQ;
 use std::alloc::Global;
 use std::test::Fail;
@@ -61,9 +61,8 @@ fn a_number_is_reserved_with_the_63_after_it(rt: HostRuntime) -> Result<(), Fail
         let (book, _passes, pass) = Book::open(alloc, &[opening], &limits, 1)?;
         let mut keeper = Keeper::new(journal, pass);
         is_sent(&keeper);
-        assert_eq!(rt;
-            ask(&mut keeper, &book, n),
-            Some(Ensured::Yes(limit)),
+        assert!(rt;
+            ask(&mut keeper, &book, n) == Some(Ensured::Yes(limit)),
             "at {n}"
         );
         let (journal, _pass) = keeper.parts();
@@ -89,7 +88,7 @@ fn a_number_up_to_its_limit_makes_no_call(rt: HostRuntime) -> Result<(), Fail> {
     let (book, _passes, pass) = Book::open(alloc, &[100], &limits, 1)?;
     let mut keeper = Keeper::new(journal, pass);
     for (n, answer) in cases {
-        assert_eq!(rt; ask(&mut keeper, &book, n), Some(answer), "at {n}");
+        assert!(rt; ask(&mut keeper, &book, n) == Some(answer), "at {n}");
     }
     Ok(())
 }

@@ -3,7 +3,7 @@
 ghost use Rattle.std.specs.Prelude.{◌≡◌, ◌<◌, ◌≤◌, length};
 ghost use Rattle.auc_sqn.specs.Number.{max_seq};
 
-use crate::{Core, Event, Reply};
+use auc_core::{Core, Event, Reply};
 use auc_sqn::MAX_SEQ;
 use std::test::Fail;
 
@@ -11,13 +11,22 @@ use std::test::Fail;
 #[test]
 fn each_subscriber_draws_its_own_numbers_to_the_greatest(rt: HostRuntime) -> Result<(), Fail> {
     let mut core = Core::new(rt.alloc(), &[10, MAX_SEQ - 1])?;
-    assert_eq!(rt; core.apply(Event::Draw(0)), Reply::Number(11));
-    assert_eq!(rt; core.apply(Event::Draw(1)), Reply::Number(MAX_SEQ));
-    assert_eq!(rt; core.apply(Event::Draw(1)), Reply::Exhausted(MAX_SEQ));
-    assert_eq!(rt; core.apply(Event::Draw(1)), Reply::Exhausted(MAX_SEQ));
-    assert_eq!(rt; core.apply(Event::Draw(0)), Reply::Number(12));
-    assert_eq!(rt; core.word(0), 12);
-    assert_eq!(rt; core.word(1), MAX_SEQ + 1);
+    let replies = [
+        core.apply(Event::Draw(0)),
+        core.apply(Event::Draw(1)),
+        core.apply(Event::Draw(1)),
+        core.apply(Event::Draw(1)),
+        core.apply(Event::Draw(0)),
+    ];
+    let expected = [
+        Reply::Number(11),
+        Reply::Number(MAX_SEQ),
+        Reply::Exhausted(MAX_SEQ),
+        Reply::Exhausted(MAX_SEQ),
+        Reply::Number(12),
+    ];
+    assert!(rt; replies == expected);
+    assert_eq!(rt; (core.word(0), core.word(1)), (12, MAX_SEQ + 1));
     Ok(())
 }
 
@@ -35,7 +44,7 @@ fn resync(core: &mut Core, sub: u32, seq_ms: u64) -> Reply
 #[test]
 fn a_resynchronisation_moves_the_number_up_and_never_back(rt: HostRuntime) -> Result<(), Fail> {
     let mut core = Core::new(rt.alloc(), &[0, 268435456, MAX_SEQ])?;
-    assert_eq!(rt; core.apply(Event::Draw(2)), Reply::Exhausted(MAX_SEQ));
+    assert!(rt; core.apply(Event::Draw(2)) == Reply::Exhausted(MAX_SEQ));
     let cases = [
         (0, 700, Reply::Moved(0, 700), 700),
         (0, 700, Reply::InRange(700, 700), 700),
@@ -48,12 +57,10 @@ fn a_resynchronisation_moves_the_number_up_and_never_back(rt: HostRuntime) -> Re
     ];
     for (sub, seq_ms, reply, word) in cases {
         assert!(rt; sub < 3 && seq_ms <= MAX_SEQ);
-        assert_eq!(rt;
-            resync(&mut core, sub, seq_ms),
-            reply,
+        assert!(rt;
+            (resync(&mut core, sub, seq_ms), core.word(sub)) == (reply, word),
             "of {sub} at {seq_ms}"
         );
-        assert_eq!(rt; core.word(sub), word, "of {sub} at {seq_ms}");
     }
     Ok(())
 }

@@ -1,6 +1,6 @@
 //! Histories by hand. The verdicts of a resynchronisation are tested where they are given, in `auc_core`.
 
-use crate::{Entry, is_legal};
+use auc_history::{Entry, is_legal};
 
 const TOP: u64 = 8796093022207;
 

@@ -1,6 +1,9 @@
 //! What no clause says: that calls succeed while there is memory, and how the real files answer.
 
-use crate::*;
+use auc_edge::{
+    Failed, FileShelf, Gate, Imsi, Items, MemShelf, MemSink, Octets, ReadRefusal, Sink, StdSink,
+    TurnGate, read_all, write_whole,
+};
 use std::alloc::Global;
 use std::fs;
 use std::test::Fail;
@@ -26,16 +29,11 @@ fn a_file_is_read_whole_up_to_the_limit(rt: HostRuntime) -> Result<(), Fail> {
         let bytes = numbered(alloc, size)?;
         let mut shelf = MemShelf::new(alloc);
         shelf.add(b"scenario", &bytes)?;
-        match read_all(alloc, &mut shelf, b"scenario", limit) {
-            Ok(text) => {
-                assert!(rt; fits, "at {size}");
-                assert_eq!(rt; text.as_slice(), bytes.as_slice(), "at {size}");
-            }
-            Err(why) => {
-                assert!(rt; !fits, "at {size}");
-                assert_eq!(rt; why, ReadRefusal::TooLong, "at {size}");
-            }
-        }
+        let is_right = match read_all(alloc, &mut shelf, b"scenario", limit) {
+            Ok(text) => fits && text.as_slice() == bytes.as_slice(),
+            Err(why) => !fits && why == ReadRefusal::TooLong,
+        };
+        assert!(rt; is_right, "at {size}");
     }
     Ok(())
 }

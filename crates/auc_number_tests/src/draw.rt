@@ -3,7 +3,7 @@
 ghost use Rattle.std.specs.Prelude.{◌≡◌, ◌<◌, All, length, IfOk};
 ghost use Rattle.auc_draw.specs.Book.{IsOf};
 
-use crate::{Book, Draw, Jump, Pass, Release};
+use auc_draw::{Book, Draw, Jump, Pass, Release};
 use auc_edge::{NoMemory, Stop};
 use auc_sqn::MAX_SEQ;
 use std::alloc::Global;
@@ -25,21 +25,27 @@ fn all_passes(alloc: Global, book: &Book, pass: Pass) -> Result<Vec<Pass>, NoMem
 fn one_pass_draws_jumps_and_claims(rt: HostRuntime) -> Result<(), Fail> {
     let (book, mut passes, keeper) = Book::open(rt.alloc(), &[10, MAX_SEQ - 1], &[10, MAX_SEQ], 1)?;
     let mut pass = passes.pop().expect(&rt, "a pass");
-    assert_eq!(rt; pass.draw(&book, 0), Draw::Number(11));
-    assert_eq!(rt; pass.jump(&book, 0, 20), Jump::Moved(11));
-    assert_eq!(rt; pass.jump(&book, 0, 15), Jump::Stood(20));
-    assert_eq!(rt; pass.draw(&book, 0), Draw::Number(21));
-    assert_eq!(rt; pass.draw(&book, 1), Draw::Number(MAX_SEQ));
-    assert_eq!(rt; pass.draw(&book, 1), Draw::Exhausted(MAX_SEQ));
-    assert_eq!(rt; pass.draw(&book, 1), Draw::Exhausted(MAX_SEQ));
-    assert_eq!(rt; pass.jump(&book, 1, 5), Jump::Stood(MAX_SEQ));
-    assert_eq!(rt; pass.claim(&book, 1), Some(0));
-    assert_eq!(rt; pass.claim(&book, 1), None);
-    assert_eq!(rt; pass.claim(&book, 1), None);
+    assert!(rt; pass.draw(&book, 0) == Draw::Number(11));
+    let jumps = [pass.jump(&book, 0, 20), pass.jump(&book, 0, 15)];
+    assert!(rt; jumps == [Jump::Moved(11), Jump::Stood(20)]);
+    let draws = [
+        pass.draw(&book, 0),
+        pass.draw(&book, 1),
+        pass.draw(&book, 1),
+        pass.draw(&book, 1),
+    ];
+    let spent = Draw::Exhausted(MAX_SEQ);
+    assert!(rt; draws == [Draw::Number(21), Draw::Number(MAX_SEQ), spent, spent]);
+    assert!(rt; pass.jump(&book, 1, 5) == Jump::Stood(MAX_SEQ));
+    let claims = [
+        pass.claim(&book, 1),
+        pass.claim(&book, 1),
+        pass.claim(&book, 1),
+    ];
+    assert_eq!(rt; claims, [Some(0), None, None]);
     let passes = all_passes(rt.alloc(), &book, pass)?;
     let closed = book.close(passes, keeper);
-    assert_eq!(rt; closed.word(0), 21);
-    assert_eq!(rt; closed.word(1), MAX_SEQ + 1);
+    assert_eq!(rt; (closed.word(0), closed.word(1)), (21, MAX_SEQ + 1));
     Ok(())
 }
 
@@ -60,19 +66,13 @@ fn draw_and_release(book: &Book, pass: &mut Pass) -> Option<Release>
 fn numbers_are_released_up_to_the_limit(rt: HostRuntime) -> Result<(), Fail> {
     let (book, mut passes, mut keeper) = Book::open(rt.alloc(), &[10], &[11], 1)?;
     let mut pass = passes.pop().expect(&rt, "a pass");
-    assert_eq!(rt; pass.stopped(&book), None);
-    assert_eq!(rt; draw_and_release(&book, &mut pass), Some(Release::Released));
-    assert_eq!(rt;
-        draw_and_release(&book, &mut pass),
-        Some(Release::Above(11))
-    );
+    assert!(rt; pass.stopped(&book) == None);
+    assert!(rt; draw_and_release(&book, &mut pass) == Some(Release::Released));
+    assert!(rt; draw_and_release(&book, &mut pass) == Some(Release::Above(11)));
     assert_eq!(rt; keeper.look(&book, 0), 12);
     keeper.stop(&book, Stop::Fault);
-    assert_eq!(rt; pass.stopped(&book), Some(Stop::Fault));
-    assert_eq!(rt;
-        draw_and_release(&book, &mut pass),
-        Some(Release::Above(11))
-    );
+    assert!(rt; pass.stopped(&book) == Some(Stop::Fault));
+    assert!(rt; draw_and_release(&book, &mut pass) == Some(Release::Above(11)));
     Ok(())
 }
 

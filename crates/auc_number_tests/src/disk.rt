@@ -1,6 +1,6 @@
 //! What no clause says: that calls succeed while there is memory, and how a real file answers.
 
-use crate::*;
+use auc_disk::{Disk, DiskCall, FailList, FileDisk, MemDisk};
 use auc_edge::{Failed, Octets};
 use std::alloc::Global;
 use std::fs;
@@ -87,17 +87,19 @@ fn a_real_file_is_made_written_and_locked(rt: HostRuntime) -> Result<(), Fail> {
     is_sent(&disk);
     let mut buf = [9; 8];
     assert_eq!(rt; disk.len(), Ok(0));
-    assert_eq!(rt; disk.write_at(2, b"cd"), Ok(()));
-    assert_eq!(rt; disk.sync(), Ok(()));
-    assert_eq!(rt; disk.read_at(0, &mut buf), Ok(4));
-    assert_eq!(rt; buf, *b"\0\0cd\t\t\t\t");
+    assert_eq!(rt; (disk.write_at(2, b"cd"), disk.sync()), (Ok(()), Ok(())));
+    assert_eq!(rt;
+        (disk.read_at(0, &mut buf), buf),
+        (Ok(4), *b"\0\0cd\t\t\t\t")
+    );
     assert_eq!(rt; second.len(), Err(Failed));
     assert_eq!(rt; second.read_at(0, &mut buf), Err(Failed));
-    assert_eq!(rt; second.write_at(0, b"ab"), Err(Failed));
-    assert_eq!(rt; second.sync(), Err(Failed));
+    assert_eq!(rt;
+        (second.write_at(0, b"ab"), second.sync()),
+        (Err(Failed), Err(Failed))
+    );
     drop(disk);
-    assert_eq!(rt; second.len(), Ok(4));
-    assert_eq!(rt; second.read_at(4, &mut buf), Ok(0));
+    assert_eq!(rt; (second.len(), second.read_at(4, &mut buf)), (Ok(4), Ok(0)));
     fs::write(&rt, "auc.journal", b"")?;
     assert_eq!(rt; second.read_at(0, &mut buf), Err(Failed));
     fs::remove_file(&rt, "auc.journal")?;
