@@ -1,3 +1,2 @@
 mod DeskLemmas
-mod GainLemmas
 mod StepLemmas

@@ -12,14 +12,13 @@
 //! the keeper in its lock, and says what holds of it since the round began.
 //!
 //! Nothing here takes memory or can fail. A draw waits for the lock, and for the limit or the stop.
+//! The tests stand in `auc_vector_tests`.
 #![tactic(auto)]
 
 mod desk;
 mod kept;
 mod naming;
 mod settling;
-#[cfg(test)]
-mod tests;
 
 pub use desk::Desk;
 pub use kept::Kept;

@@ -13,7 +13,7 @@
 //!
 //! Contracts see a `Vectors` as what its vectors are made from (`specs/Vector`), keys as functions of bytes (`specs/Keys`),
 //! and a `CoreCentre` as the list of its subscribers' words. Nothing here takes memory or can fail. A `Centre`'s calls may
-//! wait, and those of `CoreCentre` wait for nobody.
+//! wait, and those of `CoreCentre` wait for nobody. The tests stand in `auc_vector_tests`.
 #![tactic(auto)]
 
 mod asking;
@@ -25,8 +25,6 @@ mod law;
 mod making;
 mod notes;
 mod parts;
-#[cfg(test)]
-mod tests;
 mod turn;
 mod vectors;
 

@@ -1,5 +1,5 @@
-use Rattle.auc_centre.proofs.GainLemmas.{gained}
-use Rattle.auc_centre.proofs.tests.draw_and_resync.Goals as goal
+use Rattle.auc_vector_tests.proofs.GainLemmas.{gained}
+use Rattle.auc_vector_tests.proofs.centre.draw_and_resync.Goals as goal
 
 pub returns-clause-gains : goal.returns-clause-gains
 returns-clause-gains g c =

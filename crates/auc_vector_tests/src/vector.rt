@@ -2,15 +2,15 @@
 
 ghost use Rattle.std.specs.Prelude.{◌≡◌, ◌<◌};
 
-use crate::{
-    Auts, Centre, CentreRefusal, CoreCentre, NumberNote, ResyncNote, Resynced, Vectors, ask,
-    keys_by, keys_of, read_auts, report, vector,
-};
 use auc_core::Core;
 use auc_hmac::{KeySet, Method};
 use auc_milenage::{Secret, make_auts};
 use auc_random::Rands;
 use auc_sqn::{MAX_SEQ, sqn_of};
+use auc_vector::{
+    Auts, Centre, CentreRefusal, CoreCentre, NumberNote, ResyncNote, Resynced, Vector, Vectors,
+    ask, keys_by, keys_of, read_auts, report, vector,
+};
 use std::sync::Wait;
 use std::test::Fail;
 
@@ -64,17 +64,19 @@ fn each_part_of_a_vector_is_that_of_another_implementation(rt: HostRuntime) {
         let rand = rands.rand_of(sub, n);
         let made = vector(&s, Method::Aka, amf.to_be_bytes(), &[], n, rand);
         let mut vectors = Vectors::new(&s, amf.to_be_bytes(), rands.stream(sub));
-        assert_eq!(rt;
-            vectors.vector_of(n),
-            made,
+        assert!(rt;
+            vectors.vector_of(n) == made,
             "the subscriber's vector at {n}"
         );
-        assert_eq!(rt; made.n, n);
-        assert_eq!(rt; made.rand, rand, "RAND at {n}");
-        assert_eq!(rt; made.autn, autn.to_be_bytes(), "AUTN at {n}");
-        assert_eq!(rt; made.xres, xres.to_be_bytes(), "XRES at {n}");
-        assert_eq!(rt; made.ck, ck.to_be_bytes(), "CK at {n}");
-        assert_eq!(rt; made.ik, ik.to_be_bytes(), "IK at {n}");
+        let expected = Vector {
+            n,
+            rand,
+            autn: autn.to_be_bytes(),
+            xres: xres.to_be_bytes(),
+            ck: ck.to_be_bytes(),
+            ik: ik.to_be_bytes(),
+        };
+        assert_eq!(rt; made, expected, "at {n}");
     }
 }
 
@@ -103,10 +105,12 @@ fn only_the_keys_of_a_vector_depend_on_the_method(rt: HostRuntime) {
         let rand = rands().rand_of(sub, n);
         let own = vector(&secret(), Method::Aka, amf.to_be_bytes(), name, n, rand);
         let made = vector(&secret(), Method::Prime, amf.to_be_bytes(), name, n, rand);
-        assert_eq!(rt; made.ck, ck.to_be_bytes(), "CK' at {n}");
-        assert_eq!(rt; made.ik, ik.to_be_bytes(), "IK' at {n}");
-        assert_eq!(rt; made.autn, own.autn, "AUTN at {n}");
-        assert_eq!(rt; made.xres, own.xres, "XRES at {n}");
+        let expected = Vector {
+            ck: ck.to_be_bytes(),
+            ik: ik.to_be_bytes(),
+            ..own
+        };
+        assert_eq!(rt; made, expected, "at {n}");
     }
 }
 
@@ -190,8 +194,11 @@ fn keys_of_eap_aka_prime_are_those_of_the_published_cases(rt: HostRuntime) {
     ];
     for (name, primed_ck, primed_ik, keys) in cases {
         let (own_ck, own_ik) = keys_by(Method::Prime, name, autn, ck, ik);
-        assert_eq!(rt; own_ck, primed_ck.to_be_bytes(), "CK' for {name:?}");
-        assert_eq!(rt; own_ik, primed_ik.to_be_bytes(), "IK' for {name:?}");
+        assert_eq!(rt;
+            (own_ck, own_ik),
+            (primed_ck.to_be_bytes(), primed_ik.to_be_bytes()),
+            "for {name:?}"
+        );
         assert_eq!(rt;
             keys_of(Method::Prime, b"0555444333222111", own_ik, own_ck),
             keys,
@@ -240,11 +247,8 @@ fn auts_of_another_implementation_gives_the_seq(rt: HostRuntime) {
             k: k.to_be_bytes(),
             opc: opc.to_be_bytes(),
         };
-        assert_eq!(rt;
-            read_auts(&s, rand.to_be_bytes(), auts_of(auts)),
-            Auts::SeqMs(seq),
-            "at {auts:x}"
-        );
+        let found = read_auts(&s, rand.to_be_bytes(), auts_of(auts));
+        assert!(rt; found == Auts::SeqMs(seq), "at {auts:x}");
     }
 }
 
@@ -289,10 +293,9 @@ fn a_replayed_auts_moves_the_number_once(rt: HostRuntime) -> Result<(), Fail> {
     ];
     for (seq, answer) in cases {
         let auts = make_auts(&secret(), [7; 16], sqn_of(seq));
-        assert_eq!(rt; hear(&rt, &mut centre, 1, auts), answer, "at {seq}");
+        assert!(rt; hear(&rt, &mut centre, 1, auts) == answer, "at {seq}");
     }
-    assert_eq!(rt; centre.word(0), 10);
-    assert_eq!(rt; centre.word(1), MAX_SEQ);
+    assert_eq!(rt; (centre.word(0), centre.word(1)), (10, MAX_SEQ));
     Ok(())
 }
 
@@ -301,13 +304,9 @@ fn a_replayed_auts_moves_the_number_once(rt: HostRuntime) -> Result<(), Fail> {
 fn a_spent_subscriber_keeps_its_word(rt: HostRuntime) -> Result<(), Fail> {
     let mut centre = CoreCentre::new(Core::new(rt.alloc(), &[MAX_SEQ - 1])?);
     let spent = Err(CentreRefusal::Exhausted(MAX_SEQ));
-    assert_eq!(rt; centre.next(&rt, 0), Ok(MAX_SEQ));
-    assert_eq!(rt; centre.next(&rt, 0), spent);
-    assert_eq!(rt;
-        centre.resync(&rt, 0, MAX_SEQ),
-        Ok(Resynced::InRange(MAX_SEQ, MAX_SEQ))
-    );
-    assert_eq!(rt; centre.next(&rt, 0), spent);
+    assert!(rt; [centre.next(&rt, 0), centre.next(&rt, 0)] == [Ok(MAX_SEQ), spent]);
+    let answers = (centre.resync(&rt, 0, MAX_SEQ), centre.next(&rt, 0));
+    assert!(rt; answers == (Ok(Resynced::InRange(MAX_SEQ, MAX_SEQ)), spent));
     assert_eq!(rt; centre.word(0), MAX_SEQ + 1);
     Ok(())
 }
@@ -319,9 +318,8 @@ fn an_auts_with_one_bit_turned_over_moves_nothing(rt: HostRuntime) -> Result<(),
         for bit in [1, 2, 4, 8, 16, 32, 64, 128] {
             let mut auts = make_auts(&secret(), [7; 16], sqn_of(500));
             auts[byte] ^= bit;
-            assert_eq!(rt;
-                hear(&rt, &mut centre, 0, auts),
-                None,
+            assert!(rt;
+                hear(&rt, &mut centre, 0, auts) == None,
                 "at bit {bit} of byte {byte}"
             );
         }
@@ -334,12 +332,15 @@ fn an_auts_with_one_bit_turned_over_moves_nothing(rt: HostRuntime) -> Result<(),
 #[test]
 fn notes_name_the_answers_of_a_centre(rt: HostRuntime) -> Result<(), Fail> {
     let mut centre = CoreCentre::new(Core::new(rt.alloc(), &[10])?);
-    assert_eq!(rt; ask(&rt, &mut centre, 0), NumberNote::Drew(11));
-    assert_eq!(rt; report(&rt, &mut centre, 0, 3), ResyncNote::InRange(11, 3));
-    let moved = ResyncNote::Moved(11, MAX_SEQ);
-    assert_eq!(rt; report(&rt, &mut centre, 0, MAX_SEQ), moved);
-    assert_eq!(rt; ask(&rt, &mut centre, 0), NumberNote::Exhausted(MAX_SEQ));
+    assert!(rt; ask(&rt, &mut centre, 0) == NumberNote::Drew(11));
+    let reports = [
+        report(&rt, &mut centre, 0, 3),
+        report(&rt, &mut centre, 0, MAX_SEQ),
+    ];
+    let expected = [ResyncNote::InRange(11, 3), ResyncNote::Moved(11, MAX_SEQ)];
+    assert!(rt; reports == expected);
+    assert!(rt; ask(&rt, &mut centre, 0) == NumberNote::Exhausted(MAX_SEQ));
     let beyond = ResyncNote::Beyond(MAX_SEQ, 5);
-    assert_eq!(rt; report(&rt, &mut centre, 0, 5), beyond);
+    assert!(rt; report(&rt, &mut centre, 0, 5) == beyond);
     Ok(())
 }

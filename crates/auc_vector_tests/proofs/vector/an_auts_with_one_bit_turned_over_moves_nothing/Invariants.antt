@@ -1,5 +1,5 @@
 use Rattle.std.proofs.Common.{◌≡◌, length}
-use Rattle.auc_vector.proofs.tests.an_auts_with_one_bit_turned_over_moves_nothing.Given as goal
+use Rattle.auc_vector_tests.proofs.vector.an_auts_with_one_bit_turned_over_moves_nothing.Given as goal
 
 abbrev pub invariant-loop-bit : goal.invariant-loop-bit
 invariant-loop-bit g l = length l.centre ≡ 1

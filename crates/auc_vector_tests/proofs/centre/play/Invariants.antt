@@ -1,5 +1,5 @@
 use Rattle.std.proofs.Common.{Some}
-use Rattle.auc_centre.proofs.tests.play.Given as goal
+use Rattle.auc_vector_tests.proofs.centre.play.Given as goal
 
 abbrev pub ghosts-draw_three_times : goal.ghosts-draw_three_times
 ghosts-draw_three_times g a = record { table = a.book.now.id; passes = a.keeper.passes; opening = Some a.journal }

@@ -1,4 +1,4 @@
--- Inner facts: what a caller of any centre tells of its calls. Only tests cite it.
+-- Inner facts: what a caller of any centre tells of its calls.
 use Rattle.std.specs.Prelude.{◌≢◌, ℕ, List, [], ◌++◌, Option, Result}
 use Rattle.auc_edge.specs.declared.stop.Stop.{Stop}
 use Rattle.auc_history.specs.declared.entry.Entry.{Entry}

@@ -1,4 +1,4 @@
--- What a caller of any centre gains by two calls, for the tests.
+-- What a caller of any centre gains by two calls.
 use Rattle.std.proofs.Common.{◌≡◌, ◌≢◌, ℕ, List, [], ◌++◌, Option, Result, subst}
 use Rattle.std.proofs.lemmas.List.{append-nil}
 use Rattle.auc_edge.specs.declared.stop.Stop.{Stop}
@@ -6,7 +6,7 @@ use Rattle.auc_history.specs.declared.entry.Entry.{Entry}
 use Rattle.auc_vector.specs.Centre.{entries_of_next, withheld_of_next, kept_after_next, entries_of_resync}
 use Rattle.auc_vector.specs.declared.centre.Resynced.{Resynced}
 use Rattle.auc_vector.specs.declared.centre.CentreRefusal.{CentreRefusal}
-use Rattle.auc_centre.specs.InnerGains.{Gains}
+use Rattle.auc_vector_tests.specs.InnerGains.{Gains}
 
 module _ {S : Type 0} (goes : S → ℕ → List Entry → List (ℕ × Stop) → S → Type 0) where
   -- two stretches of calls, one after the other, are one stretch

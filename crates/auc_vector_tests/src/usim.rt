@@ -3,9 +3,9 @@
 ghost use Rattle.std.specs.Prelude.{◌≤◌};
 ghost use Rattle.auc_sqn.specs.Number.{max_seq};
 
-use crate::{Answer, Usim};
 use auc_milenage::Secret;
 use auc_sqn::sqn_of;
+use auc_usim::{Answer, Usim};
 
 // TS 35.208, test set 1: K, OPc, RAND and SQN; AUTN of SQN masked by f5, AMF and f1.
 const RAND: u128 = 0x23553cbe9637a89d218ae64dae47bf35;
@@ -42,7 +42,7 @@ fn genuine_vector_is_accepted_within_reach(rt: HostRuntime) {
     };
     for opening in [SEQ - 268435456, SEQ - 1, SEQ, SEQ + 22] {
         let answer = usim(opening).challenge(RAND.to_be_bytes(), AUTN.to_be_bytes());
-        assert_eq!(rt; answer, accepted, "at {opening}");
+        assert!(rt; answer == accepted, "at {opening}");
     }
 }
 
@@ -55,7 +55,7 @@ fn forged_autn_gets_no_auts_and_changes_nothing(rt: HostRuntime) {
             let before = usim;
             let forged = AUTN ^ (1 << bit);
             let answer = usim.challenge(RAND.to_be_bytes(), forged.to_be_bytes());
-            assert_eq!(rt; answer, Answer::WrongMac, "at {bit}");
+            assert!(rt; answer == Answer::WrongMac, "at {bit}");
             assert!(rt; usim == before, "at {bit}");
         }
     }
@@ -78,7 +78,7 @@ fn stale_and_far_numbers_get_the_auts_of_sqn_ms(rt: HostRuntime) {
         let mut usim = usim(opening);
         let before = usim;
         let answer = usim.challenge(RAND.to_be_bytes(), AUTN.to_be_bytes());
-        assert_eq!(rt; answer, failure(auts, sqn), "at {opening}");
+        assert!(rt; answer == failure(auts, sqn), "at {opening}");
         assert!(rt; usim == before, "at {opening}");
     }
 }
@@ -124,7 +124,7 @@ fn accepted_number_is_not_accepted_again(rt: HostRuntime) {
     let first = usim.challenge(RAND.to_be_bytes(), AUTN.to_be_bytes());
     assert!(rt; matches!(first, Answer::Accepted { .. }));
     let second = usim.challenge(RAND.to_be_bytes(), AUTN.to_be_bytes());
-    assert_eq!(rt; second, failure(0xba853f3c123ccf44e93596e355c6, SQN));
+    assert!(rt; second == failure(0xba853f3c123ccf44e93596e355c6, SQN));
 }
 
 /// A synchronisation failure, with AUTS as a number of 112 bits.

@@ -4,11 +4,11 @@ ghost use Rattle.std.specs.Prelude.{◌≡◌, ◌<◌, ◌≤◌, length};
 ghost use Rattle.auc_sqn.specs.Number.{max_seq};
 ghost use Rattle.auc_draw.specs.Deeds.{kept_of};
 ghost use Rattle.auc_centre.specs.Adds.{Adds};
-ghost use Rattle.auc_centre.specs.InnerGains.{Gains};
-ghost use Rattle.auc_centre.specs.InnerRound.{Begins};
+ghost use Rattle.auc_vector_tests.specs.InnerGains.{Gains};
+ghost use Rattle.auc_vector_tests.specs.InnerRound.{Begins};
 ghost use Rattle.auc_centre.specs.Kept.{subs_of};
 
-use crate::{Desk, Kept, Naming};
+use auc_centre::{Desk, Kept, Naming};
 use auc_disk::{Disk, DiskCall, FailList, MemDisk};
 use auc_draw::{Book, KeeperPass, Pass};
 use auc_edge::{Imsi, NoMemory, Octets, Stop};
@@ -169,9 +169,8 @@ fn desks_draw_and_resynchronise(rt: HostRuntime) -> Result<(), Fail> {
     ];
     for (opening, seq, answers, limit) in cases {
         let disk = disk_without_write(alloc, 100)?;
-        assert_eq!(rt;
-            play(&rt, alloc, disk, opening, seq)?,
-            (answers, limit),
+        assert!(rt;
+            play(&rt, alloc, disk, opening, seq)? == (answers, limit),
             "from {opening}"
         );
     }
@@ -189,6 +188,6 @@ fn draws_are_withheld_after_the_keeper_stopped(rt: HostRuntime) -> Result<(), Fa
         (withheld(13), Ok(Resynced::InRange(13, 5))),
     ];
     let disk = disk_without_write(alloc, 2)?;
-    assert_eq!(rt; play(&rt, alloc, disk, 10, 5)?, (answers, 0));
+    assert!(rt; play(&rt, alloc, disk, 10, 5)? == (answers, 0));
     Ok(())
 }

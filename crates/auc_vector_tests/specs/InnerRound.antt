@@ -1,4 +1,4 @@
--- Inner facts: a round that begins. Only tests cite it.
+-- Inner facts: a round that begins.
 use Rattle.std.specs.Prelude.{◌≡◌, ◌≢◌, ℕ, AllPairs, false, length, Option, Some, None}
 use Rattle.atomic_table.specs.Seated.{TableId}
 use Rattle.auc_draw.specs.Values.{BookValue, KeeperValue}

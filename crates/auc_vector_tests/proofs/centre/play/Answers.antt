@@ -3,7 +3,7 @@ use Rattle.std.specs.Option.{IfSome}
 use Rattle.std.proofs.lemmas.List.Elements.{All-pop}
 use Rattle.auc_draw.specs.Book.{IsNew}
 use Rattle.auc_draw.specs.Values.{PassValue}
-use Rattle.auc_centre.proofs.tests.play.Goals as goal
+use Rattle.auc_vector_tests.proofs.centre.play.Goals as goal
 
 pub draw_three_times-journal-requires-clause-named : goal.draw_three_times-journal-requires-clause-named
 draw_three_times-journal-requires-clause-named g c =

@@ -1,0 +1,2 @@
+pub mod InnerGains
+pub mod InnerRound
