@@ -7,12 +7,11 @@
 //! number of workers.
 //!
 //! `specs/Words` has the words and their ranges, `specs/Input` the input, `specs/Summary` the lines. Nothing here waits.
+//! The tests stand in `auc_text_tests`.
 #![tactic(auto)]
 
 mod input;
 mod lines;
-#[cfg(test)]
-mod tests;
 mod words;
 
 pub use input::{jobs, key_of, subscribers};

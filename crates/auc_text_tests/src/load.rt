@@ -1,5 +1,7 @@
-use crate::{LoadWords, load_words};
+//! The words of a load.
+
 use auc_edge::{Items, NoMemory, Octets};
+use auc_load::{LoadWords, load_words};
 use std::alloc::Global;
 
 // What words say.
@@ -41,9 +43,8 @@ fn words_of_a_load_are_four_numbers_in_their_ranges(rt: HostRuntime) -> Result<(
     ];
     for (word, key, subscribers, jobs, workers, numbers) in cases {
         let words = [word, key, subscribers, jobs, workers];
-        assert_eq!(rt;
-            said(rt.alloc(), words.as_slice())?,
-            numbers,
+        assert!(rt;
+            said(rt.alloc(), words.as_slice())? == numbers,
             "at {words:?}"
         );
     }

@@ -1,0 +1,332 @@
+//! The text of a transcript. Further lines are seen in the stored runs of the program and in the tests of `auc_runs`.
+
+ghost use Rattle.std.specs.Prelude.{◌≡◌, IsTrue, All, ◌<◌};
+ghost use Rattle.auc_world.specs.Record.{IsBelow, NamesBelow, subscriber_of};
+ghost use Rattle.auc_world.specs.Vectors.{IsReleasableLine};
+
+use auc_edge::{Items, NoMemory, Octets, Stop};
+use auc_hmac::KeySet;
+use auc_ident::Names;
+use auc_print::{print_restart, print_round};
+use auc_random::Rands;
+use auc_sqn::MAX_SEQ;
+use auc_subs::Subscribers;
+use auc_vector::{CounterNote, Notes, NumberNote, Outcome, ResyncNote, Step, UsimNote, Vector};
+use auc_world::{
+    BoxedEvent, Closing, End, Event, EventRecord, JobRecord, LineRecord, Note, NoteStep, Premise,
+    RoundRecord, SessionVerdict, Setting, SyncVerdict, printed_vectors,
+};
+use std::alloc::Global;
+use std::test::Fail;
+
+// Whether each subscriber that a round names is one of so many.
+fn names_below(round: &RoundRecord, count: usize) -> bool
+    ensures { IsTrue result → NamesBelow count round.now }
+{
+    let jobs = round
+        .jobs
+        .as_slice()
+        .iter()
+        .all(|job| are_below(job.as_slice(), count));
+    jobs && round
+        .closings
+        .as_slice()
+        .iter()
+        .all(|closing| (closing.sub as usize) < count)
+}
+
+fn are_below(job: &[LineRecord], count: usize) -> bool
+    ensures { IsTrue result → All (λ line. IsBelow count (subscriber_of line)) job.now }
+{
+    job.iter().all(|line| is_below(line.subscriber(), count))
+}
+
+fn is_below(sub: Option<u32>, count: usize) -> bool
+    ensures { IsTrue result → IsBelow count sub }
+{
+    match sub {
+        Some(sub) => (sub as usize) < count,
+        None => true,
+    }
+}
+
+// Whether a line releases no vector, or one whose number a vector may have, of a subscriber of the setting.
+fn is_releasable(line: &LineRecord, set: &Setting) -> bool
+    ensures { IsTrue result → IsReleasableLine set.now line.now }
+{
+    match line {
+        LineRecord::Vector { sub, n } => *sub < set.subs.len() && 1 <= *n && *n <= MAX_SEQ,
+        LineRecord::Event(event) => event.record().number().is_none(),
+        LineRecord::Withheld { .. }
+        | LineRecord::Exhausted { .. }
+        | LineRecord::Sync { .. }
+        | LineRecord::Give { .. } => true,
+    }
+}
+
+fn are_releasable(job: &[LineRecord], set: &Setting) -> bool
+    ensures { IsTrue result → All (IsReleasableLine set.now) job.now }
+{
+    job.iter().all(|line| is_releasable(line, set))
+}
+
+// Appends the full print of a round of this one record, which has to be printable, and answers whether it is.
+fn print_full(
+    alloc: Global,
+    record: LineRecord,
+    set: &Setting,
+    out: &mut Octets,
+) -> Result<bool, NoMemory> {
+    let job = one(alloc, record)?;
+    let round = RoundRecord {
+        number: 8,
+        closings: Items::new(alloc),
+        sessions: Items::new(alloc),
+        premise: Premise::NoSession,
+        jobs: one(alloc, job)?,
+    };
+    print_one_job(alloc, &round, set, out)
+}
+
+fn print_one_job(
+    alloc: Global,
+    round: &RoundRecord,
+    set: &Setting,
+    out: &mut Octets,
+) -> Result<bool, NoMemory> {
+    let [job] = round.jobs.as_slice() else {
+        return Ok(false);
+    };
+    let is_printable = names_below(round, set.subs.len() as usize)
+        && are_releasable(job.as_slice(), set);
+    if is_printable {
+        let vectors = [printed_vectors(alloc, set, job.as_slice(), true)?];
+        print_round(round, &vectors, set, true, out)?;
+    }
+    Ok(is_printable)
+}
+
+// A list of one record.
+fn one<T: Drop>(alloc: Global, record: T) -> Result<Items<T>, NoMemory> {
+    let mut list = Items::new(alloc);
+    list.push(record)?;
+    Ok(list)
+}
+
+// A vector whose parts are runs of bytes: RAND from 00 on, AUTN from 10 on, XRES from a0 on, CK from c0 on and
+// IK from f0 on.
+fn vector() -> Vector {
+    Vector {
+        n: 1,
+        rand: 0x000102030405060708090a0b0c0d0e0f_u128.to_be_bytes(),
+        autn: 0x101112131415161718191a1b1c1d1e1f_u128.to_be_bytes(),
+        xres: 0xa0a1a2a3a4a5a6a7_u64.to_be_bytes(),
+        ck: 0xc0c1c2c3c4c5c6c7c8c9cacbcccdcecf_u128.to_be_bytes(),
+        ik: 0xf0f1f2f3f4f5f6f7f8f9fafbfcfdfeff_u128.to_be_bytes(),
+    }
+}
+
+fn job(alloc: Global) -> Result<JobRecord, NoMemory> {
+    let mut job = Items::new(alloc);
+    job.push(LineRecord::Vector { sub: 1, n: 0 })?;
+    job.push(LineRecord::Withheld {
+        sub: 1,
+        n: u64::MAX,
+        stop: Stop::Fault,
+    })?;
+    job.push(LineRecord::Sync {
+        sub: 0,
+        verdict: SyncVerdict::Beyond(8796093022207, 0),
+    })?;
+    Ok(job)
+}
+
+fn sessions(alloc: Global) -> Result<Items<SessionVerdict>, NoMemory> {
+    let mut sessions = Items::new(alloc);
+    for (session, agree) in [(1, true), (20, false)] {
+        sessions.push(SessionVerdict { session, agree })?;
+    }
+    Ok(sessions)
+}
+
+fn round(alloc: Global) -> Result<RoundRecord, NoMemory> {
+    let closing = Closing {
+        sub: 1,
+        first: 10,
+        last: 11,
+        drawn: 12,
+        skipped: 13,
+        released: 14,
+        withheld: 15,
+    };
+    let closings = one(alloc, closing)?;
+    let sessions = sessions(alloc)?;
+    let job = job(alloc)?;
+    Ok(RoundRecord {
+        number: 7,
+        closings,
+        sessions,
+        premise: Premise::Held,
+        jobs: one(alloc, job)?,
+    })
+}
+
+/// The key of the 32 bytes from 0 to 31.
+fn rands() -> Rands {
+    Rands::new([
+        0, 1, 2, 3, 4, 5, 6, 7, 8, 9, 10, 11, 12, 13, 14, 15, 16, 17, 18, 19, 20, 21, 22, 23, 24,
+        25, 26, 27, 28, 29, 30, 31,
+    ])
+}
+
+const FIRST: &[u8] =
+    b"001010000000001 465b5ce8b199b49faa5f0a2ee238a6bc opc cd63cb71954a9f4e48a5994e37a02baf 8000 0 0";
+
+const SECOND: &[u8] =
+    b"000007 465b5ce8b199b49faa5f0a2ee238a6bc opc cd63cb71954a9f4e48a5994e37a02baf 8000 0 0";
+
+// Written by hand: of each record its word, the IMSI, and its values in their order; of a closing the IMSI and
+// the six counts in their order; of a vector its five parts in their order, which are those of `vector.rt` in the crate
+// `auc_vector_tests`, from another implementation.
+const TEXT: &[u8] = b"round 7
+job 1
+vector 000007 0
+withheld 000007 18446744073709551615 fault
+sync 001010000000001 beyond 8796093022207 0
+closed 000007 10 11 12 13 14 15
+session 1 agree
+session 20 differ
+premise held
+restart
+round 8
+job 1
+vector 001010000000001 1
+bytes 8a35d86fbcde6accb2cc7d4cd8ea2492 5c932ea779de80001d96bfd35d896e74 59fce589e7b274e7 \
+164ec6b56c3fa5a33c5130b35fbfdc49 1ef5c23ff651ae6846822d2ba9304231
+";
+
+fn subscribers(alloc: Global) -> Result<Subscribers, Fail> {
+    let mut subs = Subscribers::new(alloc);
+    for line in [FIRST, SECOND] {
+        subs.add(line)?;
+    }
+    Ok(subs)
+}
+
+// Appends the brief print of a round, that of a restart, and the full print of a vector, and answers whether all can be
+// printed.
+fn print_parts(
+    alloc: Global,
+    round: &RoundRecord,
+    set: &Setting,
+    out: &mut Octets,
+) -> Result<bool, NoMemory> {
+    if !names_below(round, set.subs.len() as usize) {
+        return Ok(false);
+    }
+    print_round(round, &[], set, false, out)?;
+    print_restart(out)?;
+    print_full(alloc, LineRecord::Vector { sub: 0, n: 1 }, set, out)
+}
+
+#[test]
+fn each_value_is_printed_in_its_place(rt: HostRuntime) -> Result<(), Fail> {
+    let mut text = Octets::new(rt.alloc());
+    let round = round(rt.alloc())?;
+    let subs = subscribers(rt.alloc())?;
+    let rands = rands();
+    let names = Names::new([0; 32]);
+    let set = Setting {
+        subs: &subs,
+        rands: &rands,
+        names: &names,
+        realm: b"",
+    };
+    let printed = print_parts(rt.alloc(), &round, &set, &mut text);
+    assert_eq!(rt; printed, Ok(true));
+    assert_eq!(rt; text.as_slice(), TEXT);
+    Ok(())
+}
+
+// The notes of an event, the packet that its end sent, and its end's keys, which are runs of equal bytes.
+fn noted(alloc: Global) -> Result<Note, NoMemory> {
+    let mut success = Octets::new(alloc);
+    success.append(&[3, 2, 0, 0xff])?;
+    let keys = KeySet {
+        k_encr: [1; 16],
+        k_aut: [2; 32],
+        k_re: [3; 32],
+        msk: [4; 64],
+        emsk: [5; 64],
+    };
+    let notes = Notes {
+        resync: Some(ResyncNote::Moved(1, 500)),
+        number: Some(NumberNote::Drew(501)),
+        resumed: Some(7),
+        usim: Some(UsimNote::Sync([0, 0, 0, 0, 0x3e, 0x94])),
+        counter: Some(CounterNote::Small(8)),
+    };
+    Ok(Note {
+        notes,
+        packet: Some(5),
+        asked: None,
+        device: None,
+        vector: Some(vector()),
+        step: NoteStep::Server(Step::Ended(Outcome::Success(keys), success)),
+    })
+}
+
+// The full print of a round of that event.
+fn noted_text(alloc: Global) -> Result<Octets, NoMemory> {
+    let mut wanted = Octets::new(alloc);
+    wanted.append(
+        b"round 8
+job 1
+deliver 1 server 4 moved 1 500 drew 501 resumed 7 sync 000000003e94 small 8 sent 5 ended success
+bytes 000102030405060708090a0b0c0d0e0f 101112131415161718191a1b1c1d1e1f a0a1a2a3a4a5a6a7 \
+c0c1c2c3c4c5c6c7c8c9cacbcccdcecf f0f1f2f3f4f5f6f7f8f9fafbfcfdfeff
+packet 5 030200ff
+keys",
+    )?;
+    for (digits, count) in [
+        (b"01", 16),
+        (b"02", 32),
+        (b"03", 32),
+        (b"04", 64),
+        (b"05", 64),
+    ] {
+        wanted.append(b" ")?;
+        for _ in 0..count {
+            wanted.append(digits)?;
+        }
+    }
+    wanted.append(b"\n")?;
+    Ok(wanted)
+}
+
+// No event has all of these notes.
+#[test]
+fn notes_packet_and_keys_are_printed_in_their_order(rt: HostRuntime) -> Result<(), Fail> {
+    let wanted = noted_text(rt.alloc())?;
+    let mut text = Octets::new(rt.alloc());
+    let event = Event::Deliver {
+        session: 1,
+        end: End::Server,
+        packet: 4,
+    };
+    let result = Ok(noted(rt.alloc())?);
+    let record = BoxedEvent::new(rt.alloc(), EventRecord { event, result })?;
+    let subs = Subscribers::new(rt.alloc());
+    let rands = rands();
+    let names = Names::new([0; 32]);
+    let set = Setting {
+        subs: &subs,
+        rands: &rands,
+        names: &names,
+        realm: b"",
+    };
+    let printed = print_full(rt.alloc(), LineRecord::Event(record), &set, &mut text);
+    assert_eq!(rt; printed, Ok(true));
+    assert_eq!(rt; text.as_slice(), wanted.as_slice());
+    Ok(())
+}
