@@ -1,0 +1,142 @@
+"""Proves and builds the program.
+
+`rt all check` in the program's folder proves the crates that it stands on side by side. `rt run` then builds the program
+over what was proved and runs it at the first test set of TS 35.208. It ends with status 0 only if all of this went well.
+The new program is moved to its place at the very end, so the old one stays until then.
+"""
+import ctypes
+import fcntl
+import math
+import os
+import re
+import select
+import shutil
+import signal
+import subprocess
+import sys
+import time
+
+from . import costs, sources
+from .places import CRATE, OUT, Stopped, say
+
+PROVED = OUT / "proved/auc"
+GATES = OUT / "auc_cli"
+LOG = OUT / "build.log"
+LOCK = OUT / "build.lock"
+TRIAL = "vector 465b5ce8b199b49faa5f0a2ee238a6bc cd63cb71954a9f4e48a5994e37a02baf 23553cbe9637a89d218ae64dae47bf35 ff9bb4d0b607 b9b9"
+END_WITH_PARENT = 1
+EVERY = 500
+
+
+def built():
+    """The programs that were proved here, by this script or by the gate."""
+    return [it for it in (PROVED, GATES) if os.access(it, os.X_OK) and it.is_file()]
+
+
+def current():
+    """A proved program that no source is newer than; nothing if there is none."""
+    return next((it for it in built() if sources.are_older_than(it)), None)
+
+
+def last():
+    """The program that was proved last; nothing if there is none."""
+    return max(built(), key=lambda it: it.stat().st_mtime_ns, default=None)
+
+
+def need_rt():
+    if not shutil.which("rt"):
+        raise Stopped("the command rt of the Rattle kit isn't on the PATH, so nothing can be proved or built here")
+
+
+def end_with_parent():
+    """Has the system end this process if the script ends, however it ends. rt ends its provers itself."""
+    ctypes.CDLL(None).prctl(END_WITH_PARENT, signal.SIGTERM)
+
+
+class Listener:
+    """Whoever reads standard error. It was there at first, or the build goes on in silence."""
+
+    def __init__(self):
+        self.poll = select.poll()
+        if sys.stderr is not None:
+            self.poll.register(sys.stderr.fileno(), 0)
+
+    def is_gone(self, milliseconds):
+        """Waits so long, or until standard error closes."""
+        return bool(self.poll.poll(milliseconds))
+
+
+class Progress:
+    """Which share of the work is done, by the lines of the log that name a proved crate."""
+
+    def __init__(self):
+        self.minutes, self.shown = costs.minutes_by_crate(), 0
+
+    def tell(self):
+        done = set(re.findall(r"^== (\w+)$", LOG.read_text(errors="replace"), re.M)) & set(self.minutes)
+        share = int(100 * sum(self.minutes[it] for it in done) / (sum(self.minutes.values()) or 1))
+        if share > self.shown:
+            self.shown = share
+            say(f"{share} percent of the work is done")
+
+
+def followed(words, log, progress):
+    """Runs the builder to its end and tells how far it is: its exit status. It ends early if nobody listens any more."""
+    builder = subprocess.Popen(
+        words, cwd=CRATE, stdin=subprocess.DEVNULL, stdout=log, stderr=log, preexec_fn=end_with_parent
+    )
+    listener = Listener()
+    while builder.poll() is None:
+        if listener.is_gone(EVERY):
+            builder.terminate()
+            builder.wait()
+            raise Stopped("standard error was closed, so the build was ended")
+        progress.tell()
+    return builder.returncode
+
+
+def announce(jobs):
+    say(
+        f"proving and building the program: {math.ceil(costs.processor_minutes())} minutes of processor time, about"
+        f" {math.ceil(costs.minutes(jobs))} minutes with {jobs} crates side by side, less if some are proved; the log is {LOG}"
+    )
+
+
+def keep():
+    """Moves a copy of the program that rt left to its place, whole."""
+    beside = PROVED.with_suffix(".new")
+    shutil.copy2(GATES, beside)
+    os.replace(beside, PROVED)
+
+
+def prove(jobs):
+    """Proves and builds. The caller holds the lock."""
+    began, progress = time.time_ns(), Progress()
+    announce(jobs)
+    if last() == GATES:
+        keep()
+    with LOG.open("w") as log:
+        for words in (["rt", "all", "check", "--jobs", str(jobs)], ["rt", "run", "--", *TRIAL.split()]):
+            if followed(words, log, progress) != 0:
+                raise Stopped(
+                    f"the program was not built; see {LOG}. If the memory ran out, `./auc prove --jobs 1` takes less"
+                )
+    # A source that was changed since the beginning makes this program an old one.
+    os.utime(GATES, ns=(began, began))
+    keep()
+
+
+def build(jobs=None):
+    """The proved program of the sources at hand. If another call builds it already, this one waits for it."""
+    need_rt()
+    PROVED.parent.mkdir(parents=True, exist_ok=True)
+    with LOCK.open("w") as lock:
+        try:
+            fcntl.flock(lock, fcntl.LOCK_EX | fcntl.LOCK_NB)
+        except BlockingIOError:
+            say("another call builds the program; waiting for it")
+            fcntl.flock(lock, fcntl.LOCK_EX)
+        if not current():
+            prove(jobs or costs.jobs_here())
+            say("the program is proved and built")
+    return current() or last()

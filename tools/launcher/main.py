@@ -1,0 +1,223 @@
+"""The words of the script, and what it does with them."""
+import contextlib
+import math
+import os
+import subprocess
+import sys
+from dataclasses import dataclass, field
+from pathlib import Path
+
+from . import build, costs, release, running
+from .explain import Call, explain
+from .places import CRATE, GUIDE, JOURNAL, NOT_RUN, TOP, Stopped, say, version
+
+FORMS = ("run", "reserved", "vector", "load")
+FOLDER = "AUC_JOURNAL_DIR"
+NO_WORDS, NO_JOURNAL, INTERRUPTED = 1, 4, 130
+
+HELP = """\
+usage: ./auc run SCENARIO                run the scenario in the file SCENARIO
+       ./auc run SCENARIO SUBSCRIBERS    the same, with the subscribers of the CSV file SUBSCRIBERS
+       ./auc reserved                    print up to which number each subscriber's numbers are reserved
+       ./auc vector K OPC RAND SQN AMF   print the functions of Milenage at these hexadecimal values
+       ./auc load KEY SUBSCRIBERS JOBS WORKERS
+                                         let workers draw in many jobs, and print a digest of the vectors
+       ./auc prove [--jobs N]            prove and build the program here, N crates side by side
+       ./auc --version                   print the version, and whether the program is proved
+       ./auc --help                      print this text
+
+Options, before the first of these words:
+       --journal-dir DIR                 the folder of the journal; so does the environment variable {folder}
+       --old                             don't build: if the sources changed, run the program that was proved last
+       --unproved                        run without any proof and without a journal, after about a minute
+
+A run keeps what it reserved in the file auc.journal of that folder, or else of the folder that you call it in. That folder
+is the centre: the same files in another folder give the same numbers once more.
+
+The proved program of the last release runs at once. If the sources aren't those of the release, the first call proves and
+builds the program. That takes about {work} minutes of processor time: about {here} minutes on this machine ({jobs} crates side by
+side), and {four} on four processors.
+
+The status is the program's; {guide} has them all.
+It is {no_words} for words that aren't here, {no_journal} for `reserved` in a folder without a journal, and {not_run} if the program could not be run.
+To begin: ./auc run {top}/examples/first.scenario
+"""
+
+
+class WrongWords(Exception):
+    """The words are none of the script's."""
+
+
+@dataclass
+class Options:
+    """What stands before the first word of a form, and the form."""
+
+    folder: str = None
+    old: bool = False
+    unproved: bool = False
+    words: list = field(default_factory=list)
+
+
+def options(words):
+    given, words = Options(folder=os.environ.get(FOLDER)), list(words)
+    while words and words[0].startswith("--"):
+        option, equals, value = words.pop(0).partition("=")
+        if option == "--journal-dir" and (equals or words):
+            given.folder = value if equals else words.pop(0)
+        elif option in ("--old", "--unproved") and not equals:
+            setattr(given, option[2:], True)
+        else:
+            raise WrongWords
+    if words[:1] not in [[it] for it in FORMS]:
+        raise WrongWords
+    given.words = words
+    return given
+
+
+def help_text():
+    jobs = costs.jobs_here()
+    work, here, four = (math.ceil(it) for it in (costs.processor_minutes(), costs.minutes(jobs), costs.minutes(4)))
+    return HELP.format(
+        folder=FOLDER, work=work, here=here, jobs=jobs, four=four, guide=GUIDE, top=TOP,
+        no_words=NO_WORDS, no_journal=NO_JOURNAL, not_run=NOT_RUN,
+    )
+
+
+# ---- which program is run
+
+
+def chosen(old):
+    """The program to run, as a context. It is built if there is no other."""
+    own = build.current()
+    if own:
+        return contextlib.nullcontext(own)
+    packed = release.read()
+    if packed and packed.is_of_sources_at_hand():
+        release.introduce(packed)
+        return release.unpacked(packed)
+    return last_proved(packed) if old else contextlib.nullcontext(build.build())
+
+
+def last_proved(packed):
+    """The program that was proved here last, or else that of the release, though the sources are others now."""
+    own = build.last()
+    if own:
+        say(f"this is {own}, which was proved before the sources changed")
+        return contextlib.nullcontext(own)
+    if packed:
+        say(f"this is the proved program of version {packed.version}; the sources at hand are others")
+        return release.unpacked(packed)
+    raise Stopped("no program was proved here yet, and there is no release/")
+
+
+def standing():
+    """Whether the program is proved, in a sentence."""
+    if build.current():
+        return "proved and built here from these sources"
+    packed = release.read()
+    if packed and packed.is_of_sources_at_hand():
+        return f"the proved program of version {packed.version}, built from these sources with {packed.kit}"
+    return "not proved: no program was built from these sources yet; `./auc prove` proves and builds it"
+
+
+# ---- the runs
+
+
+def journal_folder(named):
+    """The folder of the journal, whole. It is never made, since a centre without its journal begins again."""
+    if named is not None and not os.path.isdir(named):
+        raise Stopped(f"the folder of the journal, '{named}', isn't there or is no folder")
+    return Path(os.path.abspath(named or os.getcwd()))
+
+
+def is_blank(journal):
+    """Whether there is no journal, or one without a byte."""
+    return not journal.exists() or journal.stat().st_size == 0
+
+
+def resolved(words, folder):
+    """The words for a run in another folder than the caller's: the files of a run as whole paths."""
+    here = Path.cwd()
+    if words[0] != "run" or folder == here:
+        return words
+    return [words[0], *(str(here / it) if it else it for it in words[1:])]
+
+
+def run_proved(given):
+    folder = journal_folder(given.folder)
+    journal, words = folder / JOURNAL, resolved(given.words, folder)
+    if words == ["reserved"] and not os.path.lexists(journal):
+        say(f"no journal in {folder}")
+        return NO_JOURNAL
+    with chosen(given.old) as program:
+        was_blank = is_blank(journal)
+        status = running.run(program, words, folder)
+        if words[0] == "run" and was_blank and not is_blank(journal):
+            say(f"a new journal was begun: {journal}")
+        explain(Call(program, words, given.words, folder), status)
+    return status
+
+
+def copied(words):
+    """The words for rt try, which runs the program in a folder of its own: the files of a run are copied there."""
+    copies, words = [], list(words)
+    for place, word in enumerate(words[1:] if words[0] == "run" else [], 1):
+        if os.path.isfile(word):
+            words[place] = f"input{place}"
+            copies += ["--data", f"{words[place]}={os.path.realpath(word)}"]
+    return copies, words
+
+
+def run_unproved(given):
+    build.need_rt()
+    say("nothing is proved in this run")
+    copies, words = copied(given.words)
+    done = subprocess.run(["rt", "try", *copies, "--", *words], cwd=CRATE, stdout=subprocess.PIPE, stderr=subprocess.PIPE)
+    if sys.stdout:
+        sys.stdout.buffer.write(done.stdout)
+        sys.stdout.flush()
+    if not any(it.startswith(b"run=ended") for it in done.stderr.splitlines()):
+        raise Stopped(f"the program did not run to its end:\n{done.stderr.decode(errors='replace')}")
+    explain(Call(None, given.words, given.words, Path.cwd(), done.stdout.decode(errors="replace")), done.returncode)
+    return done.returncode
+
+
+def prove(words):
+    """The words after `prove`: none, or --jobs N."""
+    jobs = None
+    if words:
+        if len(words) != 2 or words[0] != "--jobs" or not words[1].isdecimal() or int(words[1]) == 0:
+            raise WrongWords
+        jobs = int(words[1])
+    say(f"the proved program is {build.build(jobs)}")
+    return 0
+
+
+def done(words):
+    """Does what the words say: the exit status."""
+    if words[:1] in (["--help"], ["-h"], ["help"]):
+        print(help_text(), end="")
+        return 0
+    if words == ["--version"]:
+        print(f"auc {version()}\n{standing()}")
+        return 0
+    if words[:1] == ["prove"]:
+        return prove(words[1:])
+    given = options(words)
+    return run_unproved(given) if given.unproved else run_proved(given)
+
+
+def main(words):
+    try:
+        return done(words)
+    except WrongWords:
+        if sys.stderr:
+            sys.stderr.write(help_text())
+        return NO_WORDS
+    except Stopped as why:
+        say(why)
+    except OSError as error:
+        say(f"{error.filename}: {error.strerror}" if error.filename else error)
+    except KeyboardInterrupt:
+        return INTERRUPTED
+    return NOT_RUN

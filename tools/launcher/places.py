@@ -1,0 +1,35 @@
+"""Where things are, what the script says, and how it ends."""
+import re
+import sys
+from pathlib import Path
+
+TOP = Path(__file__).resolve().parents[2]
+CRATE = TOP / "crates/auc_cli"
+OUT = CRATE / "out"
+GUIDE = TOP / "docs/USER-GUIDE.md"
+JOURNAL = "auc.journal"
+NOT_RUN = 70
+
+
+class Stopped(Exception):
+    """Why the script ends without having run the program."""
+
+
+def tell(line):
+    """Writes a line to standard error. If nobody can read it, the run goes on."""
+    if sys.stderr is None:
+        return
+    try:
+        print(line, file=sys.stderr, flush=True)
+    except OSError:
+        pass
+
+
+def say(text):
+    tell(f"auc: {text}")
+
+
+def version():
+    """The newest heading of CHANGELOG.md."""
+    found = re.search(r"^## (.+)$", (TOP / "CHANGELOG.md").read_text(encoding="utf-8"), re.M)
+    return found[1] if found else "without a version"
