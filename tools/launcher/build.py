@@ -4,7 +4,6 @@
 over what was proved and runs it at the first test set of TS 35.208. It ends with status 0 only if all of this went well.
 The new program is moved to its place at the very end, so the old one stays until then.
 """
-import ctypes
 import fcntl
 import math
 import os
@@ -23,9 +22,10 @@ PROVED = OUT / "proved/auc"
 GATES = OUT / "auc_cli"
 LOG = OUT / "build.log"
 LOCK = OUT / "build.lock"
-TRIAL = "vector 465b5ce8b199b49faa5f0a2ee238a6bc cd63cb71954a9f4e48a5994e37a02baf 23553cbe9637a89d218ae64dae47bf35 ff9bb4d0b607 b9b9"
+K, OPC, RAND = "465b5ce8b199b49faa5f0a2ee238a6bc", "cd63cb71954a9f4e48a5994e37a02baf", "23553cbe9637a89d218ae64dae47bf35"
+TRIAL = ["vector", K, OPC, RAND, "ff9bb4d0b607", "b9b9"]
 END_WITH_PARENT = 1
-EVERY = 500
+EVERY = 250
 
 
 def built():
@@ -50,6 +50,8 @@ def need_rt():
 
 def end_with_parent():
     """Has the system end this process if the script ends, however it ends. rt ends its provers itself."""
+    import ctypes  # a run that builds nothing doesn't wait for this
+
     ctypes.CDLL(None).prctl(END_WITH_PARENT, signal.SIGTERM)
 
 
@@ -116,7 +118,7 @@ def prove(jobs):
     if last() == GATES:
         keep()
     with LOG.open("w") as log:
-        for words in (["rt", "all", "check", "--jobs", str(jobs)], ["rt", "run", "--", *TRIAL.split()]):
+        for words in (["rt", "all", "check", "--jobs", str(jobs)], ["rt", "run", "--", *TRIAL]):
             if followed(words, log, progress) != 0:
                 raise Stopped(
                     f"the program was not built; see {LOG}. If the memory ran out, `./auc prove --jobs 1` takes less"

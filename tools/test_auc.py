@@ -1,0 +1,566 @@
+#!/usr/bin/env python3
+"""Tests the script `auc` and bench/release.py in a small checkout of their own, with a stand-in for rt and one for the program.
+
+    tools/test_auc.py           the exit status is 0 only if each test passes
+"""
+import ctypes
+import fcntl
+import os
+import re
+import resource
+import shutil
+import signal
+import subprocess
+import sys
+import tempfile
+import time
+import unittest
+from pathlib import Path
+
+sys.dont_write_bytecode = True
+TOP = Path(__file__).resolve().parent.parent
+sys.path.insert(0, str(TOP / "tools"))
+
+from launcher import explain  # noqa: E402
+
+DROP_FROM_BOUNDING_SET, DAC_OVERRIDE, DAC_READ_SEARCH = 24, 1, 2
+SECONDS = 20
+K, OPC = "465b5ce8b199b49faa5f0a2ee238a6bc", "cd63cb71954a9f4e48a5994e37a02baf"
+RECORD = f"001010000000001,{K},opc,{OPC},8000,0,0"
+HEADER = "imsi,k,kind,op,amf,seq,usim"
+
+# The stand-in for the program: it notes its words and folder, makes a journal if JOURNAL is set, and prints SAYS.
+PROGRAM = """#!/bin/sh
+[ -z "$CALLS" ] || echo "$PWD: $*" >>"$CALLS"
+[ -z "$JOURNAL" ] || [ "$1" != run ] || printf AUC-SQN-JOURNAL1 >auc.journal
+[ -z "$NAP" ] || exec sleep "$NAP"
+[ -z "$SAYS" ] || printf '%s\\n' "$SAYS"
+[ "$1" = vector ] || exit "${STATUS:-0}"
+"""
+# The stand-in for rt: it notes its words, builds by a copy, fails or waits if it is told to.
+RT = """#!/bin/sh
+[ "$1" = version ] && echo "stand-in kit" && exit
+echo "$*" >>"$CALLS"
+[ -z "$RT_NAP" ] || { echo $$ >"$RT_PID"; exec sleep "$RT_NAP"; }
+[ -z "$RT_EDITS" ] || echo more >>"$RT_EDITS"
+[ -z "$RT_FAILS" ] || exit 1
+case $1 in
+    all) printf '== auc_low\\n'; sleep 0.6; printf '== auc_cli\\n' ;;
+    run) mkdir -p out; rm -f out/auc_cli; cp "$RT_PROGRAM" out/auc_cli; shift 2; exec out/auc_cli "$@" ;;
+    try) printf '%s\\n' "$SAYS"; echo run=ended >&2; exit "${STATUS:-0}" ;;
+esac
+"""
+# A program that writes which of its first nine descriptors are open.
+OPEN = """#!/bin/sh
+exec 9>{}
+for place in 0 1 2 3 4 5 6 7 8; do [ ! -e /proc/$$/fd/$place ] || echo $place >&9; done
+"""
+TABLE = """<!-- begin: bench/gate.py -->
+| Crate | Proof | Tests | Together |
+|---|---:|---:|---:|
+| `auc_low` | 30.0 | 9.0 | 39.0 |
+| all of these | 30.0 | 9.0 | 39.0 |
+<!-- end: bench/gate.py -->
+"""
+
+
+class Checkout(unittest.TestCase):
+    """A checkout with two crates, and a folder that the calls are made in."""
+
+    def setUp(self):
+        self.room = Path(tempfile.mkdtemp(prefix="auc-test-"))
+        self.addCleanup(shutil.rmtree, self.room, ignore_errors=True)
+        self.room.chmod(0o755)
+        self.top, self.here, self.calls = self.room / "top", self.room / "here", self.room / "calls"
+        self.out = self.top / "crates/auc_cli/out"
+        for folder in ("top/bench", "top/tools", "top/crates/auc_low/src", "top/crates/auc_cli/src", "here", "bin"):
+            (self.room / folder).mkdir(parents=True)
+        for name in ("auc", "bench/release.py"):
+            shutil.copy(TOP / name, self.top / name)
+        shutil.copytree(TOP / "tools/launcher", self.top / "tools/launcher", ignore=shutil.ignore_patterns("__pycache__"))
+        texts = {
+            "CHANGELOG.md": "# Changelog\n\n## 1.2.3\n\n## 1.2.2\n", "CONTRIBUTING.md": TABLE,
+            "crates.txt": "auc_cli: auc_low\nauc_low:\n", "crates/auc_low/src/lib.rt": "low", "crates/auc_cli/src/main.rt": "cli",
+        }
+        for name, text in texts.items():
+            (self.top / name).write_text(text)
+        self.executable("bin/rt", RT)
+        self.program = self.executable("program", PROGRAM)
+        self.environment = {
+            **os.environ, "PATH": f"{self.room}/bin:{os.environ['PATH']}", "CALLS": str(self.calls), "RT_PROGRAM": str(self.program),
+            "RT_PID": f"{self.room}/pid", "XDG_CACHE_HOME": f"{self.room}/cache",
+        }
+        self.environment.pop("AUC_JOURNAL_DIR", None)
+
+    def executable(self, name, text):
+        path = self.room / name
+        path.parent.mkdir(parents=True, exist_ok=True)
+        path.write_text(text)
+        path.chmod(0o755)
+        return path
+
+    def command(self, *words, script="auc"):
+        return [sys.executable, "-S", str(self.top / script), *map(str, words)]
+
+    def auc(self, *words, script="auc", without_rt=False, **more):
+        """A call of the script. Capital names go to its environment."""
+        environment = {**self.environment, **{name: str(more.pop(name)) for name in list(more) if name.isupper()}}
+        if without_rt:
+            environment["PATH"] = "/usr/bin:/bin"
+        how = {"cwd": self.here, "stdin": subprocess.DEVNULL, "stdout": subprocess.PIPE, "stderr": subprocess.PIPE, "text": True}
+        return subprocess.run(self.command(*words, script=script), env=environment, timeout=SECONDS, **{**how, **more})
+
+    def started(self, *words, **more):
+        environment = {**self.environment, **{name: str(more.pop(name)) for name in list(more) if name.isupper()}}
+        child = subprocess.Popen(self.command(*words), cwd=self.here, env=environment, **more)
+        self.addCleanup(child.wait)
+        self.addCleanup(child.kill)
+        return child
+
+    def noted(self):
+        """The calls of the stand-ins so far."""
+        return self.calls.read_text().splitlines() if self.calls.exists() else []
+
+    def proved(self):
+        """Puts a proved program into its place, as a build leaves it."""
+        place = self.out / "proved/auc"
+        place.parent.mkdir(parents=True)
+        shutil.copy(self.program, place)
+        return place
+
+    def aged(self, path, seconds=60):
+        then = time.time() - seconds
+        os.utime(path, (then, then))
+
+    def wait_for(self, path):
+        end = time.monotonic() + SECONDS
+        while not path.exists() or not path.read_text():
+            self.assertLess(time.monotonic(), end, f"{path} didn't come")
+            time.sleep(0.02)
+        return path.read_text().strip()
+
+    def assert_ends(self, pid):
+        """Whether a process that isn't a child of this one ends soon."""
+        end = time.monotonic() + 5
+        while Path(f"/proc/{pid}").exists() and " Z " not in Path(f"/proc/{pid}/stat").read_text():
+            self.assertLess(time.monotonic(), end, f"process {pid} goes on")
+            time.sleep(0.05)
+
+
+class Words(Checkout):
+    def test_help_is_printed_where_it_is_asked_for(self):
+        for word in ("--help", "-h", "help"):
+            ran = self.auc(word)
+            self.assertEqual((ran.returncode, ran.stderr), (0, ""), word)
+            self.assertIn("usage: ./auc run SCENARIO", ran.stdout, word)
+        self.assertEqual(self.noted(), [])
+
+    def test_other_words_get_the_help_at_once_and_build_nothing(self):
+        for words in ([], ["rnu"], ["--hlep"], ["-x", "run"], [""], ["--old"], ["--journal-dir"], ["prove", "--jobs", "0"], ["prove", "x"]):
+            ran = self.auc(*words)
+            self.assertEqual((ran.returncode, ran.stdout), (1, ""), words)
+            self.assertIn("usage: ./auc run SCENARIO", ran.stderr, words)
+        self.assertEqual(self.noted(), [])
+
+    def test_help_has_the_minutes_of_the_table(self):
+        said = self.auc("--help").stdout
+        self.assertIn("about 31 minutes of processor time", said)
+        self.assertIn("31 on four processors", said)
+
+    def test_version_is_that_of_the_changelog_and_tells_whether_it_is_proved(self):
+        self.assertRegex(self.auc("--version").stdout, r"^auc 1\.2\.3\nnot proved: ")
+        program = self.proved()
+        self.assertRegex(self.auc("--version").stdout, r"^auc 1\.2\.3\nproved and built here")
+        self.aged(program)
+        self.assertRegex(self.auc("--version").stdout, r"^auc 1\.2\.3\nnot proved: ")
+
+
+class Runs(Checkout):
+    def setUp(self):
+        super().setUp()
+        self.proved()
+
+    def test_output_and_status_and_words_are_passed_on(self):
+        for status in (0, 3, 77):
+            ran = self.auc("vector" if status == 0 else "load", "a b", "*", STATUS=status, SAYS="one\ttwo")
+            self.assertEqual((ran.returncode, ran.stdout), (status, "one\ttwo\n"))
+        self.assertEqual(self.noted()[0], f"{self.here}: vector a b *")
+
+    def test_the_program_gets_the_callers_descriptors_also_closed_ones(self):
+        self.executable("top/crates/auc_cli/out/proved/auc", OPEN.format(self.room / "fds"))
+        for closed in ((), (0,), (1,), (2,), (0, 1, 2)):
+            self.auc("run", "x", preexec_fn=lambda it=closed: [os.close(fd) for fd in it])
+            found = set(map(int, (self.room / "fds").read_text().split()))
+            self.assertEqual(found, {0, 1, 2} - set(closed), closed)
+
+    def test_a_signal_ends_the_program_too(self):
+        for number in (signal.SIGTERM, signal.SIGINT, signal.SIGHUP):
+            self.executable("top/crates/auc_cli/out/proved/auc", f"#!/bin/sh\necho $$ >{self.room}/pid\nexec sleep 60\n")
+            (self.room / "pid").write_text("")
+            child = self.started("run", "x", stderr=subprocess.DEVNULL)
+            pid = self.wait_for(self.room / "pid")
+            child.send_signal(number)
+            self.assertEqual(child.wait(SECONDS), 128 + number)
+            self.assert_ends(pid)
+
+    def test_a_new_journal_is_told_once(self):
+        told = f"auc: a new journal was begun: {self.here}/auc.journal\n"
+        self.assertEqual(self.auc("run", "x").stderr, "")
+        self.assertEqual(self.auc("run", "x", JOURNAL=1).stderr, told)
+        self.assertEqual(self.auc("run", "x", JOURNAL=1).stderr, "")
+        (self.here / "auc.journal").write_text("")
+        self.assertEqual(self.auc("run", "x", JOURNAL=1).stderr, told)
+
+    def test_reserved_makes_no_journal(self):
+        ran = self.auc("reserved")
+        self.assertEqual((ran.returncode, ran.stdout, ran.stderr), (4, "", f"auc: no journal in {self.here}\n"))
+        self.assertEqual((list(self.here.iterdir()), self.noted()), ([], []))
+        (self.here / "auc.journal").write_text("AUC-SQN-JOURNAL1")
+        self.assertEqual(self.auc("reserved", SAYS="reserved 1 64").stdout, "reserved 1 64\n")
+
+    def test_another_folder_holds_the_journal(self):
+        centre, other = self.room / "centre", self.room / "other"
+        centre.mkdir()
+        other.mkdir()
+        ran = self.auc("--journal-dir", "../centre", "run", "day.scenario", "sub/s.csv", JOURNAL=1, AUC_JOURNAL_DIR=other)
+        self.assertEqual(ran.stderr, f"auc: a new journal was begun: {centre}/auc.journal\n")
+        self.assertEqual(self.noted(), [f"{centre}: run {self.here}/day.scenario {self.here}/sub/s.csv"])
+        ran = self.auc("reserved", AUC_JOURNAL_DIR=other)
+        self.assertEqual((ran.returncode, ran.stderr), (4, f"auc: no journal in {other}\n"))
+        self.assertEqual(self.auc("--journal-dir=../centre", "reserved", SAYS="x").stdout, "x\n")
+        self.assertFalse((self.here / "auc.journal").exists() or list(other.iterdir()))
+
+    def test_a_folder_that_is_not_there_is_refused_and_not_made(self):
+        for folder in ("gone", "", "file"):
+            (self.here / "file").write_text("")
+            for how in ({"AUC_JOURNAL_DIR": folder}, {}):
+                words = ["run", "x"] if how else ["--journal-dir", folder, "run", "x"]
+                ran = self.auc(*words, **how)
+                self.assertEqual((ran.returncode, ran.stdout), (70, ""))
+                self.assertIn(f"'{folder}'", ran.stderr)
+        self.assertEqual((sorted(it.name for it in self.here.iterdir()), self.noted()), (["file"], []))
+
+
+class Explanations(Checkout):
+    def setUp(self):
+        super().setUp()
+        self.proved()
+
+    def said(self, status, says="", *, words=("run", "a.scenario", "s.csv"), **more):
+        ran = self.auc(*words, STATUS=status, SAYS=says, **more)
+        self.assertEqual((ran.returncode, ran.stdout), (status, says and says + "\n"))
+        self.assertEqual(ran.stderr.count("\n"), 1, ran.stderr)
+        return ran.stderr.rstrip("\n")
+
+    def write(self, name, text):
+        (self.here / name).write_bytes(text.encode() if isinstance(text, str) else text)
+
+    def test_a_refused_line_is_shown_with_its_cause(self):
+        self.write("a.scenario", "round\r\n\njob\n  draw 00101\tx \nlast")
+        self.assertEqual(
+            self.said(3, "refused scenario 4 fields"),
+            "a.scenario:4: draw 00101 x: a field is missing or has another form (fields)")
+        self.assertEqual(self.said(3, "refused scenario 5 unknownword"), "a.scenario:5: last: no line begins with this word (unknownword)")
+        self.assertEqual(self.noted()[-1].split(": ")[1], f"run {self.here}/a.scenario {self.here}/s.csv")
+        self.assertNotEqual(self.noted()[-1].split(": ")[0], str(self.here), "the second run isn't in the journal's folder")
+
+    def test_a_refused_record_is_found_as_the_program_counts(self):
+        self.write("a.scenario", "round\n")
+        self.write("s.csv", b"\xef\xbb\xbf" + f"\n{HEADER}\r\n\r\n{RECORD}\r12345,\"{K}\n{K}\",opc\n".encode())
+        self.assertEqual(self.said(2, "refused subscribers 0 header")[:42], "s.csv:2: " + HEADER + ": the ")
+        self.assertRegex(self.said(2, "refused subscribers 1 imsi"), r"^s\.csv:4: 001010000000001,\[32 characters\],opc,\[32 characters\],8000,0,0: IMSI ")
+        self.assertRegex(self.said(2, "refused subscribers 2 fieldcount"), r"^s\.csv:6: 12345,\[65 characters\],opc: the record doesn't have seven")
+
+    def test_no_key_is_shown(self):
+        halves = f"{K[:16]} {K[16:]}"
+        lines = [f"subscriber 001010000000001 {K} opc {OPC} 8000 0", f"subscribr 1 {K[:31]}g opc {OPC[:9]} 8", f"randkey {K}{OPC}",
+                 f"draw {K} 1", f"subscriber {halves} opc x{OPC} 8000 0 0", K, f"session 1 {K} aka - - - ={OPC}"]
+        self.write("a.scenario", "\n".join(lines))
+        for place in range(1, len(lines) + 1):
+            said = self.said(3, f"refused scenario {place} fields")
+            self.assertIsNone(re.search(r"[0-9a-f]{9}(?<!00101000000000[0-9])(?![0-9])", said.replace("001010000000001", "")), said)
+        self.write("s.csv", f"{HEADER}\n001010000000001;{K};opc;{OPC};8000;0;0\n001010000000001,{K[:12]},opc,{OPC[:5]}")
+        for place in (1, 2):
+            said = self.said(2, f"refused subscribers {place} fieldcount")
+            self.assertNotIn(K[:12], said)
+            self.assertNotIn(OPC[:5], said)
+
+    def test_a_terminal_gets_no_bytes_to_obey(self):
+        self.write("a.scenario", b"draw \x1b[31m \xff " + b"x " * 500)
+        said = self.said(3, "refused scenario 1 fields")
+        self.assertIn("\\x1b[31m \\xff x x", said)
+        self.assertLess(len(said), 300)
+
+    def test_each_cause_of_the_guide_has_its_words(self):
+        guide = (TOP / "docs/USER-GUIDE.md").read_text()
+        records, lines = (set(re.findall(r"^\| `(\w+)` \|", guide[guide.index(head):].split("\n\n")[at], re.M))
+                          for head, at in (("| WHY | When | Example of a record |", 0), ("| WHY | When | Example |", 0)))
+        self.assertEqual(records, set(explain.CAUSES_OF_SUBSCRIBERS))
+        self.assertEqual(lines | records - {"header", "fieldcount"}, set(explain.CAUSES_OF_LINES))
+
+    def test_a_file_that_changed_meanwhile_is_named_all_the_same(self):
+        self.write("a.scenario", "round\n")
+        self.assertEqual(self.said(3, "refused scenario 7 fields"), "a.scenario: refused scenario 7 fields")
+        self.assertEqual(self.said(3, "round 1"), "auc: the file of the scenario is refused (status 3)")
+
+    def test_a_file_that_is_no_journal_is_named(self):
+        self.assertEqual(
+            self.said(7, "refused journal 5"),
+            f"{self.here}/auc.journal: byte 5 shows that it is no journal. Don't delete it: {self.top}/docs/USER-GUIDE.md has the cases (status 7)")
+
+    def test_a_file_that_cannot_be_read_is_named_with_the_reason(self):
+        self.write("a.scenario", "round\n")
+        self.assertEqual(self.said(4), "s.csv: No such file or directory (status 4)")
+        (self.here / "s.csv").mkdir()
+        self.assertEqual(self.said(4), "s.csv: Is a directory (status 4)")
+        (self.here / "s.csv").rmdir()
+        os.mkfifo(self.here / "s.csv")
+        self.assertEqual(self.said(4), "s.csv: Illegal seek (status 4)")
+        self.assertEqual(self.said(4, words=("run", "a.scenario")), "auc: a file could not be read (status 4)")
+
+    def test_a_file_without_permission_is_named(self):
+        self.write("a.scenario", "round\n")
+        (self.here / "a.scenario").chmod(0)
+        self.assertEqual(self.said(4, words=("run", "a.scenario"), preexec_fn=as_a_user), "a.scenario: Permission denied (status 4)")
+
+    def test_a_file_that_is_too_long_is_named(self):
+        self.write("s.csv", "x")
+        with open(self.here / "a.scenario", "wb") as file:
+            file.truncate(67108865)
+        self.assertEqual(self.said(9), "a.scenario: it has 67108865 bytes, more than 67108864 (status 9)")
+
+    def test_a_lock_and_a_permission_and_a_full_disk_differ(self):
+        journal = self.here / "auc.journal"
+        journal.write_text("AUC-SQN-JOURNAL1")
+        said = [self.said(6, words=("run", "x"))]
+        with journal.open("r+") as file:
+            fcntl.flock(file, fcntl.LOCK_EX)
+            said.append(self.said(6, words=("run", "x")))
+        said.append(self.said(6, words=("run", "x"), preexec_fn=lambda: resource.setrlimit(resource.RLIMIT_FSIZE, (0, 0)), CALLS=""))
+        journal.chmod(0)
+        said.append(self.said(6, words=("run", "x"), preexec_fn=as_a_user, CALLS=""))
+        journal.unlink()
+        journal.mkdir()
+        said.append(self.said(6, words=("run", "x")))
+        for line, reason in zip(said, ("it could not be opened", "another process has it open", "File too large", "Permission denied", "Is a directory")):
+            self.assertTrue(line.startswith(f"{journal}: {reason}"), line)
+        self.assertEqual(len(list(self.here.iterdir())), 1, "a trial leaves no file")
+
+    def test_each_other_status_has_its_sentence(self):
+        for status, words in {1: "these words are no command line", 5: "the output could not be written", 8: "the journal is full", 10: "the memory ran out"}.items():
+            self.assertIn(words, self.said(status, words=("run", "x")))
+        self.assertEqual(self.auc("run", "x", STATUS=77).stderr, "")
+        ran = self.auc("run", "x", STATUS=5, preexec_fn=lambda: os.close(1))
+        self.assertEqual((ran.returncode, ran.stderr), (5, "auc: the output could not be written: standard output is closed (status 5)\n"))
+
+    def test_a_run_without_proof_is_explained_too(self):
+        self.write("a.scenario", "draw 1\n")
+        ran = self.auc("--unproved", "run", "a.scenario", SAYS="refused scenario 1 outoforder", STATUS=3)
+        self.assertEqual((ran.returncode, ran.stdout), (3, "refused scenario 1 outoforder\n"))
+        self.assertEqual(ran.stderr, "auc: nothing is proved in this run\na.scenario:1: draw 1: the line is in the wrong place (outoforder)\n")
+        self.assertEqual(self.noted(), [f"try --data input1={self.here}/a.scenario -- run input1"])
+
+
+def as_a_user():
+    """Has permissions count in the process to come, also for root."""
+    for capability in (DAC_OVERRIDE, DAC_READ_SEARCH):
+        ctypes.CDLL(None).prctl(DROP_FROM_BOUNDING_SET, capability)
+
+
+class Builds(Checkout):
+    def test_the_first_call_proves_side_by_side_and_runs(self):
+        ran = self.auc("run", "x", SAYS="hello")
+        self.assertEqual((ran.returncode, ran.stdout), (0, "hello\n"))
+        self.assertRegex(self.noted()[0], r"^all check --jobs [1-9]\d*$")
+        self.assertRegex(self.noted()[1], r"^run -- vector ")
+        self.assertRegex(ran.stderr, r"31 minutes of processor time, about 31 minutes with [1-9]\d* crates? side by side")
+        self.assertEqual([int(it) for it in re.findall(r"(\d+) percent", ran.stderr)], [96, 100])
+        self.assertEqual(self.auc("run", "x").stderr, "")
+        self.assertEqual(len(self.noted()), 5, "the second call builds nothing")
+
+    def test_prove_builds_and_runs_nothing(self):
+        self.assertEqual(self.auc("prove", "--jobs", "3").returncode, 0)
+        self.assertEqual([it.split()[0] for it in self.noted()[:2]], ["all", "run"])
+        self.assertEqual(self.noted()[0], "all check --jobs 3")
+        self.assertIn("proved/auc", self.auc("prove").stderr)
+
+    def test_the_old_program_stays_until_the_new_one_is_there(self):
+        for place in ("proved/auc", "auc_cli"):
+            shutil.rmtree(self.out, ignore_errors=True)
+            old = self.executable(f"top/crates/auc_cli/out/{place}", "#!/bin/sh\necho old\n")
+            self.aged(old)
+            ran = self.auc("run", "x", RT_FAILS=1)
+            self.assertEqual((ran.returncode, ran.stdout), (70, ""), "the old program isn't run unless it is asked for")
+            ran = self.auc("--old", "run", "x", RT_FAILS=1)
+            self.assertEqual((ran.returncode, ran.stdout), (0, "old\n"))
+            self.assertIn("proved before the sources changed", ran.stderr)
+            self.assertEqual(self.auc("run", "x", SAYS="new").stdout, "new\n")
+            self.assertEqual(self.auc("--old", "run", "x", SAYS="new").stderr, "", "a current program is no old one")
+        self.assertIn("no program was proved here", self.changed_and_old())
+
+    def changed_and_old(self):
+        shutil.rmtree(self.out)
+        return self.auc("--old", "run", "x").stderr
+
+    def test_a_program_that_fails_its_trial_is_not_taken(self):
+        bad = self.executable("bad", "#!/bin/sh\nexit 1\n")
+        self.assertEqual(self.auc("run", "x", RT_PROGRAM=bad).returncode, 70)
+        self.assertFalse((self.out / "proved/auc").exists())
+
+    def test_a_source_that_changes_during_the_build_makes_it_old(self):
+        self.assertEqual(self.auc("prove", RT_EDITS=self.top / "crates/auc_low/src/lib.rt").returncode, 0)
+        self.assertIn("not proved", self.auc("--version").stdout)
+
+    def test_two_calls_at_once_build_once(self):
+        first = self.started("prove", stderr=subprocess.DEVNULL)
+        self.wait_for(self.calls)
+        second = self.auc("prove")
+        self.assertEqual((first.wait(SECONDS), second.returncode), (0, 0))
+        self.assertIn("another call builds the program", second.stderr)
+        self.assertEqual(sum(it.startswith("all") for it in self.noted()), 1)
+
+    def test_the_builder_ends_if_nobody_listens_any_more(self):
+        child = self.started("run", "x", RT_NAP=60, stderr=subprocess.PIPE)
+        pid = self.wait_for(self.room / "pid")
+        child.stderr.close()
+        self.assertEqual(child.wait(SECONDS), 70)
+        self.assert_ends(pid)
+
+    def test_the_builder_ends_however_the_script_ends(self):
+        for number in (signal.SIGKILL, signal.SIGTERM, signal.SIGINT):
+            (self.room / "pid").write_text("")
+            child = self.started("run", "x", RT_NAP=60, stderr=subprocess.DEVNULL)
+            pid = self.wait_for(self.room / "pid")
+            child.send_signal(number)
+            child.wait(SECONDS)
+            self.assert_ends(pid)
+
+    def test_a_machine_without_the_kit_is_told(self):
+        ran = self.auc("run", "x", without_rt=True)
+        self.assertEqual((ran.returncode, ran.stdout), (70, ""))
+        self.assertIn("the command rt of the Rattle kit isn't on the PATH", ran.stderr)
+
+
+class Releases(Checkout):
+    def setUp(self):
+        super().setUp()
+        self.proved()
+        (self.out / "auc_cli").write_bytes(self.program.read_bytes())
+        self.log = self.room / "log"
+        self.log.write_text("rt: ok, all of it\nother\n3 passed, 0 failed\n")
+        made = self.auc(self.log, script="bench/release.py")
+        self.assertEqual((made.returncode, made.stdout, made.stderr), (0, "release: written for version 1.2.3\n", ""))
+        shutil.rmtree(self.out)
+
+    def check(self):
+        return self.auc("--check", script="bench/release.py")
+
+    def built(self, content):
+        self.out.mkdir(exist_ok=True)
+        (self.out / "auc_cli").write_bytes(content)
+
+    def test_the_first_call_runs_it_at_once_without_the_kit(self):
+        began = time.monotonic()
+        ran = self.auc("run", "x", SAYS="hello", without_rt=True)
+        self.assertLess(time.monotonic() - began, 5)
+        self.assertEqual((ran.returncode, ran.stdout), (0, "hello\n"))
+        self.assertRegex(ran.stderr, r"^auc: this is the proved program of version 1\.2\.3, .*stand-in kit.*`\./auc prove`.*\n$")
+        self.assertEqual(self.auc("run", "x", without_rt=True).stderr, "", "it is told once")
+        self.assertEqual([it.name for it in self.out.iterdir()], ["release.said"], "nothing is unpacked into a file")
+        self.assertRegex(self.auc("--version").stdout, r"the proved program of version 1\.2\.3, built from these sources with stand-in kit")
+
+    def test_it_is_what_the_gate_passed(self):
+        facts = (self.top / "release/release.json").read_text()
+        self.assertIn('"rt: ok, all of it",\n    "3 passed, 0 failed"', facts)
+        shell = ("find crates.txt crates -name out -prune -o -type f \\( -name '*.rt' -o -name '*.antt' -o -name crates.txt \\) -print |"
+                 " LC_ALL=C sort | xargs sha256sum | sha256sum")
+        self.assertIn(subprocess.check_output(shell, shell=True, cwd=self.top, text=True).split()[0], facts)
+
+    def test_modes_and_times_and_other_files_do_not_count(self):
+        source = self.top / "crates/auc_low/src/lib.rt"
+        source.chmod(0o755)
+        os.utime(source)
+        for name in ("crates/auc_low/stdout", "crates/auc_low/out/x.rt", "README.md"):
+            (self.top / name).parent.mkdir(exist_ok=True)
+            (self.top / name).write_text("other")
+        self.assertEqual(self.auc("run", "x", without_rt=True).returncode, 0)
+
+    def test_other_sources_are_built(self):
+        changes = {"crates/auc_low/src/lib.rt": "loW", "crates.txt": "auc_cli: auc_low\nauc_low: \n", "crates/auc_low/specs/Lib.antt": ""}
+        for name, text in changes.items():
+            path = self.top / name
+            was = path.read_text() if path.exists() else None
+            path.parent.mkdir(exist_ok=True)
+            path.write_text(text)
+            self.assertEqual(self.auc("run", "x", without_rt=True).returncode, 70, name)
+            self.assertEqual(self.auc("run", "x", RT_FAILS=1).returncode, 70, name)
+            self.assertTrue(self.noted()[-1].startswith("all check"), name)
+            ran = self.auc("--old", "run", "x", SAYS="old", RT_FAILS=1)
+            self.assertEqual((ran.stdout, ran.stderr), ("old\n", "auc: this is the proved program of version 1.2.3; the sources at hand are others\n"))
+            self.assertIn("so nothing is compared", self.check().stdout)
+            path.write_text(was) if was is not None else path.unlink()
+        self.assertEqual(self.auc("run", "x", without_rt=True).returncode, 0)
+
+    def test_prove_builds_here(self):
+        self.assertEqual(self.auc("prove").returncode, 0)
+        self.assertTrue(self.noted()[0].startswith("all check"))
+        self.assertIn("proved and built here", self.auc("--version").stdout)
+
+    def test_one_byte_changed_is_refused(self):
+        for path in sorted((self.top / "release").iterdir()):
+            was = path.read_bytes()
+            for at in {0, 9, len(was) // 2, len(was) - 1}:
+                path.write_bytes(was[:at] + bytes([was[at] ^ 1]) + was[at + 1:])
+                for words in (["run", "x"], ["--old", "run", "x"]):
+                    ran = self.auc(*words, SAYS="hello")
+                    self.assertEqual((ran.returncode, ran.stdout), (70, ""), (path.name, at))
+                    self.assertRegex(ran.stderr, r"release was changed.*\n$")
+            path.unlink()
+            self.assertEqual(self.auc("run", "x").returncode, 70, path.name)
+            self.assertNotEqual(self.check().returncode, 0)
+            path.write_bytes(was)
+        self.assertEqual(self.noted(), [], "neither the program was run nor rt")
+
+    def test_a_checkout_that_cannot_be_written_runs_too(self):
+        subprocess.run(["chmod", "-R", "a+rX,a-w", str(self.top)], check=True)
+        self.addCleanup(subprocess.run, ["chmod", "-R", "u+w", str(self.top)])
+        self.room.chmod(0o777)
+        self.here.chmod(0o777)
+        how = {"without_rt": True, "preexec_fn": as_a_user, "CALLS": ""}
+        first, second = (self.auc("run", "x", SAYS="hello", **how) for _ in range(2))
+        self.assertEqual((first.stdout, second.stdout), ("hello\n", "hello\n"))
+        self.assertEqual((first.stderr.count("\n"), second.stderr), (1, ""), "it is told once")
+        self.assertEqual(self.auc("run", "x", SAYS="hello", XDG_CACHE_HOME="/proc/none", **how).stdout, "hello\n")
+
+    def test_many_calls_at_once(self):
+        children = [self.started("run", "x", SAYS="hello", stdout=subprocess.PIPE, stderr=subprocess.PIPE, text=True) for _ in range(8)]
+        for child in children:
+            self.assertEqual(child.communicate(timeout=SECONDS)[0], "hello\n")
+
+    def test_a_release_needs_a_green_gate_and_its_program(self):
+        before = (self.top / "release/release.json").read_bytes()
+        (self.top / "CHANGELOG.md").write_text("## 1.2.4\n")
+        self.built(b"new program")
+        for text in ("", "3 passed, 1 failed\n", "0 passed, 0 failed\n", "3 passed, 0 failed\nmore\n"):
+            self.log.write_text(text)
+            self.assertEqual(self.auc(self.log, script="bench/release.py").returncode, 1, text)
+        self.log.write_text("4 passed, 0 failed\n")
+        self.aged(self.out / "auc_cli")
+        self.assertIn("changed after", self.auc(self.log, script="bench/release.py").stderr)
+        self.assertEqual((self.top / "release/release.json").read_bytes(), before)
+        self.built(b"new program")
+        self.assertEqual(self.auc(self.log, script="bench/release.py").returncode, 0)
+        self.assertIn("1.2.4", (self.top / "release/release.json").read_text())
+
+    def test_the_gate_compares_the_program(self):
+        self.assertEqual(self.check().returncode, 1, "there is no program to compare")
+        self.built(self.program.read_bytes())
+        self.assertEqual((self.check().returncode, self.check().stdout[-13:]), (0, "byte by byte\n"))
+        self.built(self.program.read_bytes() + b"\n")
+        self.assertEqual(self.check().returncode, 1)
+        shutil.rmtree(self.top / "release")
+        self.assertEqual((self.check().returncode, self.check().stdout), (0, "release: there is none\n"))
+
+
+if __name__ == "__main__":
+    unittest.main()
