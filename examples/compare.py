@@ -3,7 +3,7 @@
 
     examples/compare.py [--program PROGRAM] [--after LINE]
 
-PROGRAM is crates/auc_cli/out/auc_cli, which `rt ci`, `rt run` and `./auc` build, unless it is given. NAME.scenario has
+PROGRAM is crates/auc_cli/out/auc_cli, which `rt ci`, `rt run` and `./auc prove` build, unless it is given. NAME.scenario has
 its expected output in NAME.expected, and the exit status must be 0; a scenario over a file of subscribers stands in
 the table below. Each example gets a line, and the last line is `N passed, M failed`. With --after, LINE is the last
 line of `rt ci`, and its counts are added; if LINE has no such counts, that is one failure.
@@ -86,7 +86,7 @@ def stray(names):
 def main():
     given = options()
     if not given.program.exists():
-        print(f"examples: {given.program} isn't there; `./auc` builds it", file=sys.stderr)
+        print(f"examples: {given.program} isn't there; `./auc prove` builds it", file=sys.stderr)
     names = sorted(path.stem for path in HERE.glob("*.scenario"))
     passed, failed = counts_in(given.after) if given.after is not None else (0, 0)
     for name in names:

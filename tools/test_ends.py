@@ -1,0 +1,89 @@
+#!/usr/bin/env python3
+"""Starts the program with each subset of the descriptors 0, 1 and 2 closed, in a folder with a journal and in one without,
+and judges what it leaves there.
+
+    tools/test_ends.py [PROGRAM]      PROGRAM: crates/auc_cli/out/auc_cli, unless it is given
+
+- A file auc.journal is a journal after each run: it begins with the header of one, or has no bytes.
+- With standard output closed the status is 5, the journal has the bytes of before, and none is made if there was none.
+- With others closed the run is as with all open: output, status and journal.
+
+The exit status is 0 only if each rule holds.
+"""
+import itertools
+import os
+import subprocess
+import sys
+import tempfile
+from pathlib import Path
+
+TOP = Path(__file__).resolve().parent.parent
+JOURNAL, HEADER = "auc.journal", b"AUC-SQN-JOURNAL1"
+WRITE_FAULT = 5
+SECONDS = 60
+K, OPC = "465b5ce8b199b49faa5f0a2ee238a6bc", "cd63cb71954a9f4e48a5994e37a02baf"
+FILES = {
+    "day.scenario": "round\njob\ndraw 001010000000001 3\njob\ndraw 001010000000001 100\n",
+    "subscribers.csv": f"imsi,k,kind,op,amf,seq,usim\n001010000000001,{K},opc,{OPC},8000,0,0\n",
+}
+FORMS = [
+    ["run", "day.scenario", "subscribers.csv"], ["reserved"], ["load", "7", "2", "2", "2"],
+    ["vector", K, OPC, "23553cbe9637a89d218ae64dae47bf35", "ff9bb4d0b607", "b9b9"],
+]
+SUBSETS = [set(it) for count in range(4) for it in itertools.combinations((0, 1, 2), count)]
+
+
+def journal_in(folder):
+    """The bytes of the folder's journal; nothing if it has none."""
+    path = Path(folder, JOURNAL)
+    return path.read_bytes() if path.exists() else None
+
+
+def ran(program, words, journal, closed):
+    """A run over a journal of these bytes, if there are any: its output, its status, and the journal after it."""
+
+    def close():
+        for descriptor in closed:
+            os.close(descriptor)
+
+    with tempfile.TemporaryDirectory() as folder:
+        for name, text in FILES.items():
+            Path(folder, name).write_text(text)
+        if journal is not None:
+            Path(folder, JOURNAL).write_bytes(journal)
+        done = subprocess.run(
+            [program, *words], cwd=folder, stdin=subprocess.DEVNULL, stdout=subprocess.PIPE, stderr=subprocess.PIPE,
+            preexec_fn=close, timeout=SECONDS,
+        )
+        assert not done.stderr, (words, closed, done.stderr)
+        return done.stdout, done.returncode, journal_in(folder)
+
+
+def judge(program, words, journal):
+    """Whether a form of the program keeps the rules with each subset closed; says each breach."""
+    whole = ran(program, words, journal, set())
+    assert whole[1] == 0, (words, whole)
+    breaches = 0
+    for closed in SUBSETS:
+        found = ran(program, words, journal, closed)
+        wanted = (b"", WRITE_FAULT, journal) if 1 in closed else whole
+        is_journal = not found[2] or found[2].startswith(HEADER)
+        if found != wanted or not is_journal:
+            breaches += 1
+            folder = "without a journal" if journal is None else "with a journal"
+            print(f"ends: {words[0]}, {folder}, {sorted(closed)} closed: {found} in place of {wanted}", file=sys.stderr)
+    return breaches
+
+
+def main():
+    program = str(Path(sys.argv[1] if len(sys.argv) > 1 else TOP / "crates/auc_cli/out/auc_cli").resolve())
+    journal = ran(program, FORMS[0], None, set())[2]
+    assert journal and journal.startswith(HEADER), journal
+    breaches = sum(judge(program, words, it) for words in FORMS for it in (None, journal))
+    if breaches:
+        sys.exit(f"ends: {breaches} runs broke a rule")
+    print("ends: each rule holds")
+
+
+if __name__ == "__main__":
+    main()
