@@ -162,6 +162,14 @@ class Words(Checkout):
             self.assertIn("usage: ./auc run SCENARIO", ran.stderr, words)
         self.assertEqual(self.noted(), [])
 
+    def test_a_text_that_cannot_be_written_ends_with_a_line(self):
+        with open("/dev/full", "wb") as full:
+            for how in ({"stdout": full}, {"preexec_fn": lambda: os.close(1)}):
+                for word in ("--help", "--version"):
+                    ran = self.auc(word, **how)
+                    self.assertEqual(ran.returncode, 70)
+                    self.assertRegex(ran.stderr, r"^auc: the output could not be written: [A-Z][a-z ]+\n$")
+
     def test_help_has_the_minutes_of_the_table(self):
         said = self.auc("--help").stdout
         self.assertIn("about 31 minutes of processor time", said)
@@ -237,7 +245,7 @@ class Runs(Checkout):
                 words = ["run", "x"] if how else ["--journal-dir", folder, "run", "x"]
                 ran = self.auc(*words, **how)
                 self.assertEqual((ran.returncode, ran.stdout), (70, ""))
-                self.assertIn(f"'{folder}'", ran.stderr)
+                self.assertRegex(ran.stderr, f"^auc: the folder of the journal, '{folder}': .*\\n$")
         self.assertEqual((sorted(it.name for it in self.here.iterdir()), self.noted()), (["file"], []))
 
 
@@ -434,6 +442,11 @@ class Builds(Checkout):
             child.send_signal(number)
             child.wait(SECONDS)
             self.assert_ends(pid)
+
+    def test_a_build_without_standard_error_is_silent(self):
+        ran = self.auc("run", "x", SAYS="hello", preexec_fn=lambda: os.close(2))
+        self.assertEqual((ran.returncode, ran.stdout), (0, "hello\n"))
+        self.assertEqual((self.out / "build.log").read_text(), "== auc_low\n== auc_cli\n")
 
     def test_a_machine_without_the_kit_is_told(self):
         ran = self.auc("run", "x", without_rt=True)

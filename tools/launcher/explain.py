@@ -56,26 +56,27 @@ CAUSES_OF_LINES = {
 
 @dataclass(frozen=True)
 class Call:
-    """A call that ended: the program, its words, the names that the caller gave its files, the journal's folder, and what
-    the program printed if that is known."""
+    """A call that ended in this folder: the program, its words, the words of the caller, which name the files, and what the
+    program printed if that is known."""
 
     program: str
     words: list
     names: list
-    folder: Path
     said: str = None
 
     def files(self):
         """The files of a run in the order in which the program reads them, each with the caller's name for it."""
         return [*zip(self.words[1:], self.names[1:])][::-1] if self.words[0] == "run" else []
 
-    def journal(self):
-        return self.folder / JOURNAL
-
     def last_line(self, words, folder):
         """The words of the last line that the program printed, or prints for these words in a folder."""
         said = running.printed(self.program, words, folder) if self.said is None else self.said
         return said.splitlines()[-1].split() if said else []
+
+
+def journal():
+    """The whole path of the journal, to be told."""
+    return Path(JOURNAL).absolute()
 
 
 # ---- a line of a file
@@ -142,9 +143,9 @@ def refusal(call, status):
 
 
 def refused_journal(call, status):
-    said = call.last_line(["reserved"], call.folder)
+    said = call.last_line(["reserved"], ".")
     place = f"byte {said[2]} shows that " if len(said) == 3 and said[:2] == ["refused", "journal"] else ""
-    return f"{call.journal()}: {place}it is no journal. Don't delete it: {GUIDE} has the cases (status {status})"
+    return f"{journal()}: {place}it is no journal. Don't delete it: {GUIDE} has the cases (status {status})"
 
 
 # ---- what the system says of a file
@@ -176,13 +177,13 @@ def too_long(call, status):
     return f"auc: a file has more than {MAX_BYTES} bytes (status {status})"
 
 
-def fault_of_journal(journal):
+def fault_of_journal(path):
     """Why a journal can't be opened, locked or written, by the system; nothing if it can. The journal stays as it is."""
     try:
-        if journal.exists():
-            with open(journal, "r+b", opener=lambda it, flags: os.open(it, flags | os.O_NONBLOCK)) as file:
+        if path.exists():
+            with open(path, "r+b", opener=lambda it, flags: os.open(it, flags | os.O_NONBLOCK)) as file:
                 fcntl.flock(file, fcntl.LOCK_EX | fcntl.LOCK_NB)
-        with tempfile.TemporaryFile(dir=journal.parent, buffering=0) as file:
+        with tempfile.TemporaryFile(dir=path.parent, buffering=0) as file:
             file.write(bytes(4096))
             os.fsync(file.fileno())
     except BlockingIOError:
@@ -192,9 +193,9 @@ def fault_of_journal(journal):
     return None
 
 
-def journal_failed(call, status):
-    fault = fault_of_journal(call.journal())
-    return f"{call.journal()}: {fault or 'it could not be opened, locked, read or written'} (status {status})"
+def journal_failed(_, status):
+    fault = fault_of_journal(Path(JOURNAL))
+    return f"{journal()}: {fault or 'it could not be opened, locked, read or written'} (status {status})"
 
 
 # ---- all statuses
@@ -206,16 +207,16 @@ def unwritten(_, status):
 
 
 SENTENCES = {
-    1: lambda call, status: f"auc: these words are no command line; `auc --help` prints the forms (status {status})",
+    1: lambda _, status: f"auc: these words are no command line; `auc --help` prints the forms (status {status})",
     2: refusal,
     3: refusal,
     4: unreadable,
     5: unwritten,
     6: journal_failed,
     7: refused_journal,
-    8: lambda call, status: f"{call.journal()}: the journal is full (status {status})",
+    8: lambda _, status: f"{journal()}: the journal is full (status {status})",
     9: too_long,
-    10: lambda call, status: f"auc: the memory ran out (status {status})",
+    10: lambda _, status: f"auc: the memory ran out (status {status})",
 }
 
 

@@ -3,13 +3,12 @@ import contextlib
 import math
 import os
 import subprocess
-import sys
 from dataclasses import dataclass, field
 from pathlib import Path
 
 from . import build, costs, release, running
 from .explain import Call, explain
-from .places import CRATE, GUIDE, JOURNAL, NOT_RUN, TOP, Stopped, say, version
+from .places import CRATE, GUIDE, JOURNAL, NOT_RUN, TOP, Stopped, put, say, tell, version
 
 FORMS = ("run", "reserved", "vector", "load")
 FOLDER = "AUC_JOURNAL_DIR"
@@ -123,11 +122,18 @@ def standing():
 # ---- the runs
 
 
-def journal_folder(named):
-    """The folder of the journal, whole. It is never made, since a centre without its journal begins again."""
-    if named is not None and not os.path.isdir(named):
-        raise Stopped(f"the folder of the journal, '{named}', isn't there or is no folder")
-    return Path(os.path.abspath(named or os.getcwd()))
+def enter(folder):
+    """Changes into the folder of the journal. It is never made, since a centre without its journal begins again."""
+    try:
+        os.chdir(folder)
+    except OSError as error:
+        raise Stopped(f"the folder of the journal, '{folder}': {error.strerror}") from error
+
+
+def seen_from_anywhere(words):
+    """The words with the files of a run as whole paths."""
+    here = os.getcwd()
+    return [words[0], *(os.path.join(here, it) if it else it for it in words[1:])] if words[0] == "run" else words
 
 
 def is_blank(journal):
@@ -135,26 +141,20 @@ def is_blank(journal):
     return not journal.exists() or journal.stat().st_size == 0
 
 
-def resolved(words, folder):
-    """The words for a run in another folder than the caller's: the files of a run as whole paths."""
-    here = Path.cwd()
-    if words[0] != "run" or folder == here:
-        return words
-    return [words[0], *(str(here / it) if it else it for it in words[1:])]
-
-
 def run_proved(given):
-    folder = journal_folder(given.folder)
-    journal, words = folder / JOURNAL, resolved(given.words, folder)
+    words, journal = given.words, Path(JOURNAL)
+    if given.folder is not None:
+        words = seen_from_anywhere(words)
+        enter(given.folder)
     if words == ["reserved"] and not os.path.lexists(journal):
-        say(f"no journal in {folder}")
+        say(f"no journal in {os.getcwd()}")
         return NO_JOURNAL
     with chosen(given.old) as program:
         was_blank = is_blank(journal)
-        status = running.run(program, words, folder)
+        status = running.run(program, words)
         if words[0] == "run" and was_blank and not is_blank(journal):
-            say(f"a new journal was begun: {journal}")
-        explain(Call(program, words, given.words, folder), status)
+            say(f"a new journal was begun: {journal.absolute()}")
+        explain(Call(program, words, given.words), status)
     return status
 
 
@@ -173,12 +173,10 @@ def run_unproved(given):
     say("nothing is proved in this run")
     copies, words = copied(given.words)
     done = subprocess.run(["rt", "try", *copies, "--", *words], cwd=CRATE, stdout=subprocess.PIPE, stderr=subprocess.PIPE)
-    if sys.stdout:
-        sys.stdout.buffer.write(done.stdout)
-        sys.stdout.flush()
+    put(done.stdout)
     if not any(it.startswith(b"run=ended") for it in done.stderr.splitlines()):
         raise Stopped(f"the program did not run to its end:\n{done.stderr.decode(errors='replace')}")
-    explain(Call(None, given.words, given.words, Path.cwd(), done.stdout.decode(errors="replace")), done.returncode)
+    explain(Call(None, given.words, given.words, done.stdout.decode(errors="replace")), done.returncode)
     return done.returncode
 
 
@@ -196,10 +194,10 @@ def prove(words):
 def done(words):
     """Does what the words say: the exit status."""
     if words[:1] in (["--help"], ["-h"], ["help"]):
-        print(help_text(), end="")
+        put(help_text().encode())
         return 0
     if words == ["--version"]:
-        print(f"auc {version()}\n{standing()}")
+        put(f"auc {version()}\n{standing()}\n".encode())
         return 0
     if words[:1] == ["prove"]:
         return prove(words[1:])
@@ -211,8 +209,7 @@ def main(words):
     try:
         return done(words)
     except WrongWords:
-        if sys.stderr:
-            sys.stderr.write(help_text())
+        tell(help_text().rstrip("\n"))
         return NO_WORDS
     except Stopped as why:
         say(why)

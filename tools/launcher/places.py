@@ -1,4 +1,6 @@
-"""Where things are, what the script says, and how it ends."""
+"""Where things are, and how the script speaks and ends."""
+import errno
+import os
 import re
 import sys
 from pathlib import Path
@@ -27,6 +29,17 @@ def tell(line):
 
 def say(text):
     tell(f"auc: {text}")
+
+
+def put(content):
+    """Writes these bytes to standard output, at once."""
+    try:
+        if sys.stdout is None:
+            raise OSError(errno.EBADF, os.strerror(errno.EBADF))
+        while content:
+            content = content[os.write(sys.stdout.fileno(), content):]
+    except OSError as error:
+        raise Stopped(f"the output could not be written: {error.strerror}") from error
 
 
 def version():

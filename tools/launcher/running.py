@@ -20,18 +20,16 @@ def status_of(process):
     return process.returncode
 
 
-def run(program, words, folder):
-    """Runs the program in a folder with the caller's descriptors, as they are: also those that are closed."""
+def run(program, words):
+    """Runs the program in this folder with the caller's descriptors, as they are: also those that are closed."""
     try:
-        process = subprocess.Popen([NAME, *words], executable=program, cwd=folder)
+        process = subprocess.Popen([NAME, *words], executable=program)
     except OSError as error:
         raise Stopped(f"the program can't be started: {error.filename}: {error.strerror}") from error
     return status_of(process)
 
 
 def printed(program, words, folder):
-    """What the program prints if nobody listens, as text."""
-    done = subprocess.run(
-        [NAME, *words], executable=program, cwd=folder, stdin=None, stdout=subprocess.PIPE, stderr=subprocess.DEVNULL
-    )
-    return done.stdout.decode(errors="replace")
+    """What the program prints in a folder, as text."""
+    how = {"stdout": subprocess.PIPE, "stderr": subprocess.DEVNULL}
+    return subprocess.run([NAME, *words], executable=program, cwd=folder, **how).stdout.decode(errors="replace")
