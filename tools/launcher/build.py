@@ -98,9 +98,10 @@ def followed(words, log, progress):
 
 
 def announce(jobs):
+    work, here = math.ceil(costs.processor_minutes()), math.ceil(costs.minutes(jobs))
     say(
-        f"proving and building the program: {math.ceil(costs.processor_minutes())} minutes of processor time, about"
-        f" {math.ceil(costs.minutes(jobs))} minutes with {jobs} crates side by side, less if some are proved; the log is {LOG}"
+        f"proving and building the program: {work} minutes of processor time, about {here} minutes with {jobs} crates side"
+        f" by side, less if some are proved; the log is {LOG}"
     )
 
 

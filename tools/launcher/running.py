@@ -8,25 +8,31 @@ PASSED_ON = (signal.SIGINT, signal.SIGTERM, signal.SIGHUP)
 NAME = "auc"
 
 
-def status_of(process):
-    """The exit status of a program that runs, as a shell has it. It gets each signal that ends scripts."""
-    for number in PASSED_ON:
-        if signal.getsignal(number) is not signal.SIG_IGN:
-            signal.signal(number, lambda it, _: process.send_signal(it))
-    process.wait()
-    if process.returncode < 0:
-        say(f"the program was ended by signal {-process.returncode}")
-        return 128 - process.returncode
-    return process.returncode
+def started(program, words):
+    """The program, started in this folder with the caller's descriptors as they are, also those that are closed. From then
+    on it gets each signal that ends scripts; one that comes meanwhile waits."""
+    before = signal.pthread_sigmask(signal.SIG_BLOCK, PASSED_ON)
+    try:
+        process = subprocess.Popen(
+            [NAME, *words], executable=program, preexec_fn=lambda: signal.pthread_sigmask(signal.SIG_SETMASK, before)
+        )
+        for number in PASSED_ON:
+            if signal.getsignal(number) is not signal.SIG_IGN:
+                signal.signal(number, lambda it, _: process.send_signal(it))
+    except OSError as error:
+        raise Stopped(f"the program can't be started: {error.filename}: {error.strerror}") from error
+    finally:
+        signal.pthread_sigmask(signal.SIG_SETMASK, before)
+    return process
 
 
 def run(program, words):
-    """Runs the program in this folder with the caller's descriptors, as they are: also those that are closed."""
-    try:
-        process = subprocess.Popen([NAME, *words], executable=program)
-    except OSError as error:
-        raise Stopped(f"the program can't be started: {error.filename}: {error.strerror}") from error
-    return status_of(process)
+    """Runs the program: its exit status, as a shell has it."""
+    status = started(program, words).wait()
+    if status < 0:
+        say(f"the program was ended by signal {-status}")
+        return 128 - status
+    return status
 
 
 def printed(program, words, folder):
