@@ -99,9 +99,10 @@ def followed(words, log, progress):
 
 def announce(jobs):
     work, here = math.ceil(costs.processor_minutes()), math.ceil(costs.minutes(jobs))
+    how = f"{jobs} crates side by side" if jobs > 1 else "one crate after the other"
     say(
-        f"proving and building the program: {work} minutes of processor time, about {here} minutes with {jobs} crates side"
-        f" by side, less if some are proved; the log is {LOG}"
+        f"proving and building the program, {how}: {work} minutes of processor time, about {here} minutes in all, less if"
+        f" some crates are proved; the log is {LOG}"
     )
 
 

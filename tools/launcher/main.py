@@ -34,11 +34,11 @@ A run keeps what it reserved in the file auc.journal of that folder, or else of 
 is the centre: the same files in another folder give the same numbers once more.
 
 The proved program of the last release runs at once. If the sources aren't those of the release, the first call proves and
-builds the program. That takes about {work} minutes of processor time: about {here} minutes on this machine, with {jobs} crates
-side by side, and {four} on four processors.
+builds the program. That takes about {work} minutes of processor time: {here} minutes on this machine, and {four} on four
+processors.
 
-The status is the program's; but it is {no_words} for words that aren't here, {no_journal} for `reserved` in a folder without a
-journal, and {not_run} if the program could not be run. {guide} has all of them.
+The status is the program's; but it is {no_words} for words that aren't here, {no_journal} for `reserved` in a folder
+without a journal, and {not_run} if the program could not be run. {guide} has all of them.
 To begin: ./auc run {top}/examples/first.scenario
 """
 
@@ -74,10 +74,10 @@ def options(words):
 
 
 def help_text():
-    jobs = costs.jobs_here()
-    work, here, four = (math.ceil(it) for it in (costs.processor_minutes(), costs.minutes(jobs), costs.minutes(4)))
+    minutes = costs.processor_minutes(), costs.minutes(costs.jobs_here()), costs.minutes(4)
+    work, here, four = map(math.ceil, minutes)
     return HELP.format(
-        folder=FOLDER, work=work, here=here, jobs=jobs, four=four, guide=GUIDE, top=TOP,
+        folder=FOLDER, work=work, here=here, four=four, guide=GUIDE, top=TOP,
         no_words=NO_WORDS, no_journal=NO_JOURNAL, not_run=NOT_RUN,
     )
 
