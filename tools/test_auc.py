@@ -39,14 +39,14 @@ PROGRAM = """#!/bin/sh
 [ -z "$SAYS" ] || printf '%s\\n' "$SAYS"
 [ "$1" = vector ] || exit "${STATUS:-0}"
 """
-# The stand-in for rt: it notes its words, builds by a copy, fails or waits if it is told to.
+# The stand-in for rt: it notes its words, builds by a copy, and fails or waits if it is told to.
 RT = """#!/bin/sh
 [ "$1" = version ] && echo "stand-in kit" && exit
 echo "$*" >>"$CALLS"
 [ -z "$RT_NAP" ] || { echo $$ >"$RT_PID"; exec sleep "$RT_NAP"; }
 while [ -n "$RT_GATE" ] && [ ! -e "$RT_GATE" ]; do sleep 0.05; done
 [ -z "$RT_EDITS" ] || echo more >>"$RT_EDITS"
-[ -z "$RT_FAILS" ] || exit 1
+[ "$RT_FAILS" != "$1" ] || { rm -f out/auc_cli; exit 1; }
 case $1 in
     all) printf '== auc_low\\n'; sleep 0.6; printf '== auc_cli\\n' ;;
     run) mkdir -p out; rm -f out/auc_cli; cp "$RT_PROGRAM" out/auc_cli; shift 2; exec out/auc_cli "$@" ;;
@@ -124,7 +124,7 @@ class Checkout(unittest.TestCase):
         return subprocess.run(self.command(*words, script=script), timeout=SECONDS, **how)
 
     def started(self, *words, **more):
-        child = subprocess.Popen(self.command(*words), **self.how(more), **more)
+        child = subprocess.Popen(self.command(*words), **self.how(more), preexec_fn=heed_signals, **more)
         self.addCleanup(child.wait)
         self.addCleanup(child.kill)
         return child
@@ -401,6 +401,12 @@ class Explanations(Checkout):
         self.assertEqual(self.noted(), [f"try --data input1={self.here}/a.scenario -- run input1"])
 
 
+def heed_signals():
+    """Has signals end the process to come, also in a gate that runs in the background."""
+    for number in (signal.SIGINT, signal.SIGTERM, signal.SIGHUP):
+        signal.signal(number, signal.SIG_DFL)
+
+
 def as_a_user():
     """Has permissions count in the process to come, also for root."""
     for capability in (DAC_OVERRIDE, DAC_READ_SEARCH):
@@ -429,9 +435,10 @@ class Builds(Checkout):
             shutil.rmtree(self.out, ignore_errors=True)
             old = self.executable(f"top/crates/auc_cli/out/{place}", "#!/bin/sh\necho old\n")
             self.aged(old)
-            ran = self.auc("run", "x", RT_FAILS=1)
-            self.assertEqual((ran.returncode, ran.stdout), (70, ""), "the old program isn't run unless it is asked for")
-            ran = self.auc("--old", "run", "x", RT_FAILS=1)
+            for verb in ("all", "run"):
+                ran = self.auc("run", "x", RT_FAILS=verb)
+                self.assertEqual((ran.returncode, ran.stdout), (70, ""), "the old program isn't run unless it is asked for")
+            ran = self.auc("--old", "run", "x", RT_FAILS="all")
             self.assertEqual((ran.returncode, ran.stdout), (0, "old\n"))
             self.assertIn("proved before the sources changed", ran.stderr)
             self.assertEqual(self.auc("run", "x", SAYS="new").stdout, "new\n")
@@ -548,9 +555,9 @@ class Releases(Checkout):
             path.parent.mkdir(exist_ok=True)
             path.write_text(text)
             self.assertEqual(self.auc("run", "x", without_rt=True).returncode, 70, name)
-            self.assertEqual(self.auc("run", "x", RT_FAILS=1).returncode, 70, name)
+            self.assertEqual(self.auc("run", "x", RT_FAILS="all").returncode, 70, name)
             self.assertTrue(self.noted()[-1].startswith("all check"), name)
-            ran = self.auc("--old", "run", "x", SAYS="old", RT_FAILS=1)
+            ran = self.auc("--old", "run", "x", SAYS="old", RT_FAILS="all")
             self.assertEqual(ran.stdout, "old\n")
             self.assertEqual(ran.stderr, "auc: this is the proved program of version 1.2.3; the sources at hand are others\n")
             self.assertIn("so nothing is compared", self.check().stdout)
