@@ -1,57 +1,64 @@
 #!/usr/bin/env python3
-"""Tries the must-fail edits that aren't in the gate, edits/NAME/*.edit, and says of each whether it was refused and
-how many seconds of processor time its try took.
+"""Tries must-fail edits, those of the gate (crates/NAME/must-fail) and the others (edits/NAME): the prover has to refuse
+each of them.
 
-    bench/edits.py [--gate] [--jobs N] [NAME ..]
+    bench/edits.py [--jobs N] [--write] [--anew] [--missing | NAME ..]
+    bench/edits.py --released
     bench/edits.py --applies
 
-Without NAME the edits of every crate are tried. It works in a temporary clone of the last commit: there `rt check`
-proves the crate, over what earlier checks on this machine kept, and then `rt must-fail` tries one edit at a time. The
-time of a try has the two short checks of the crate in it that rt makes around the edit's own. An edit that an earlier
-run tried on the same files is kept by rt, and isn't tried again. --gate tries the edits of the gate instead,
-crates/NAME/must-fail/*.edit. --jobs says how many crates are worked on side by side: half of the processors, unless it
-is given. --applies tries nothing: it only tests that each edit of both kinds can be applied to the files as they are,
-which takes no time. The gate calls it so, since rt ci passes an edit that can't be applied.
+Without NAME all edits of all crates are tried. It works in a temporary clone of the last commit. First one `rt all check`
+proves the crates, and those below them, over what earlier checks on this machine kept. Then one `rt must-fail` a crate
+tries all of its edits over one check of it, crates side by side. A line says of each edit what its try came to, and its
+seconds of processor time. An edit that an earlier run tried on the same files is kept by rt, and isn't tried again; --anew
+tries it too. --missing tries the crates that --released lists. --jobs says how many provers work side by side: RT_JOBS, or
+else one a processor, as far as each finds 5 GB of memory.
 
-The exit status is 0 if each edit was refused, 1 if one was not or could not be applied, read or tried, and 2 if there
-is no such crate.
+--write keeps what was seen in docs/EDITS.md, crate by crate as each ends. It leaves the rows of crates that weren't tried,
+drops those of edits that are gone, and has `not tried` for new ones.
+
+--released tries nothing: it lists the edits that docs/EDITS.md doesn't show as refused at the newest version of
+CHANGELOG.md and on the files as they are. A release needs all of them.
+
+--applies tries nothing: it tests that each edit can be applied to the files as they are, which takes no time. It also
+refuses two edits of one name, a crate with a public function and without an edit, and fewer edits than there were. The
+gate calls it so, since rt ci passes an edit that can't be applied.
+
+The exit status is 0 if all is well, 1 if an edit was not refused or could not be applied, read or tried, and 2 if there is
+no such crate.
 """
 import argparse
 import os
+import re
+import resource
 import shutil
 import subprocess
 import sys
 import tempfile
+import threading
 import time
 from concurrent.futures import ThreadPoolExecutor
 from pathlib import Path
 
-TOP = Path(__file__).resolve().parent.parent
-sys.path.append(str(TOP / "tools"))
-from ends import run_main
+import provers
+import verdicts
+from repository import TOP, files_of, uses_of, version_of, with_those_below
 
-REFUSED, KEPT = "refused", "refused, by an earlier run"
-VERDICTS = {it: it for it in ("NOT REFUSED", "BAD EDIT", "NOT TRIED")} | {"refused, as it must be": REFUSED}
+MEMORY = 5_000_000_000
 
 
 def options():
     parser = argparse.ArgumentParser(description=__doc__, formatter_class=argparse.RawDescriptionHelpFormatter)
     parser.add_argument("names", nargs="*", metavar="NAME", help="a crate")
-    parser.add_argument("--gate", action="store_true", help="try the edits of the gate instead")
+    parser.add_argument("--jobs", type=int, default=0, help="provers side by side")
+    parser.add_argument("--write", action="store_true", help="keep what was seen in docs/EDITS.md")
+    parser.add_argument("--anew", action="store_true", help="also try what an earlier run tried")
+    parser.add_argument("--missing", action="store_true", help="only the crates that --released lists")
+    parser.add_argument("--released", action="store_true", help="only compare docs/EDITS.md with the files")
     parser.add_argument("--applies", action="store_true", help="only test that each edit can be applied")
-    parser.add_argument("--jobs", type=int, default=max(1, (os.cpu_count() or 2) // 2), help="crates side by side")
     return parser.parse_args()
 
 
-def folder_of(top, name, of_gate):
-    """Where a crate's edits stand: those of the gate, or the others."""
-    return top / "crates" / name / "must-fail" if of_gate else top / "edits" / name
-
-
-def crates_with_edits(top, of_gate):
-    """The crates that have such edits, in the order of their names."""
-    folders = (top / "crates").iterdir() if of_gate else (top / "edits").iterdir() if (top / "edits").is_dir() else ()
-    return sorted(it.name for it in folders if any(folder_of(top, it.name, of_gate).glob("*.edit")))
+# ---- what needs no prover
 
 
 def pairs_of(text):
@@ -82,103 +89,218 @@ def why_not(crate, edit):
     return "" if changed else "it changes nothing"
 
 
+def has_public_function(crate):
+    """Whether a crate is a library with a public function; a program or a crate of tests has none."""
+    sources = [it for it in (TOP / "crates" / crate / "src").rglob("*.rt") if it.name != "tests.rt"]
+    if any(it.name == "main.rt" for it in sources):
+        return False
+    return any(re.search(r"(?m)^\s*pub (const )?(unsafe )?fn ", it.read_text()) for it in sources)
+
+
+def faults_of(edits):
+    """What is wrong with the edits of the repository as they stand."""
+    for crate in sorted(uses_of(TOP)):
+        of_crate = edits.get(crate, [])
+        names = [it.name for it in of_crate]
+        if not names and has_public_function(crate):
+            yield f"{crate} has no edit"
+        for name in sorted({it for it in names if names.count(it) > 1}):
+            yield f"{crate} has two edits of the name {name}"
+        for edit in of_crate:
+            why = why_not(TOP / "crates" / crate, edit.path)
+            if why:
+                yield f"{edit.path.relative_to(TOP)}: {why}"
+    count = sum(map(len, edits.values()))
+    if count < verdicts.FEWEST:
+        yield f"there are {count} edits, and there were {verdicts.FEWEST}"
+
+
 def test_that_all_apply():
-    """Prints each edit that can't be applied, and ends the script."""
-    count = faults = 0
-    for of_gate in (True, False):
-        for name in crates_with_edits(TOP, of_gate):
-            for edit in sorted(folder_of(TOP, name, of_gate).glob("*.edit")):
-                why, count = why_not(TOP / "crates" / name, edit), count + 1
-                if why:
-                    faults += 1
-                    print(f"edits: {edit.relative_to(TOP)}: {why}", file=sys.stderr)
-    if faults:
-        sys.exit(1)
-    print(f"edits: each of {count} can be applied")
-    sys.exit(0)
+    """Prints each fault of the edits as they stand, and ends the script."""
+    edits = verdicts.all_edits(TOP)
+    faults = list(faults_of(edits))
+    for it in faults:
+        print(f"edits: {it}", file=sys.stderr)
+    if not faults:
+        print(f"edits: each of {sum(map(len, edits.values()))} can be applied")
+    sys.exit(1 if faults else 0)
 
 
-def ran(words, folder):
-    """Runs a command: its exit status, what it printed, and its seconds of processor time."""
+def test_that_all_are_refused():
+    """Prints each edit that the table doesn't show as refused at this version on these files, and ends the script."""
+    lacking, edits = verdicts.lacking(TOP), verdicts.all_edits(TOP)
+    for crate, whys in lacking.items():
+        if len(whys) == len(edits[crate]) and len({*whys.values()}) == 1:
+            print(f"{crate}: all {len(whys)} edits: {next(iter(whys.values()))}")
+        else:
+            for name, why in whys.items():
+                print(f"{crate}/{name}: {why}")
+    count = sum(map(len, lacking.values()))
+    version = version_of(TOP)
+    print(f"{sum(map(len, edits.values())) - count} edits are refused at version {version}, {count} aren't shown to be")
+    sys.exit(1 if count else 0)
+
+
+# ---- the tries
+
+
+def default_jobs():
+    """How many provers may work side by side: one a processor, as far as the free memory holds them."""
+    if os.environ.get("RT_JOBS", "").isdigit():
+        return max(1, int(os.environ["RT_JOBS"]))
+    free = re.search(r"MemAvailable:\s+(\d+)", Path("/proc/meminfo").read_text())
+    return max(1, min(len(os.sched_getaffinity(0)), 1024 * int(free[1]) // MEMORY))
+
+
+def keep_only(clone, names):
+    """Takes each crate out of a clone but these, so that rt proves no other."""
+    lines = (clone / "crates.txt").read_text().splitlines(keepends=True)
+    kept = [it for it in lines if it.startswith("#") or not it.split() or re.split(r"[\s:]", it)[0] in names]
+    (clone / "crates.txt").write_text("".join(kept))
+    for folder in (clone / "crates").iterdir():
+        if folder.name not in names:
+            shutil.rmtree(folder)
+
+
+def prove(clone, jobs):
+    """Proves the crates of a clone: the names of those that aren't proved, and the end of what rt said."""
     how = {"stdin": subprocess.DEVNULL, "stdout": subprocess.PIPE, "stderr": subprocess.STDOUT, "errors": "replace"}
-    child = subprocess.Popen(words, cwd=folder, **how)
-    said = child.stdout.read()
-    _, status, usage = os.wait4(child.pid, 0)
-    child.returncode = os.waitstatus_to_exitcode(status)
-    return child.returncode, said, usage.ru_utime + usage.ru_stime
+    said = subprocess.run(["rt", "all", "check", "--jobs", str(jobs)], cwd=clone, check=False, **how).stdout
+    proved = {*re.findall(r"(?m)^(\w+): ok$", said)}
+    return {it.name for it in (clone / "crates").iterdir()} - proved, "\n".join(said.splitlines()[-20:])
 
 
-def prove(clone, name):
-    """Proves a crate in the clone; nothing if it is proved, else the end of what rt said."""
-    status, said, _ = ran(["rt", "check"], clone / "crates" / name)
-    return "" if status == 0 else "\n".join(said.splitlines()[-5:])
+class Trial:
+    """The tries of one run, over a clone whose crates are proved."""
 
+    def __init__(self, clone, given, names):
+        self.clone, self.given, self.names = clone, given, names
+        self.uses, self.version = uses_of(clone), version_of(clone)
+        self.edits = {it: verdicts.edits_of(clone, it) for it in names}
+        self.sums = {it: verdicts.files_sum(clone, it, self.uses) for it in names}
+        self.sections, self.last_run = verdicts.read_page(TOP)
+        self.counts, self.lock, self.sampler = [], threading.Lock(), provers.Sampler(os.getpid())
 
-def verdict_in(said, edit):
-    """What rt must-fail said of an edit."""
-    line = next((it for it in said.splitlines() if f"/{edit.name}: " in it), "")
-    found = next((VERDICTS[word] for word in VERDICTS if word in line), "NOT TRIED")
-    return KEPT if found == REFUSED and "were tried by an earlier run" in said else found
+    def cost(self, crate):
+        """About what the edits of a crate cost, to begin with the dearest."""
+        return len(self.edits[crate]) * sum(it.stat().st_size for it in files_of(self.clone, crate))
 
+    def try_all(self):
+        """Tries the edits of all crates, crates side by side."""
+        lanes = max(1, self.given.jobs // len(self.names))
+        with self.sampler, ThreadPoolExecutor(self.given.jobs) as pool:
+            dearest_first = sorted(self.names, key=self.cost, reverse=True)
+            for ended in [pool.submit(self.try_crate, it, lanes) for it in dearest_first]:
+                ended.result()
 
-def try_one(clone, name, edit, text):
-    """Tries one edit alone in its crate of the clone: the verdict, the processor seconds, and what rt said."""
-    alone = clone / "crates" / name / "must-fail"
-    shutil.rmtree(alone, ignore_errors=True)
-    alone.mkdir()
-    (alone / edit.name).write_bytes(text)
-    _, said, seconds = ran(["rt", "must-fail", name], clone)
-    return verdict_in(said, edit), seconds, said
+    def try_crate(self, crate, lanes):
+        """Tries the edits of a crate and gives what was seen."""
+        alone = verdicts.folder_of(self.clone, crate, True)
+        alone.mkdir(exist_ok=True)
+        for edit in self.edits[crate]:
+            if not edit.of_gate:
+                shutil.copy2(edit.path, alone)
+        words = ["rt", "must-fail", crate, *(["--anew"] if self.given.anew else [])]
+        how = {"stdin": subprocess.DEVNULL, "stdout": subprocess.PIPE, "stderr": subprocess.STDOUT, "errors": "replace"}
+        child = subprocess.Popen(words, cwd=self.clone, env={**os.environ, "RT_JOBS": str(lanes)}, **how)
+        said = child.stdout.read()
+        _, status, usage = os.wait4(child.pid, 0)
+        child.returncode = os.waitstatus_to_exitcode(status)
+        shutil.rmtree(self.clone / "crates" / crate / "out/incremental", ignore_errors=True)
+        with self.lock:
+            self.tell(crate, said, (usage.ru_utime + usage.ru_stime) / 60)
 
+    def seconds_of(self, crate):
+        """The processor seconds of each edit of a crate that a prover was seen at, by its name."""
+        edits, found = self.edits[crate], {}
+        for work, seconds in self.sampler.seconds().items():
+            number = 0 if len(edits) == 1 else work.number
+            if work.crate == crate and work.kind == "edits" and number is not None:
+                found[edits[number].name] = f"{seconds:.0f}"
+        return found
 
-def try_crate(clone, name, of_gate):
-    """Tries a crate's edits one after the other and prints a line for each: how many were refused, and how many not."""
-    edits = [(it, it.read_bytes()) for it in sorted(folder_of(clone, name, of_gate).glob("*.edit"))]
-    refused = 0
-    for edit, text in edits:
-        verdict, seconds, said = try_one(clone, name, edit, text)
-        print(f"{name:<15} {edit.stem:<60} {seconds:>7.1f} s   {verdict}", flush=True)
-        if verdict in (REFUSED, KEPT):
-            refused += 1
-        else:
+    def tell(self, crate, said, minutes):
+        """Prints what the tries of a crate came to, and puts it into the page."""
+        lines = {it[1]: it[0] for it in re.findall(r"(?m)^(rt: must-fail \w+/([\w.-]+)\.edit: .*)$", said)}
+        was, seconds, rows = self.sections.get(crate, verdicts.Section()), self.seconds_of(crate), {}
+        for edit in self.edits[crate]:
+            old = was.rows.get(edit.name, verdicts.Row(""))
+            row = verdicts.Row(edit.stands, verdicts.verdict_in(lines.get(edit.name, "")), text=edit.text)
+            row.refused_at = self.version if row.is_refused() else old.refused_at
+            row.seconds, rows[edit.name] = seconds.get(edit.name, old.seconds), row
+            print(f"{crate:<15} {edit.name:<62} {seconds.get(edit.name, 'kept'):>4}   {row.verdict}", flush=True)
+        refused = sum(it.is_refused() for it in rows.values())
+        self.counts.append((refused, len(rows) - refused))
+        if refused < len(rows):
             print(said, file=sys.stderr, flush=True)
-    return refused, len(edits) - refused
+        moment = time.strftime("%Y-%m-%d %H:%M")
+        self.sections[crate] = verdicts.Section(self.sums[crate], self.version, moment, f"{minutes:.1f}", rows)
+        if self.given.write:
+            verdicts.write_page(TOP, self.sections, self.last_run)
+
+    def end(self, began, without):
+        """Says what the run came to and how long it took, and puts that into the page."""
+        refused, others = (sum(it[place] for it in self.counts) for place in (0, 1))
+        usage = resource.getrusage(resource.RUSAGE_CHILDREN)
+        minutes, wall = (usage.ru_utime + usage.ru_stime) / 60, (time.monotonic() - began) / 60
+        crates = f"{len(self.names)} crates" if len(self.names) > 3 else ", ".join(f"`{it}`" for it in self.names)
+        took = f"{minutes:.0f} minutes of processor time with the proofs, {wall:.0f} by the clock "
+        took += f"on {os.cpu_count()} processors"
+        self.last_run = (
+            f"The last run ended on {time.strftime('%Y-%m-%d %H:%M')}: {refused} edits refused and {others} not, "
+            f"of {crates}, at version {self.version}, in {took}."
+        )
+        if self.given.write:
+            verdicts.write_page(TOP, self.sections, self.last_run)
+        print(f"{refused} refused, {others} not{f', {without} crates not proved' if without else ''}, in {took}")
+        return 1 if others or without else 0
 
 
-def tried(clone, names, given):
-    """Proves each crate, one after the other since they share libraries; then tries the edits, crates side by side."""
-    proved = []
-    for name in names:
-        why = prove(clone, name)
-        if why:
-            print(f"{name}: not proved as it stands, so its edits were not tried:\n{why}", file=sys.stderr)
-        else:
-            proved.append(name)
-    with ThreadPoolExecutor(max(1, given.jobs)) as pool:
-        counts = list(pool.map(lambda name: try_crate(clone, name, given.gate), proved))
-    return sum(refused for refused, _ in counts), sum(others for _, others in counts) + len(names) - len(proved)
+def names_to_try(given):
+    """The crates to try, or the end of the script if there is no such crate, or none to try."""
+    every = verdicts.all_edits(TOP)
+    unknown = [it for it in given.names if it not in every]
+    if unknown:
+        print(f"there are no edits of {' '.join(unknown)}", file=sys.stderr)
+        sys.exit(2)
+    names = list(verdicts.lacking(TOP)) if given.missing else given.names or list(every)
+    if not names:
+        print("all edits are refused at this version on these files")
+        sys.exit(0)
+    return names
+
+
+def try_in(clone, names, given, began):
+    """Proves the crates in a clone and tries their edits: the exit status."""
+    keep_only(clone, with_those_below(names, uses_of(clone)))
+    unproved, said = prove(clone, given.jobs)
+    lost = [it for it in names if it in unproved]
+    if unproved:
+        print(f"{said}\nnot proved as they stand, so their edits were not tried: {' '.join(lost)}", file=sys.stderr)
+    names = [it for it in names if it not in unproved]
+    if not names:
+        return 1
+    trial = Trial(clone, given, names)
+    trial.try_all()
+    return trial.end(began, len(lost))
 
 
 def main():
     given = options()
     if given.applies:
         test_that_all_apply()
-    names = crates_with_edits(TOP, given.gate)
-    unknown = [it for it in given.names if it not in names]
-    if unknown:
-        where = "crates/NAME/must-fail" if given.gate else "edits/NAME"
-        print(f"there are no edits of {' '.join(unknown)} in {where}", file=sys.stderr)
-        sys.exit(2)
+    if given.released:
+        test_that_all_are_refused()
+    names = names_to_try(given)
     if shutil.which("rt") is None:
         sys.exit("the command rt of the Rattle kit isn't on the PATH")
-    began = time.monotonic()
+    provers.need_proc()
+    given.jobs, began = given.jobs if given.jobs > 0 else default_jobs(), time.monotonic()
     with tempfile.TemporaryDirectory(prefix="auc-edits-") as folder:
         clone = Path(folder) / "clone"
         subprocess.run(["git", "clone", "-q", TOP, clone], check=True)
-        refused, others = tried(clone, given.names or names, given)
-    print(f"{refused} refused, {others} not, in {time.monotonic() - began:.0f} seconds")
-    sys.exit(1 if others else 0)
+        status = try_in(clone, names, given, began)
+    sys.exit(status)
 
 
-if __name__ == "__main__":
-    run_main(main)
+main()

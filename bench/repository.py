@@ -1,0 +1,78 @@
+"""What the scripts of bench/ ask of the repository: its crates and what they stand on, its version, its pages."""
+import hashlib
+import re
+import sys
+from pathlib import Path
+
+TOP = Path(__file__).resolve().parent.parent
+PARTS = ("src", "specs", "proofs")
+
+
+def uses_of(top):
+    """Each crate of crates.txt and the own crates that it uses."""
+    lines = [it.partition("#")[0].partition(":") for it in (top / "crates.txt").read_text().splitlines()]
+    listed = {head.split()[0]: libraries.split() for head, colon, libraries in lines if colon and head.split()}
+    return {name: [it for it in libraries if it in listed] for name, libraries in listed.items()}
+
+
+def with_those_below(names, uses):
+    """These crates and all crates that they stand on, each after those that it uses."""
+    found = {}
+
+    def visit(name):
+        if name not in found:
+            for library in uses[name]:
+                visit(library)
+            found[name] = None
+
+    for name in names:
+        visit(name)
+    return list(found)
+
+
+def files_of(top, crate):
+    """The files that a verdict on a crate rests on, apart from those of the crates below it."""
+    folder = top / "crates" / crate
+    return sorted(it for part in PARTS for it in (folder / part).rglob("*") if it.is_file())
+
+
+def checksum(top, crate, uses, seen=None):
+    """A checksum of a crate's sources, definitions and proofs, of those of all crates below it, and of what each uses."""
+    seen = {} if seen is None else seen
+    if crate not in seen:
+        found = hashlib.sha256(repr((crate, uses[crate])).encode())
+        for file in files_of(top, crate):
+            found.update(repr((str(file.relative_to(top)), file.read_bytes())).encode())
+        found.update(repr([checksum(top, it, uses, seen) for it in uses[crate]]).encode())
+        seen[crate] = found.hexdigest()
+    return seen[crate]
+
+
+def version_of(top):
+    """The version of the newest heading of CHANGELOG.md."""
+    found = re.search(r"(?m)^## (\S.*)$", (top / "CHANGELOG.md").read_text())
+    if found is None:
+        sys.exit("CHANGELOG.md has no heading of a version")
+    return found[1].strip()
+
+
+def marks_of(script):
+    """The two lines between which a script writes its part of a page."""
+    return f"<!-- begin: {script} -->\n", f"<!-- end: {script} -->\n"
+
+
+def part_of(page, script):
+    """What stands between a script's two marks in a page: the text before, the part and the text after."""
+    begin, end = marks_of(script)
+    before, has_begin, rest = page.read_text().partition(begin)
+    part, has_end, after = rest.partition(end)
+    if not has_begin or not has_end:
+        sys.exit(f"{page.name} doesn't have the marks {begin.strip()} and {end.strip()}")
+    return before, part, after
+
+
+def write_part(page, script, text):
+    """Writes a script's part of a page, between its two marks."""
+    before, _, after = part_of(page, script)
+    begin, end = marks_of(script)
+    page.write_text(before + begin + text + end + after)
