@@ -1,177 +1,191 @@
 #!/usr/bin/env python3
-"""Runs the gate from nothing, and makes a table of what each crate's proof, its tests and its must-fail edits cost in
-minutes of processor time.
+"""Runs the gate from nothing, and makes a table of what each crate's proof, its tests, the seed of its must-fail edits and
+the edits cost in minutes of processor time, and of its five dearest functions.
 
-    bench/gate.py [--write] [--log FILE] [-- COMMAND ..]
+    bench/gate.py [--write] [--functions] [--log FILE] [-- COMMAND ..]
+    bench/gate.py --first-build
 
 COMMAND is `rt ci --anew`, unless it is given; it runs at the top of the repository. Every fifth of a second the
 processor time of each prover that it started is read from /proc and put to the crate that it works on, so a prover's
-last fifth of a second is lost. What no prover used is the last row: compilers, the tests and programs themselves, and
-rt. The sum is the processor time of the whole command, as the system counts it. --log says where the command's output
-goes; otherwise it goes to standard error. --write puts the table into CONTRIBUTING.md, between its two marks.
+last fifth of a second is lost. What no prover used is the row before the last: compilers, the tests and programs
+themselves, and rt. The sum is the processor time of the whole command, as the system counts it. --log says where the
+command's output goes; otherwise it goes to standard error.
 
-The exit status is that of COMMAND. It works on Linux alone.
+--functions proves each crate once more after that, in a temporary clone of the last commit, to see what each function
+costs: rt ci keeps nothing that tells it. So it takes the processor time of all proofs again.
+
+--write puts the table into CONTRIBUTING.md, and what the first build of the program takes into README.md and
+CONTRIBUTING.md, each between its marks. That is the sum of the proofs of the crates that the program stands on, and what
+is reckoned of it on four processors, one crate on each, a crate after those that it uses. --first-build prints both in
+minutes, from the table in CONTRIBUTING.md, and runs nothing.
+
+The exit status is that of COMMAND; if that is 0, it is 1 if a function takes above 20 seconds or a crate above 6 minutes
+and DEAR has no reason for it, or if a crate was not proved once more. It works on Linux alone.
 """
 import argparse
 import os
 import re
 import subprocess
 import sys
-import threading
 import time
 from pathlib import Path
 
-TOP = Path(__file__).resolve().parent.parent
-sys.path.append(str(TOP / "tools"))
-from ends import run_main
+import functions
+from provers import Sampler, need_proc
+from repository import TOP, part_of, uses_of, version_of, with_those_below, write_part
 
-PAGE = TOP / "CONTRIBUTING.md"
-BEGIN, END = "<!-- begin: bench/gate.py -->\n", "<!-- end: bench/gate.py -->\n"
-TICKS = os.sysconf("SC_CLK_TCK")
-EVERY = 0.2
-KINDS = ("proof", "tests", "edits")
+KINDS = ("proof", "tests", "seed", "edits")
+PROGRAM = "auc_cli"
+TABLE, FIRST_BUILD = "bench/gate.py", "bench/gate.py, the first build"
+MOST_SECONDS, MOST_MINUTES = 20, 6
+# What may be dearer, with its reason: a crate, or a function as `auc_peer::Peer::on_bytes`.
+DEAR = {}
 
 
 def options():
     parser = argparse.ArgumentParser(description=__doc__, formatter_class=argparse.RawDescriptionHelpFormatter)
-    parser.add_argument("--write", action="store_true", help="put the table into CONTRIBUTING.md")
+    parser.add_argument("--write", action="store_true", help="put the table and the figures into their pages")
+    parser.add_argument("--functions", action="store_true", help="prove each crate once more for its dearest functions")
+    parser.add_argument("--first-build", action="store_true", help="print the minutes of the first build, by the table")
     parser.add_argument("--log", type=Path, help="where the command's output goes")
     parser.add_argument("command", nargs="*", default=["rt", "ci", "--anew"])
     return parser.parse_args()
 
 
-class Process:
-    """A process as /proc shows it at one moment: its parent, the ticks of itself and of its children that ended, and
-    what tells it from an earlier process of the same number."""
+class Costs:
+    """What a run cost: the minutes of each crate's parts, and of all; the seconds of each function of a crate."""
 
-    def __init__(self, pid):
-        fields = Path(f"/proc/{pid}/stat").read_text().rpartition(")")[2].split()
-        self.parent = int(fields[1])
-        self.ticks = sum(int(it) for it in fields[11:15])
-        self.key = pid, fields[19]
+    def __init__(self, works, whole, wall):
+        self.minutes, self.whole, self.wall, self.functions = {}, whole, wall, {}
+        for work, seconds in works.items():
+            row = self.minutes.setdefault(work.crate, dict.fromkeys(KINDS, 0))
+            row[work.kind] += seconds / 60
 
+    def of(self, crate):
+        """The minutes of a crate with everything."""
+        return sum(self.minutes[crate].values())
 
-def processes():
-    found = {}
-    for pid in os.listdir("/proc"):
-        if pid.isdigit():
-            try:
-                found[int(pid)] = Process(pid)
-            except OSError:
-                pass
-    return found
-
-
-def work_of(pid):
-    """The crate and the kind of work of a prover; nothing of any other process."""
-    try:
-        words = Path(f"/proc/{pid}/cmdline").read_bytes().split(b"\0")
-        folder = os.readlink(f"/proc/{pid}/cwd")
-    except OSError:
-        return None
-    if not words[0].endswith(b"rattle") or b"--crate-name" not in words:
-        return None
-    crate = words[words.index(b"--crate-name") + 1].decode()
-    return crate, "edits" if re.search(r"/rt-edit-", folder) else "tests" if b"--test" in words else "proof"
+    def too_dear(self):
+        """The crates and functions above their limit, each with how much it takes."""
+        for crate in sorted(self.minutes, key=lambda it: -self.of(it)):
+            if self.of(crate) > MOST_MINUTES:
+                yield crate, f"{self.of(crate):.1f} minutes"
+        for crate, costs in self.functions.items():
+            for function, seconds in functions.dearest(costs or {}):
+                if seconds > MOST_SECONDS:
+                    yield f"{crate}::{functions.label_of(function)}", f"{seconds:.0f} seconds"
 
 
-class Sampler(threading.Thread):
-    """Reads the ticks of all provers below one process, again and again."""
-
-    def __init__(self, root):
-        super().__init__(daemon=True)
-        self.root, self.works, self.ticks, self.ended = root, {}, {}, threading.Event()
-
-    def run(self):
-        while not self.ended.is_set():
-            self.sample()
-            time.sleep(EVERY)
-
-    def sample(self):
-        found = processes()
-        costs = {}
-        for pid in found:
-            top = self.top_prover(pid, found)
-            if top:
-                costs[top] = costs.get(top, 0) + found[pid].ticks
-        for top, ticks in costs.items():
-            self.ticks[top] = max(ticks, self.ticks.get(top, 0))
-
-    def work(self, pid, key):
-        """The work of a process. One that is no prover is asked again, since it may become one."""
-        if key not in self.works:
-            work = work_of(pid)
-            if work is None:
-                return None
-            self.works[key] = work
-        return self.works[key]
-
-    def top_prover(self, pid, found):
-        """The uppermost prover at or above a process that the command started; nothing for any other process."""
-        chain = []
-        while pid in found and pid != self.root:
-            chain.append(pid)
-            pid = found[pid].parent
-        if pid != self.root:
-            return None
-        return next((found[it].key for it in reversed(chain) if self.work(it, found[it].key)), None)
-
-    def minutes(self):
-        """The processor minutes of each crate and kind."""
-        sums = {}
-        for key, ticks in self.ticks.items():
-            sums[self.works[key]] = sums.get(self.works[key], 0) + ticks / TICKS / 60
-        return sums
+# ---- the first build
 
 
-def table(minutes, whole, wall):
+def on_processors(minutes, uses, count):
+    """How long proofs take on so many processors, one crate on each, a crate after those that it uses. First comes the one
+    with the longest chain of others above it."""
+    above = {it: [other for other in minutes if it in uses[other]] for it in minutes}
+    chain = {}
+    for it in reversed(with_those_below(minutes, uses)):
+        chain[it] = minutes[it] + max((chain[other] for other in above[it]), default=0)
+    left, running, ended, now = set(minutes), {}, set(), 0
+    while left or running:
+        for it in sorted(left, key=lambda it: -chain[it]):
+            if len(running) < count and ended.issuperset(uses[it]):
+                running[it] = now + minutes[it]
+        left -= running.keys()
+        now = min(running.values())
+        ended |= {it for it, end in running.items() if end <= now}
+        running = {it: end for it, end in running.items() if end > now}
+    return now
+
+
+def first_build(proofs):
+    """The processor minutes of the first build, and its minutes on four processors, by the proof of each crate."""
+    uses = uses_of(TOP)
+    minutes = {it: proofs.get(it, 0) for it in with_those_below([PROGRAM], uses)}
+    return sum(minutes.values()), on_processors(minutes, uses, 4)
+
+
+def proofs_in_table():
+    """The minutes of each crate's proof, by the table in CONTRIBUTING.md."""
+    part = part_of(TOP / "CONTRIBUTING.md", TABLE)[1]
+    return {name: float(minutes) for name, minutes in re.findall(r"(?m)^\| `(\w+)` \| ([\d.]+) \|", part)}
+
+
+def first_build_text():
+    """What README.md and CONTRIBUTING.md say of the first build."""
+    whole, on_four = first_build(proofs_in_table())
+    return (
+        f"The first build proves every crate that the program stands on. That takes {whole:.0f} minutes of processor time\n"
+        f"and, reckoned from the time of each crate, {on_four:.0f} minutes on four free processors.\n"
+    )
+
+
+# ---- the table
+
+
+def table(costs):
     """The table, the dearest crate first."""
-    rows = {crate: [minutes.get((crate, kind), 0) for kind in KINDS] for crate, _ in minutes}
-    sums = [sum(row[place] for row in rows.values()) for place in range(len(KINDS))]
-    lines = ["| Crate | Proof | Tests | Edits | Together |", "|---|---:|---:|---:|---:|"]
-    for crate in sorted(rows, key=lambda it: -sum(rows[it])):
-        lines.append(f"| `{crate}` | {' | '.join(f'{it:.1f}' for it in rows[crate])} | {sum(rows[crate]):.1f} |")
-    lines.append(f"| compilers, runs of tests and programs, rt | | | | {max(0, whole - sum(sums)):.1f} |")
-    lines.append(f"| all | {' | '.join(f'{it:.1f}' for it in sums)} | {whole:.1f} |")
-    return "\n".join(lines) + f"\n\nIn {wall:.0f} minutes on {os.cpu_count()} processors.\n"
+    sums = [sum(row[kind] for row in costs.minutes.values()) for kind in KINDS]
+    lines = ["| Crate | Proof | Tests | Seed | Edits | Together | Dearest functions, in seconds |"]
+    lines.append("|---|---:|---:|---:|---:|---:|---|")
+    for crate in sorted(costs.minutes, key=lambda it: -costs.of(it)):
+        cells = " | ".join(f"{costs.minutes[crate][it]:.1f}" for it in KINDS)
+        dear = functions.dearest(costs.functions.get(crate) or {})
+        named = ", ".join(f"`{functions.label_of(it)}` {seconds:.0f}" for it, seconds in dear if seconds >= 1)
+        lines.append(f"| `{crate}` | {cells} | {costs.of(crate):.1f} | {named} |")
+    lines.append(f"| compilers, runs of tests and programs, rt | | | | | {max(0, costs.whole - sum(sums)):.1f} | |")
+    lines.append(f"| all | {' | '.join(f'{it:.1f}' for it in sums)} | {costs.whole:.1f} | |")
+    return "\n".join(lines) + f"\n\n{said_below(costs)}"
+
+
+def said_below(costs):
+    """The lines below the table: of what it is, and what may be dearer than the limits."""
+    text = f"In minutes of processor time, of version {version_of(TOP)}, all from nothing in one run, which took "
+    text += f"{costs.wall:.0f} minutes on {os.cpu_count()} processors.\n"
+    reasons = [f"- `{name}` takes {much}: {DEAR[name]}\n" for name, much in costs.too_dear() if name in DEAR]
+    return text + ("\nAbove the limits, with the reason:\n\n" + "".join(reasons) if reasons else "")
 
 
 def measured(command, log):
-    """Runs a command: its exit status, the provers' minutes, and the minutes of processor and of wall clock."""
+    """Runs a command: its exit status and what it cost."""
     began = time.monotonic()
     child = subprocess.Popen(command, cwd=TOP, stdin=subprocess.DEVNULL, stdout=log, stderr=log)
-    sampler = Sampler(child.pid)
-    sampler.start()
-    _, status, usage = os.wait4(child.pid, 0)
+    with Sampler(child.pid) as sampler:
+        _, status, usage = os.wait4(child.pid, 0)
     child.returncode = os.waitstatus_to_exitcode(status)
-    sampler.ended.set()
-    sampler.join()
-    return child.returncode, sampler.minutes(), (usage.ru_utime + usage.ru_stime) / 60, (time.monotonic() - began) / 60
+    whole, wall = (usage.ru_utime + usage.ru_stime) / 60, (time.monotonic() - began) / 60
+    return child.returncode, Costs(sampler.seconds(), whole, wall)
 
 
-def write(text):
-    before, begin, rest = PAGE.read_text().partition(BEGIN)
-    _, end, after = rest.partition(END)
-    if not begin or not end:
-        sys.exit(f"{PAGE.name} doesn't have the marks {BEGIN.strip()} and {END.strip()}")
-    PAGE.write_text(before + BEGIN + text + END + after)
+def status_of(costs):
+    """Tells what is too dear without a reason, and which crate wasn't proved once more: 1 if there is one, and else 0."""
+    faults = [f"{name} takes {much}" for name, much in costs.too_dear() if name not in DEAR]
+    faults += [f"{crate} was not proved once more" for crate, found in costs.functions.items() if found is None]
+    for it in faults:
+        print(f"gate: {it}", file=sys.stderr)
+    return 1 if faults else 0
 
 
 def main():
     given = options()
-    if not Path("/proc/self/stat").exists():
-        sys.exit("there is no /proc here: this works on Linux alone")
+    if given.first_build:
+        print("{:.0f} {:.0f}".format(*first_build(proofs_in_table())))
+        sys.exit(0)
+    need_proc()
     log = given.log.open("w") if given.log else sys.stderr
     try:
-        status, minutes, whole, wall = measured(given.command, log)
+        status, costs = measured(given.command, log)
     except OSError as error:
         sys.exit(f"{given.command[0]} could not be run: {error.strerror}")
-    text = table(minutes, whole, wall)
+    if given.functions and status == 0:
+        costs.functions = dict(functions.measure_all(sorted(costs.minutes)))
+    text = table(costs)
     print(text, end="")
     if given.write and status == 0:
-        write(text)
-    sys.exit(status)
+        write_part(TOP / "CONTRIBUTING.md", TABLE, text)
+        for page in ("README.md", "CONTRIBUTING.md"):
+            write_part(TOP / page, FIRST_BUILD, first_build_text())
+    sys.exit(status or status_of(costs))
 
 
-if __name__ == "__main__":
-    run_main(main)
+main()
