@@ -8,10 +8,10 @@ each of them.
 
 Without NAME all edits of all crates are tried. It works in a temporary clone of the last commit. First one `rt all check`
 proves the crates, and those below them, over what earlier checks on this machine kept. Then one `rt must-fail` a crate
-tries all of its edits over one check of it, crates side by side. A line says of each edit what its try came to, and its
-seconds of processor time. An edit that an earlier run tried on the same files is kept by rt, and isn't tried again; --anew
-tries it too. --missing tries the crates that --released lists. --jobs says how many provers work side by side: RT_JOBS, or
-else one a processor, as far as each finds 5 GB of memory.
+tries all of its edits over one check of it, crates side by side. A line says of each edit what its try came to, its
+seconds of processor time, and the first error that the prover told. An edit that an earlier run tried on the same files is
+kept by rt, and isn't tried again; --anew tries it too. --missing tries the crates that --released lists. --jobs says how
+many provers work side by side: RT_JOBS, or else one a processor, as far as each finds 5 GB of memory.
 
 --write keeps what was seen in docs/EDITS.md, crate by crate as each ends. It leaves the rows of crates that weren't tried,
 drops those of edits that are gone, and has `not tried` for new ones.
@@ -228,7 +228,9 @@ class Trial:
             row = verdicts.Row(edit.stands, verdicts.verdict_in(lines.get(edit.name, "")), text=edit.text)
             row.refused_at = self.version if row.is_refused() else old.refused_at
             row.seconds, rows[edit.name] = seconds.get(edit.name, old.seconds), row
-            print(f"{crate:<15} {edit.name:<62} {seconds.get(edit.name, 'kept'):>4}   {row.verdict}", flush=True)
+            why = lines.get(edit.name, "").partition("as it must be: ")[2][:100]
+            shown = f"{crate:<15} {edit.name:<62} {seconds.get(edit.name, 'kept'):>4}   {row.verdict}"
+            print(f"{shown}: {why}" if why else shown, flush=True)
         refused = sum(it.is_refused() for it in rows.values())
         self.counts.append((refused, len(rows) - refused))
         if refused < len(rows):
