@@ -235,8 +235,11 @@ class Trial:
         self.counts.append((refused, len(rows) - refused))
         if refused < len(rows):
             print(said, file=sys.stderr, flush=True)
-        moment = time.strftime("%Y-%m-%d %H:%M")
-        self.sections[crate] = verdicts.Section(self.sums[crate], self.version, moment, f"{minutes:.1f}", rows)
+        moment, took = time.strftime("%Y-%m-%d %H:%M"), f"{minutes:.1f}"
+        if not seconds and was.files == self.sums[crate]:
+            # (rt had all of them from that run)
+            moment, took = was.moment, was.minutes
+        self.sections[crate] = verdicts.Section(self.sums[crate], self.version, moment, took, rows)
         if self.given.write:
             verdicts.write_page(TOP, self.sections, self.last_run)
 

@@ -1,6 +1,7 @@
 """The must-fail edits of the repository, and docs/EDITS.md, the table of what each try of them came to."""
 import hashlib
 import re
+import textwrap
 from dataclasses import dataclass, field
 from pathlib import Path
 
@@ -34,7 +35,7 @@ and writes this page; nothing else does. Some stand in the gate (`crates/NAME/mu
 COLUMNS = "| Edit | Stands | Verdict | Refused at | Seconds | Text |\n|---|---|---|---|---:|---|\n"
 ROW = re.compile(r"\| `([^`|]+)` \| ([^|]+) \| ([^|]+) \| ([^|]+) \| ([^|]+) \| `(\w+)` \|")
 TRIED = re.compile(r"Tried on the files `(\w+)` at version (\S+), on (\S+ \S+), in (\S+) minutes of processor time\.")
-LAST_RUN = re.compile(r"(?m)^(The last run .*)$")
+LAST_RUN = re.compile(r"(?m)^(The last run [^#]*?)\n\n")
 
 
 @dataclass
@@ -155,7 +156,7 @@ def write_page(top, sections, last_run):
     count = f"{len(rows)} edits of {len(sections)} crates, {of_gate} of them in the gate: "
     count += f"{refused} refused at version {version}."
     parts = [section_text(crate, it) for crate, it in sections.items()]
-    (top / PAGE).write_text(f"{HEAD}{count}\n\n{last_run}\n\n" + "\n".join(parts))
+    (top / PAGE).write_text(f"{HEAD}{count}\n\n{textwrap.fill(last_run, 120)}\n\n" + "\n".join(parts))
 
 
 def files_sum(top, crate, uses):
