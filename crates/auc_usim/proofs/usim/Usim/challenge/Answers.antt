@@ -1,5 +1,5 @@
 -- The MAC that is compared is XMAC, and the verdict is that of the past on the SQN in AUTN.
-use Rattle.std.proofs.Common.{subst, sym, ap}
+use Rattle.std.proofs.Common.{rules, subst, sym, ap}
 use Rattle.auc_sqn.specs.Number.{seq_of, ind_of}
 use Rattle.auc_sqn.specs.Past.{Past, Remembers}
 use Rattle.auc_usim.specs.Usim.{Memory, IsAnswer, FollowsVerdict, past_after_answer}
@@ -55,3 +55,6 @@ returns-in-Old c = record {
       subst (Remembers c.check.new.self) (sym (failure_keeps c.self.inside.secret past c.args.rand c.sync_failure.result (c.sync_failure.ensures past kept))) kept);
   secret = ap (λ (m : Memory). m.secret) c.self.view_is;
 }
+
+pub returns-then-ne-clause-past : goal.returns-then-ne-clause-past
+returns-then-ne-clause-past c = search rules
