@@ -29,6 +29,7 @@ import tarfile
 from typing import NamedTuple
 
 from repository import TOP
+from ends import run_main
 
 BLANKED = re.compile(r'"(?:\\.|[^"\\])*"' + r"|b?'(?:\\.|[{}\"])'" + r"|//[^\n]*|/\*.*?\*/", re.S)
 TOKEN = re.compile(r"\b(?:impl|trait|mod|fn)\b|[{};]")
@@ -258,4 +259,5 @@ def main():
     sys.exit(1 if lines else 0)
 
 
-main()
+if __name__ == "__main__":
+    run_main(main)

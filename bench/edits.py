@@ -42,6 +42,7 @@ from pathlib import Path
 import provers
 import verdicts
 from repository import TOP, files_of, uses_of, version_of, with_those_below
+from ends import run_main
 
 MEMORY = 5_000_000_000
 
@@ -308,4 +309,5 @@ def main():
     sys.exit(status)
 
 
-main()
+if __name__ == "__main__":
+    run_main(main)

@@ -22,6 +22,7 @@ from pathlib import Path
 
 from provers import Sampler, need_proc
 from repository import TOP, uses_of, with_those_below
+from ends import run_main
 
 DEAREST = 5
 
@@ -138,4 +139,4 @@ def main():
 
 
 if __name__ == "__main__":
-    main()
+    run_main(main)

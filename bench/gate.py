@@ -33,6 +33,7 @@ from pathlib import Path
 import functions
 from provers import Sampler, need_proc
 from repository import TOP, part_of, uses_of, version_of, with_those_below, write_part
+from ends import run_main
 
 KINDS = ("proof", "tests", "seed", "edits")
 PROGRAM = "auc_cli"
@@ -188,4 +189,5 @@ def main():
     sys.exit(status or status_of(costs))
 
 
-main()
+if __name__ == "__main__":
+    run_main(main)

@@ -18,6 +18,7 @@ TOP = Path(__file__).resolve().parent.parent
 sys.dont_write_bytecode = True
 sys.path.insert(0, str(TOP / "tools"))
 
+from ends import run_main  # noqa: E402
 from launcher import release, sources  # noqa: E402
 from launcher.places import Stopped, version  # noqa: E402
 
@@ -77,4 +78,5 @@ def main():
         sys.exit(f"release: {error}")
 
 
-main()
+if __name__ == "__main__":
+    run_main(main)

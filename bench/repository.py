@@ -5,6 +5,8 @@ import sys
 from pathlib import Path
 
 TOP = Path(__file__).resolve().parent.parent
+# Where `ends` stands, which each script ends by.
+sys.path.append(str(TOP / "tools"))
 PARTS = ("src", "specs", "proofs")
 
 

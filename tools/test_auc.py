@@ -1,7 +1,7 @@
 #!/usr/bin/env python3
 """Tests the script `auc` and bench/release.py in a small checkout of their own, with stand-ins for rt and the program.
 
-    tools/test_auc.py           the exit status is 0 only if each test passes
+The exit status is 0 only if each test passes.
 """
 import ctypes
 import fcntl
@@ -21,6 +21,7 @@ sys.dont_write_bytecode = True
 TOP = Path(__file__).resolve().parent.parent
 sys.path.insert(0, str(TOP / "tools"))
 
+from ends import run_main  # noqa: E402
 from launcher import explain  # noqa: E402
 
 DROP_FROM_BOUNDING_SET, DAC_OVERRIDE, DAC_READ_SEARCH = 24, 1, 2
@@ -78,7 +79,7 @@ class Checkout(unittest.TestCase):
         self.out = self.top / "crates/auc_cli/out"
         for folder in ("top/bench", "top/tools", "top/crates/auc_low/src", "top/crates/auc_cli/src", "here", "bin"):
             (self.room / folder).mkdir(parents=True)
-        for name in ("auc", "bench/release.py"):
+        for name in ("auc", "bench/release.py", "tools/ends.py"):
             shutil.copy(TOP / name, self.top / name)
         shutil.copytree(TOP / "tools/launcher", self.top / "tools/launcher", ignore=shutil.ignore_patterns("__pycache__"))
         texts = {
@@ -626,4 +627,4 @@ class Releases(Checkout):
 
 
 if __name__ == "__main__":
-    unittest.main()
+    run_main(unittest.main, __doc__)

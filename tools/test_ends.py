@@ -17,6 +17,8 @@ import sys
 import tempfile
 from pathlib import Path
 
+from ends import run_main
+
 TOP = Path(__file__).resolve().parent.parent
 JOURNAL, HEADER = "auc.journal", b"AUC-SQN-JOURNAL1"
 WRITE_FAULT = 5
@@ -86,4 +88,4 @@ def main():
 
 
 if __name__ == "__main__":
-    main()
+    run_main(main, __doc__)
