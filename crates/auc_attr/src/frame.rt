@@ -6,7 +6,7 @@ ghost use Rattle.auc_attr.specs.FrameView.{Frames, frame_of, IsLongFor};
 ghost use Rattle.auc_attr.specs.InnerFrame.{is_wrong_length, typed_at, sized_at, frame_by_steps};
 
 /// The first fault of a packet's bytes before its attributes.
-#[derive(Clone, Copy, Debug, PartialEq, Eq)]
+#[derive(Clone, Copy)]
 pub enum FrameFault {
     /// There are fewer than 4 bytes.
     Short,

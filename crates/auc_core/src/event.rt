@@ -1,7 +1,7 @@
 //! What happens at the authentication centre, and what it answers.
 
 /// An event of one subscriber. Subscribers are counted from 0, in the order of the openings.
-#[derive(Clone, Copy, Debug, PartialEq, Eq)]
+#[derive(Clone, Copy)]
 pub enum Event {
     /// The next number is drawn for the subscriber.
     Draw(u32),
@@ -10,7 +10,7 @@ pub enum Event {
 }
 
 /// The answer to an event.
-#[derive(Clone, Copy, Debug, PartialEq, Eq)]
+#[derive(Clone, Copy, PartialEq, Eq)]
 pub enum Reply {
     /// This number was drawn, for the first time.
     Number(u64),

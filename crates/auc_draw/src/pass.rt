@@ -16,7 +16,7 @@ use auc_sqn::MAX_SEQ;
 use std::marker::{Brand, Model};
 
 /// The answer to a draw.
-#[derive(Clone, Copy, Debug, PartialEq, Eq)]
+#[derive(Clone, Copy, PartialEq, Eq)]
 pub enum Draw {
     /// This number was drawn.
     Number(u64),
@@ -25,7 +25,7 @@ pub enum Draw {
 }
 
 /// The answer to a jump.
-#[derive(Clone, Copy, Debug, PartialEq, Eq)]
+#[derive(Clone, Copy, PartialEq, Eq)]
 pub enum Jump {
     /// The number moved up from this word.
     Moved(u64),
@@ -34,7 +34,7 @@ pub enum Jump {
 }
 
 /// The answer to a release.
-#[derive(Clone, Copy, Debug, PartialEq, Eq)]
+#[derive(Clone, Copy, PartialEq, Eq)]
 pub enum Release {
     /// The number was released.
     Released,

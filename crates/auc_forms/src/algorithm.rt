@@ -9,7 +9,7 @@ use auc_text::read_octets;
 use std::alloc::Global;
 
 /// The values at which the functions are printed, byte strings with their most significant byte first.
-#[derive(Clone, Copy, Debug, PartialEq, Eq)]
+#[derive(Clone, Copy)]
 pub struct AlgorithmWords {
     pub k: [u8; 16],
     pub opc: [u8; 16],

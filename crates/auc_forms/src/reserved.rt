@@ -10,7 +10,7 @@ use std::alloc::Global;
 use std::marker::Model;
 
 /// An identity, and the limit up to which its numbers are reserved.
-#[derive(Clone, Copy, Debug)]
+#[derive(Clone, Copy)]
 struct Limit {
     imsi: Imsi,
     limit: u64,

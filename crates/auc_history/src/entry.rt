@@ -1,7 +1,7 @@
 //! Entries of a history.
 
 /// What one atomic step did to a subscriber's number.
-#[derive(Clone, Copy, Debug, PartialEq, Eq)]
+#[derive(Clone, Copy)]
 pub enum Entry {
     /// The number was drawn. Above the subscriber's greatest number it is no number but a mark, which
     /// says that a draw was refused.

@@ -26,7 +26,7 @@ pub enum Master {
 }
 
 /// The keys of a fast re-authentication (RFC 4187 §7, RFC 9048 §3.3).
-#[derive(Clone, Copy, Debug, PartialEq, Eq)]
+#[derive(Clone, Copy, PartialEq, Eq)]
 pub struct Pair {
     /// The Master Session Key, 64 bytes.
     pub msk: [u8; 64],

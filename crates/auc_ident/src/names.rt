@@ -13,7 +13,7 @@ use std::marker::Model;
 const NAMES_STREAM: u64 = 1099511627776;
 
 /// A kind of name that a server makes.
-#[derive(Clone, Copy, Debug, PartialEq, Eq)]
+#[derive(Clone, Copy)]
 pub enum NameKind {
     /// A pseudonym (RFC 4187 §4.1.1.7).
     Pseudonym,

@@ -14,7 +14,7 @@ use auc_sqn::MAX_SEQ;
 use std::marker::Model;
 
 /// Whether numbers are reserved up to the one that was asked for.
-#[derive(Clone, Copy, Debug, PartialEq, Eq)]
+#[derive(Clone, Copy, PartialEq, Eq)]
 pub enum Ensured {
     /// They are reserved up to this limit, on the disk and in the shared words.
     Yes(u64),

@@ -13,7 +13,7 @@ pub const MAX_LOAD_JOBS: u32 = 200000;
 pub const MAX_LOAD_WORKERS: u32 = 64;
 
 /// The numbers of a load.
-#[derive(Clone, Copy, Debug, PartialEq, Eq)]
+#[derive(Clone, Copy, PartialEq, Eq)]
 pub struct LoadWords {
     /// What the key of the random bytes is made from.
     pub key: u64,

@@ -15,7 +15,7 @@ pub struct Secret {
 }
 
 /// RES, CK, IK and AK: the values of f2, f3, f4 and f5.
-#[derive(Clone, Copy, Debug, PartialEq, Eq)]
+#[derive(Clone, Copy, PartialEq, Eq)]
 pub struct Four {
     /// The response to a challenge.
     pub res: [u8; 8],

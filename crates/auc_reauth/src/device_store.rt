@@ -10,7 +10,7 @@ use std::marker::Model;
 
 /// The names and contexts that a device was given: for each method at most one pseudonym and one context. Contracts
 /// see them by method.
-#[derive(Clone, Copy, Debug, PartialEq, Eq)]
+#[derive(Clone, Copy)]
 pub struct DeviceStore {
     aka_pseudonym: Option<[u8; 33]>,
     prime_pseudonym: Option<[u8; 33]>,

@@ -5,7 +5,7 @@ use crate::server_store::ServerStore;
 use auc_ident::Ordinals;
 
 /// What is kept of a subscriber's names and contexts, at its home and on its device.
-#[derive(Clone, Copy, Debug, PartialEq, Eq)]
+#[derive(Clone, Copy)]
 pub struct Kept {
     /// The ordinals of the names that its home gave.
     pub ordinals: Ordinals,

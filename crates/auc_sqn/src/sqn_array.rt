@@ -15,7 +15,7 @@ const REACH: u64 = 1 << 28;
 
 /// What a USIM remembers of the SQNs that it has accepted: the greatest SEQ for each IND. Contracts
 /// speak of the past, the list of all that was accepted, which the array remembers.
-#[derive(Clone, Copy, Debug, PartialEq, Eq)]
+#[derive(Clone, Copy, PartialEq, Eq)]
 pub struct SqnArray {
     entries: [u64; 32],
 }

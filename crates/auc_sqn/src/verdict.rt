@@ -1,7 +1,7 @@
 //! The verdict on an SQN.
 
 /// What a USIM's index array says of an SQN (TS 33.102 Annex C.2).
-#[derive(Clone, Copy, Debug, PartialEq, Eq)]
+#[derive(Clone, Copy, PartialEq, Eq)]
 pub enum Verdict {
     /// The SQN is accepted.
     Fresh,

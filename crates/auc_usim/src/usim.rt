@@ -14,7 +14,7 @@ use std::marker::Model;
 
 /// A subscriber's USIM. Contracts speak of its secret, and of the past, the list of all that it has
 /// accepted, which its index array remembers.
-#[derive(Clone, Copy, Debug, PartialEq, Eq)]
+#[derive(Clone, Copy, PartialEq, Eq)]
 pub struct Usim {
     secret: Secret,
     array: SqnArray,

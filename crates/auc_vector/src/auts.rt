@@ -8,7 +8,7 @@ use auc_milenage::{Secret, f1_star, f5_star};
 use auc_sqn::split;
 
 /// What AUTS says, which a USIM answers if the SQN is out of range (TS 33.102 §6.3.3).
-#[derive(Clone, Copy, Debug, PartialEq, Eq)]
+#[derive(Clone, Copy, PartialEq, Eq)]
 pub enum Auts {
     /// MAC-S is right: the SEQ of SQN_MS, at most `MAX_SEQ`.
     SeqMs(u64),

@@ -12,7 +12,7 @@ use std::sync::Wait;
 
 /// What a resynchronisation comes to if the USIM accepts the next number. Each names the number that stood at the
 /// centre, then the SEQ that the USIM reported.
-#[derive(Clone, Copy, Debug, PartialEq, Eq)]
+#[derive(Clone, Copy, PartialEq, Eq)]
 pub enum Resynced {
     /// The number was below the SEQ, and moved to it.
     Moved(u64, u64),
@@ -21,7 +21,7 @@ pub enum Resynced {
 }
 
 /// Why the centre gives no number, or none that the USIM would accept.
-#[derive(Clone, Copy, Debug, PartialEq, Eq)]
+#[derive(Clone, Copy, PartialEq, Eq)]
 pub enum CentreRefusal {
     /// The subscriber has no further number: this word, no lower than its greatest number, stood there.
     Exhausted(u64),

@@ -4,7 +4,7 @@ use auc_edge::Stop;
 
 /// What the centre made of the AUTS that a peer sent (TS 33.102 §6.3.5). The first three name the number that stood at
 /// the centre, then the SEQ that the USIM reported.
-#[derive(Clone, Copy, Debug, PartialEq, Eq)]
+#[derive(Clone, Copy, PartialEq, Eq)]
 pub enum ResyncNote {
     /// The number was below the SEQ, and moved to it.
     Moved(u64, u64),
@@ -17,7 +17,7 @@ pub enum ResyncNote {
 }
 
 /// What the centre answered if a number was asked for.
-#[derive(Clone, Copy, Debug, PartialEq, Eq)]
+#[derive(Clone, Copy, PartialEq, Eq)]
 pub enum NumberNote {
     /// This number was drawn and released.
     Drew(u64),
@@ -28,7 +28,7 @@ pub enum NumberNote {
 }
 
 /// What the USIM answered if it was asked (TS 33.102 §6.3.3). An SQN has 6 bytes, most significant first.
-#[derive(Clone, Copy, Debug, PartialEq, Eq)]
+#[derive(Clone, Copy)]
 pub enum UsimNote {
     /// It accepted this SQN.
     Accepted([u8; 6]),
@@ -39,7 +39,7 @@ pub enum UsimNote {
 }
 
 /// What became of the counter of a fast re-authentication (RFC 4187 §5.5).
-#[derive(Clone, Copy, Debug, PartialEq, Eq)]
+#[derive(Clone, Copy)]
 pub enum CounterNote {
     /// The peer accepted this counter.
     Taken(u16),
@@ -48,7 +48,7 @@ pub enum CounterNote {
 }
 
 /// What one turn of an end did besides its step.
-#[derive(Clone, Copy, Debug, PartialEq, Eq)]
+#[derive(Clone, Copy)]
 pub struct Notes {
     /// What became of a synchronisation failure, at a server.
     pub resync: Option<ResyncNote>,
