@@ -153,6 +153,25 @@ pub(crate) fn job_world(
     World::new(alloc, homes, devices)
 }
 
+/// What the sessions of a job came to, and the vectors of its lines.
+fn told(
+    alloc: Global,
+    set: &Setting,
+    full: bool,
+    lines: &JobRecord,
+    world: &World,
+) -> Result<(JobSessions, JobVectors), NoMemory>
+    requires { All (IsReleasableLine set.now) lines.now }
+    ensures sessions { IfOk result (λ told. told.0 ≡ job_sessions world.now.net) }
+    ensures vectors { IfOk result (λ told. told.1 ≡ (if full then vectors_in set.now lines.now else [])) }
+{
+    let vectors = printed_vectors(alloc, set, lines.as_slice(), full)?;
+    Ok((world.sessions(alloc)?, vectors))
+}
+
+/// Gives the lines and the network of a job back.
+fn give_back(_lines: JobRecord, _world: World) {}
+
 /// What a job gave whose lines are these, and whose network came to this.
 pub(crate) fn served_job(
     alloc: Global,
@@ -169,13 +188,19 @@ pub(crate) fn served_job(
     ensures sessions { IfOk result (λ served. served.sessions ≡ job_sessions world.net) }
     ensures vectors { IfOk result (λ served. served.vectors ≡ (if full then vectors_in set.now lines else [])) }
 {
-    let vectors = printed_vectors(alloc, set, lines.as_slice(), full)?;
-    let sessions = world.sessions(alloc)?;
-    let (homes, devices) = world.parts();
-    Ok(ServedJob {
-        lines,
-        devices: JobDevices::new(homes, devices),
-        sessions,
-        vectors,
-    })
+    match told(alloc, set, full, &lines, &world) {
+        Ok((sessions, vectors)) => {
+            let (homes, devices) = world.parts();
+            Ok(ServedJob {
+                lines,
+                devices: JobDevices::new(homes, devices),
+                sessions,
+                vectors,
+            })
+        }
+        Err(error) => {
+            give_back(lines, world);
+            Err(error)
+        }
+    }
 }

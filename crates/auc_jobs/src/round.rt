@@ -27,7 +27,8 @@ use auc_edge::{Gate, Items, NoMemory, Stop};
 use auc_journal::Journal;
 use auc_lines::JobPart;
 use auc_world::{
-    JobVectors, RoundRecord, Setting, closings, counts, round_premise, round_verdicts,
+    Closing, JobVectors, Premise, RoundRecord, SessionVerdict, Setting, closings, counts,
+    round_premise, round_verdicts,
 };
 use std::alloc::Global;
 use std::sync::Wait;
@@ -167,6 +168,67 @@ fn pieces<D: Disk + Drop + Send, G: Gate + Sync, R: Threads + Wait + Sync>(
     )
 }
 
+/// What the record of a round has beside its number and the records of its jobs.
+#[derive(Drop)]
+struct Summary {
+    closings: Items<Closing>,
+    sessions: Items<SessionVerdict>,
+    premise: Premise,
+}
+
+/// The summary of a round whose jobs gave this. The state is led to the next round.
+fn sum_up(
+    alloc: Global,
+    jobs: &[JobPart],
+    set: &Setting,
+    state: &mut State,
+    done: &RoundPieces,
+) -> Result<Summary, NoMemory>
+    requires state { (early : List LineRecord) × StandsAt set.now early state.old }
+    requires few { length jobs.now ≤ 200000 }
+    requires apart { AllPairs AreApart jobs.now }
+    requires served { (early : List LineRecord) → StandsAt set.now early state.old
+        → AreServed set.now early state.old.kept state.old.words jobs.now done.now.jobs.records done.now.jobs.devices
+        done.now.jobs.sessions done.now.words }
+    requires withholds { Withholds done.now.stop (all_lines done.now.jobs.records) }
+    requires bound { All (λ word. word ≤ max_seq + 64) done.now.words }
+    ensures lawful { IfOk result (λ s. (number : ℕ) (early : List LineRecord) → StandsAt set.now early state.old
+        → LeadsOn set.now done.now.stop early state.old jobs.now (record {
+          number = number;
+          jobs = done.now.jobs.records;
+          closings = s.closings;
+          sessions = s.sessions;
+          premise = s.premise;
+        }) done.now.words state.new) }
+    ensures opens { OnOk result (state.new.words ≡ reopened done.now.words) }
+    ensures next { OnOk result ((early : List LineRecord) → StandsAt set.now early state.old
+        → StandsAt set.now (early ++ all_lines done.now.jobs.records) state.new) }
+    ensures kept { OnErr result (state.new ≡ state.old) }
+{
+    let _count = set.subs.len();
+    let records = done.jobs.records.as_slice();
+    let counts = counts(alloc, state.words.len(), records)?;
+    let closings = closings(
+        alloc,
+        state.words.as_slice(),
+        done.words.as_slice(),
+        &counts,
+    )?;
+    let verdicts = round_verdicts(alloc, done.jobs.sessions.as_slice())?;
+    let premise = round_premise(done.jobs.sessions.as_slice());
+    state.advance(
+        alloc,
+        records,
+        done.jobs.devices.as_slice(),
+        done.words.as_slice(),
+    )?;
+    Ok(Summary {
+        closings,
+        sessions: verdicts,
+        premise,
+    })
+}
+
 /// The record of a round whose jobs gave this. It leads the state to the next round.
 fn finish(
     alloc: Global,
@@ -195,35 +257,24 @@ fn finish(
         × (ran.vectors ≡ done.jobs.vectors) × (ran.stop ≡ done.stop)) }
     ensures kept { OnErr result (state.new ≡ state.old) }
 {
-    let _count = set.subs.len();
+    let summary = sum_up(alloc, jobs, set, state, &done)?;
     let RoundPieces {
-        jobs: done,
-        words,
+        jobs: given,
         stop,
+        ..
     } = done;
     let ServedJobs {
         records,
-        devices,
-        sessions,
         vectors,
-    } = done;
-    let counts = counts(alloc, state.words.len(), records.as_slice())?;
-    let closings = closings(alloc, state.words.as_slice(), words.as_slice(), &counts)?;
-    let verdicts = round_verdicts(alloc, sessions.as_slice())?;
-    let premise = round_premise(sessions.as_slice());
-    state.advance(
-        alloc,
-        records.as_slice(),
-        devices.as_slice(),
-        words.as_slice(),
-    )?;
+        ..
+    } = given;
     Ok(Ran {
         round: RoundRecord {
             number,
             jobs: records,
-            closings,
-            sessions: verdicts,
-            premise,
+            closings: summary.closings,
+            sessions: summary.sessions,
+            premise: summary.premise,
         },
         vectors,
         stop,

@@ -245,10 +245,13 @@ fn close(
     let set = round.set;
     let subs = set.subs.len();
     let closed = book.close(passes, keeper);
-    let jobs = served_jobs(alloc, in_order(done)?, round.full)?;
     let words = words(alloc, &closed, subs)?;
+    let jobs = served_jobs(alloc, in_order(done)?, round.full)?;
     Ok(RoundPieces { jobs, words, stop })
 }
+
+/// Gives the book of a round and its keeper's pass back.
+fn give_back(_book: Book, _keeper: KeeperPass) {}
 
 /// Serves the jobs of a round by so many workers, with a journal, which is handed back.
 pub(crate) fn serve_pieces<D: Disk + Drop + Send, G: Gate + Sync, R: Threads + Wait + Sync>(
@@ -299,7 +302,10 @@ pub(crate) fn serve_pieces<D: Disk + Drop + Send, G: Gate + Sync, R: Threads + W
     } = worked;
     let result = match all {
         Ok(all) => close(alloc, round, book, all, keeper, stop),
-        Err(error) => Err(error),
+        Err(error) => {
+            give_back(book, keeper);
+            Err(error)
+        }
     };
     Pieces { journal, result }
 }
