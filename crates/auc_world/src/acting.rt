@@ -2,6 +2,7 @@
 
 ghost use Rattle.std.specs.Prelude.{◌≡◌, IfOk, OnErr, None};
 ghost use Rattle.auc_lines.specs.declared.part.End.TheVariants as end;
+ghost use Rattle.auc_server.specs.Server.{started};
 ghost use Rattle.auc_server.specs.Table.{silent};
 ghost use Rattle.auc_world.specs.InnerWorld.{Acts};
 ghost use Rattle.auc_world.specs.World.{IsName};
@@ -22,7 +23,7 @@ use std::alloc::Global;
 pub(crate) type Came = Result<Note, WorldRefusal>;
 
 /// What an end does by itself.
-#[derive(Clone, Copy, Debug, PartialEq, Eq)]
+#[derive(Clone, Copy)]
 pub(crate) enum Deed {
     /// The server starts.
     Start,
@@ -68,6 +69,19 @@ fn copy_options(alloc: Global, options: &ServerOptions) -> Result<ServerOptions,
     })
 }
 
+/// A server that starts with a copy of these options, its first request, and a copy of that.
+fn started(alloc: Global, options: &ServerOptions) -> Result<(Server, Octets, Octets), NoMemory>
+    requires { IsName options.now.name }
+    ensures server { IfOk result (λ t. t.0 ≡ started options.now) }
+    ensures sent { IfOk result (λ t. t.1 ≡ (started options.now).last) }
+    ensures copy { IfOk result (λ t. t.2 ≡ (started options.now).last) }
+{
+    let options = copy_options(alloc, options)?;
+    let (server, bytes) = Server::start(options, alloc)?;
+    let copy = copy_of(alloc, &bytes)?;
+    Ok((server, bytes, copy))
+}
+
 /// Starts a session's server (RFC 3748 §5.1).
 fn start(
     alloc: Global,
@@ -82,10 +96,8 @@ fn start(
     if session.server.is_some() {
         return Ok(Err(WorldRefusal::Started));
     }
-    let options = copy_options(alloc, &session.options)?;
-    let (server, bytes) = Server::start(options, alloc)?;
-    let sent = Octets::copied_from(alloc, bytes.as_slice())?;
     make_place(packets)?;
+    let (server, bytes, sent) = started(alloc, &session.options)?;
     session.server = Some(server);
     let packet = post(packets, End::Server, None, Some(sent));
     Ok(Ok(note(NoteStep::Server(Step::Sent(bytes)), packet)))

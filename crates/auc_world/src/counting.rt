@@ -12,7 +12,7 @@ use auc_vector::{NumberNote, ResyncNote};
 use std::alloc::Global;
 
 /// What some lines did to a subscriber's numbers. A count ends at the greatest machine word.
-#[derive(Clone, Copy, Debug, PartialEq, Eq)]
+#[derive(Clone, Copy)]
 pub struct Count {
     /// How many vectors were released.
     pub released: u64,

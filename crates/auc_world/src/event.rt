@@ -79,7 +79,7 @@ pub struct Note {
 }
 
 /// Why nothing came of an event.
-#[derive(Clone, Copy, Debug, PartialEq, Eq)]
+#[derive(Clone, Copy)]
 pub enum WorldRefusal {
     /// No packet of the job has the number.
     NoSuchPacket,

@@ -68,7 +68,7 @@ pub struct Session {
 
 /// A delivery that breaks the premise: an end found a right MAC over bytes that no end of the other role had sent with the
 /// same inputs of its keys.
-#[derive(Clone, Copy, Debug, PartialEq, Eq)]
+#[derive(Clone, Copy)]
 pub struct Breach {
     /// The number of the session that the packet was delivered to.
     pub session: u32,

@@ -1,6 +1,7 @@
 //! A session as it is opened.
 
-ghost use Rattle.std.specs.Prelude.{◌≡◌, IfOk};
+ghost use Rattle.std.specs.Prelude.{◌≡◌, nat_eq, IfOk, OnErr, OnOk};
+ghost use Rattle.indexmap.specs.IndexMap.{insert_entry, IsUnchanged};
 ghost use Rattle.auc_lines.specs.Part.{IsShortIdentity};
 ghost use Rattle.auc_world.specs.Happened.{new_session};
 
@@ -10,6 +11,7 @@ use auc_edge::NoMemory;
 use auc_lines::SessionLine;
 use auc_peer::{Peer, PeerOptions};
 use auc_server::ServerOptions;
+use indexmap::IndexMap;
 use std::alloc::Global;
 
 /// A session in which nothing has happened, at the device of a place, with copies of the names and the identity.
@@ -46,4 +48,17 @@ pub(crate) fn new_session(
         peer: Peer::new(own, alloc),
         peer_keys: None,
     })
+}
+
+/// Adds a session under its number. If memory runs out, the sessions stay as they were.
+pub(crate) fn add_session(
+    sessions: &mut IndexMap<u32, Session>,
+    number: u32,
+    session: Session,
+) -> Result<(), NoMemory>
+    ensures added { OnOk result (sessions.new.entries ≡ insert_entry nat_eq sessions.old.entries number session) }
+    ensures kept { OnErr result (IsUnchanged sessions.old sessions.new) }
+{
+    sessions.insert(number, session)?;
+    Ok(())
 }

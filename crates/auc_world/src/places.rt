@@ -11,7 +11,7 @@ use indexmap::IndexMap;
 use std::alloc::Global;
 
 /// An identity, as devices are looked up by it.
-#[derive(Clone, Copy, Debug, PartialEq, Eq, Hash)]
+#[derive(Clone, Copy, PartialEq, Eq, Hash)]
 pub(crate) struct DeviceKey {
     pub(crate) digits: u8,
     pub(crate) number: u64,

@@ -77,7 +77,7 @@ impl LineRecord {
 }
 
 /// What the home network makes of an AUTS (TS 33.102 §6.3.5).
-#[derive(Clone, Copy, Debug, PartialEq, Eq)]
+#[derive(Clone, Copy)]
 pub enum SyncVerdict {
     /// The word of the subscriber's numbers rose from the first value to the second, which is SEQ_MS.
     Moved(u64, u64),
@@ -92,7 +92,7 @@ pub enum SyncVerdict {
 }
 
 /// What a USIM answers to a vector (TS 33.102 §6.3.3).
-#[derive(Clone, Copy, Debug, PartialEq, Eq)]
+#[derive(Clone, Copy)]
 pub enum GiveVerdict {
     /// The USIM accepted the vector.
     Accepted,
@@ -110,7 +110,7 @@ pub type JobRecord = Items<LineRecord>;
 pub type JobVectors = Items<Vector>;
 
 /// How the numbers of a subscriber stood at the end of a round in which they moved.
-#[derive(Clone, Copy, Debug, PartialEq, Eq)]
+#[derive(Clone, Copy)]
 pub struct Closing {
     pub sub: u32,
     /// The word at which the round opened the subscriber.
@@ -128,7 +128,7 @@ pub struct Closing {
 }
 
 /// Whether the ends of a session of which both ended in Success have equal keys.
-#[derive(Clone, Copy, Debug, PartialEq, Eq)]
+#[derive(Clone, Copy)]
 pub struct SessionVerdict {
     pub session: u32,
     pub agree: bool,
@@ -147,7 +147,7 @@ pub struct JobSessions {
 
 /// Whether the premise of equal keys held in a round: each delivery in which an end found a right MAC was of bytes that
 /// an end of the other role had sent in the same job, with the same inputs of its keys.
-#[derive(Clone, Copy, Debug, PartialEq, Eq)]
+#[derive(Clone, Copy)]
 pub enum Premise {
     /// The round has no session.
     NoSession,

@@ -106,27 +106,60 @@ fn copy_options(alloc: Global, options: &PeerOptions) -> Result<PeerOptions, NoM
     })
 }
 
+/// A copy of the last request that a peer answered, if it has answered one.
+fn copy_last_if_any(alloc: Global, last: &Option<Last>) -> Result<Option<Last>, NoMemory>
+    ensures { IfOk result (λ copy. copy ≡ last.now) }
+{
+    match last {
+        Some(last) => Ok(Some(copy_last(alloc, last)?)),
+        None => Ok(None),
+    }
+}
+
 /// A copy of a peer.
 fn copy(alloc: Global, peer: &Peer) -> Result<Peer, NoMemory>
     ensures { IfOk result (λ copy. copy ≡ peer.now) }
 {
-    let last = match &peer.last {
-        Some(last) => Some(copy_last(alloc, last)?),
-        None => None,
-    };
+    // What has the most parts is copied last: no early return has to give it back.
     Ok(Peer {
-        options: copy_options(alloc, &peer.options)?,
         state: peer.state,
-        last,
-        identity: copy_if_any(alloc, &peer.identity)?,
         accepted: peer.accepted,
-        network: copy_of(alloc, &peer.network)?,
-        packets: peer.packets.copy(alloc)?,
         inner: peer.inner,
         resumed: peer.resumed,
         next: peer.next,
         next_iv: peer.next_iv,
+        network: copy_of(alloc, &peer.network)?,
+        packets: peer.packets.copy(alloc)?,
+        identity: copy_if_any(alloc, &peer.identity)?,
+        last: copy_last_if_any(alloc, &peer.last)?,
+        options: copy_options(alloc, &peer.options)?,
     })
+}
+
+/// Gives the copies of a peer and of its device back.
+fn give_back(_own: Peer, _card: Device) {}
+
+/// The turn of a subscriber's peer at its device. If memory runs out, both may have changed.
+fn turn_of(
+    alloc: Global,
+    rands: &Rands,
+    device: &mut Device,
+    sub: u32,
+    peer: &mut Peer,
+    bytes: &[u8],
+) -> Result<Taken<PeerWhy>, NoMemory>
+    requires { length device.old.realm ≤ 255 }
+
+    ensures step { IfOk result (λ t. StepsPeer rands.now (subscription_of device.old) device.old.store peer.old bytes.now
+        device.old.usim.array peer.new t.turn device.new.store device.new.usim.array) }
+    ensures inputs { IfOk result (λ t. t.inputs ≡ inputs_of_peer sub peer.new) }
+    ensures sent { IfOk result (λ t. t.sent ≡ sent_by t.turn.step) }
+    ensures subscription { subscription_of device.new ≡ subscription_of device.old }
+{
+    let turn = peer.on_bytes(alloc, rands, device, bytes)?;
+    let inputs = peer_inputs(alloc, sub, peer)?;
+    let sent = copy_sent(alloc, &turn.step)?;
+    Ok(Taken { turn, inputs, sent })
 }
 
 /// A subscriber's peer takes received bytes at its device: copies of both do, which are put in their places once all memory
@@ -149,14 +182,19 @@ pub(crate) fn answer(
     ensures peer { OnErr result (peer.new ≡ peer.old) }
     ensures device { OnErr result (device.new ≡ device.old) }
 {
-    let mut own = copy(alloc, peer)?;
     let mut card = device.copy()?;
-    let turn = own.on_bytes(alloc, rands, &mut card, bytes)?;
-    let inputs = peer_inputs(alloc, sub, &own)?;
-    let sent = copy_sent(alloc, &turn.step)?;
-    *peer = own;
-    *device = card;
-    Ok(Taken { turn, inputs, sent })
+    let mut own = copy(alloc, peer)?;
+    match turn_of(alloc, rands, &mut card, sub, &mut own, bytes) {
+        Ok(taken) => {
+            *peer = own;
+            *device = card;
+            Ok(taken)
+        }
+        Err(error) => {
+            give_back(own, card);
+            Err(error)
+        }
+    }
 }
 
 /// The keys of a peer after a step: those of Success, or those that it had.

@@ -16,7 +16,7 @@ use crate::acting::{Came, Deed, act, note};
 use crate::event::{Event, Note, NoteStep, WorldRefusal};
 use crate::inputs::{judged, server_inputs};
 use crate::net::{Breach, SentPacket, Session};
-use crate::opening::new_session;
+use crate::opening::{add_session, new_session};
 use crate::places::{DevicePlaces, key, places};
 use crate::posting::{make_place, post};
 use crate::record::JobSessions;
@@ -206,7 +206,7 @@ impl World {
             return Ok(Err(WorldRefusal::NoSuchEnd));
         };
         let opened = new_session(alloc, opening, device)?;
-        self.sessions.insert(opening.session, opened)?;
+        add_session(&mut self.sessions, opening.session, opened)?;
         Ok(Ok(note(NoteStep::Opened, None)))
     }
 

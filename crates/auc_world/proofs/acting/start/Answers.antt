@@ -1,6 +1,4 @@
-use Rattle.std.proofs.Common.{sym, ap, ◌∙◌, refl}
-use Rattle.auc_server.specs.Server.{started}
-use Rattle.auc_server.specs.declared.options.ServerOptions.{ServerOptions}
+use Rattle.std.proofs.Common.{sym, ◌∙◌, refl}
 use Rattle.auc_world.proofs.ActingLemmas.{started_before, starts}
 use Rattle.auc_world.proofs.acting.start.Goals as goal
 
@@ -10,8 +8,7 @@ returns-then-is_some-clause-acts c = started_before c.args.packets.now.items c.a
 pub returns-clause-acts : goal.returns-clause-acts
 returns-clause-acts c =
     starts c.args.packets.now.items c.post-packet.new.packets.items c.args.session.now c.in_ok-server.server c.in_ok-server.bytes c.post-packet.result c.note.result
-    (sym c.if-is_some.ensures) (c.in_ok-server.ensures.server ∙ ap started c.in_ok-options.ensures)
-    (c.in_ok-server.ensures.sent ∙ ap (λ (o : ServerOptions). (started o).last) c.in_ok-options.ensures)
-    (rw (c.post-packet.ensures.posted, c.in_ok-make_place.ensures.same, c.in_ok-sent.ensures, c.as_slice.ensures) refl)
+    (sym c.if-is_some.ensures) c.in_ok-server.ensures.server c.in_ok-server.ensures.sent
+    (rw (c.post-packet.ensures.posted, c.in_ok-make_place.ensures.same, c.in_ok-server.ensures.copy ∙ sym c.in_ok-server.ensures.sent) refl)
     (rw (c.post-packet.ensures.number, c.in_ok-make_place.ensures.same) refl)
     c.note.ensures

@@ -31,12 +31,12 @@ pub invariant_of-self-2 : goal.invariant_of-self-2
 invariant_of-self-2 c =
     let inside = c.self.inside in
     let opened : Session = c.in_ok-opened.opened in
-    let put = c.in_ok-insert.ensures.entries ∙ insert_entry-new nat_eq inside.sessions c.args.opening.now.session opened (absent c.get_index_of.result _ c.get_index_of.ensures.found c.if-is_some.ensures) in
+    let put = c.in_ok-add_session.ensures.added ∙ insert_entry-new nat_eq inside.sessions c.args.opening.now.session opened (absent c.get_index_of.result _ c.get_index_of.ensures.found c.if-is_some.ensures) in
     kept_opened (keys inside.sessions) (get is_key inside.places) inside.packets.items (values inside.sessions) inside.released.items inside.homes.items inside.broken inside.devices.items c.self.invariant
     _ _ opened
-    (keys_push inside.sessions.entries c.insert.new.self.entries c.args.opening.now.session opened put
+    (keys_push inside.sessions.entries c.add_session.new.sessions.entries c.args.opening.now.session opened put
     ∙ ap (λ (x : Session). keys inside.sessions ++ x.number ∷ []) (sym c.in_ok-opened.ensures))
-    (values_push inside.sessions.entries c.insert.new.self.entries c.args.opening.now.session opened put)
+    (values_push inside.sessions.entries c.add_session.new.sessions.entries c.args.opening.now.session opened put)
     (ap (λ (x : Session). x.server) c.in_ok-opened.ensures)
     (subst (λ (x : Session). IsName x.options.name) (sym c.in_ok-opened.ensures) c.requires.name)
 
@@ -53,8 +53,8 @@ returns-clause-opened c =
     let inside = c.self.inside in
     let same = c.get_index_of.ensures.index ∙ place_by_number (keys inside.sessions) (values inside.sessions) c.args.opening.now.session c.self.invariant.numbered in
     let opened : Session = c.in_ok-opened.opened in
-    let put = c.in_ok-insert.ensures.entries ∙ insert_entry-new nat_eq inside.sessions c.args.opening.now.session opened (absent c.get_index_of.result _ c.get_index_of.ensures.found c.if-is_some.ensures) in
+    let put = c.in_ok-add_session.ensures.added ∙ insert_entry-new nat_eq inside.sessions c.args.opening.now.session opened (absent c.get_index_of.result _ c.get_index_of.ensures.found c.if-is_some.ensures) in
     opened_net inside.packets.items (values inside.sessions) inside.released.items inside.homes.items inside.broken inside.devices.items c.args.self.now c.self.view_is c.args.opening.now c.in-Some.device _
-    (no_session c.get_index_of.result (values inside.sessions) c.args.opening.now.session same c.if-is_some.ensures) c.in-Some.ensures (values c.insert.new.self)
-    (values_push inside.sessions.entries c.insert.new.self.entries c.args.opening.now.session opened put
+    (no_session c.get_index_of.result (values inside.sessions) c.args.opening.now.session same c.if-is_some.ensures) c.in-Some.ensures (values c.add_session.new.sessions)
+    (values_push inside.sessions.entries c.add_session.new.sessions.entries c.args.opening.now.session opened put
     ∙ ap (λ (x : Session). values inside.sessions ++ x ∷ []) c.in_ok-opened.ensures)
