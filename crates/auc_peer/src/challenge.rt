@@ -1,14 +1,16 @@
 //! A Challenge, as the USIM answers it (RFC 4187 §6.3.1 and §9.3, RFC 9048 §3).
 
-ghost use Rattle.std.specs.Prelude.{◌≡◌, ◌≤◌, ℕ, [], length, Some};
+ghost use Rattle.std.specs.Prelude.{◌≡◌, ◌≤◌, ℕ, [], false, length, Some};
 ghost use Rattle.auc_packet.specs.Received.{IsReceived, seen_of};
+ghost use Rattle.auc_packet.specs.Spelling.{packet_text};
 ghost use Rattle.auc_seal.specs.Checkcode.{value_bytes};
 ghost use Rattle.auc_seal.specs.Encrypted.{ciphertext_of};
 ghost use Rattle.auc_sqn.specs.Past.{Past, Remembers};
 ghost use Rattle.auc_peer.specs.Asking.{note_of as note_by};
-ghost use Rattle.auc_peer.specs.Attributes.{attrs_in};
+ghost use Rattle.auc_peer.specs.Attributes.{attrs_in, id_of};
+ghost use Rattle.auc_peer.specs.Messages.{sync_failure};
 ghost use Rattle.auc_peer.specs.Subscription.{subscription_of};
-ghost use Rattle.auc_peer.specs.Table.{accepted, by_answer, challenged, context_from, keys_for, network_in, opened, origin_of, own_code, text_or_none};
+ghost use Rattle.auc_peer.specs.Table.{accepted, answered, by_answer, challenged, context_from, keys_for, network_in, opened, origin_of, own_code, text_or_none};
 ghost use Rattle.auc_vector.specs.Keys.{ck_by, ik_by, master_of as master_by_method};
 ghost use Rattle.auc_peer.specs.Turn.{Asked, Decrypts, IsInner, decryption_by, decryption_noted, decryption_under, told};
 
@@ -19,7 +21,7 @@ use crate::messages::{challenge_response, sync_failure, value};
 use crate::next::NextContext;
 use crate::peer::{Challenge, Peer, PeerState};
 use crate::reading::{differs, has_checkcode, id_of, inner_in};
-use crate::rooms::{Copies, Rooms};
+use crate::rooms::{Copies, Rooms, let_go};
 use crate::turns::noted;
 use crate::why::PeerWhy;
 use auc_edge::{Octets, Room};
@@ -157,31 +159,14 @@ impl Peer {
         ensures decrypts { Decrypts (decryption_by self.old (seen_of received.now) challenge answer) (told self.new) }
     {
         match answer {
-            Answer::WrongMac => self.reject(
-                received,
-                request,
-                PeerWhy::WrongAutn,
-                Some(UsimNote::WrongMac),
-                rooms,
-            ),
+            Answer::WrongMac => {
+                let_go(network, inner);
+                let note = Some(UsimNote::WrongMac);
+                self.reject(received, request, PeerWhy::WrongAutn, note, rooms)
+            }
             Answer::SyncFailure { auts, sqn } => {
-                let Rooms {
-                    places,
-                    bytes,
-                    kept,
-                    ..
-                } = rooms;
-                let bytes = sync_failure(self.options.method, id_of(received), auts, places, bytes);
-                let note = Some(UsimNote::Sync(sqn));
-                self.answer(
-                    received,
-                    request,
-                    PeerState::Waiting,
-                    bytes,
-                    kept,
-                    noted(note),
-                    false,
-                )
+                let_go(network, inner);
+                self.on_sync_failure(received, request, auts, sqn, rooms)
             }
             Answer::Accepted {
                 res,
@@ -197,6 +182,32 @@ impl Peer {
                 )
             }
         }
+    }
+
+    /// Answers a Challenge whose SQN the USIM refused (RFC 4187 §6.3.1 and §9.6).
+    fn on_sync_failure(
+        &mut self,
+        received: &Received,
+        request: Octets,
+        auts: [u8; 14],
+        sqn: [u8; 6],
+        rooms: Rooms,
+    ) -> Turn<PeerWhy>
+        requires request { request ≡ (seen_of received.now).bytes }
+        requires rooms { 76 ≤ rooms }
+        ensures { (self.new, result) ≡ answered self.old (seen_of received.now) PeerState.Waiting
+            (packet_text (sync_failure self.old.options.method (id_of (seen_of received.now)) auts)) (Some (UsimNote.Sync sqn)) false }
+    {
+        let Rooms {
+            places,
+            bytes,
+            kept,
+            ..
+        } = rooms;
+        let bytes = sync_failure(self.options.method, id_of(received), auts, places, bytes);
+        let state = PeerState::Waiting;
+        let notes = noted(Some(UsimNote::Sync(sqn)));
+        self.answer(received, request, state, bytes, kept, notes, false)
     }
 
     /// Takes a Challenge that the USIM accepted. AT_MAC is tested first, before RES is sent.

@@ -2,6 +2,9 @@
 
 ghost use Rattle.std.specs.Prelude.{◌≡◌, ◌≤◌, length, IfOk, OnErr};
 ghost use Rattle.auc_packet.specs.Received.{seen_of};
+ghost use Rattle.auc_packet.specs.Spelling.{packet_text};
+ghost use Rattle.auc_peer.specs.Attributes.{id_of};
+ghost use Rattle.auc_peer.specs.Messages.{identified as identity_message};
 ghost use Rattle.auc_peer.specs.Identities.{asked_text};
 ghost use Rattle.auc_peer.specs.Subscription.{subscription_of};
 ghost use Rattle.auc_peer.specs.Table.{identified};
@@ -33,25 +36,44 @@ impl Peer {
             (asked_text self.old.options.method (subscription_of device.now) device.now.store asked)) }
         ensures kept { OnErr result (self.new ≡ self.old) }
     {
+        let said = self.identity_answer(alloc, device, received, asked)?;
+        let request = Octets::copied_from(alloc, received.bytes)?;
+        let kept = Room::new(alloc, said.bytes.len())?;
+        self.packets
+            .add_both(alloc, packet_in(received.bytes), said.bytes.as_slice())?;
+        let IdentityAnswer { text, bytes } = said;
+        self.identity = Some(text);
+        let state = PeerState::Waiting;
+        Ok(self.answer(received, request, state, bytes, kept, noted(None), false))
+    }
+
+    /// The response with the identity that an AKA-Identity request asks for.
+    fn identity_answer(
+        &self,
+        alloc: Global,
+        device: &Device,
+        received: &Received,
+        asked: IdentityRequest,
+    ) -> Result<IdentityAnswer, NoMemory>
+        requires { length device.now.realm ≤ 255 }
+        ensures text { IfOk result (λ said. said.text
+            ≡ asked_text self.now.options.method (subscription_of device.now) device.now.store asked) }
+        ensures bytes { IfOk result (λ said. said.bytes
+            ≡ packet_text (identity_message self.now.options.method (id_of (seen_of received.now)) said.text)) }
+    {
         let method = self.options.method;
         let text = device.asked_identity(alloc, method, asked)?;
         let sent = Octets::copied_from(alloc, text.as_slice())?;
-        let room = Room::new(alloc, 15 + text.len())?;
         let places = Places::new(alloc, 2)?;
-        let kept = Room::new(alloc, 15 + text.len())?;
-        let request = Octets::copied_from(alloc, received.bytes)?;
-        let bytes = identified(method, id_of(received), text, places, room);
-        self.packets
-            .add_both(alloc, packet_in(received.bytes), bytes.as_slice())?;
-        self.identity = Some(sent);
-        Ok(self.answer(
-            received,
-            request,
-            PeerState::Waiting,
-            bytes,
-            kept,
-            noted(None),
-            false,
-        ))
+        let room = Room::new(alloc, 15 + text.len())?;
+        let bytes = identified(method, id_of(received), sent, places, room);
+        Ok(IdentityAnswer { text, bytes })
     }
+}
+
+/// An AKA-Identity response, and the identity in it.
+#[derive(Drop)]
+struct IdentityAnswer {
+    text: Octets,
+    bytes: Octets,
 }

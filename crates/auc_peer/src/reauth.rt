@@ -1,12 +1,12 @@
 //! A fast re-authentication (RFC 4187 §5 and §9.7, RFC 9048 §3.3).
 
-ghost use Rattle.std.specs.Prelude.{◌≡◌, ◌≤◌, [], length, Some, IfOk, OnErr};
+ghost use Rattle.std.specs.Prelude.{◌≡◌, ◌≤◌, [], length, None, Some, IfOk, OnErr};
 ghost use Rattle.auc_packet.specs.Received.{IsReceived, seen_of};
 ghost use Rattle.auc_seal.specs.Encrypted.{ciphertext_of};
 ghost use Rattle.auc_reauth.specs.Server.{if_named};
 ghost use Rattle.auc_peer.specs.Attributes.{attrs_in};
 ghost use Rattle.auc_peer.specs.Subscription.{subscription_of};
-ghost use Rattle.auc_peer.specs.Table.{by_counter, context_named, context_of, counter_noted, counted_up, counter_bytes, disclosed, iv_after, reauthenticated, resumes, small, taken};
+ghost use Rattle.auc_peer.specs.Table.{by_counter, client, context_named, context_of, counter_noted, counted_up, counter_bytes, disclosed, iv_after, reauthenticated, resumes, small, taken};
 ghost use Rattle.auc_peer.specs.Turn.{Decrypts, decryption_resumed};
 
 use crate::challenge::text_of;
@@ -133,17 +133,15 @@ impl Peer {
         ensures usim { device.new.usim ≡ device.old.usim }
     {
         if lacks_reauthentication(&received.reading) {
-            let why = PeerWhy::Missing;
-            return self.client(received, request, why, None, false, rooms.into_rooms());
+            return self.refuse(received, request, inner, PeerWhy::Missing, false, rooms);
         }
         if !is_sealed(received, self.options.method, &context.k_aut, &[]) {
-            let why = PeerWhy::WrongMac;
-            return self.client(received, request, why, None, false, rooms.into_rooms());
+            return self.refuse(received, request, inner, PeerWhy::WrongMac, false, rooms);
         }
         self.resumed = Some(context);
         if differs(self.own_code().as_slice(), &received.reading) {
             let why = PeerWhy::WrongCheckcode;
-            return self.client(received, request, why, None, true, rooms.into_rooms());
+            return self.refuse(received, request, inner, why, true, rooms);
         }
         self.inner = inner_in(
             context.k_encr,
@@ -152,6 +150,22 @@ impl Peer {
             inner,
         );
         self.on_disclosed(rands, device, received, request, context, rooms)
+    }
+
+    /// Refuses a Reauthentication by Client-Error, before anything is decrypted.
+    fn refuse(
+        &mut self,
+        received: &Received,
+        request: Octets,
+        _inner: Room,
+        why: PeerWhy,
+        checked: bool,
+        rooms: ReauthRooms,
+    ) -> Turn<PeerWhy>
+        requires { request ≡ (seen_of received.now).bytes }
+        ensures { (self.new, result) ≡ client self.old (seen_of received.now) why None checked }
+    {
+        self.client(received, request, why, None, checked, rooms.into_rooms())
     }
 
     /// Looks for the counter and NONCE_S in what was decrypted.

@@ -156,6 +156,9 @@ impl Copies {
 /// Gives all memory of a turn back.
 pub(crate) fn give_back(_copies: Copies, _rooms: Rooms) {}
 
+/// Gives back what only a Challenge that the USIM accepts needs.
+pub(crate) fn let_go(_network: Octets, _inner: Room) {}
+
 /// Gives the memory for messages back.
 pub(crate) fn give_rooms_back(_rooms: Rooms) {}
 
