@@ -3,7 +3,6 @@
 
 The exit status is 0 only if each test passes.
 """
-import ctypes
 import fcntl
 import os
 import re
@@ -11,153 +10,17 @@ import resource
 import shutil
 import signal
 import subprocess
-import sys
-import tempfile
 import time
 import unittest
-from pathlib import Path
 
-sys.dont_write_bytecode = True
-TOP = Path(__file__).resolve().parent.parent
-sys.path.insert(0, str(TOP / "tools"))
+from ends import run_main
+from launcher import explain
+from small_checkout import OPEN, PIPES, SECONDS, TOP, Checkout, as_a_user
 
-from ends import run_main  # noqa: E402
-from launcher import explain  # noqa: E402
-
-DROP_FROM_BOUNDING_SET, DAC_OVERRIDE, DAC_READ_SEARCH = 24, 1, 2
-SECONDS = 60
-PIPES = {"stdout": subprocess.PIPE, "stderr": subprocess.PIPE, "text": True}
 WRONG = ["", "rnu", "--hlep", "-x run", "--old", "--journal-dir", "prove x", "prove --jobs 0", "--version x"]
 K, OPC = "465b5ce8b199b49faa5f0a2ee238a6bc", "cd63cb71954a9f4e48a5994e37a02baf"
 RECORD = f"001010000000001,{K},opc,{OPC},8000,0,0"
 HEADER = "imsi,k,kind,op,amf,seq,usim"
-
-# The stand-in for the program: it notes its words and folder, makes a journal if JOURNAL is set, and prints SAYS.
-PROGRAM = """#!/bin/sh
-[ -z "$CALLS" ] || echo "$PWD: $*" >>"$CALLS"
-[ -z "$JOURNAL" ] || [ "$1" != run ] || printf AUC-SQN-JOURNAL1 >auc.journal
-[ -z "$NAP" ] || exec sleep "$NAP"
-[ -z "$SAYS" ] || printf '%s\\n' "$SAYS"
-[ "$1" = vector ] || exit "${STATUS:-0}"
-"""
-# The stand-in for rt: it notes its words, builds by a copy, and fails or waits if it is told to.
-RT = """#!/bin/sh
-[ "$1" = version ] && echo "stand-in kit" && exit
-echo "$*" >>"$CALLS"
-[ -z "$RT_NAP" ] || { echo $$ >"$RT_PID"; exec sleep "$RT_NAP"; }
-while [ -n "$RT_GATE" ] && [ ! -e "$RT_GATE" ]; do sleep 0.05; done
-[ -z "$RT_EDITS" ] || echo more >>"$RT_EDITS"
-[ "$RT_FAILS" != "$1" ] || { rm -f out/auc_cli; exit 1; }
-case $1 in
-    all) printf '== auc_low\\n'; sleep 0.6; printf '== auc_cli\\n' ;;
-    run) mkdir -p out; rm -f out/auc_cli; cp "$RT_PROGRAM" out/auc_cli; shift 2; exec out/auc_cli "$@" ;;
-    try) printf '%s\\n' "$SAYS"; echo run=ended >&2; exit "${STATUS:-0}" ;;
-esac
-"""
-# A program that writes which of its first nine descriptors are open.
-OPEN = """#!/bin/sh
-exec 9>{}
-for place in 0 1 2 3 4 5 6 7 8; do [ ! -e /proc/$$/fd/$place ] || echo $place >&9; done
-"""
-TABLE = """<!-- begin: bench/gate.py -->
-| Crate | Proof | Tests | Together |
-|---|---:|---:|---:|
-| `auc_low` | 30.0 | 9.0 | 39.0 |
-| all of these | 30.0 | 9.0 | 39.0 |
-<!-- end: bench/gate.py -->
-"""
-
-
-class Checkout(unittest.TestCase):
-    """A checkout with two crates, and a folder that the calls are made in."""
-
-    def setUp(self):
-        self.room = Path(tempfile.mkdtemp(prefix="auc-test-"))
-        self.addCleanup(shutil.rmtree, self.room, ignore_errors=True)
-        self.room.chmod(0o755)
-        self.top, self.here, self.calls = self.room / "top", self.room / "here", self.room / "calls"
-        self.out = self.top / "crates/auc_cli/out"
-        for folder in ("top/bench", "top/tools", "top/crates/auc_low/src", "top/crates/auc_cli/src", "here", "bin"):
-            (self.room / folder).mkdir(parents=True)
-        for name in ("auc", "bench/release.py", "tools/ends.py"):
-            shutil.copy(TOP / name, self.top / name)
-        shutil.copytree(TOP / "tools/launcher", self.top / "tools/launcher", ignore=shutil.ignore_patterns("__pycache__"))
-        texts = {
-            "CHANGELOG.md": "# Changelog\n\n## 1.2.3\n\n## 1.2.2\n",
-            "CONTRIBUTING.md": TABLE,
-            "crates.txt": "auc_cli: auc_low\nauc_low:\n",
-            "crates/auc_low/src/lib.rt": "low",
-            "crates/auc_cli/src/main.rt": "cli",
-        }
-        for name, text in texts.items():
-            (self.top / name).write_text(text)
-        self.executable("bin/rt", RT)
-        self.program = self.executable("program", PROGRAM)
-        self.environment = {
-            **os.environ,
-            "PATH": f"{self.room}/bin:{os.environ['PATH']}",
-            "CALLS": str(self.calls),
-            "RT_PROGRAM": str(self.program),
-            "RT_PID": f"{self.room}/pid",
-            "XDG_CACHE_HOME": f"{self.room}/cache",
-        }
-        self.environment.pop("AUC_JOURNAL_DIR", None)
-
-    def executable(self, name, text):
-        path = self.room / name
-        path.parent.mkdir(parents=True, exist_ok=True)
-        path.write_text(text)
-        path.chmod(0o755)
-        return path
-
-    def command(self, *words, script="auc"):
-        return [sys.executable, "-S", str(self.top / script), *map(str, words)]
-
-    def how(self, more):
-        """The folder and the environment of a call. Capital names go from `more` to the environment."""
-        return {"cwd": self.here, "env": {**self.environment, **{it: str(more.pop(it)) for it in [*more] if it.isupper()}}}
-
-    def auc(self, *words, script="auc", without_rt=False, **more):
-        """A call of the script that ended."""
-        if without_rt:
-            more["PATH"] = "/usr/bin:/bin"
-        how = {**self.how(more), "stdin": subprocess.DEVNULL, **PIPES, **more}
-        return subprocess.run(self.command(*words, script=script), timeout=SECONDS, **how)
-
-    def started(self, *words, **more):
-        child = subprocess.Popen(self.command(*words), **self.how(more), preexec_fn=heed_signals, **more)
-        self.addCleanup(child.wait)
-        self.addCleanup(child.kill)
-        return child
-
-    def noted(self):
-        """The calls of the stand-ins so far."""
-        return self.calls.read_text().splitlines() if self.calls.exists() else []
-
-    def proved(self):
-        """Puts a proved program into its place, as a build leaves it."""
-        place = self.out / "proved/auc"
-        place.parent.mkdir(parents=True)
-        shutil.copy(self.program, place)
-        return place
-
-    def aged(self, path, seconds=60):
-        then = time.time() - seconds
-        os.utime(path, (then, then))
-
-    def wait_for(self, path):
-        end = time.monotonic() + SECONDS
-        while not path.exists() or not path.read_text():
-            self.assertLess(time.monotonic(), end, f"{path} didn't come")
-            time.sleep(0.02)
-        return path.read_text().strip()
-
-    def assert_ends(self, pid):
-        """Whether a process that isn't a child of this one ends soon."""
-        end = time.monotonic() + 5
-        while Path(f"/proc/{pid}").exists() and " Z " not in Path(f"/proc/{pid}/stat").read_text():
-            self.assertLess(time.monotonic(), end, f"process {pid} goes on")
-            time.sleep(0.05)
 
 
 class Words(Checkout):
@@ -400,18 +263,6 @@ class Explanations(Checkout):
             ran.stderr.splitlines(),
             ["auc: nothing is proved in this run", "a.scenario:1: draw 1: the line is in the wrong place (outoforder)"])
         self.assertEqual(self.noted(), [f"try --data input1={self.here}/a.scenario -- run input1"])
-
-
-def heed_signals():
-    """Has signals end the process to come, also in a gate that runs in the background."""
-    for number in (signal.SIGINT, signal.SIGTERM, signal.SIGHUP):
-        signal.signal(number, signal.SIG_DFL)
-
-
-def as_a_user():
-    """Has permissions count in the process to come, also for root."""
-    for capability in (DAC_OVERRIDE, DAC_READ_SEARCH):
-        ctypes.CDLL(None).prctl(DROP_FROM_BOUNDING_SET, capability)
 
 
 class Builds(Checkout):
