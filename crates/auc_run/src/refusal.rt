@@ -13,7 +13,7 @@ use auc_script::{ScriptRefusal, ScriptWhy};
 use auc_subs::{SubsRefusal, SubsWhy};
 
 /// Why a run is refused, or ends early.
-#[derive(Clone, Copy, Debug, PartialEq, Eq)]
+#[derive(Clone, Copy)]
 pub enum Refusal {
     /// The words have none of the program's forms.
     Usage,
