@@ -1,5 +1,5 @@
 -- For a load: the numbers at which its round closes the subscribers.
-use Rattle.std.proofs.Common.{◌≡◌, ℕ, zero, suc, ◌+◌, ◌*◌, ◌%◌, ◌<◌, ◌≤◌, Bool, true, false, cond, List, [], ◌∷◌, ◌++◌, length, get_or, map, All, AllPairs, None, refl, sym, ◌∙◌, ap, subst, append-nil, arith}
+use Rattle.std.proofs.Common.{◌≡◌, ℕ, zero, suc, ◌+◌, ◌*◌, ◌%◌, ◌<◌, ◌≤◌, Bool, true, false, cond, List, [], ◌∷◌, ◌++◌, length, get_or, map, All, AllPairs, Option, None, Result, Ok, Err, IfOk, refl, sym, ◌∙◌, ap, subst, append-nil, arith}
 use Rattle.std.specs.Prelude.{◌==◌, if◌then◌else◌, count_by, flat_map}
 use Rattle.std.specs.List.{range_with_len}
 use Rattle.std.proofs.lemmas.Bool.Decides.{nat_tests}
@@ -10,11 +10,15 @@ use Rattle.std.proofs.lemmas.List.Elements.{All-nil, All-cons, All-head, All-tai
 use Rattle.std.proofs.lemmas.List.FromFn.{get_or-map-range_with_len, length-map-range_with_len}
 use Rattle.std.proofs.lemmas.List.Sums.{get_or-le-sum_by, sum_by-append, sum_by-cons}
 use Rattle.std.proofs.lemmas.Simd.{map-map}
+use Rattle.auc_edge.specs.declared.stop.Stop.{Stop}
 use Rattle.auc_history.specs.History.{drawn, drawn_by, skipped, skipped_by}
 use Rattle.auc_history.specs.Split.{all_entries}
 use Rattle.auc_history.specs.declared.entry.Entry.TheVariants.{Drawn}
 use Rattle.auc_history.proofs.Facts.{split_counts_its_numbers}
+use Rattle.auc_jobs.specs.Round.{Serves}
 use Rattle.auc_jobs.specs.Serving.{AreAllKnown, AreKnown, IsKnownLine}
+use Rattle.auc_jobs.specs.State.{Standing}
+use Rattle.auc_journal.specs.Journal.{JournalState}
 use Rattle.auc_lines.specs.Part.{AreApart, holds}
 use Rattle.auc_lines.specs.declared.part.Line.{Line}
 use Rattle.auc_lines.specs.declared.part.Line.TheVariants.{Draw}
@@ -457,3 +461,24 @@ load_round_closes load set kept round words is lawful =
 -- how many subscribers there are
 pub rows_of_load : (load : LoadWords) (rows : List Row) → rows ≡ load_rows load → length rows ≡ load.subscribers
 rows_of_load load rows same = ap length same ∙ length-map-range_with_len (row_at (load_key load.key)) 0 load.subscribers
+
+-- a round that was served is lawful from the state's words, which are the numbers of the rows
+pub served_lawful : {D : Type 0} (seen : D → Option (List ℕ)) (may_leave : D → List ℕ → Type 0) (set : Setting) (state next : Standing) (jobs : List (List Line)) (round : RoundRecord) (stop : Option Stop)
+    (journal after : JournalState D) → state.words ≡ map (λ (row : Row). row.seq) set.rows → Serves seen may_leave set [] state jobs round stop journal next after
+    → (kept : List Kept) × (words : List ℕ) × IsLawfulRound set stop [] kept (map (λ (row : Row). row.seq) set.rows) jobs round words
+served_lawful seen may_leave set state next jobs round stop journal after same serves =
+    (state.kept, serves.words, subst (λ (os : List ℕ). IsLawfulRound set stop [] state.kept os jobs round serves.words) same serves.lawful)
+
+-- if reservations didn't end in the round of a load, its closings are those that the summary has to tell
+pub load_ends : {E : Type 0} (load : LoadWords) (set : Setting) (jobs : List (List Line)) (round : RoundRecord) (stop : Option Stop) (result : Result (List Closing) E) → IsLoad load
+    → set.rows ≡ load_rows load → jobs ≡ load_jobs load
+    → ((kept : List Kept) × (words : List ℕ) × IsLawfulRound set stop [] kept (map (λ (row : Row). row.seq) set.rows) jobs round words)
+    → IfOk result (λ closings. (stop ≡ None) × (closings ≡ round.closings)) → IfOk result (λ closings. closings ≡ load_closings load)
+load_ends load set jobs round stop (Ok closings) is rows same served closes =
+    let kept = served.0 in
+    let words = served.1 in
+    let whole = subst (λ (s : Option Stop). IsLawfulRound set s [] kept (map (λ (row : Row). row.seq) set.rows) jobs round words) closes.0 served.2 in
+    let of_jobs = subst (λ (js : List (List Line)). IsLawfulRound set None [] kept (map (λ (row : Row). row.seq) set.rows) js round words) same whole in
+    closes.1 ∙ load_round_closes load set kept round words is
+    (subst (λ (os : List ℕ). IsLawfulRound set None [] kept os (load_jobs load) round words) (ap (λ (rows : List Row). map (λ (row : Row). row.seq) rows) rows) of_jobs)
+load_ends load set jobs round stop (Err e) is rows same served closes = tt

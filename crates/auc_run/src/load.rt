@@ -1,28 +1,34 @@
 //! The form `load KEY SUBSCRIBERS JOBS WORKERS`: one round of draws over a journal in memory, and the digest of its vectors.
 
-ghost use Rattle.std.specs.Prelude.{◌≡◌, ◌≢◌, Some, OnOk, IfOk, IfErr, IsErrOf, Err};
+ghost use Rattle.std.specs.Prelude.{◌≡◌, ◌≢◌, ◌≤◌, ℕ, List, [], AllPairs, None, Some, OnOk, IfOk, IfErr, IsErrOf, Err, length, map};
 ghost use Rattle.auc_edge.specs.Faults.{Rose};
 ghost use Rattle.auc_edge.specs.Sink.{Appends};
 ghost use Rattle.auc_jobs.specs.Round.{IsJournalOf};
+ghost use Rattle.auc_jobs.specs.Serving.{AreAllKnown};
+ghost use Rattle.auc_lines.specs.Part.{AreApart};
 ghost use Rattle.auc_load.specs.Input.{load_rows};
 ghost use Rattle.auc_load.specs.Summary.{load_closings, load_text};
 ghost use Rattle.auc_load.specs.Words.{IsLoad, load_named};
 ghost use Rattle.auc_load.specs.declared.words.LoadWords.{LoadWords};
+ghost use Rattle.auc_script.specs.Numbers.{longest_realm, most_jobs, most_workers};
 ghost use Rattle.auc_subs.specs.Subscriber.{AreSubscribers};
+ghost use Rattle.auc_world.specs.Round.{IsLawfulRound};
+ghost use Rattle.auc_world.specs.Start.{Kept};
 ghost use Rattle.auc_run.specs.Inner.{LoadStops, OutputStops, status_in};
 ghost use Rattle.auc_run.specs.Outcome.{EndsLoad, RunsLoad};
 
 use crate::opening::open_journal;
 use crate::refusal::Refusal;
 use auc_disk::{FailList, MemDisk};
-use auc_edge::{Gate, NoMemory, Octets, Sink, write_whole};
+use auc_edge::{Gate, Items, NoMemory, Octets, Sink, write_whole};
 use auc_ident::Names;
-use auc_jobs::{Served, State, serve};
+use auc_jobs::{Ran, Served, State, serve};
 use auc_journal::Journal;
+use auc_lines::JobPart;
 use auc_load::{LoadWords, jobs, key_of, load_words, subscribers, summary};
 use auc_random::Rands;
 use auc_subs::Subscribers;
-use auc_world::{RoundRecord, Setting};
+use auc_world::{Closing, RoundRecord, Setting};
 use std::alloc::Global;
 use std::sync::Wait;
 use std::thread::Threads;
@@ -64,24 +70,37 @@ fn write_load<R: Threads + Wait + Sync, K: Sink, G: Gate + Sync>(
     ensures fault { IsErrOf result Refusal.WriteFault → Rose (K.faults out.old) (K.faults out.new) }
     ensures quiet { result ≢ Err Refusal.WriteFault → K.faults out.new ≡ K.faults out.old }
 {
-    let subs = subscribers(alloc, load)?;
-    let round = serve_load(rt, alloc, load, &subs, gate)?;
-    let text = summary(alloc, load, &subs, round.closings.as_slice())?;
+    let text = load_lines(rt, alloc, load, gate)?;
     write_whole(out, text.as_slice())?;
     Ok(())
 }
 
-/// Serves the round of a load, which closes each subscriber after the vectors that its jobs draw.
+/// Serves a load, and makes its lines.
+fn load_lines<R: Threads + Wait + Sync, G: Gate + Sync>(
+    rt: &R,
+    alloc: Global,
+    load: &LoadWords,
+    gate: &G,
+) -> Result<Octets, NoMemory>
+    requires { IsLoad load.now }
+    ensures { IfOk result (λ text. text ≡ load_text load.now) }
+{
+    let subs = subscribers(alloc, load)?;
+    let closings = serve_load(rt, alloc, load, &subs, gate)?;
+    summary(alloc, load, &subs, closings.as_slice())
+}
+
+/// Serves the round of a load, and gives its closings: each subscriber is closed after the vectors that its jobs draw.
 fn serve_load<R: Threads + Wait + Sync, G: Gate + Sync>(
     rt: &R,
     alloc: Global,
     load: &LoadWords,
     subs: &Subscribers,
     gate: &G,
-) -> Result<RoundRecord, NoMemory>
+) -> Result<Items<Closing>, NoMemory>
     requires load { IsLoad load.now }
     requires subscribers { subs.now ≡ load_rows load.now }
-    ensures { IfOk result (λ round. round.closings ≡ load_closings load.now) }
+    ensures { IfOk result (λ closings. closings ≡ load_closings load.now) }
 {
     let key = key_of(load.key);
     let rands = Rands::new(key);
@@ -93,25 +112,62 @@ fn serve_load<R: Threads + Wait + Sync, G: Gate + Sync>(
         realm: b"".as_slice(),
     };
     let jobs = jobs(alloc, load)?;
-    let state = State::new(alloc, subs)?;
-    let journal = empty_journal(alloc, subs)?;
-    let Served { result, .. } = serve(
-        rt,
-        alloc,
-        1,
-        jobs.as_slice(),
-        &set,
-        false,
-        state,
-        journal,
-        load.workers,
-        gate,
-    );
-    let ran = result?;
-    match ran.stop {
-        None => Ok(ran.round),
+    let ran = serve_once(rt, alloc, &set, jobs.as_slice(), load.workers, gate)?;
+    closings_of(ran)
+}
+
+/// Serves one round over an empty journal in memory.
+fn serve_once<R: Threads + Wait + Sync, G: Gate + Sync>(
+    rt: &R,
+    alloc: Global,
+    set: &Setting,
+    jobs: &[JobPart],
+    workers: u32,
+    gate: &G,
+) -> Result<Ran, NoMemory>
+    requires known { AreAllKnown (length set.now.rows) jobs.now }
+    requires few { length jobs.now ≤ most_jobs }
+    requires apart { AllPairs AreApart jobs.now }
+    requires workers { (1 ≤ workers) × (workers ≤ most_workers) }
+    requires realm { length set.now.realm ≤ longest_realm }
+    ensures { IfOk result (λ ran. (kept : List Kept) × (words : List ℕ) × IsLawfulRound set.now ran.stop [] kept
+        (map (λ row. row.seq) set.now.rows) jobs.now ran.round words) }
+{
+    let state = State::new(alloc, set.subs)?;
+    // The value of the most parts is taken last: no early return has to give it back.
+    let journal = empty_journal(alloc, set.subs)?;
+    ran_of(serve(
+        rt, alloc, 1, jobs, set, false, state, journal, workers, gate,
+    ))
+}
+
+/// What a round did. The state and the journal are given back.
+fn ran_of(served: Served<MemDisk>) -> Result<Ran, NoMemory>
+    ensures { result ≡ served.result }
+{
+    let Served { result, .. } = served;
+    result
+}
+
+/// The closings of a round in which reservations didn't end. All other memory is given back.
+fn closings_of(ran: Ran) -> Result<Items<Closing>, NoMemory>
+    ensures { IfOk result (λ closings. (ran.stop ≡ None) × (closings ≡ ran.round.closings)) }
+{
+    let stop = ran.stop;
+    let closings = into_closings(ran);
+    match stop {
+        None => Ok(closings),
         Some(_) => Err(NoMemory),
     }
+}
+
+/// The closings of a round. All other memory is given back.
+fn into_closings(ran: Ran) -> Items<Closing>
+    ensures { result ≡ ran.round.closings }
+{
+    let Ran { round, .. } = ran;
+    let RoundRecord { closings, .. } = round;
+    closings
 }
 
 /// The journal of an empty disk in memory. A call of this disk fails only if memory runs out.

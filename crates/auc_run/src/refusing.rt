@@ -39,27 +39,34 @@ fn write_refusal<K: Sink>(alloc: Global, refusal: Refusal, out: &mut K) -> Resul
     ensures quiet { result ≢ Err Refusal.WriteFault → K.faults out.new ≡ K.faults out.old }
 {
     match refusal {
-        Refusal::Usage => write_whole(out, b"usage\n".as_slice())?,
+        Refusal::Usage => Ok(write_whole(out, b"usage\n".as_slice())?),
         Refusal::Subscribers(row, why) => {
             let text = refused_line(alloc, b"refused subscribers ", row, subs_why_text(why))?;
-            write_whole(out, text.as_slice())?
+            write_text(text, out)
         }
         Refusal::Scenario(line, why) => {
             let text = refused_line(alloc, b"refused scenario ", line, why_text(why))?;
-            write_whole(out, text.as_slice())?
+            write_text(text, out)
         }
-        Refusal::NotJournal(place) => {
-            let text = journal_line(alloc, place)?;
-            write_whole(out, text.as_slice())?
-        }
+        Refusal::NotJournal(place) => write_text(journal_line(alloc, place)?, out),
         Refusal::ReadFault
         | Refusal::WriteFault
         | Refusal::StoreFault
         | Refusal::StoreFull
         | Refusal::TooLong
-        | Refusal::NoMemory => {}
+        | Refusal::NoMemory => Ok(()),
     }
-    Ok(())
+}
+
+/// Writes a text, and gives its memory back.
+fn write_text<K: Sink>(text: Octets, out: &mut K) -> Result<(), Refusal>
+    ensures written { OnOk result (Appends (K.written out.old) (K.written out.new) text) }
+    ensures front { AppendsFront (K.written out.old) (K.written out.new) text }
+    ensures refused { IfErr result (λ stop. stop ≡ Refusal.WriteFault) }
+    ensures fault { IsErrOf result Refusal.WriteFault → Rose (K.faults out.old) (K.faults out.new) }
+    ensures quiet { result ≢ Err Refusal.WriteFault → K.faults out.new ≡ K.faults out.old }
+{
+    Ok(write_whole(out, text.as_slice())?)
 }
 
 /// The line of a refusal: what is refused, the number of its wrong part, and the word for its fault.

@@ -59,6 +59,16 @@ pub(crate) struct Stand<D: Disk + Drop> {
     pub(crate) text: Octets,
 }
 
+impl<D: Disk + Drop> Stand<D> {
+    /// The disk of the journal. All memory is given back.
+    fn into_disk(self) -> D
+        ensures { result ≡ self.journal.disk }
+    {
+        let Stand { journal, .. } = self;
+        journal.into_disk()
+    }
+}
+
 /// What came of a part, and what it leaves.
 #[derive(Drop)]
 pub(crate) struct Step<D: Disk + Drop> {
@@ -140,7 +150,7 @@ fn serve_round<R: Threads + Wait + Sync, K: Sink, D: Disk + Drop + Send, G: Gate
         number,
         state,
         journal,
-        mut text,
+        text,
     } = stand;
     let Served {
         journal,
@@ -158,26 +168,22 @@ fn serve_round<R: Threads + Wait + Sync, K: Sink, D: Disk + Drop + Send, G: Gate
         settings.workers,
         gate,
     );
-    let Ok(ran) = result else {
-        let stand = Stand {
-            number,
-            state,
-            journal,
-            text,
-        };
-        return Step {
-            stand,
-            result: Err(Refusal::NoMemory),
-        };
-    };
-    let result = write_round(alloc, settings, &ran, &mut text, out);
-    let stand = Stand {
+    let mut stand = Stand {
         number: number + 1,
         state,
         journal,
         text,
     };
-    Step { stand, result }
+    match result {
+        Ok(ran) => {
+            let result = write_round(alloc, settings, &ran, &mut stand.text, out);
+            Step { stand, result }
+        }
+        Err(NoMemory) => Step {
+            stand,
+            result: Err(Refusal::NoMemory),
+        },
+    }
 }
 
 /// Opens each subscriber anew at its limit, and appends the line of a restart to the text that isn't written yet. It makes
@@ -292,16 +298,25 @@ fn serve_all<R: Threads + Wait + Sync, K: Sink, D: Disk + Drop + Send, G: Gate +
         } = serve_part(rt, alloc, settings, part, stand, out, gate);
         match result {
             Ok(()) => stand = next,
-            Err(refusal) => return refused(next.journal, refusal),
+            Err(refusal) => {
+                return Performed {
+                    disk: next.into_disk(),
+                    result: Err(refusal),
+                };
+            }
         }
     }
-    let Stand { journal, text, .. } = stand;
-    match write_whole(out, text.as_slice()) {
+    let result = write_whole(out, stand.text.as_slice());
+    let disk = stand.into_disk();
+    match result {
         Ok(()) => Performed {
-            disk: journal.into_disk(),
+            disk,
             result: Ok(()),
         },
-        Err(Failed) => refused(journal, Refusal::WriteFault),
+        Err(Failed) => Performed {
+            disk,
+            result: Err(Refusal::WriteFault),
+        },
     }
 }
 

@@ -4,7 +4,7 @@ use Rattle.auc_lines.specs.declared.part.Part.{Part}
 use Rattle.auc_edge.specs.Sink.{Appends, AppendsFront}
 use Rattle.auc_run.specs.Refusal.{status_of}
 use Rattle.auc_run.specs.declared.status.Status.TheVariants as status
-use Rattle.auc_run.proofs.OutputLemmas.{IfErr-at, OnOk-at, Serving-all, Serving-none, Serving-part, Serving-stops, done_full, not_done, write_full}
+use Rattle.auc_run.proofs.OutputLemmas.{IfErr-at, OnErr-at, OnOk-at, Serving-all, Serving-none, Serving-part, Serving-stops, done_full, not_done, write_full}
 use Rattle.auc_run.proofs.rounds.serve_all.Goals as goal
 
 pub loop-part-init : goal.loop-part-init
@@ -44,24 +44,26 @@ loop-part-preserved g c =
 pub returns-in-Err-clause-ran : goal.returns-in-Err-clause-ran
 returns-in-Err-clause-ran g c = λ from reserved at on.
     let serving = c.loop-part.invariant.serving from reserved at on in
-    rw c.refused.ensures.refused
-    (Serving-stops g.D.Disk.seen g.D.Disk.may_leave c.args.settings.now.set c.args.settings.now.full from reserved at c.loop-part.stand.number c.loop-part.stand.state c.loop-part.stand.journal
+    Serving-stops g.D.Disk.seen g.D.Disk.may_leave c.args.settings.now.set c.args.settings.now.full from reserved at c.loop-part.stand.number c.loop-part.stand.state c.loop-part.stand.journal
     c.serve_part-next.result.stand.journal c.loop-part.stand.text c.part-item.result (drop c.loop-part.part-index c.args.parts.now) (drop (c.loop-part.part-index + 1) c.args.parts.now) c.args.parts.now
-    (status_of c.in-Err.refusal) c.refused.result.disk (g.K.Sink.written c.args.out.now) (g.K.Sink.written c.loop-part.out) (g.K.Sink.written c.serve_part-next.new.out)
+    (status_of c.in-Err.refusal) c.into_disk.result (g.K.Sink.written c.args.out.now) (g.K.Sink.written c.loop-part.out) (g.K.Sink.written c.serve_part-next.new.out)
     (drop_more _ _ c.part-item.result c.loop-part-test.true ∙ ap (λ (part : Part). part ∷ drop (c.loop-part.part-index + 1) c.args.parts.now) (sym c.part-item.is)) serving (not_done c.in-Err.refusal)
-    (IfErr-at c.serve_part-next.result.result c.in-Err.refusal _ (cc c.in-Err.is) c.serve_part-next.ensures.ends from reserved serving.mid serving.on) c.refused.ensures.disk)
+    (IfErr-at c.serve_part-next.result.result c.in-Err.refusal _ (cc c.in-Err.is) c.serve_part-next.ensures.ends from reserved serving.mid serving.on) c.into_disk.ensures
 
-pub returns-in-Ok-write_whole-clause-ran : goal.returns-in-Ok-write_whole-clause-ran
-returns-in-Ok-write_whole-clause-ran g c = λ from reserved at on.
+pub returns-in-Ok-result-clause-ran : goal.returns-in-Ok-result-clause-ran
+returns-in-Ok-result-clause-ran g c = λ from reserved at on.
     let serving = c.loop-part.invariant.serving from reserved at on in
     Serving-all g.D.Disk.seen g.D.Disk.may_leave c.args.settings.now.set c.args.settings.now.full from reserved at c.loop-part.stand.number c.loop-part.stand.state c.loop-part.stand.journal c.loop-part.stand.text
-    (drop c.loop-part.part-index c.args.parts.now) c.args.parts.now status.Done c.into_disk.result (g.K.Sink.written c.args.out.now) (g.K.Sink.written c.loop-part.out) (g.K.Sink.written c.write_whole.new.out)
-    (drop_all _ _ c.loop-part-test.false) serving (subst (Appends (g.K.Sink.written c.loop-part.out) (g.K.Sink.written c.write_whole.new.out)) c.as_slice.ensures c.in-Ok-write_whole.ensures.written) refl done_full c.into_disk.ensures
+    (drop c.loop-part.part-index c.args.parts.now) c.args.parts.now status.Done c.into_disk-disk.result (g.K.Sink.written c.args.out.now) (g.K.Sink.written c.loop-part.out) (g.K.Sink.written c.write_whole-result.new.out)
+    (drop_all _ _ c.loop-part-test.false) serving
+    (subst (Appends (g.K.Sink.written c.loop-part.out) (g.K.Sink.written c.write_whole-result.new.out)) c.as_slice.ensures (OnOk-at c.write_whole-result.result _ _ c.in-Ok-result.is c.write_whole-result.ensures.written))
+    refl done_full c.into_disk-disk.ensures
 
-pub returns-clause-ran : goal.returns-clause-ran
-returns-clause-ran g c = λ from reserved at on.
+pub returns-in-Err-result-clause-ran : goal.returns-in-Err-result-clause-ran
+returns-in-Err-result-clause-ran g c = λ from reserved at on.
     let serving = c.loop-part.invariant.serving from reserved at on in
-    rw c.refused-in-Err-write_whole.ensures.refused
-    (Serving-all g.D.Disk.seen g.D.Disk.may_leave c.args.settings.now.set c.args.settings.now.full from reserved at c.loop-part.stand.number c.loop-part.stand.state c.loop-part.stand.journal c.loop-part.stand.text
-    (drop c.loop-part.part-index c.args.parts.now) c.args.parts.now status.WriteFault c.refused-in-Err-write_whole.result.disk (g.K.Sink.written c.args.out.now) (g.K.Sink.written c.loop-part.out) (g.K.Sink.written c.write_whole.new.out)
-    (drop_all _ _ c.loop-part-test.false) serving (subst (AppendsFront (g.K.Sink.written c.loop-part.out) (g.K.Sink.written c.write_whole.new.out)) c.as_slice.ensures c.in-Err-write_whole.ensures.front) tt write_full c.refused-in-Err-write_whole.ensures.disk)
+    Serving-all g.D.Disk.seen g.D.Disk.may_leave c.args.settings.now.set c.args.settings.now.full from reserved at c.loop-part.stand.number c.loop-part.stand.state c.loop-part.stand.journal c.loop-part.stand.text
+    (drop c.loop-part.part-index c.args.parts.now) c.args.parts.now status.WriteFault c.into_disk-disk.result (g.K.Sink.written c.args.out.now) (g.K.Sink.written c.loop-part.out) (g.K.Sink.written c.write_whole-result.new.out)
+    (drop_all _ _ c.loop-part-test.false) serving
+    (subst (AppendsFront (g.K.Sink.written c.loop-part.out) (g.K.Sink.written c.write_whole-result.new.out)) c.as_slice.ensures (OnErr-at c.write_whole-result.result _ _ c.in-Err-result.is c.write_whole-result.ensures.front))
+    tt write_full c.into_disk-disk.ensures

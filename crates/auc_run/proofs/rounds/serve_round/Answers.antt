@@ -12,9 +12,9 @@ use Rattle.auc_run.proofs.rounds.serve_round.Goals as goal
 pub serve-journal-requires-clause-apart : goal.serve-journal-requires-clause-apart
 serve-journal-requires-clause-apart g c = λ κs within. subst (λ (jobs : List (List Line)). AllPairs AreApart jobs) (sym c.as_slice.ensures) c.requires.known.apart
 
-pub returns-in_default-clause-ends : goal.returns-in_default-clause-ends
-returns-in_default-clause-ends g c = λ from reserved at on.
-    let still = OnErr-at c.serve-journal.result.result c.in_default.field-0 _ (cc c.in_default.is) c.serve-journal.ensures.still in
+pub returns-in-Err-clause-ends : goal.returns-in-Err-clause-ends
+returns-in-Err-clause-ends g c = λ from reserved at on.
+    let still = OnErr-at c.serve-journal.result.result c.in-Err.field-0 _ (cc c.in-Err.is) c.serve-journal.ensures.still in
     (covers_more g.D.Disk.seen g.D.Disk.may_leave c.args.settings.now.set.rows from reserved at c.args.stand.journal c.serve-journal.result.journal on.reserves c.serve-journal.ensures.subscribers still, refl)
 
 pub write_round-result-requires-clause-named : goal.write_round-result-requires-clause-named
@@ -28,8 +28,8 @@ write_round-result-requires-clause-named g c =
     subst (λ (jobs : List (List Line)). IsLawfulRound set c.in-Ok.ran.stop at.early c.args.stand.state.kept c.args.stand.state.words jobs round serves.words) c.as_slice.ensures serves.lawful in
     round_named set c.in-Ok.ran.stop at.early c.args.stand.state.kept c.args.stand.state.words c.args.jobs.now round serves.words on.stands.subscribers.size c.requires.known.known lawful
 
-pub returns-clause-goes : goal.returns-clause-goes
-returns-clause-goes g c =
+pub returns-in-Ok-clause-goes : goal.returns-in-Ok-clause-goes
+returns-in-Ok-clause-goes g c =
     let set = c.args.settings.now.set in
     let round = c.in-Ok.ran.round in
     let stop = c.in-Ok.ran.stop in
@@ -47,8 +47,8 @@ returns-clause-goes g c =
     (IfOk-ok c.serve-journal.result.result c.in-Ok.ran _ (cc c.in-Ok.is) c.serve-journal.ensures.next) (IfOk-ok c.serve-journal.result.result c.in-Ok.ran _ (cc c.in-Ok.is) c.serve-journal.ensures.ready)
     each c.write_round-result.ensures.written c.write_round-result.ensures.done
 
-pub returns-clause-ends : goal.returns-clause-ends
-returns-clause-ends g c =
+pub returns-in-Ok-clause-ends : goal.returns-in-Ok-clause-ends
+returns-in-Ok-clause-ends g c =
     let set = c.args.settings.now.set in
     let round = c.in-Ok.ran.round in
     let stop = c.in-Ok.ran.stop in
@@ -66,7 +66,7 @@ returns-clause-ends g c =
     (IfOk-ok c.serve-journal.result.result c.in-Ok.ran _ (cc c.in-Ok.is) c.serve-journal.ensures.ready) (IfOk-ok c.serve-journal.result.result c.in-Ok.ran _ (cc c.in-Ok.is) c.serve-journal.ensures.full)
     each c.write_round-result.ensures.written
 
-pub returns-clause-quiet_store : goal.returns-clause-quiet_store
-returns-clause-quiet_store g c = λ quiet.
+pub returns-in-Ok-clause-quiet_store : goal.returns-in-Ok-clause-quiet_store
+returns-in-Ok-clause-quiet_store g c = λ quiet.
     IfOk-ok c.serve-journal.result.result c.in-Ok.ran _ (cc c.in-Ok.is) c.serve-journal.ensures.quiet
     (quiet_round c.in-Ok.ran.round c.in-Ok.ran.stop c.write_round-result.result _ (g.K.Sink.written c.args.out.now) (g.K.Sink.written c.write_round-result.new.out) c.write_round-result.ensures.written quiet)
