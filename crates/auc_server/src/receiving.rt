@@ -50,15 +50,43 @@ impl Server {
         ensures centre { OnErr result (centre.new ≡ centre.old) }
     {
         let received = receive(alloc, bytes)?;
-        let text = Octets::copied_from(alloc, text_in(&received.reading))?;
+        self.on_packet(rt, alloc, set, homes, centre, &received)
+    }
+
+    /// Takes what was received, once its memory is there.
+    fn on_packet<C: Centre, R: Wait>(
+        &mut self,
+        rt: &R,
+        alloc: Global,
+        set: &Setting,
+        homes: &mut [HomeRow],
+        centre: &mut C,
+        received: &Received,
+    ) -> Result<Turn<ServerWhy>, NoMemory>
+        requires received { IsReceived (seen_of received.now) }
+        requires served { IsServed set.now.rows (C.subs centre.old) (C.top centre.old) homes.old self.old }
+        requires realm { length set.now.realm ≤ 255 }
+
+        ensures step { IfOk result (λ turn. Steps C.goes C.kept C.top set.now homes.old self.old (seen_of received.now).bytes centre.old self.new turn homes.new centre.new) }
+        ensures small { IfOk result (λ turn. length (bytes_of turn.step) ≤ 728) }
+        ensures served { IsServed set.now.rows (C.subs centre.new) (C.top centre.new) homes.new self.new }
+        ensures subs { C.subs centre.new ≡ C.subs centre.old }
+        ensures top { (i : ℕ) → C.top centre.new i ≡ C.top centre.old i }
+        ensures name { C.name centre.new ≡ C.name centre.old }
+
+        ensures server { OnErr result (self.new ≡ self.old) }
+        ensures homes { OnErr result (homes.new ≡ homes.old) }
+        ensures centre { OnErr result (centre.new ≡ centre.old) }
+    {
         let plain = Room::new(alloc, ciphertext_in(&received.reading))?;
         let reply = self.reply_in(&received.reading, plain);
-        let row = self.row_of(set, homes, centre, &received, reply);
-        let packets = self.packets_after(alloc, &received, row)?;
+        let row = self.row_of(set, homes, centre, received, reply);
+        let text = Octets::copied_from(alloc, text_in(&received.reading))?;
+        let packets = self.packets_after(alloc, received, row)?;
         // The value of the most parts is taken last: no early return has to give it back.
         let rooms = Rooms::new(alloc, self.options.name.as_slice())?;
         Ok(self.on_received(
-            rt, set, homes, centre, &received, reply, row, text, packets, rooms,
+            rt, set, homes, centre, received, reply, row, text, packets, rooms,
         ))
     }
 

@@ -13,7 +13,7 @@ ghost use Rattle.auc_server.specs.Table.{reauthenticated, resent, resumed, resum
 use crate::contexts::{context_after, gives_next, keep_context, take_context};
 use crate::messages::{message, reauthentication};
 use crate::naming::index_after;
-use crate::rooms::Rooms;
+use crate::rooms::{Rooms, give_back};
 use crate::rounds::checkcode;
 use crate::server::{Resumed, Server, ServerState};
 use crate::setting::{HomeRow, Setting};
@@ -113,7 +113,10 @@ impl Server {
             → IsHeldToo all self.new.resumed }
     {
         match take_context(self.options.method, text.as_slice(), homes, sub) {
-            None => self.ignore(Reason::Unexpected),
+            None => {
+                give_back(text, packets, rooms);
+                self.ignore(Reason::Unexpected)
+            }
             Some(c) => {
                 let sent = self.resumption(set, homes, sub, c);
                 self.identity = text;
