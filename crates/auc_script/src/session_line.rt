@@ -85,19 +85,47 @@ pub fn read_session(alloc: Global, subs: &Subscribers, fields: &[u8]) -> Result<
     require(are_options(options), ScriptWhy::Fields)?;
     require(is_identity(identity), ScriptWhy::Fields)?;
     let sub = subs.find(imsi).ok_or(ScriptWhy::UnknownSubscriber)?;
+    let texts = read_texts(alloc, method, sname, pname, identity)?;
     Ok(Line::Session(SessionLine {
         session,
         sub,
         method,
-        name: read_name(alloc, method, sname)?,
-        peer_name: read_peer_name(alloc, method, pname)?,
+        name: texts.name,
+        peer_name: texts.peer_name,
         pseudonym: options.contains(&b'p'),
         reauth: options.contains(&b'r'),
         bidding: options.contains(&b'b'),
         any: options.contains(&b'a'),
         has_prime: options.contains(&b'd'),
-        identity: read_identity(alloc, identity)?,
+        identity: texts.identity,
     }))
+}
+
+/// What a session's line takes memory for.
+#[derive(Drop)]
+struct Texts {
+    name: Octets,
+    peer_name: Option<Octets>,
+    identity: Identity,
+}
+
+/// The texts of a session of a method, from the fields of its line.
+fn read_texts(
+    alloc: Global,
+    method: Method,
+    sname: &[u8],
+    pname: &[u8],
+    identity: &[u8],
+) -> Result<Texts, NoMemory>
+    ensures name { IfOk result (λ texts. texts.name ≡ name_in method sname.now) }
+    ensures peer { IfOk result (λ texts. texts.peer_name ≡ peer_name_in method pname.now) }
+    ensures identity { IfOk result (λ texts. texts.identity ≡ identity_in identity.now) }
+{
+    Ok(Texts {
+        name: read_name(alloc, method, sname)?,
+        peer_name: read_peer_name(alloc, method, pname)?,
+        identity: read_identity(alloc, identity)?,
+    })
 }
 
 /// The method that a field is.

@@ -300,8 +300,8 @@ impl SoFar {
         ensures script { IfOk result (λ script. (rows : List Row) → script ≡ script_from (scenario rows self)) }
         ensures within { (rows : List Row) → AreSubscribers rows → IsSoFar rows self → IfOk result (IsWithin rows) }
     {
-        let parts = with_round(self.ended, self.round)?;
-        let header = self.header;
+        let (header, ended, round) = self.into_read();
+        let parts = with_round(ended, round)?;
         Ok(Script {
             key: header.key.unwrap_or([0; 32]),
             workers: header.workers.unwrap_or(1),
@@ -309,6 +309,19 @@ impl SoFar {
             realm: header.realm.unwrap_or(Octets::new(alloc)),
             parts,
         })
+    }
+
+    /// What was read. All else is given back.
+    fn into_read(self) -> (Header, Items<Part>, Option<RoundSoFar>)
+        ensures { result ≡ (self.header, self.ended, self.round) }
+    {
+        let SoFar {
+            header,
+            ended,
+            round,
+            ..
+        } = self;
+        (header, ended, round)
     }
 }
 

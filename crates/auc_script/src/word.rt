@@ -96,18 +96,34 @@ fn read_other_word(text: &[u8]) -> Option<Word>
 fn read_job_word(text: &[u8]) -> Option<JobWord>
     ensures { result ≡ job_word_of text.now }
 {
-    match text {
-        b"draw" => Some(JobWord::Draw),
-        b"sync" => Some(JobWord::Sync),
-        b"give" => Some(JobWord::Give),
-        b"session" => Some(JobWord::Session),
-        b"start" => Some(JobWord::Start),
-        b"deliver" => Some(JobWord::Deliver),
-        b"repeat" => Some(JobWord::Repeat),
-        b"giveup" => Some(JobWord::GiveUp),
-        b"plain" => Some(JobWord::Plain),
-        _ => None,
+    if text == b"draw".as_slice() {
+        return Some(JobWord::Draw);
     }
+    if text == b"sync".as_slice() {
+        return Some(JobWord::Sync);
+    }
+    if text == b"give".as_slice() {
+        return Some(JobWord::Give);
+    }
+    if text == b"session".as_slice() {
+        return Some(JobWord::Session);
+    }
+    if text == b"start".as_slice() {
+        return Some(JobWord::Start);
+    }
+    if text == b"deliver".as_slice() {
+        return Some(JobWord::Deliver);
+    }
+    if text == b"repeat".as_slice() {
+        return Some(JobWord::Repeat);
+    }
+    if text == b"giveup".as_slice() {
+        return Some(JobWord::GiveUp);
+    }
+    if text == b"plain".as_slice() {
+        return Some(JobWord::Plain);
+    }
+    None
 }
 
 /// The word of the header that a text is.
