@@ -1,7 +1,8 @@
 //! The list of subscribers.
 
-ghost use Rattle.std.specs.Prelude.{◌≡◌, ◌≢◌, ◌<◌, ◌↔◌, [], length, All, IsTrue, OnOk, OnErr, IfOk, IfSome, IfNone, slice_get};
+ghost use Rattle.std.specs.Prelude.{◌≡◌, ◌≢◌, ◌<◌, ◌↔◌, [], length, map, All, IsTrue, OnOk, OnErr, IfOk, IfSome, IfNone, slice_get};
 ghost use Rattle.auc_subs.specs.InnerLookup.{key_of};
+ghost use Rattle.auc_subs.specs.Subscriber.{IsRow, row_of};
 
 use crate::field::{fields, has_seven_fields};
 use crate::refusal::{AddRefusal, SubsWhy};
@@ -44,7 +45,7 @@ impl Model for Subscribers {
 
 impl Subscribers {
     ghost use Rattle.auc_subs.specs.declared.refusal.AddRefusal.TheVariants as refusal;
-    ghost use Rattle.auc_subs.specs.Subscriber.{AreSubscribers, HasIdentity, IsRow, place_of, rows_with, rows_after};
+    ghost use Rattle.auc_subs.specs.Subscriber.{AreSubscribers, HasIdentity, place_of, rows_with, rows_after};
 
     /// No subscribers. It takes no memory yet.
     pub fn new(alloc: Global) -> Subscribers
@@ -104,8 +105,8 @@ impl Subscribers {
         if !has_seven_fields(line) {
             return Err(AddRefusal::Why(SubsWhy::FieldCount));
         }
-        let f = fields(*self.rows.allocator(), line)?;
-        let row = read_row(f[0], f[1], f[2], f[3], f[4], f[5], f[6])?;
+        let fields = fields(*self.rows.allocator(), line)?;
+        let row = row_of(fields.as_slice())?;
         self.admit(row)
     }
 
@@ -128,6 +129,17 @@ impl Subscribers {
         }
         self.rows.insert(key(row.imsi), row)?;
         Ok(sub as u32)
+    }
+}
+
+/// The subscriber that fields are.
+fn row_of(fields: &[&[u8]]) -> Result<Row, SubsWhy>
+    ensures value { result ≡ row_of (map (λ field. field.now) fields.now) }
+    ensures row { IfOk result IsRow }
+{
+    match fields {
+        [imsi, k, kind, op, amf, seq, usim] => read_row(imsi, k, kind, op, amf, seq, usim),
+        _ => Err(SubsWhy::FieldCount),
     }
 }
 
