@@ -3,7 +3,7 @@
 use auc_request::Enclosed;
 
 /// What the encrypted attributes of a request are (RFC 4187 §10.12).
-#[derive(Clone, Copy, Debug, PartialEq, Eq)]
+#[derive(Clone, Copy)]
 pub enum Decrypted {
     /// They don't decrypt to attributes.
     Unreadable,

@@ -3,7 +3,7 @@
 use auc_reauth::Context;
 
 /// What becomes of the device's context when a session ends in Success (RFC 4187 §5.1 and §5.3).
-#[derive(Clone, Copy, Debug, PartialEq, Eq)]
+#[derive(Clone, Copy)]
 pub enum NextContext {
     /// It stays: a Challenge was answered that gave no identity for a fast re-authentication.
     Same,

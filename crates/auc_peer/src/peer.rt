@@ -22,7 +22,7 @@ use auc_vector::{Outcome, Reason, Step, Turn};
 use std::alloc::Global;
 
 /// What an AKA-Challenge hands the USIM (RFC 4187 §9.3).
-#[derive(Clone, Copy, Debug, PartialEq, Eq)]
+#[derive(Clone, Copy)]
 pub struct Challenge {
     /// RAND.
     pub rand: [u8; 16],
@@ -31,7 +31,7 @@ pub struct Challenge {
 }
 
 /// Where a peer stands in its session.
-#[derive(Clone, Copy, Debug, PartialEq, Eq)]
+#[derive(Clone, Copy)]
 pub enum PeerState {
     /// It waits for a request.
     Waiting,

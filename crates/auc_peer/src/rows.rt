@@ -19,7 +19,7 @@ use auc_request::{
 use auc_vector::Reason;
 
 /// A row of the table.
-#[derive(Clone, Copy, Debug, PartialEq, Eq)]
+#[derive(Clone, Copy)]
 pub enum Row {
     /// The packet is ignored.
     Ignore(Reason),

@@ -1,7 +1,7 @@
 //! Why a peer fails.
 
 /// Why a session failed at its peer.
-#[derive(Clone, Copy, Debug, PartialEq, Eq)]
+#[derive(Clone, Copy)]
 pub enum PeerWhy {
     /// The request was no message that a server may send, or had an attribute that it may not have (RFC 4187 §6.3.1).
     Malformed,

@@ -46,7 +46,7 @@ pub fn require(holds: bool, why: ScriptWhy) -> Result<(), ScriptWhy>
 }
 
 /// Why a scenario isn't read.
-#[derive(Clone, Copy, Debug, PartialEq, Eq)]
+#[derive(Clone, Copy)]
 pub enum ScriptRefusal {
     /// The line of this number, from 1, is the first that is wrong.
     Line(u32, ScriptWhy),

@@ -10,7 +10,7 @@ use crate::setting::{HomeRow, Setting};
 use auc_ident::NameKind;
 
 /// The names that a Challenge gives. None has a realm.
-#[derive(Clone, Copy, Debug, PartialEq, Eq)]
+#[derive(Clone, Copy)]
 pub enum NewNames {
     /// The next pseudonym (RFC 4187 §4.1.1.7).
     Pseudonym([u8; 33]),
@@ -21,7 +21,7 @@ pub enum NewNames {
 }
 
 /// Names, and the initialisation vector under which they are encrypted.
-#[derive(Clone, Copy, Debug, PartialEq, Eq)]
+#[derive(Clone, Copy)]
 pub struct GivenNames {
     /// The initialisation vector.
     pub iv: [u8; 16],

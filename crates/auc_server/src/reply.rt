@@ -14,7 +14,7 @@ use auc_request::counter_in;
 use auc_seal::{ciphertext_size, open_attrs};
 
 /// The reply to the counter of a fast re-authentication.
-#[derive(Clone, Copy, Debug, PartialEq, Eq)]
+#[derive(Clone, Copy)]
 pub enum Reply {
     /// The encrypted attributes can't be read, or haven't the counter (RFC 4187 §10.16).
     Wrong,

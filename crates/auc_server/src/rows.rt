@@ -33,7 +33,7 @@ use auc_seal::IdentityPackets;
 use auc_vector::{Auts, Notes, Reason, ResyncNote, read_auts};
 
 /// A row of a server's table.
-#[derive(Clone, Copy, Debug, PartialEq, Eq)]
+#[derive(Clone, Copy)]
 pub enum Row {
     /// Nothing is done.
     Ignore(Reason),

@@ -10,7 +10,7 @@ use auc_vector::{Outcome, Vector};
 use std::marker::Model;
 
 /// A challenge that a server sent.
-#[derive(Clone, Copy, Debug, PartialEq, Eq)]
+#[derive(Clone, Copy)]
 pub struct Challenged {
     /// The subscriber's place among the rows, from 0.
     pub sub: u32,
@@ -27,7 +27,7 @@ pub struct Challenged {
 }
 
 /// A re-authentication that a server asked for.
-#[derive(Clone, Copy, Debug, PartialEq, Eq)]
+#[derive(Clone, Copy)]
 pub struct Resumed {
     /// The subscriber's place among the rows, from 0.
     pub sub: u32,
@@ -40,7 +40,7 @@ pub struct Resumed {
 }
 
 /// What a server waits for.
-#[derive(Clone, Copy, Debug, PartialEq, Eq)]
+#[derive(Clone, Copy)]
 pub enum ServerState {
     /// The peer's identity (RFC 3748 §5.1).
     AwaitIdentity,

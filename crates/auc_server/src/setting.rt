@@ -31,7 +31,7 @@ impl<'a> Model for Setting<'a> {
 }
 
 /// A subscriber that sessions may be held with.
-#[derive(Debug, PartialEq, Eq, Drop)]
+#[derive(Drop)]
 pub struct HomeRow {
     /// The subscriber's place among the rows, from 0.
     pub sub: u32,

@@ -3,7 +3,7 @@
 use auc_edge::Stop;
 
 /// Why a server ends a session in Failure.
-#[derive(Clone, Copy, Debug, PartialEq, Eq)]
+#[derive(Clone, Copy)]
 pub enum ServerWhy {
     /// The identity is no permanent identity of a subscriber that is served (RFC 4187 §4.1.1.6).
     UnknownIdentity,

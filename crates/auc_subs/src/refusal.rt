@@ -35,7 +35,7 @@ pub enum SubsWhy {
 }
 
 /// Why a file of subscribers isn't read.
-#[derive(Clone, Copy, Debug, PartialEq, Eq)]
+#[derive(Clone, Copy)]
 pub enum SubsRefusal {
     /// The first wrong record of the file, the header being 0, and its first fault.
     Row(u32, SubsWhy),
@@ -44,7 +44,7 @@ pub enum SubsRefusal {
 }
 
 /// Why a line isn't added.
-#[derive(Clone, Copy, Debug, PartialEq, Eq)]
+#[derive(Clone, Copy)]
 pub enum AddRefusal {
     /// The line is wrong, by this fault first.
     Why(SubsWhy),

@@ -4,7 +4,7 @@ use auc_edge::Imsi;
 use auc_milenage::Secret;
 
 /// A subscriber. Byte strings have their most significant byte first.
-#[derive(Clone, Copy, Debug, PartialEq, Eq)]
+#[derive(Clone, Copy)]
 pub struct Row {
     /// The identity (TS 23.003 §2.2).
     pub imsi: Imsi,

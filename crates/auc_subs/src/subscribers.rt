@@ -17,7 +17,7 @@ use std::marker::Model;
 pub const MAX_SUBSCRIBERS: usize = 65536;
 
 /// An identity, as rows are looked up by it.
-#[derive(Clone, Copy, Debug, PartialEq, Eq, Hash)]
+#[derive(Clone, Copy, PartialEq, Eq, Hash)]
 struct IdentityKey {
     digits: u8,
     number: u64,
