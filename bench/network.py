@@ -16,9 +16,10 @@ from cryptography.hazmat.primitives.ciphers import Cipher, algorithms, modes
 from measure import TOP
 
 sys.path.append(str(TOP / "tools"))
+import aka_functions
 from eap_rows import KDF, MAX_SEQ, REACH, REQUEST, RESPONSE, Head, Keys
 from eap_rows import Fault, aes, attr, checkcode, g, hidden, is_sealed, mac, message, packet, read_message, res_attr, sealed
-from eap_rows import shown, sixteen, sqn_of, text_attr, turned, xor
+from eap_rows import shown, sixteen, sqn_of, text_attr, xor
 
 TYPES = {"aka": 23, "prime": 50}
 # The leading digits of permanent identities, and by the kind of a name those of pseudonyms and re-authentication identities.
@@ -54,22 +55,11 @@ def sixteen_of(key, stream, word):
     return cipher.update(bytes(64))[4 * word:4 * word + 16]
 
 
-class Functions:
+class Functions(aka_functions.Functions):
     """f1 to f5* of a subscriber's RAND."""
 
     def __init__(self, sub, rand):
-        self.sub, self.temp = sub, aes(xor(rand, sub.opc), sub.k)
-        out2, self.ck, self.ik, out5 = (self.out(turn, number) for turn, number in ((0, 1), (32, 2), (64, 4), (96, 8)))
-        self.res, self.ak, self.ak_star = out2[8:], out2[:6], out5[:6]
-
-    def out(self, turn, number):
-        opc = self.sub.opc
-        return xor(aes(xor(turned(xor(self.temp, opc), turn), number.to_bytes(16)), self.sub.k), opc)
-
-    def f1(self, sqn, amf):
-        opc = self.sub.opc
-        out = xor(aes(xor(self.temp, turned(xor((sqn + amf) * 2, opc), 64)), self.sub.k), opc)
-        return out[:8], out[8:]
+        super().__init__(lambda block: aes(block, sub.k), sub.opc, rand)
 
 
 def prime_keys(name, autn, f):

@@ -3,8 +3,8 @@
 
     tools/eap_rows.py stdin|stdout
 
-It has Milenage (TS 35.206), the USIM's array (TS 33.102 Annex C), the messages, keys and both state machines of EAP-AKA
-(RFC 4187) and EAP-AKA' (RFC 9048) with permanent identities, pseudonyms and re-authentications, and shares nothing with the
+It has the USIM's array (TS 33.102 Annex C), the messages, keys and both state machines of EAP-AKA (RFC 4187) and EAP-AKA'
+(RFC 9048) with permanent identities, pseudonyms and re-authentications, over tools/aka_functions.py, and shares nothing with the
 crates. The rows go through each state of a server and of a peer: first, in one session, each message that is ignored there;
 then each other message in a session of its own. AES and ChaCha20 are those of Python's `cryptography`; hashes are Python's own.
 """
@@ -21,6 +21,8 @@ if __name__ == "__main__":
     needs("cryptography", __doc__)
 
 from cryptography.hazmat.primitives.ciphers import Cipher, algorithms, modes
+import aka_functions
+from aka_functions import xor
 
 MAX_SEQ = 2**43 - 1
 REACH = 2**28
@@ -38,30 +40,11 @@ def aes(block, key=K):
     return encryptor.update(block) + encryptor.finalize()
 
 
-def xor(a, b):
-    return bytes(x ^ y for x, y in zip(a, b, strict=True))
-
-
-def turned(block, bits):
-    return block[bits // 8:] + block[:bits // 8]
-
-
-class Functions:
-    """f1 to f5* of a RAND."""
+class Functions(aka_functions.Functions):
+    """f1 to f5* of a RAND, by the subscriber's key."""
 
     def __init__(self, rand):
-        self.temp = aes(xor(rand, OPC))
-        out2, out3, out4, out5 = (self.out(turn, number) for turn, number in ((0, 1), (32, 2), (64, 4), (96, 8)))
-        self.res, self.ak = out2[8:], out2[:6]
-        self.ck, self.ik, self.ak_star = out3, out4, out5[:6]
-
-    def out(self, turn, number):
-        return xor(aes(xor(turned(xor(self.temp, OPC), turn), number.to_bytes(16))), OPC)
-
-    def f1(self, sqn, amf):
-        block = (sqn + amf) * 2
-        out = xor(aes(xor(self.temp, turned(xor(block, OPC), 64))), OPC)
-        return out[:8], out[8:]
+        super().__init__(aes, OPC, rand)
 
 
 def sixteen_of(stream, word):
