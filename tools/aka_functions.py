@@ -1,8 +1,12 @@
-"""Milenage (TS 35.206 §4.1), what an AUTS says (TS 33.102 §6.3.3), and a vector as a GSM triplet (TS 33.102 §6.8.1.2).
+"""Milenage (TS 35.206 §4.1), what an AUTS says (TS 33.102 §6.3.3), a USIM (TS 33.102 Annex C), and a vector as a GSM triplet
+(TS 33.102 §6.8.1.2).
 
 It shares nothing with the crates. `Functions` takes the block cipher as a call, so that a script may bring its own; `Aes` needs
 no library, and is for a few blocks: it is slow, and the time that it takes depends on the key.
 """
+
+# How far above the greatest SEQ that it has accepted a USIM accepts a SEQ.
+REACH = 2**28
 
 
 def xor(a, b):
@@ -38,6 +42,30 @@ class Functions:
         """SQN_MS of an AUTS, or nothing if its MAC-S is wrong."""
         sqn = xor(auts[:6], self.ak_star)
         return sqn if self.f1(sqn, bytes(2))[1] == auts[6:] else None
+
+
+class Usim:
+    """A USIM with the index array of TS 33.102 Annex C, by a call that gives the functions of a RAND. It is opened at a number:
+    the numbers from 1 to it count as accepted."""
+
+    def __init__(self, functions, opening):
+        self.functions = functions
+        self.entries = [max((n for n in range(max(1, opening - 31), opening + 1) if n % 32 == i), default=0)
+                        for i in range(32)]
+
+    def challenge(self, rand, autn):
+        """The note's words; the functions if it accepts; AUTS if it doesn't synchronise."""
+        f = self.functions(rand)
+        sqn = xor(autn[:6], f.ak)
+        if f.f1(sqn, autn[6:8])[0] != autn[8:]:
+            return "wrongmac", None, None
+        value = int.from_bytes(sqn, "big")
+        seq, ind, greatest = value >> 5, value & 31, max(self.entries)
+        if seq <= self.entries[ind] or seq > greatest + REACH:
+            sqn_ms = (32 * greatest + self.entries.index(greatest)).to_bytes(6, "big")
+            return f"sync {sqn_ms.hex()}", None, xor(sqn_ms, f.ak_star) + f.f1(sqn_ms, bytes(2))[1]
+        self.entries[ind] = seq
+        return f"accepted {sqn.hex()}", f, None
 
 
 def triplet(res, ck, ik):

@@ -22,10 +22,9 @@ if __name__ == "__main__":
 
 from cryptography.hazmat.primitives.ciphers import Cipher, algorithms, modes
 import aka_functions
-from aka_functions import xor
+from aka_functions import REACH, xor
 
 MAX_SEQ = 2**43 - 1
-REACH = 2**28
 K = bytes.fromhex("465b5ce8b199b49faa5f0a2ee238a6bc")
 OPC = bytes.fromhex("cd63cb71954a9f4e48a5994e37a02baf")
 AMF = bytes.fromhex("8000")
@@ -85,24 +84,9 @@ def auts_of(n, rand):
     return xor(sqn_of(n), f.ak_star) + f.f1(sqn_of(n), b"\0\0")[1]
 
 
-class Usim:
+class Usim(aka_functions.Usim):
     def __init__(self, opening):
-        self.entries = [max((n for n in range(max(1, opening - 31), opening + 1) if n % 32 == i), default=0)
-                        for i in range(32)]
-
-    def challenge(self, rand, autn):
-        """The note's words; RES, CK and IK if it accepts; AUTS if it doesn't synchronise."""
-        f = Functions(rand)
-        sqn = xor(autn[:6], f.ak)
-        if f.f1(sqn, autn[6:8])[0] != autn[8:]:
-            return "wrongmac", None, None
-        value = int.from_bytes(sqn)
-        seq, ind, greatest = value >> 5, value & 31, max(self.entries)
-        if seq <= self.entries[ind] or seq > greatest + REACH:
-            sqn_ms = (32 * greatest + self.entries.index(greatest)).to_bytes(6)
-            return f"sync {sqn_ms.hex()}", None, xor(sqn_ms, f.ak_star) + f.f1(sqn_ms, b"\0\0")[1]
-        self.entries[ind] = seq
-        return f"accepted {sqn.hex()}", f, None
+        super().__init__(Functions, opening)
 
 
 # ---- keys

@@ -1,0 +1,489 @@
+#!/usr/bin/env python3
+"""Tests of tools/gateway with the program behind it and clients that speak as hostapd does.
+
+    tools/test_gateway.py [PROGRAM]      PROGRAM: crates/auc_cli/out/auc_cli, unless it is given
+
+AUTS are made by the program's own `vector`, and SQNs are read by tools/aka_functions.py.
+"""
+import os
+import random
+import re
+import signal
+import socket
+import stat
+import subprocess
+import sys
+import tempfile
+import time
+import unittest
+from pathlib import Path
+
+from aka_functions import Aes, Functions, triplet, xor
+
+TOOLS = Path(__file__).resolve().parent
+PROGRAM = str(TOOLS.parent / "crates/auc_cli/out/auc_cli")
+K, OP, OPC = "465b5ce8b199b49faa5f0a2ee238a6bc", "cdc202d5123e20f62b6d676ac72cb318", "cd63cb71954a9f4e48a5994e37a02baf"
+A, B, FAR = "001010000000001", "001010000000002", "001010000000003"
+# The second one has OP, from which the OPc of the first one is made. The third one is out of the reach of a new USIM.
+ROWS = f"{A},{K},opc,{OPC},8000,0,0\n{B},{K},op,{OP},8000,40,0\n{FAR},{K},opc,{OPC},8000,268435466,0\n"
+SUBSCRIBERS = "imsi,k,kind,op,amf,seq,usim\n" + ROWS
+# Seconds that a test waits for what has to come, and for what must not.
+SOON, SILENCE = 30, 0.2
+KILLS, SEED = 50, 7
+
+
+def functions(rand):
+    return Functions(Aes(bytes.fromhex(K)).encrypt, bytes.fromhex(OPC), bytes.fromhex(rand))
+
+
+def sqn_in(answer):
+    """The SQN of an answer's AUTN, and whether its MAC is right."""
+    rand, autn = (bytes.fromhex(word) for word in answer.split()[2:4])
+    f = functions(rand.hex())
+    sqn = xor(autn[:6], f.ak)
+    assert f.f1(sqn, autn[6:8])[0] == autn[8:], answer
+    return int.from_bytes(sqn, "big")
+
+
+def seq_in(answer):
+    return sqn_in(answer) >> 5
+
+
+def algorithm(rand, sqn):
+    """The values that the program prints for a RAND and an SQN."""
+    words = [PROGRAM, "vector", K, OPC, rand, f"{sqn:012x}", "0000"]
+    text = subprocess.run(words, capture_output=True, text=True, check=True).stdout
+    return dict(line.split() for line in text.splitlines())
+
+
+def auts(rand, seq):
+    """AUTS of a USIM whose greatest accepted SEQ is this one (TS 33.102 §6.3.3)."""
+    sqn = 32 * seq + seq % 32
+    values = algorithm(rand, sqn)
+    return f"{sqn ^ int(values['f5*'], 16):012x}" + values["f1*"]
+
+
+class Client:
+    """A client of the gateway, as hostapd is one."""
+
+    def __init__(self, own):
+        self.socket = socket.socket(socket.AF_UNIX, socket.SOCK_DGRAM)
+        self.socket.bind(str(own))
+
+    def say(self, text):
+        self.socket.send(text.encode("latin-1"))
+
+    def hear(self, seconds=SOON):
+        """The next answer, or nothing if none comes in this time."""
+        self.socket.settimeout(seconds)
+        try:
+            return self.socket.recv(4096).decode()
+        except socket.timeout:
+            return None
+
+    def ask(self, text, seconds=SOON):
+        self.say(text)
+        return self.hear(seconds)
+
+    def vector(self, imsi=A):
+        return self.ask(f"AKA-REQ-AUTH {imsi}")
+
+    def end(self):
+        own = self.socket.getsockname()
+        self.socket.close()
+        os.unlink(own)
+
+
+class Gateways(unittest.TestCase):
+    """A folder for each test, and the gateways and clients in it."""
+
+    def setUp(self):
+        folder = tempfile.TemporaryDirectory(prefix="gateway")
+        self.addCleanup(folder.cleanup)
+        self.folder = Path(folder.name)
+        self.file = self.folder / "subscribers.csv"
+        self.file.write_text(SUBSCRIBERS)
+        self.path, self.log = self.folder / "socket", self.folder / "log"
+        self.clients = 0
+
+    def begin(self, *options, folder=None, path=None, program=None):
+        words = [TOOLS / "gateway", self.file, "--socket", path or self.path, "--folder", folder or self.folder, "--program",
+                 program or PROGRAM, "--patience", str(SOON), *options]
+        with self.log.open("a") as log:
+            child = subprocess.Popen([str(word) for word in words], stderr=log)
+        self.addCleanup(self.kill, child)
+        return child
+
+    def kill(self, child):
+        if child.poll() is None:
+            child.kill()
+            child.wait()
+
+    def start(self, *options, **places):
+        """A gateway that serves, and a client of it."""
+        child = self.begin(*options, **places)
+        client, until = self.client(connected=False), time.monotonic() + SOON
+        while time.monotonic() < until and child.poll() is None:
+            if client.socket.connect_ex(str(places.get("path", self.path))) == 0:
+                return child, client
+            time.sleep(0.01)
+        self.fail(f"the gateway doesn't serve: {self.log.read_text()}")
+
+    def client(self, connected=True):
+        self.clients += 1
+        client = Client(self.folder / f"client{self.clients}")
+        self.addCleanup(client.socket.close)
+        if connected:
+            client.socket.connect(str(self.path))
+        return client
+
+    def end(self, child):
+        """The status after SIGTERM."""
+        child.send_signal(signal.SIGTERM)
+        return child.wait(SOON)
+
+    def refusal(self, *options, **places):
+        """What a gateway says that doesn't start."""
+        child = self.begin(*options, **places)
+        self.assertEqual(child.wait(SOON), 1)
+        return self.log.read_text().splitlines()[-1]
+
+    def script(self, text):
+        """A program that stands for the centre's, with the words PROGRAM and its own words at hand."""
+        path = self.folder / "program"
+        path.write_text(f"#!/usr/bin/env python3\nimport os, signal, subprocess, sys, time\nPROGRAM = {PROGRAM!r}\n{text}")
+        path.chmod(0o755)
+        return path
+
+
+# ---- the values
+
+class Values(unittest.TestCase):
+    # FIPS 197 Appendix C.1.
+    def test_aes_gives_the_standards_example(self):
+        key, text = bytes(range(16)), bytes.fromhex("00112233445566778899aabbccddeeff")
+        self.assertEqual(Aes(key).encrypt(text).hex(), "69c4e0d86a7b0430d8cdb78070b4c55a")
+
+    # TS 35.208, test set 1, and for SRES and Kc TS 55.205, test set 1.
+    def test_functions_give_the_standards_values(self):
+        f = functions("23553cbe9637a89d218ae64dae47bf35")
+        macs = f.f1(bytes.fromhex("ff9bb4d0b607"), bytes.fromhex("b9b9"))
+        found = [it.hex() for it in (*macs, f.res, f.ck, f.ik, f.ak, f.ak_star, *triplet(f.res, f.ck, f.ik))]
+        self.assertEqual(found, [
+            "4a9ffac354dfafb3", "01cfaf9ec4e871e9", "a54211d5e3ba50bf", "b40ba9a3c58b2a05bbf0d987b21bf8cb",
+            "f769bcd751044604127672711c6d3441", "aa689c648370", "451e8beca43b", "46f8416a", "eae4be823af9a08b"])
+
+
+# ---- answers
+
+class Answers(Gateways):
+    def test_quintet_is_what_milenage_gives(self):
+        _, client = self.start()
+        for imsi in (A, B):
+            word, said, rand, autn, ik, ck, res = client.vector(imsi).split()
+            values = algorithm(rand, 0)
+            self.assertEqual((word, said, ik, ck, res), ("AKA-RESP-AUTH", imsi, values["f4"], values["f3"], values["f2"]))
+            self.assertEqual(autn[12:16], "8000")
+
+    def test_triplets_are_those_of_their_rands(self):
+        _, client = self.start()
+        for asked, count in ((f"SIM-REQ-AUTH {A} 2", 2), (f"SIM-REQ-AUTH {A}", 3), (f"SIM-REQ-AUTH {A} 3", 3)):
+            word, said, *triplets = client.ask(asked).split()
+            self.assertEqual((word, said, len(triplets)), ("SIM-RESP-AUTH", A, count))
+            for kc, sres, rand in (it.split(":") for it in triplets):
+                f = functions(rand)
+                self.assertEqual((sres, kc), tuple(it.hex() for it in triplet(f.res, f.ck, f.ik)))
+
+    def test_requests_of_a_subscriber_are_answered_in_order_and_by_each_number_once(self):
+        _, client = self.start()
+        numbers = {A: [], B: []}
+        rands = set()
+        for place in range(300):
+            imsi = (A, B)[place % 3 == 2]
+            if place % 50 == 49:
+                rands.update(it.split(":")[2] for it in client.ask(f"SIM-REQ-AUTH {imsi}").split()[2:])
+            else:
+                answer = client.vector(imsi)
+                rands.add(answer.split()[2])
+                numbers[imsi].append(seq_in(answer))
+        self.assertEqual(len(rands), 294 + 6 * 3)
+        for imsi, first in ((A, 1), (B, 41)):
+            self.assertEqual(numbers[imsi][0], first)
+            self.assertEqual(numbers[imsi], sorted(set(numbers[imsi])))
+
+    def test_many_requests_at_once_are_all_answered(self):
+        _, first = self.start("--batch", "1")
+        clients = [first, *(self.client() for _ in range(7))]
+        for client in clients:
+            client.say(f"AKA-REQ-AUTH {A}")
+            client.say(f"AKA-REQ-AUTH {B}")
+        answers = [client.hear() for client in clients for _ in range(2)]
+        self.assertEqual(sorted(sqn_in(it) for it in answers if it.split()[1] == A), [33 * n for n in range(1, 9)])
+        self.assertEqual(len({sqn_in(it) for it in answers if it.split()[1] == B}), 8)
+
+    def test_what_cannot_be_served_is_refused(self):
+        child, client = self.start()
+        cases = [
+            ("AKA-REQ-AUTH 999999", "AKA-RESP-AUTH 999999 FAILURE"),
+            ("SIM-REQ-AUTH 999999 3", "SIM-RESP-AUTH 999999 FAILURE"),
+            (f"AKA-REQ-AUTH {A} 1", f"AKA-RESP-AUTH {A} FAILURE"),
+            (f"AKA-REQ-AUTH {A[2:]}", f"AKA-RESP-AUTH {A[2:]} FAILURE"),
+            (f"SIM-REQ-AUTH {A} 0", f"SIM-RESP-AUTH {A} FAILURE"),
+            (f"SIM-REQ-AUTH {A} 4", f"SIM-RESP-AUTH {A} FAILURE"),
+            (f"SIM-REQ-AUTH {A} x", f"SIM-RESP-AUTH {A} FAILURE"),
+            (f"SIM-REQ-AUTH {A} 3 3", f"SIM-RESP-AUTH {A} FAILURE"),
+        ]
+        for asked, answer in cases:
+            self.assertEqual(client.ask(asked), answer)
+        silent = ["", " ", "hello", "hello world", "AKA-REQ-AUTH", "AKA-REQ-AUTH ", f"aka-req-auth {A}", f"AKA-RESP-AUTH {A}",
+                  "\xff\xfe \0", f"AKA-REQ-AUTH {A} " + "x" * 3000, "AKA-AUTS", f"AKA-AUTS {A}", f"AKA-AUTS {A} 00 00",
+                  f"AKA-AUTS {A} {'g' * 28} {'0' * 32}", f"AKA-AUTS 999999 {'0' * 28} {'0' * 32}"]
+        for asked in silent:
+            client.say(asked)
+        self.assertIsNone(client.hear(SILENCE))
+        self.assertEqual(sqn_in(client.vector()), 33)
+        self.assertEqual(self.end(child), 0)
+
+    def test_same_cause_is_told_once_a_second(self):
+        child, client = self.start()
+        begun = time.monotonic()
+        for _ in range(100):
+            client.ask("AKA-REQ-AUTH 999999")
+        lines = [line for line in self.log.read_text().splitlines() if "999999" in line]
+        self.assertLessEqual(len(lines), 2 + int(time.monotonic() - begun))
+        self.assertEqual(lines[0], "gateway: no subscriber has the IMSI '999999'")
+
+
+# ---- resynchronisation
+
+class Resynchronisation(Gateways):
+    def resynchronise(self, client, answer, seq, imsi=A):
+        rand = answer.split()[2]
+        client.say(f"AKA-AUTS {imsi} {auts(rand, seq)} {rand}")
+        return f"AKA-AUTS {imsi} {auts(rand, seq)} {rand}"
+
+    def test_right_auts_moves_the_number_and_a_replayed_one_never_back(self):
+        child, client = self.start()
+        said = self.resynchronise(client, client.vector(), 700)
+        numbers = [seq_in(client.vector()) for _ in range(3)]
+        client.say(said)
+        numbers += [seq_in(client.vector()) for _ in range(70)]
+        client.say(said)
+        numbers.append(seq_in(client.vector()))
+        self.assertEqual(numbers, list(range(701, 701 + 74)))
+        child.kill()
+        child.wait()
+        _, client = self.start()
+        client.say(said)
+        self.assertGreater(seq_in(client.vector()), 774)
+
+    def test_auts_of_a_subscriber_with_op_is_read(self):
+        _, client = self.start()
+        self.resynchronise(client, client.vector(B), 5000, B)
+        self.assertEqual([seq_in(client.vector(B)), seq_in(client.vector(A))], [5001, 1])
+
+    def test_auts_between_the_vectors_that_are_ready_drops_those_at_or_below_it(self):
+        _, client = self.start()
+        self.resynchronise(client, client.vector(), 10)
+        self.assertEqual(seq_in(client.vector()), 11)
+
+    def test_wrong_auts_changes_nothing(self):
+        _, client = self.start()
+        answer = client.vector()
+        rand = answer.split()[2]
+        right = auts(rand, 700)
+        for place in (0, 5, 6, 13):
+            wrong = bytearray.fromhex(right)
+            wrong[place] ^= 1
+            client.say(f"AKA-AUTS {A} {wrong.hex()} {rand}")
+        client.say(f"AKA-AUTS {A} {right} {'00' * 16}")
+        self.assertEqual(seq_in(client.vector()), 2)
+        self.assertIn(f"an AUTS of {A} has a wrong MAC-S", self.log.read_text())
+
+    def test_number_out_of_reach_is_told(self):
+        _, client = self.start()
+        self.resynchronise(client, client.vector(FAR), 0, FAR)
+        self.assertEqual(client.vector(FAR), f"AKA-RESP-AUTH {FAR} FAILURE")
+        self.assertIn("beyond", self.log.read_text())
+
+
+# ---- what goes wrong
+
+class Killed(Gateways):
+    def test_no_number_comes_twice_over_kills_at_random_moments(self):
+        chance, numbers = random.Random(SEED), {A: [], B: []}
+        for _ in range(KILLS):
+            child, client = self.start()
+            until = time.monotonic() + chance.uniform(0, 0.1)
+            while time.monotonic() < until:
+                client.say(f"AKA-REQ-AUTH {chance.choice((A, B))}")
+                answer = client.hear(max(0.001, until - time.monotonic()))
+                if answer:
+                    numbers[answer.split()[1]].append(sqn_in(answer))
+            child.kill()
+            child.wait()
+            client.socket.settimeout(None)
+            client.end()
+        for sqns in numbers.values():
+            self.assertGreater(len(sqns), KILLS)
+            self.assertEqual(sqns, sorted(set(sqns)))
+
+    def test_number_of_a_request_before_the_kill_does_not_come_again(self):
+        numbers = []
+        for _ in range(4):
+            child, client = self.start()
+            numbers.append(seq_in(client.vector()))
+            child.kill()
+            child.wait()
+        self.assertEqual(numbers, [1, 65, 129, 193])
+
+    def test_nothing_of_a_killed_run_is_handed_out(self):
+        # Each second run over subscribers of a scenario is killed after half of its text was printed.
+        program = self.script("""
+done = subprocess.run([PROGRAM, *sys.argv[1:]], stdout=subprocess.PIPE, pass_fds=range(3, 10))
+with open("runs", "a") as file:
+    file.write("x")
+odd = os.path.getsize("runs") % 2 == 0
+sys.stdout.buffer.write(done.stdout[:len(done.stdout) // 2] if odd else done.stdout)
+sys.stdout.flush()
+if odd:
+    os.kill(os.getpid(), signal.SIGKILL)
+sys.exit(done.returncode)
+""")
+        _, client = self.start(program=program)
+        numbers = [seq_in(client.vector()) for _ in range(130)]
+        # The runs reserved 1 to 64 for nobody, then 65 to 128, and so on.
+        self.assertEqual(numbers, [*range(65, 129), *range(193, 257), 321, 322])
+        self.assertIn("the program was ended by signal 9", self.log.read_text())
+
+
+class Held(Gateways):
+    """The journal is in another process's hands."""
+
+    def held(self):
+        """A run by hand that stands still while it has the journal."""
+        (self.folder / "hand").mkdir()
+        scenario = self.folder / "scenario"
+        scenario.write_text("\n".join([f"subscriber {B} {K} opc {OPC} 8000 0 0", *["round", "job", f"draw {B} 1000"] * 1000, ""]))
+        child = subprocess.Popen([PROGRAM, "run", scenario], cwd=self.folder, stdout=subprocess.PIPE)
+        child.stdout.readline()
+        child.send_signal(signal.SIGSTOP)
+        self.addCleanup(child.stdout.close)
+        self.addCleanup(self.kill, child)
+        return child
+
+    def test_request_fails_after_its_time_and_later_ones_are_served(self):
+        _, client = self.start("--patience", "0.3")
+        other = self.held()
+        self.assertEqual(client.vector(), f"AKA-RESP-AUTH {A} FAILURE")
+        self.assertIn("another process uses it", self.log.read_text())
+        other.kill()
+        other.wait()
+        until = time.monotonic() + SOON
+        while client.vector().endswith("FAILURE") and time.monotonic() < until:
+            pass
+        self.assertLess(time.monotonic(), until)
+
+    def test_waiting_requests_get_failure_at_the_end(self):
+        child, client = self.start()
+        self.held()
+        client.say(f"AKA-REQ-AUTH {A}")
+        client.say(f"SIM-REQ-AUTH {B} 3")
+        time.sleep(SILENCE)
+        self.assertEqual(self.end(child), 0)
+        self.assertEqual({client.hear(), client.hear()}, {f"AKA-RESP-AUTH {A} FAILURE", f"SIM-RESP-AUTH {B} FAILURE"})
+        self.assertFalse(self.path.exists())
+
+
+class Starts(Gateways):
+    def test_second_gateway_over_a_folder_is_refused(self):
+        _, client = self.start()
+        said = self.refusal(path=self.folder / "other")
+        self.assertIn("another gateway serves the journal", said)
+        self.assertEqual(seq_in(client.vector()), 1)
+
+    def test_second_gateway_at_a_socket_is_refused(self):
+        _, client = self.start()
+        (self.folder / "other").mkdir()
+        said = self.refusal(folder=self.folder / "other")
+        self.assertEqual(said, f"gateway: another gateway serves {self.path}")
+        self.assertEqual(seq_in(client.vector()), 1)
+
+    def test_stale_socket_is_replaced_and_nothing_else(self):
+        child, _ = self.start()
+        child.kill()
+        child.wait()
+        self.assertTrue(stat.S_ISSOCK(self.path.stat().st_mode))
+        child, client = self.start()
+        self.assertEqual(seq_in(client.vector()), 1)
+        self.assertEqual(self.end(child), 0)
+        self.assertFalse(self.path.exists())
+        with socket.socket(socket.AF_UNIX, socket.SOCK_DGRAM) as other:
+            other.bind(str(self.path))
+            self.assertIn("another program may serve it", self.refusal())
+        self.path.unlink()
+        self.path.write_text("a file")
+        self.assertIn("is no socket", self.refusal())
+        self.assertEqual(self.path.read_text(), "a file")
+
+    def test_socket_has_its_mode(self):
+        for options, wanted in (((), 0o660), (("--mode", "600"), 0o600)):
+            child, _ = self.start(*options)
+            self.assertEqual(stat.S_IMODE(self.path.stat().st_mode), wanted)
+            self.end(child)
+
+    def test_wrong_input_is_refused_with_its_reason(self):
+        self.file.write_text(SUBSCRIBERS + "12345\n")
+        self.assertIn("refused subscribers 4 fieldcount", self.refusal())
+        self.file.write_text(SUBSCRIBERS)
+        (self.folder / "auc.journal").write_text("no journal, but longer than its header")
+        self.assertIn("refused journal 0", self.refusal())
+        self.assertIn("No such file", self.refusal(folder=self.folder / "missing"))
+        self.assertIn("No such file", self.refusal(program="/missing"))
+
+
+class Clients(Gateways):
+    def test_answers_wait_for_a_client_that_reads_late(self):
+        _, client = self.start()
+        seqs = []
+        for _ in range(60):
+            client.say(f"AKA-REQ-AUTH {A}")
+        time.sleep(SILENCE)
+        for _ in range(60):
+            seqs.append(seq_in(client.hear()))
+        self.assertEqual(seqs, list(range(1, 61)))
+
+    def test_client_that_never_reads_or_is_gone_stops_nobody(self):
+        _, client = self.start("--patience", "1")
+        deaf, gone = self.client(), self.client()
+        for _ in range(400):
+            deaf.say(f"AKA-REQ-AUTH {B}")
+        gone.say(f"AKA-REQ-AUTH {A}")
+        gone.end()
+        until = time.monotonic() + SOON
+        while not (client.vector() or "").startswith(f"AKA-RESP-AUTH {A} ") and time.monotonic() < until:
+            pass
+        time.sleep(1.2)
+        self.assertIsNotNone(client.vector())
+        log = self.log.read_text()
+        self.assertIn("doesn't read its answers: one is dropped", log)
+        self.assertRegex(log, re.escape(f"{self.folder}/client3") + " is dropped")
+
+    def test_request_without_an_address_takes_no_number(self):
+        _, client = self.start()
+        with socket.socket(socket.AF_UNIX, socket.SOCK_DGRAM) as nameless:
+            nameless.connect(str(self.path))
+            nameless.send(f"AKA-REQ-AUTH {A}".encode())
+        self.assertEqual(seq_in(client.vector()), 1)
+        self.assertIn("has no address", self.log.read_text())
+
+
+def main():
+    global PROGRAM
+    if len(sys.argv) > 1 and not sys.argv[1].startswith("-") and os.path.exists(sys.argv[1]):
+        PROGRAM = str(Path(sys.argv.pop(1)).resolve())
+    unittest.main()
+
+
+if __name__ == "__main__":
+    main()
