@@ -1,0 +1,253 @@
+#!/usr/bin/env python3
+"""Lets hostapd's EAP server authenticate eapol_test through tools/gateway, and kills the gateway and the program under load.
+
+    bench/live.py [--program PROGRAM] [--kills N] [--seconds N] [--seed N]
+
+PROGRAM is crates/auc_cli/out/auc_cli, unless it is given. hostapd and eapol_test come from Debian's packages hostapd and
+eapoltest; without them the sessions are left out. All is on the loopback, in a folder of its own.
+
+sessions    EAP-AKA, EAP-AKA' and EAP-SIM, each three times, before and after the gateway was killed. The USIM is ahead at
+            first, so the first session by EAP-AKA and EAP-AKA' has a resynchronisation.
+kills       four clients ask for vectors of twelve subscribers, some of them with AUTS that are right, replayed or wrong. The
+            gateway, or the program that it runs, is killed at random moments. Each SQN that a client received is counted.
+
+The exit status is 0 only if each session succeeded and no SQN came twice.
+"""
+import argparse
+import os
+import random
+import signal
+import socket
+import subprocess
+import sys
+import tempfile
+import threading
+import time
+from pathlib import Path
+
+import hostapd
+from measure import KEYS, TOP
+
+sys.path.append(str(TOP / "tools"))
+from aka_functions import xor
+from gateway_centre import Subscriber
+
+HEADER = "imsi,k,kind,op,amf,seq,usim\n"
+# The leading digit of the permanent identity of each method, and where its USIM is opened.
+METHODS = {"AKA": ("0", 500), "AKA'": ("6", 5000), "SIM": ("1", 0)}
+SESSIONS, CLIENTS, SUBSCRIBERS = 3, 4, 12
+hostapd.PERMANENT["SIM"] = "1"
+
+
+def options():
+    parser = argparse.ArgumentParser(description=__doc__, formatter_class=argparse.RawDescriptionHelpFormatter)
+    parser.add_argument("--program", type=Path, default=TOP / "crates/auc_cli/out/auc_cli")
+    parser.add_argument("--kills", type=int, default=200)
+    parser.add_argument("--seconds", type=int, default=300, help="the kills end after this time, however many there were")
+    parser.add_argument("--seed", type=int, default=1)
+    parser.add_argument("--patience", type=float, default=1.0, help="tools/gateway's option")
+    return parser.parse_args()
+
+
+def imsi_of(place):
+    return f"00101{place:010}"
+
+
+def row_of(place):
+    return Subscriber(imsi_of(place), *KEYS)
+
+
+class Gateway:
+    """A gateway over a folder, which can be killed and started again."""
+
+    def __init__(self, folder, given, subscribers):
+        self.folder, self.given = folder, given
+        self.path = folder / "centre"
+        (folder / "journal").mkdir()
+        (folder / "subscribers").write_text(HEADER + "".join(",".join(row_of(place)) + "\n" for place in range(subscribers)))
+        self.child = None
+
+    def start(self):
+        words = [TOP / "tools/gateway", self.folder / "subscribers", "--socket", self.path, "--folder", self.folder / "journal",
+                 "--program", self.given.program, "--patience", str(self.given.patience)]
+        with open(self.folder / "gateway.log", "a") as log:
+            self.child = subprocess.Popen([str(word) for word in words], stderr=log)
+        hostapd.wait_until(self.is_there, "tools/gateway")
+
+    def is_there(self):
+        if self.child.poll() is not None:
+            raise SystemExit(f"tools/gateway ended: {(self.folder / 'gateway.log').read_text()}")
+        with socket.socket(socket.AF_UNIX, socket.SOCK_DGRAM) as probe:
+            return probe.connect_ex(str(self.path)) == 0
+
+    def kill(self):
+        self.child.kill()
+        self.child.wait()
+
+    def kill_program(self):
+        """Kills the run that is under way, if there is one."""
+        path = Path(f"/proc/{self.child.pid}/task/{self.child.pid}/children")
+        for number in path.read_text().split():
+            try:
+                os.kill(int(number), signal.SIGKILL)
+            except ProcessLookupError:
+                pass
+
+    def end(self):
+        if self.child and self.child.poll() is None:
+            self.child.terminate()
+            self.child.wait(60)
+
+
+# ---- sessions
+
+def ran_sessions(folder, port, method):
+    """Runs some sessions of eapol_test by a method: what its USIM found."""
+    number = METHODS[method][1]
+    words = ["eapol_test", "-c", folder / "peer.conf", "-p", str(port), "-r", str(SESSIONS - 1), "-t", "60", "-W"]
+    usim_words = [TOP / "tools/usim", folder / "ctrl/test", folder / "subscribers", imsi_of(0), "--number", str(number)]
+    with open(folder / "peer.log", "w") as log:
+        peer = subprocess.Popen(words, stdout=log, stderr=subprocess.STDOUT)
+    usim = subprocess.Popen(usim_words, stdout=subprocess.PIPE, text=True)
+    status, found = peer.wait(120), usim.communicate(timeout=60)[0].split("\n")[:-1]
+    keys = f"MPPE keys OK: {SESSIONS}  mismatch: 0" in (folder / "peer.log").read_text(errors="replace")
+    return status == 0 and keys, found
+
+
+def try_method(given, method):
+    """Sessions by a method before and after a kill of the gateway: whether all succeeded, and what the USIM found."""
+    with tempfile.TemporaryDirectory(dir="/tmp") as name:
+        folder, port = Path(name), hostapd.free_port()
+        hostapd.write_files(folder, port, method)
+        (folder / "peer.conf").write_text((folder / "peer.conf").read_text().replace(hostapd.IMSI, imsi_of(0)))
+        gateway = Gateway(folder, given, 1)
+        try:
+            gateway.start()
+            with hostapd.serving(folder, "hostapd"):
+                before = ran_sessions(folder, port, method)
+                gateway.kill()
+                gateway.start()
+                after = ran_sessions(folder, port, method)
+        finally:
+            gateway.end()
+        log = (folder / "gateway.log").read_text()
+    return before[0] and after[0], before[1] + after[1], log
+
+
+def all_sessions(given):
+    good = True
+    for method in METHODS:
+        succeeded, found, log = try_method(given, method)
+        syncs = sum(line.startswith("sync") for line in found)
+        wanted = 0 if method == "SIM" else 1
+        good = good and succeeded and syncs >= wanted
+        print(f"EAP-{method}: {2 * SESSIONS} sessions, {'all succeeded' if succeeded else 'NOT ALL SUCCEEDED'}, {syncs} resynchronised")
+        if not succeeded:
+            print(log)
+    return good
+
+
+# ---- kills
+
+class Client(threading.Thread):
+    """Asks for vectors, one after the other, until it is told to end, and keeps each SQN that it received."""
+
+    def __init__(self, folder, place, seed):
+        super().__init__(daemon=True)
+        self.gateway, self.own = str(folder / "centre"), folder / f"client{place}"
+        self.chance, self.rows = random.Random(seed), [row_of(it) for it in range(SUBSCRIBERS)]
+        self.sqns, self.auts, self.refused, self.ending = [], {}, 0, False
+
+    def run(self):
+        with socket.socket(socket.AF_UNIX, socket.SOCK_DGRAM) as self.socket:
+            self.socket.bind(str(self.own))
+            self.socket.settimeout(1.5)
+            while not self.ending:
+                try:
+                    self.ask(self.chance.choice(self.rows))
+                except OSError:
+                    # The gateway is dead, or was killed before it answered.
+                    time.sleep(0.005)
+
+    def ask(self, row):
+        self.socket.sendto(f"AKA-REQ-AUTH {row.imsi}".encode(), self.gateway)
+        words = self.socket.recv(4096).decode().split()
+        if words[2] == "FAILURE":
+            self.refused += 1
+            return
+        rand, autn = (bytes.fromhex(word) for word in words[2:4])
+        row = self.rows[int(words[1][5:])]
+        f = row.functions(rand)
+        sqn = xor(autn[:6], f.ak)
+        assert f.f1(sqn, autn[6:8])[0] == autn[8:], words
+        self.sqns.append((row.imsi, int.from_bytes(sqn, "big")))
+        if self.chance.random() < 0.05:
+            self.resynchronise(row, rand, f, int.from_bytes(sqn, "big") >> 5)
+
+    def resynchronise(self, row, rand, f, seq):
+        """Sends an AUTS whose SEQ is somewhat above or below what was received, at times a wrong one, or an old one again."""
+        seq = max(0, seq + self.chance.randrange(-200, 400))
+        sqn = (32 * seq + seq % 32).to_bytes(6, "big")
+        auts = xor(sqn, f.ak_star) + f.f1(sqn, bytes(2))[1]
+        said = f"AKA-AUTS {row.imsi} {auts.hex()} {rand.hex()}"
+        what = self.chance.randrange(3)
+        if what == 1:
+            said = said[:-1] + ("0" if said[-1] != "0" else "1")
+        elif what == 2:
+            said = self.auts.get(row.imsi, said)
+        self.auts[row.imsi] = said
+        self.socket.sendto(said.encode(), self.gateway)
+
+
+def killed(gateway, clients, given):
+    """Kills the gateway or the program at random moments: how often each of them."""
+    chance, until, counts = random.Random(given.seed), time.monotonic() + given.seconds, {"gateway": 0, "program": 0}
+    while sum(counts.values()) < given.kills and time.monotonic() < until:
+        time.sleep(chance.uniform(0, 0.3))
+        if chance.random() < 0.5:
+            gateway.kill()
+            gateway.start()
+            counts["gateway"] += 1
+        else:
+            gateway.kill_program()
+            counts["program"] += 1
+    for client in clients:
+        client.ending = True
+    for client in clients:
+        client.join()
+    return counts
+
+
+def all_kills(given):
+    with tempfile.TemporaryDirectory(dir="/tmp") as name:
+        folder = Path(name)
+        gateway = Gateway(folder, given, SUBSCRIBERS)
+        clients = [Client(folder, place, given.seed + place) for place in range(CLIENTS)]
+        try:
+            gateway.start()
+            for client in clients:
+                client.start()
+            counts = killed(gateway, clients, given)
+        finally:
+            gateway.end()
+    sqns = [it for client in clients for it in client.sqns]
+    again = len(sqns) - len(set(sqns))
+    print(f"kills: {counts['gateway']} of the gateway and {counts['program']} of the program; {len(sqns)} SQNs received, "
+          f"{again} came again; {sum(client.refused for client in clients)} requests refused")
+    return again == 0 and len(sqns) > 0
+
+
+def main():
+    given = options()
+    given.program = given.program.resolve()
+    good = True
+    if hostapd.are_there():
+        good = all_sessions(given)
+    else:
+        print("sessions: hostapd and eapol_test aren't there")
+    good = all_kills(given) and good
+    return 0 if good else 1
+
+
+if __name__ == "__main__":
+    sys.exit(main())
