@@ -36,6 +36,8 @@ HEADER = "imsi,k,kind,op,amf,seq,usim\n"
 # The leading digit of the permanent identity of each method, and where its USIM is opened.
 METHODS = {"AKA": ("0", 500), "AKA'": ("6", 5000), "SIM": ("1", 0)}
 SESSIONS, CLIENTS, SUBSCRIBERS = 3, 4, 12
+# Vectors are kept ahead for fewer subscribers than there are, so that the program runs all the time.
+AHEAD, MOST_ANSWERS, LONGEST_WAIT = 8, 100, 3
 hostapd.PERMANENT["SIM"] = "1"
 
 
@@ -60,16 +62,17 @@ def row_of(place):
 class Gateway:
     """A gateway over a folder, which can be killed and started again."""
 
-    def __init__(self, folder, given, subscribers):
-        self.folder, self.given = folder, given
+    def __init__(self, folder, given, subscribers, *words):
+        self.folder, self.given, self.words = folder, given, words
         self.path = folder / "centre"
         (folder / "journal").mkdir()
-        (folder / "subscribers").write_text(HEADER + "".join(",".join(row_of(place)) + "\n" for place in range(subscribers)))
+        rows = [",".join(row_of(place)) + "\n" for place in range(subscribers)]
+        (folder / "subscribers").write_text(HEADER + "".join(rows))
         self.child = None
 
     def start(self):
-        words = [TOP / "tools/gateway", self.folder / "subscribers", "--socket", self.path, "--folder", self.folder / "journal",
-                 "--program", self.given.program, "--patience", str(self.given.patience)]
+        words = [TOP / "tools/gateway", self.folder / "subscribers", "--socket", self.path, "--folder",
+                 self.folder / "journal", "--program", self.given.program, "--patience", self.given.patience, *self.words]
         with open(self.folder / "gateway.log", "a") as log:
             self.child = subprocess.Popen([str(word) for word in words], stderr=log)
         hostapd.wait_until(self.is_there, "tools/gateway")
@@ -85,13 +88,18 @@ class Gateway:
         self.child.wait()
 
     def kill_program(self):
-        """Kills the run that is under way, if there is one."""
+        """Kills the next run that is under way, if there is one soon: how many it killed."""
         path = Path(f"/proc/{self.child.pid}/task/{self.child.pid}/children")
-        for number in path.read_text().split():
-            try:
-                os.kill(int(number), signal.SIGKILL)
-            except ProcessLookupError:
-                pass
+        until = time.monotonic() + LONGEST_WAIT
+        while time.monotonic() < until:
+            for number in path.read_text().split():
+                try:
+                    os.kill(int(number), signal.SIGKILL)
+                except ProcessLookupError:
+                    continue
+                return 1
+            time.sleep(0.001)
+        return 0
 
     def end(self):
         if self.child and self.child.poll() is None:
@@ -141,7 +149,8 @@ def all_sessions(given):
         syncs = sum(line.startswith("sync") for line in found)
         wanted = 0 if method == "SIM" else 1
         good = good and succeeded and syncs >= wanted
-        print(f"EAP-{method}: {2 * SESSIONS} sessions, {'all succeeded' if succeeded else 'NOT ALL SUCCEEDED'}, {syncs} resynchronised")
+        outcome = "all succeeded" if succeeded else "NOT ALL SUCCEEDED"
+        print(f"EAP-{method}: {2 * SESSIONS} sessions, {outcome}, {syncs} resynchronised")
         if not succeeded:
             print(log)
     return good
@@ -161,7 +170,7 @@ class Client(threading.Thread):
     def run(self):
         with socket.socket(socket.AF_UNIX, socket.SOCK_DGRAM) as self.socket:
             self.socket.bind(str(self.own))
-            self.socket.settimeout(1.5)
+            self.socket.settimeout(0.5)
             while not self.ending:
                 try:
                     self.ask(self.chance.choice(self.rows))
@@ -185,7 +194,7 @@ class Client(threading.Thread):
             self.resynchronise(row, rand, f, int.from_bytes(sqn, "big") >> 5)
 
     def resynchronise(self, row, rand, f, seq):
-        """Sends an AUTS whose SEQ is somewhat above or below what was received, at times a wrong one, or an old one again."""
+        """Sends an AUTS whose SEQ is somewhat above or below what was received; at times a wrong one, or an old one."""
         seq = max(0, seq + self.chance.randrange(-200, 400))
         sqn = (32 * seq + seq % 32).to_bytes(6, "big")
         auts = xor(sqn, f.ak_star) + f.f1(sqn, bytes(2))[1]
@@ -199,18 +208,25 @@ class Client(threading.Thread):
         self.socket.sendto(said.encode(), self.gateway)
 
 
+def wait_for_answers(clients, count):
+    """Waits until the clients have got so many more answers, or for some seconds."""
+    until, wanted = time.monotonic() + LONGEST_WAIT, sum(len(client.sqns) for client in clients) + count
+    while time.monotonic() < until and sum(len(client.sqns) for client in clients) < wanted:
+        time.sleep(0.001)
+
+
 def killed(gateway, clients, given):
     """Kills the gateway or the program at random moments: how often each of them."""
     chance, until, counts = random.Random(given.seed), time.monotonic() + given.seconds, {"gateway": 0, "program": 0}
     while sum(counts.values()) < given.kills and time.monotonic() < until:
-        time.sleep(chance.uniform(0, 0.3))
+        wait_for_answers(clients, chance.randrange(MOST_ANSWERS))
+        time.sleep(chance.uniform(0, 0.05))
         if chance.random() < 0.5:
             gateway.kill()
             gateway.start()
             counts["gateway"] += 1
         else:
-            gateway.kill_program()
-            counts["program"] += 1
+            counts["program"] += gateway.kill_program()
     for client in clients:
         client.ending = True
     for client in clients:
@@ -221,7 +237,7 @@ def killed(gateway, clients, given):
 def all_kills(given):
     with tempfile.TemporaryDirectory(dir="/tmp") as name:
         folder = Path(name)
-        gateway = Gateway(folder, given, SUBSCRIBERS)
+        gateway = Gateway(folder, given, SUBSCRIBERS, "--ahead", str(AHEAD), "--batch", str(AHEAD))
         clients = [Client(folder, place, given.seed + place) for place in range(CLIENTS)]
         try:
             gateway.start()

@@ -1,8 +1,8 @@
-"""Milenage (TS 35.206 §4.1), what an AUTS says (TS 33.102 §6.3.3), a USIM (TS 33.102 Annex C), and a vector as a GSM triplet
-(TS 33.102 §6.8.1.2).
+"""Milenage (TS 35.206 §4.1), what an AUTS says (TS 33.102 §6.3.3), a USIM (TS 33.102 Annex C), and a vector as a GSM
+triplet (TS 33.102 §6.8.1.2).
 
-It shares nothing with the crates. `Functions` takes the block cipher as a call, so that a script may bring its own; `Aes` needs
-no library, and is for a few blocks: it is slow, and the time that it takes depends on the key.
+It shares nothing with the crates. `Functions` takes the block cipher as a call, so that a script may bring its own. `Aes`
+needs no library, and is for a few blocks: it is slow, and the time that it takes depends on the key.
 """
 
 # How far above the greatest SEQ that it has accepted a USIM accepts a SEQ.
@@ -45,8 +45,8 @@ class Functions:
 
 
 class Usim:
-    """A USIM with the index array of TS 33.102 Annex C, by a call that gives the functions of a RAND. It is opened at a number:
-    the numbers from 1 to it count as accepted."""
+    """A USIM with the index array of TS 33.102 Annex C, by a call that gives the functions of a RAND. It is opened at a
+    number: the numbers from 1 to it count as accepted."""
 
     def __init__(self, functions, opening):
         self.functions = functions

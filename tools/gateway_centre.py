@@ -73,8 +73,8 @@ class Subscriber(NamedTuple):
 
 
 def read_subscribers(data):
-    """The subscribers by IMSI, of a file that the program has judged. A row that the program accepts and this reader doesn't is
-    refused too, so that both always mean the same subscribers."""
+    """The subscribers by IMSI, of a file that the program has judged. A row that the program accepts and this reader
+    doesn't is refused too, so that both always mean the same subscribers."""
     try:
         rows = [row for row in csv.reader(io.StringIO(data.decode("utf-8-sig"), newline="")) if row]
     except (UnicodeDecodeError, csv.Error) as error:
@@ -185,8 +185,8 @@ class Centre:
         return [ready.popleft() for _ in range(count)]
 
     def resynchronise(self, imsi, seq):
-        """Keeps those vectors that a USIM of this SEQ_MS can accept. If none is left, the program is told of the AUTS before it
-        draws again. A replayed AUTS is below the vectors that are ready, and changes nothing."""
+        """Keeps those vectors that a USIM of this SEQ_MS can accept. If none is left, the program is told of the AUTS
+        before it draws again. A replayed AUTS is below the vectors that are ready, and changes nothing."""
         self.floors[imsi] = max(self.floors.get(imsi, 0), seq)
         kept = deque(it for it in self.ahead.pop(imsi, ()) if seq < it.number <= seq + REACH)
         if kept:
@@ -199,7 +199,8 @@ class Centre:
 
     def scenario(self, batch):
         """One round with a job for each subscriber. Its RANDs follow from bytes that no other run has."""
-        lines = [f"randkey {os.urandom(32).hex()}", "print full", *(self.subscribers[imsi].line() for imsi in batch), "round"]
+        rows = [self.subscribers[imsi].line() for imsi in batch]
+        lines = [f"randkey {os.urandom(32).hex()}", "print full", *rows, "round"]
         for imsi in batch:
             asked = f"sync {imsi} {self.moves[imsi]} - {AHEAD}" if imsi in self.moves else f"draw {imsi} {AHEAD}"
             lines += ["job", asked]

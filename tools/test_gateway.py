@@ -234,8 +234,8 @@ class Answers(Gateways):
         ]
         for asked, answer in cases:
             self.assertEqual(client.ask(asked), answer)
-        silent = ["", " ", "hello", "hello world", "AKA-REQ-AUTH", "AKA-REQ-AUTH ", f"aka-req-auth {A}", f"AKA-RESP-AUTH {A}",
-                  "\xff\xfe \0", f"AKA-REQ-AUTH {A} " + "x" * 3000, "AKA-AUTS", f"AKA-AUTS {A}", f"AKA-AUTS {A} 00 00",
+        silent = ["", " ", "hello", "hello world", "AKA-REQ-AUTH", "AKA-REQ-AUTH ", f"aka-req-auth {A}",
+                  f"AKA-RESP-AUTH {A}", "\xff\xfe \0", f"AKA-REQ-AUTH {A} " + "x" * 3000, "AKA-AUTS", f"AKA-AUTS {A}", f"AKA-AUTS {A} 00 00",
                   f"AKA-AUTS {A} {'g' * 28} {'0' * 32}", f"AKA-AUTS 999999 {'0' * 28} {'0' * 32}"]
         for asked in silent:
             client.say(asked)
@@ -366,9 +366,9 @@ class Held(Gateways):
 
     def held(self):
         """A run by hand that stands still while it has the journal."""
-        (self.folder / "hand").mkdir()
         scenario = self.folder / "scenario"
-        scenario.write_text("\n".join([f"subscriber {B} {K} opc {OPC} 8000 0 0", *["round", "job", f"draw {B} 1000"] * 1000, ""]))
+        rounds = ["round", "job", f"draw {B} 1000"] * 1000
+        scenario.write_text("\n".join([f"subscriber {B} {K} opc {OPC} 8000 0 0", *rounds, ""]))
         child = subprocess.Popen([PROGRAM, "run", scenario], cwd=self.folder, stdout=subprocess.PIPE)
         child.stdout.readline()
         child.send_signal(signal.SIGSTOP)
@@ -387,6 +387,15 @@ class Held(Gateways):
         while client.vector().endswith("FAILURE") and time.monotonic() < until:
             pass
         self.assertLess(time.monotonic(), until)
+
+    def test_request_waits_until_the_journal_is_free(self):
+        _, client = self.start()
+        other = self.held()
+        client.say(f"AKA-REQ-AUTH {A}")
+        self.assertIsNone(client.hear(SILENCE))
+        other.kill()
+        other.wait()
+        self.assertEqual(seq_in(client.hear()), 1)
 
     def test_waiting_requests_get_failure_at_the_end(self):
         child, client = self.start()
