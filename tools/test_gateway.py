@@ -18,6 +18,7 @@ import unittest
 from pathlib import Path
 
 from aka_functions import Aes, Functions, triplet, xor
+from gateway_centre import Centre, read_subscribers
 
 TOOLS = Path(__file__).resolve().parent
 PROGRAM = str(TOOLS.parent / "crates/auc_cli/out/auc_cli")
@@ -171,6 +172,41 @@ class Values(unittest.TestCase):
         self.assertEqual(found, [
             "4a9ffac354dfafb3", "01cfaf9ec4e871e9", "a54211d5e3ba50bf", "b40ba9a3c58b2a05bbf0d987b21bf8cb",
             "f769bcd751044604127672711c6d3441", "aa689c648370", "451e8beca43b", "46f8416a", "eae4be823af9a08b"])
+
+
+class Runs(unittest.TestCase):
+    """What is asked of the program, and what is taken from its text."""
+
+    def setUp(self):
+        self.centre = Centre(read_subscribers(SUBSCRIBERS.encode()), 10)
+
+    def asked(self):
+        return self.centre.scenario([A]).decode().splitlines()[-1]
+
+    def given(self, *lines, end="\n"):
+        self.centre.learn([A], "\n".join(("round 1", "job 1", *lines)) + end)
+        vectors = self.centre.take(A, 1)
+        return vectors and vectors[0].number
+
+    def test_auts_is_told_once(self):
+        self.assertEqual(self.asked(), f"draw {A} 64")
+        self.centre.resynchronise(A, 700)
+        self.assertEqual(self.asked(), f"sync {A} 700 - 64")
+        self.assertEqual(self.given(f"sync {A} moved 0 700", f"vector {A} 701", "bytes 0 1 2 3 4"), 701)
+        self.assertEqual(self.asked(), f"draw {A} 64")
+
+    def test_auts_that_comes_during_a_run_is_told_after_it(self):
+        self.centre.resynchronise(A, 700)
+        self.assertIsNone(self.given(f"vector {A} 1", "bytes 0 1 2 3 4"))
+        self.assertEqual(self.asked(), f"sync {A} 700 - 64")
+
+    def test_line_that_is_not_whole_gives_no_vector(self):
+        self.assertIsNone(self.given(f"vector {A} 1", "bytes 0 1 2 3 4", end=""))
+        self.assertEqual(self.given(f"vector {A} 2", "bytes 0 1 2 3 4"), 2)
+
+    def test_each_run_has_another_key_of_its_rands(self):
+        keys = {self.centre.scenario([A]).splitlines()[0] for _ in range(20)}
+        self.assertEqual(len(keys), 20)
 
 
 # ---- answers
@@ -359,6 +395,18 @@ sys.exit(done.returncode)
         # The runs reserved 1 to 64 for nobody, then 65 to 128, and so on.
         self.assertEqual(numbers, [*range(65, 129), *range(193, 257), 321, 322])
         self.assertIn("the program was ended by signal 9", self.log.read_text())
+
+
+class OlderJournal(Gateways):
+    def test_number_does_not_come_again_while_the_gateway_lives(self):
+        _, client = self.start()
+        journal = self.folder / "auc.journal"
+        numbers = [seq_in(client.vector())]
+        older = journal.read_bytes()
+        numbers += [seq_in(client.vector()) for _ in range(127)]
+        journal.write_bytes(older)
+        numbers += [seq_in(client.vector()) for _ in range(3)]
+        self.assertEqual(numbers, list(range(1, 132)))
 
 
 class Held(Gateways):
