@@ -397,6 +397,26 @@ sys.exit(done.returncode)
         self.assertIn("the program was ended by signal 9", self.log.read_text())
 
 
+class Slow(Gateways):
+    def test_slow_program_gets_fewer_subscribers_a_run(self):
+        # A fifth of a second for each subscriber, so that eight of them take longer than a request waits.
+        program = self.script("""
+scenario = open(sys.argv[2]).read()
+time.sleep(scenario.count("job") / 5)
+os.execv(PROGRAM, [PROGRAM, *sys.argv[1:]])
+""")
+        imsis = [f"00101{place:010}" for place in range(100, 140)]
+        self.file.write_text(SUBSCRIBERS + "".join(f"{imsi},{K},opc,{OPC},8000,0,0\n" for imsi in imsis))
+        _, first = self.start("--patience", "1.5", program=program)
+        clients = [first, *(self.client() for _ in range(7))]
+        served = []
+        for place in range(0, len(imsis), len(clients)):
+            for client, imsi in zip(clients, imsis[place:]):
+                client.say(f"AKA-REQ-AUTH {imsi}")
+            served.append(sum(not client.hear().endswith("FAILURE") for client in clients))
+        self.assertGreater(sum(served[1:]), 0, served)
+
+
 class OlderJournal(Gateways):
     def test_number_does_not_come_again_while_the_gateway_lives(self):
         _, client = self.start()
