@@ -30,6 +30,7 @@ from measure import KEYS, TOP
 
 sys.path.append(str(TOP / "tools"))
 from aka_functions import xor
+from ends import run_main
 from gateway_centre import Subscriber
 
 HEADER = "imsi,k,kind,op,amf,seq,usim\n"
@@ -266,4 +267,4 @@ def main():
 
 
 if __name__ == "__main__":
-    sys.exit(main())
+    run_main(main)

@@ -18,6 +18,7 @@ import unittest
 from pathlib import Path
 
 from aka_functions import Aes, Functions, triplet, xor
+from ends import run_main
 from gateway_centre import Centre, read_subscribers
 
 TOOLS = Path(__file__).resolve().parent
@@ -568,4 +569,4 @@ def main():
 
 
 if __name__ == "__main__":
-    main()
+    run_main(main, __doc__)
