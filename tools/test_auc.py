@@ -150,6 +150,16 @@ class Explanations(Checkout):
         self.assertEqual(self.noted()[-1].split(": ")[1], f"run {self.here}/a.scenario {self.here}/s.csv")
         self.assertNotEqual(self.noted()[-1].split(": ")[0], str(self.here), "the second run isn't in the journal's folder")
 
+    def test_a_comment_that_is_no_line_of_its_own_is_told(self):
+        lines = ["round # note", "draw 00101 1 # note", " # note", "randkey 00 # note", f"subscriber 00101 {K} opc {OPC} 8000 0 0#"]
+        self.write("a.scenario", "\n".join([*lines, "draw 1", "session 1 00101 aka - - - =a#b"]))
+        told = "; a comment is a line of its own that begins with #"
+        for place, why in enumerate(("fields", "fields", "unknownword", "fields", "usim"), 1):
+            said = self.said(3, f"refused scenario {place} {why}")
+            self.assertTrue(said.endswith(f" ({why}){told}"), said)
+        for place, why in ((6, "fields"), (7, "unknownsubscriber")):
+            self.assertTrue(self.said(3, f"refused scenario {place} {why}").endswith(f" ({why})"))
+
     def test_a_refused_record_is_found_as_the_program_counts(self):
         self.write("a.scenario", "round\n")
         self.write("s.csv", b"\xef\xbb\xbf" + f"\n{HEADER}\r\n\r\n{RECORD}\r12345,\"{K}\n{K}\",opc\n".encode())

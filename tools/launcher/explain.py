@@ -52,6 +52,9 @@ CAUSES_OF_LINES = {
     "usimbusy": "an earlier job of this round gives to this USIM or has a session of it",
     "limit": "a limit is exceeded",
 }
+# The causes that a comment behind other words, or behind a blank, has.
+CAUSES_OF_FORM = ("fields", "unknownword", "hex", *"imsi key kind op amf seq usim".split())
+OF_COMMENTS = "; a comment is a line of its own that begins with #"
 
 
 @dataclass(frozen=True)
@@ -118,7 +121,9 @@ def record_of_subscribers(path, number):
 
 
 def cause_of_line(path, name, number, why):
-    return f"{name}:{number}: {line_of_scenario(path, number)}: {CAUSES_OF_LINES.get(why, why)} ({why})"
+    text = line_of_scenario(path, number)
+    of_comments = OF_COMMENTS if why in CAUSES_OF_FORM and "#" in text else ""
+    return f"{name}:{number}: {text}: {CAUSES_OF_LINES.get(why, why)} ({why}){of_comments}"
 
 
 def cause_of_record(path, name, number, why):
