@@ -82,8 +82,7 @@ def again(sqns):
 
 
 def came_again(sqns):
-    count = again(sqns)
-    return f"{count} of {len(sqns)} SQNs came again" if count else f"{len(sqns)} SQNs, none came again"
+    return f"{again(sqns)} of {len(sqns)} SQNs came again"
 
 
 def sqn_of(seq):

@@ -10,7 +10,7 @@
   `auc_run/specs/Output` (`IsOutput`) it is a definition of that file.
 - In a table whose first column is Definition or Call, the second column says where: each name in the first column is
   defined there.
-- In a table whose first column is Crate, each name in brackets stands in one of the row's crates.
+- Below a heading of crates, as in docs/PROVED.md, each name in brackets stands in one of these crates.
 
 The exit status is 0 if all is well, and 1 if something isn't there; each such citation gets a line on standard error.
 """
@@ -95,8 +95,6 @@ def broken_rows(text):
         for row in rows:
             if header[0] in ("Definition", "Call") and row[0].startswith("`"):
                 yield from broken_definitions(row)
-            elif header[0] == "Crate":
-                yield from broken_crates(row)
 
 
 def broken_definitions(row):
@@ -107,12 +105,14 @@ def broken_definitions(row):
             yield f"{' and '.join(places)} doesn't define {name}"
 
 
-def broken_crates(row):
-    crates = [it for it in re.findall(QUOTED, row[0]) if it.startswith("auc_")]
-    for brackets in re.findall(r"\(([^()]*)\)", " ".join(row[1:])):
-        for name in names_in(brackets):
-            if not any(stands_in(name, text_of(it)) for it in crates):
-                yield f"{name} isn't in {' or '.join(crates)}"
+def broken_crates(text):
+    """The names in brackets below a heading of crates that stand in none of them."""
+    for heading, below in re.findall(r"(?ms)^### (`auc_[^\n]*)\n(.*?)(?=^#|\Z)", text):
+        crates = re.findall(QUOTED, heading)
+        for brackets in re.findall(r"\(([^()]*)\)", below):
+            for name in names_in(brackets):
+                if not any(stands_in(name, text_of(it)) for it in crates):
+                    yield f"{name} isn't in {' or '.join(crates)}"
 
 
 def main():
@@ -123,7 +123,7 @@ def main():
     for page in PAGES:
         text = (TOP / page).read_text()
         joined = re.sub(r"(?<!\n)\n(?![\n|#-])", " ", text)
-        found = dict.fromkeys([*broken_paths(text), *broken_names(joined), *broken_rows(text)])
+        found = dict.fromkeys([*broken_paths(text), *broken_names(joined), *broken_rows(text), *broken_crates(text)])
         broken += [f"{page}: {it}" for it in found]
     for line in broken:
         print(f"citations: {line}", file=sys.stderr)
