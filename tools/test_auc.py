@@ -143,7 +143,7 @@ class Explanations(Checkout):
         self.write("a.scenario", "round\r\n\njob\n  draw 00101\tx \nlast")
         self.assertEqual(
             self.said(3, "refused scenario 4 fields"),
-            "a.scenario:4: draw 00101 x: a field is missing or has another form (fields)")
+            "a.scenario:4: draw 00101 x: the number of fields is wrong, or one has another form (fields)")
         self.assertEqual(
             self.said(3, "refused scenario 5 unknownword"),
             "a.scenario:5: last: no line begins with this word (unknownword)")
@@ -151,9 +151,10 @@ class Explanations(Checkout):
         self.assertNotEqual(self.noted()[-1].split(": ")[0], str(self.here), "the second run isn't in the journal's folder")
 
     def test_a_comment_that_is_no_line_of_its_own_is_told(self):
-        lines = ["round # note", "draw 00101 1 # note", " # note", "randkey 00 # note", f"subscriber 00101 {K} opc {OPC} 8000 0 0#"]
+        subscriber = f"subscriber 00101 {K} opc {OPC} 8000 0 0#"
+        lines = ["round # note", "draw 00101 1 # note", " # note", "randkey 00 # note", subscriber]
         self.write("a.scenario", "\n".join([*lines, "draw 1", "session 1 00101 aka - - - =a#b"]))
-        told = "; a comment is a line of its own that begins with #"
+        told = "; a comment is a line of its own, with # as its first byte"
         for place, why in enumerate(("fields", "fields", "unknownword", "fields", "usim"), 1):
             said = self.said(3, f"refused scenario {place} {why}")
             self.assertTrue(said.endswith(f" ({why}){told}"), said)

@@ -43,7 +43,7 @@ CAUSES_OF_LINES = {
     "notyet": "this version doesn't serve such a line",
     "unknownword": "no line begins with this word",
     "outoforder": "the line is in the wrong place",
-    "fields": "a field is missing or has another form",
+    "fields": "the number of fields is wrong, or one has another form",
     "number": "a number is out of its range",
     "hex": "a field isn't its number of hexadecimal digits",
     "unknownsubscriber": "no subscriber has this IMSI",
@@ -54,7 +54,7 @@ CAUSES_OF_LINES = {
 }
 # The causes that a comment behind other words, or behind a blank, has.
 CAUSES_OF_FORM = ("fields", "unknownword", "hex", *"imsi key kind op amf seq usim".split())
-OF_COMMENTS = "; a comment is a line of its own that begins with #"
+OF_COMMENTS = "; a comment is a line of its own, with # as its first byte"
 
 
 @dataclass(frozen=True)
