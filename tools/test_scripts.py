@@ -99,6 +99,7 @@ class Outputs(unittest.TestCase):
             "import": [TOOLS / "import", "hostapd", self.folder / "milenage"],
             "chart": [TOOLS / "chart", FULL],
             "pcap": [TOOLS / "pcap", FULL, "-"],
+            "seqs": [TOOLS / "seqs", EXAMPLES / "subscribers.csv", "--reserved", "/dev/null", "--margin", "0"],
         }
         self.runs_of_pictures = {"chart": [TOOLS / "chart", FULL, "--svg", "-"]}
 

@@ -1,0 +1,132 @@
+#!/usr/bin/env python3
+"""Tests of tools/seqs, with a stand-in for the program.
+
+The exit status is 0 only if each test passes.
+"""
+import csv
+import subprocess
+import sys
+import tempfile
+import unittest
+from pathlib import Path
+
+from ends import run_main
+
+TOOL = Path(__file__).resolve().parent / "seqs"
+HEADER = "imsi,k,kind,op,amf,seq,usim"
+KEYS = "465b5ce8b199b49faa5f0a2ee238a6bc,opc,cd63cb71954a9f4e48a5994e37a02baf,8000"
+ONE, TWO, LAST = "001010000000001", "123456", 8796093022207
+FURTHEST = 268435456
+
+
+def row(imsi, seq, usim=0, keys=KEYS):
+    return f"{imsi},{keys},{seq},{usim}"
+
+
+class Seqs(unittest.TestCase):
+    def setUp(self):
+        self.folder = Path(self.enterContext(tempfile.TemporaryDirectory()))
+        self.file = self.folder / "subscribers.csv"
+        self.write(row(ONE, 0), row(TWO, 900, 40))
+
+    def write(self, *rows):
+        self.file.write_text("\n".join([HEADER, *rows, ""]))
+
+    def ran(self, *words, said=None):
+        """The status, the output and the lines on standard error."""
+        given = [sys.executable, "-S", TOOL, self.file, *words]
+        done = subprocess.run(given, input=said, capture_output=True, text=True, cwd=self.folder)
+        return done.returncode, done.stdout, done.stderr
+
+    def seqs(self, *words, said):
+        """The subscribers' SEQs after a call that went well."""
+        status, out, errors = self.ran("--reserved", "-", "--margin", *map(str, words), said=said)
+        self.assertEqual((status, errors), (0, ""))
+        return {it["imsi"]: it["seq"] for it in csv.DictReader(out.splitlines())}
+
+    def program(self, text):
+        path = self.folder / "program"
+        path.write_text(f"#!/bin/sh\n{text}\n")
+        path.chmod(0o755)
+        return ["--program", path]
+
+    def refused(self, status, reason, *words, said=None):
+        found, out, errors = self.ran(*words, said=said)
+        self.assertEqual((found, out), (status, ""), errors)
+        self.assertIn(reason, errors)
+        self.assertNotIn("Traceback", errors)
+
+    def test_seq_is_above_limit_and_field_by_the_margin(self):
+        cases = [
+            (0, "", {ONE: "0", TWO: "900"}),
+            (0, f"reserved {ONE} 64\nreserved {TWO} 128\n", {ONE: "64", TWO: "900"}),
+            (0, f"reserved {TWO} 901\n", {ONE: "0", TWO: "901"}),
+            (1000, f"reserved {ONE} 64\nreserved {TWO} 128\n", {ONE: "1064", TWO: "1900"}),
+            (1000, "", {ONE: "1000", TWO: "1900"}),
+            (FURTHEST, "", {ONE: "268435456", TWO: "268436356"}),
+        ]
+        for margin, said, seqs in cases:
+            with self.subTest(margin=margin, said=said):
+                self.assertEqual(self.seqs(margin, said=said), seqs)
+
+    def test_every_other_field_stays_as_it_is(self):
+        self.write(row(ONE, "0000000000", "007", KEYS.upper().replace("OPC", "opc")), row(TWO, "0000000000010", "0"))
+        status, out, _ = self.ran("--reserved", "-", "--margin", "0", said=f"reserved {ONE} 64\n")
+        wanted = [HEADER, row(ONE, 64, "007", KEYS.upper().replace("OPC", "opc")), row(TWO, "0000000000010", "0")]
+        self.assertEqual((status, out.splitlines()), (0, wanted))
+
+    def test_file_is_read_as_the_program_reads_it(self):
+        self.file.write_bytes(b"\xef\xbb\xbf\r\n" + f'{HEADER}\r\n\n"{ONE}",{KEYS},"1",0\r{row(TWO, 2)}'.encode())
+        self.assertEqual(self.seqs(0, said=f"reserved {ONE} 64\n"), {ONE: "64", TWO: "2"})
+
+    def test_greatest_number_is_stated_and_none_above_it(self):
+        self.write(row(ONE, 0))
+        self.assertEqual(self.seqs(0, said=f"reserved {ONE} {LAST}\n"), {ONE: str(LAST)})
+        above = f"{ONE}: SEQ would be {LAST + 1}, above {LAST}"
+        self.refused(1, above, "--reserved", "-", "--margin", "1", said=f"reserved {ONE} {LAST}\n")
+        self.refused(1, above, "--reserved", "-", "--margin", "0", said=f"reserved {ONE} {LAST + 1}\n")
+
+    def test_a_subscriber_that_the_file_lacks_is_refused_unless_it_is_told(self):
+        said = f"reserved 654321 192\nreserved {TWO} 64\n"
+        self.refused(1, "654321: it is in the journal, with the limit 192, and not in the file", "--reserved", "-",
+                     "--margin", "0", said=said)
+        status, out, errors = self.ran("--reserved", "-", "--margin", "0", "--forget", said=said)
+        self.assertEqual((status, errors), (0, "seqs: 654321 is left out: its limit was 192\n"))
+        self.assertEqual(out.splitlines(), self.file.read_text().splitlines())
+
+    def test_an_output_that_may_lack_something_is_refused(self):
+        for said in (f"reserved {ONE} 6", f"reserved {ONE}\n", "refused journal 0\n", "\n", f"reserved {ONE} 64 \n", "round 1\n"):
+            self.refused(2, "-: ", "--reserved", "-", "--margin", "0", said=said)
+        self.refused(2, "none: No such file", "--reserved", "none", "--margin", "0")
+
+    def test_an_output_that_was_kept_needs_a_margin(self):
+        self.refused(2, "--reserved needs --margin", "--reserved", "-", said="")
+        for margin in ("-1", "x", FURTHEST + 1, "99999999999"):
+            self.refused(2, "margin", "--reserved", "-", "--margin", str(margin), said="")
+
+    def test_a_wrong_file_of_subscribers_is_refused(self):
+        cases = ["", "imsi,k\n", f"{HEADER}\n{ONE},465b\n", f"{HEADER}\n{row(ONE, 'x')}\n", f"{HEADER}\n{row('12345', 0)}\n",
+                 f"{HEADER}\n{row(ONE, 0)}\n{row(ONE, 0)}\n"]
+        for text in cases:
+            self.file.write_text(text)
+            self.refused(2, "subscribers.csv: ", "--reserved", "-", "--margin", "0", said="")
+        self.file.write_bytes(b"\xff")
+        self.refused(2, "subscribers.csv: ", "--reserved", "-", "--margin", "0", said="")
+
+    def test_program_is_asked_in_the_folder_of_the_journal(self):
+        centre = self.folder / "centre"
+        centre.mkdir()
+        asked = self.program(f'[ "$PWD $*" = "{centre} reserved" ] && echo reserved {ONE} 64')
+        self.refused(2, f"no journal in {centre}", *asked, "--folder", "centre")
+        (centre / "auc.journal").write_text("")
+        status, out, _ = self.ran(*asked, "--folder", "centre")
+        self.assertEqual((status, out.splitlines()[1]), (0, row(ONE, 64)))
+
+    def test_a_program_that_fails_is_no_output(self):
+        (self.folder / "auc.journal").write_text("")
+        for status, reason in ((6, "another process uses it"), (7, "is no journal")):
+            self.refused(2, reason, *self.program(f"echo reserved {ONE} 64; exit {status}"))
+
+
+if __name__ == "__main__":
+    run_main(unittest.main, __doc__)
