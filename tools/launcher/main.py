@@ -1,47 +1,17 @@
 """The words of the script, and what it does with them."""
 import contextlib
-import math
 import os
 import subprocess
 from dataclasses import dataclass, field
 from pathlib import Path
 
-from . import build, costs, release, running
+from . import build, install, release, running
 from .explain import Call, explain
-from .places import CRATE, GUIDE, JOURNAL, NOT_RUN, TOP, Stopped, put, say, tell, version
+from .help import FOLDER, NO_JOURNAL, NO_WORDS, help_text
+from .places import CRATE, IS_INSTALLED, JOURNAL, NOT_RUN, TOP, Stopped, put, say, tell, version
 
 FORMS = ("run", "reserved", "vector", "load")
-FOLDER = "AUC_JOURNAL_DIR"
-NO_WORDS, NO_JOURNAL, INTERRUPTED = 1, 4, 130
-
-HELP = """\
-usage: ./auc run SCENARIO                run the scenario in the file SCENARIO
-       ./auc run SCENARIO SUBSCRIBERS    the same, with the subscribers of the CSV file SUBSCRIBERS
-       ./auc reserved                    print up to which number each subscriber's numbers are reserved
-       ./auc vector K OPC RAND SQN AMF   print the functions of Milenage at these hexadecimal values
-       ./auc load KEY SUBSCRIBERS JOBS WORKERS
-                                         let workers draw in many jobs, and print a digest of the vectors
-       ./auc prove [--jobs N]            prove and build the program here, N crates side by side
-       ./auc --version                   print the version, and whether the program is proved
-       ./auc --help                      print this text
-
-Options, before the first of these words:
-       --journal-dir DIR                 the folder of the journal; so does the environment variable {folder}
-       --old                             don't build: if the sources changed, run the program that was proved last
-       --unproved                        run without any proof and without a journal, after about a minute
-
-A run keeps what it reserved in the file auc.journal of that folder, or else of the folder that you call it in. That folder
-is the centre: the same files in another folder give the same numbers once more.
-
-The proved program of the last release runs at once. If the sources aren't those of the release, the first call proves and
-builds the program. That takes about {work} minutes of processor time: {here} minutes on this machine, and {four} on four
-processors.
-
-The status is the program's; but it is {no_words} for words that aren't here, {no_journal} for `reserved` in a folder
-without a journal, and {not_run} if the program could not be run. {guide} has all of them.
-To begin: ./auc run {top}/examples/first.scenario
-"""
-
+INTERRUPTED = 130
 
 class WrongWords(Exception):
     """The words are none of the script's."""
@@ -73,20 +43,13 @@ def options(words):
     return given
 
 
-def help_text():
-    minutes = costs.processor_minutes(), costs.minutes(costs.jobs_here()), costs.minutes(4)
-    work, here, four = map(math.ceil, minutes)
-    return HELP.format(
-        folder=FOLDER, work=work, here=here, four=four, guide=GUIDE, top=TOP,
-        no_words=NO_WORDS, no_journal=NO_JOURNAL, not_run=NOT_RUN,
-    )
-
-
 # ---- which program is run
 
 
 def chosen(old):
-    """The program to run, as a context. It is built if there is no other."""
+    """The program to run, as a context. It is built if there is no other; an installed copy has one."""
+    if IS_INSTALLED:
+        return contextlib.nullcontext(TOP / "program")
     own = build.current()
     if own:
         return contextlib.nullcontext(own)
@@ -111,6 +74,8 @@ def last_proved(packed):
 
 def standing():
     """Whether the program is proved, in a sentence."""
+    if IS_INSTALLED:
+        return install.standing()
     if build.current():
         return "proved and built here from these sources"
     packed = release.read()
@@ -169,6 +134,8 @@ def copied(words):
 
 
 def run_unproved(given):
+    if IS_INSTALLED:
+        install.stop_building()
     build.need_rt()
     say("nothing is proved in this run")
     copies, words = copied(given.words)
@@ -187,8 +154,17 @@ def prove(words):
         if len(words) != 2 or words[0] != "--jobs" or not words[1].isdecimal() or int(words[1]) == 0:
             raise WrongWords
         jobs = int(words[1])
+    if IS_INSTALLED:
+        install.stop_building()
     say(f"the proved program is {build.build(jobs)}")
     return 0
+
+
+def installed(words):
+    """The words after `install`: PREFIX, or --remove PREFIX."""
+    if len(words) != (2 if words[:1] == ["--remove"] else 1) or words[-1] == "" or words[-1].startswith("-"):
+        raise WrongWords
+    return install.install_words(words)
 
 
 def done(words):
@@ -201,6 +177,8 @@ def done(words):
         return 0
     if words[:1] == ["prove"]:
         return prove(words[1:])
+    if words[:1] == ["install"]:
+        return installed(words[1:])
     given = options(words)
     return run_unproved(given) if given.unproved else run_proved(given)
 

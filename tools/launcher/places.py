@@ -1,5 +1,6 @@
 """Where things are, and how the script speaks and ends."""
 import errno
+import json
 import os
 import re
 import sys
@@ -8,7 +9,11 @@ from pathlib import Path
 TOP = Path(__file__).resolve().parents[2]
 CRATE = TOP / "crates/auc_cli"
 OUT = CRATE / "out"
-GUIDE = TOP / "docs/USER-GUIDE.md"
+# An installed copy has this file beside the script. Its pages and examples are in share/doc/auc of the same prefix.
+INSTALLED = TOP / "installed.json"
+IS_INSTALLED = INSTALLED.exists()
+PAGES = TOP.parents[1] / "share/doc/auc" if IS_INSTALLED else TOP
+GUIDE = PAGES / "docs/USER-GUIDE.md"
 JOURNAL = "auc.journal"
 NOT_RUN = 70
 
@@ -43,6 +48,8 @@ def put(content):
 
 
 def version():
-    """The newest heading of CHANGELOG.md."""
+    """That of an installed copy, or else the newest heading of CHANGELOG.md."""
+    if IS_INSTALLED:
+        return json.loads(INSTALLED.read_text(encoding="utf-8"))["version"]
     found = re.search(r"^## (.+)$", (TOP / "CHANGELOG.md").read_text(encoding="utf-8"), re.M)
     return found[1] if found else "without a version"

@@ -1,0 +1,20 @@
+# Completion of the installed command `auc` in bash.
+_auc() {
+    local word=${COMP_WORDS[COMP_CWORD]} before=${COMP_WORDS[COMP_CWORD - 1]} form= at
+    COMPREPLY=()
+    for ((at = 1; at < COMP_CWORD; at++)); do
+        case ${COMP_WORDS[at]} in
+            --journal-dir) ((at++)) ;;
+            run | reserved | vector | load | install | --version | --help) form=${COMP_WORDS[at]} && break ;;
+        esac
+    done
+    case $form:$before in
+        :--journal-dir | install:*) compopt -o filenames && mapfile -t COMPREPLY < <(compgen -d -- "$word") ;;
+        run:*) compopt -o filenames && mapfile -t COMPREPLY < <(compgen -f -- "$word") ;;
+        :*) mapfile -t COMPREPLY < <(compgen -W "run reserved vector load install --journal-dir --version --help" -- "$word") ;;
+    esac
+    if [[ $form:$before == install:install ]]; then
+        mapfile -t -O "${#COMPREPLY[@]}" COMPREPLY < <(compgen -W "--remove" -- "$word")
+    fi
+}
+complete -F _auc auc
