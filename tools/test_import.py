@@ -1,5 +1,6 @@
 #!/usr/bin/env python3
 """Tests of tools/import: each kind of line, row and database, and the number that each subscriber starts at."""
+import gzip
 import io
 import shutil
 import sqlite3
@@ -23,6 +24,10 @@ LOADER.exec_module(tool)
 K = "90dca4eda45b53cf0f12d7c9c3bc6a89"
 OPC = "cb9cccc4b9258e6dca4760379fb82581"
 IMSI = "232010000000000"
+# The columns of a row of osmo-hlr that a test gives; the index has 5 bits.
+OSMO = ("imsi", "algo_id_3g", "k", "op", "opc", "sqn")
+# Files that the other centres made: testdata/README.md says how.
+MADE = Path(__file__).resolve().parent / "testdata"
 
 
 def ran(*words):
@@ -74,12 +79,31 @@ class Hostapd(unittest.TestCase):
             (f"{IMSI} {K} {OPC} 61d 000000000000", "AMF isn't 4"),
             (f"{IMSI} {K} {OPC} 61df 00000000000g", "SQN isn't 12"),
             (f"{IMSI} {K} {OPC} 61df 000000000000 4", "RES has 4 bytes"),
+            (f"{IMSI} {K} {OPC} 61df 000000000000 16", "RES has 16 bytes"),
+            (f"{IMSI} {K} {OPC} 61df 000000000000 08", "RES has 08 bytes"),
+            (f"{IMSI} {K} {OPC} 61df 000000000000 8 8", "the line hasn't IMSI"),
             (f"{IMSI} {K} {OPC} 61df ffffffffffff", "no number is left"),
         ]
         for line, reason in cases:
             with self.assertRaises(tool.LeftOut) as left:
                 self.read(line)
             self.assertTrue(str(left.exception).startswith(reason), (line, str(left.exception)))
+
+    def test_length_of_res_is_8_or_not_given(self):
+        for length in ("", " 0", " 8"):
+            self.assertEqual(self.read(f"{IMSI} {K} {OPC} 61df 000000000040{length}").number, 2, length)
+
+    def test_length_of_res_on_a_line_of_its_own_belongs_to_the_line_before(self):
+        line = f"{IMSI} {K} {OPC} 61df 000000000040"
+        cases = [
+            ([line, "4", line], [(1, f"{line} 4"), (3, line)]),
+            ([line, "4", "8"], [(1, f"{line} 4"), (3, "8")]),
+            ([line, "", "4"], [(1, line), (2, ""), (3, "4")]),
+            ([f"{line} 8", "4"], [(1, f"{line} 8"), (2, "4")]),
+            (["4", line, "444"], [(1, "4"), (2, line), (3, "444")]),
+        ]
+        for lines, wanted in cases:
+            self.assertEqual(tool.joined(lines), wanted, lines)
 
     def test_later_line_of_one_imsi_counts_from_the_greater_number(self):
         lines = [("line 1", f"{IMSI} {K} {OPC} 61df 000000000400"), ("line 2", f"{IMSI} {OPC} {K} 8000 000000000040")]
@@ -108,6 +132,43 @@ class Hostapd(unittest.TestCase):
                                       " it starts at the greater number of both\n")
 
 
+class HostapdRows(unittest.TestCase):
+    def read(self, imsi, sqn="000000000040", length=None, digits=None):
+        row = dict(imsi=imsi, ki=K, opc=OPC, amf="61DF", sqn=sqn, res_len=length)
+        return tool.hostapd_row(row, 0, 5, digits)
+
+    def test_row_becomes_a_subscriber(self):
+        for length in (None, 0, 8):
+            row = self.read(int(IMSI), length=length).row()
+            self.assertEqual(row, [IMSI, K, "opc", OPC, "61df", 2, 2])
+
+    def test_zeros_at_the_beginning_of_an_imsi_come_back(self):
+        cases = [
+            (1010000000001, None, "001010000000001"),
+            (101000000001, 14, "00101000000001"),
+            (262011234567, 12, "262011234567"),
+            (10, 6, "000010"),
+        ]
+        for stored, digits, wanted in cases:
+            self.assertEqual(self.read(stored, digits=digits).imsi, wanted)
+
+    def test_wrong_rows_are_left_out_with_their_reason(self):
+        cases = [
+            (dict(imsi=101000000001), "its IMSI is stored as the number 101000000001"),
+            (dict(imsi=26201123456789), "its IMSI is stored as the number 26201123456789"),
+            (dict(imsi=2620112345678900), "the IMSI"),
+            (dict(imsi=-1, digits=6), "the IMSI"),
+            (dict(imsi=int(IMSI), sqn="40"), "SQN isn't 12"),
+            (dict(imsi=int(IMSI), sqn="ffffffffffff"), "no number is left"),
+            (dict(imsi=int(IMSI), length=4), "RES has 4 bytes"),
+            (dict(imsi=int(IMSI), length=16), "RES has 16 bytes"),
+        ]
+        for given, reason in cases:
+            with self.assertRaises(tool.LeftOut) as left:
+                self.read(**given)
+            self.assertTrue(str(left.exception).startswith(reason), (given, str(left.exception)))
+
+
 class OsmoHlr(unittest.TestCase):
     def test_rows_become_subscribers_or_are_left_out(self):
         cases = [
@@ -121,10 +182,85 @@ class OsmoHlr(unittest.TestCase):
         ]
         for row, wanted in cases:
             try:
-                self.assertEqual(tool.osmo_subscriber(row, "8000").row(), wanted)
+                self.assertEqual(tool.osmo_subscriber(dict(zip(OSMO, row), ind_bitlen=5), "8000").row(), wanted)
             except tool.LeftOut as reason:
                 self.assertTrue(str(reason).startswith(wanted), (row, str(reason)))
 
+    def test_vectors_that_were_handed_out_count_in_the_steps_of_the_rows_own_index(self):
+        row = dict(zip(OSMO, (IMSI, 5, K, None, OPC, 641)))
+        for bits, handed_out, number in ((7, 0, 20), (7, 10, 64), (0, 10, 20), (None, 10, 31), (28, 1, 2**24 + 20)):
+            self.assertEqual(tool.osmo_subscriber(dict(row, ind_bitlen=bits), "8000", handed_out).number, number, bits)
+        for bits in (33, -1, "5"):
+            with self.assertRaises(tool.LeftOut):
+                tool.osmo_subscriber(dict(row, ind_bitlen=bits), "8000", 1)
+
+
+class Rivals(unittest.TestCase):
+    """Files that the other centres made, after answers, with the greatest SQN that each subscriber's AUTNs had."""
+
+    def setUp(self):
+        self.folder = Path(self.enterContext(tempfile.TemporaryDirectory()))
+
+    def made(self, name):
+        """A file of theirs, taken out of its archive."""
+        for packed in MADE.glob(f"{name}*.gz"):
+            (self.folder / packed.stem).write_bytes(gzip.decompress(packed.read_bytes()))
+        return self.folder / name
+
+    def comes_over(self, words, used, left_out):
+        """Whether those subscribers come over above the SQNs that they used, and those others are left out."""
+        done = ran(*words)
+        rows = [line.split(",") for line in done.stdout.splitlines()[1:]]
+        self.assertEqual([row[0] for row in rows], list(used), done.stderr)
+        for row in rows:
+            self.assertGreater(own_sqn(int(row[5]) + 1), used[row[0]])
+            self.assertEqual(row[6], row[5])
+        told = [line for line in done.stderr.splitlines() if " is left out: " in line]
+        self.assertEqual(len(told), len(left_out), done.stderr)
+        for line, reason in zip(told, left_out):
+            self.assertIn(reason, line)
+        self.assertEqual(done.returncode, 1)
+        return done
+
+    def test_database_of_hlr_auc_gw_that_was_killed(self):
+        # The first one got 5 vectors, two of them with one SQN while another process held the lock: they aren't stored.
+        used = {"001010000000001": 0x84, IMSI: 0xE5}
+        reasons = ["its IMSI is stored as the number 23201000002", "RES has 4 bytes"]
+        path = self.made("hostapd.db")
+        for words in ([], ["--handed-out", "1"]):
+            self.comes_over(["hostapd-sqlite", path, *words], used, reasons)
+        done = ran("hostapd-sqlite", path, "--handed-out", "1", "--imsi-digits", "11")
+        wanted = ["23201000002", "1010000000001", IMSI]
+        self.assertEqual([line.split(",")[0] for line in done.stdout.splitlines()[1:]], wanted)
+
+    def test_file_that_hlr_auc_gw_wrote_at_a_stop_with_u(self):
+        used = {"001010000000001": 0x63, IMSI: 0xE5}
+        reasons = ["line 5 is left out: RES has 4 bytes", "line 7 is left out: RES has 16 bytes"]
+        self.comes_over(["hostapd", MADE / "hostapd.milenage", "--handed-out", "0"], used, reasons)
+
+    def test_database_of_hlr_auc_gw_is_told_from_its_file(self):
+        done = ran("hostapd", self.made("hostapd.db"))
+        self.assertEqual((done.returncode, done.stdout), (2, ""))
+        self.assertIn("tools/import hostapd-sqlite reads", done.stderr)
+
+    def test_databases_of_osmo_hlr_of_two_schema_versions(self):
+        reasons = ["(id 4) is left out: it has no data", "(id 5) is left out: its algorithm is number 4"]
+        for name, version, sqns in (("osmo-hlr-1.2.0.db", 4, (160, 640, 5)), ("osmo-hlr-1.5.0.db", 6, (161, 641, 5))):
+            path = self.made(name)
+            self.assertEqual(int.from_bytes(path.read_bytes()[60:64], "big"), version)
+            used = {f"00101000000000{place}": sqn for place, sqn in enumerate(sqns, 1)}
+            for words in ([], ["--handed-out", "100"]):
+                self.comes_over(["osmo-hlr", path, *words], used, reasons)
+
+    def test_database_of_osmo_hlr_that_was_killed(self):
+        path = self.made("osmo-hlr-killed.db")
+        done = ran("osmo-hlr", path)
+        self.assertEqual((done.returncode, done.stdout), (2, ""))
+        self.assertIn("-wal has changes that aren't in it yet", done.stderr)
+        with closing(sqlite3.connect(path)) as mended:
+            mended.execute("PRAGMA wal_checkpoint(TRUNCATE)")
+        used = {"001010000000001": 321, "001010000000002": 1281, "001010000000003": 5}
+        self.comes_over(["osmo-hlr", path], used, ["it has no data", "its algorithm is number 4"])
 
 
 class Databases(unittest.TestCase):
@@ -257,10 +393,30 @@ class Databases(unittest.TestCase):
 
 class Inputs(unittest.TestCase):
     def test_unreadable_input_is_status_2_and_prints_nothing(self):
-        for source, path in (("hostapd", "/no/such/file"), ("osmo-hlr", "/no/such/file"), ("osmo-hlr", str(TOOL))):
+        for source, path in (("hostapd", "/no/such/file"), ("osmo-hlr", "/no/such/file"), ("osmo-hlr", str(TOOL)),
+                             ("hostapd-sqlite", "/no/such/file"), ("hostapd-sqlite", str(TOOL))):
             done = ran(source, path)
             self.assertEqual((done.returncode, done.stdout), (2, ""), (source, path))
             self.assertIn("import: ", done.stderr)
+
+    def test_database_of_another_kind_is_status_2_and_an_older_one_may_lack_a_column(self):
+        milenage = "CREATE TABLE milenage (imsi INTEGER PRIMARY KEY, ki, opc, amf, sqn{})"
+        osmo = "CREATE TABLE subscriber (id INTEGER PRIMARY KEY, imsi)"
+        auc = "CREATE TABLE auc_3g (subscriber_id, algo_id_3g, {}op, opc, sqn)"
+        cases = [
+            ("osmo-hlr", [milenage.format("")], "it has no table subscriber, so it is no database of osmo-hlr"),
+            ("hostapd-sqlite", [osmo, auc.format("k, ")], "it has no table milenage, so it is no database of hlr_auc_gw"),
+            ("osmo-hlr", [osmo, auc.format("")], "its table auc_3g has no column k"),
+            ("osmo-hlr", [osmo, auc.format("k, ")], "no subscriber came over"),
+            ("hostapd-sqlite", [milenage.format("")], "no subscriber came over"),
+        ]
+        for place, (source, made, reason) in enumerate(cases):
+            with tempfile.TemporaryDirectory() as folder, closing(sqlite3.connect(f"{folder}/{place}.db")) as tables:
+                for line in made:
+                    tables.execute(line)
+                done = ran(source, f"{folder}/{place}.db")
+            self.assertEqual((done.returncode, done.stdout), (2, ""), source)
+            self.assertEqual(done.stderr, f"import: {folder}/{place}.db: {reason}\n")
 
     def test_input_that_brings_nobody_is_status_2_and_writes_nothing(self):
         with tempfile.TemporaryDirectory() as folder:
