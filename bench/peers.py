@@ -1,47 +1,57 @@
 #!/usr/bin/env python3
-"""Puts the program, hostapd's hlr_auc_gw and Osmocom's libosmogsm through the same trials, and prints what each does.
+"""Puts the program and other implementations through the same trials, and prints a table of what each does.
 
     bench/peers.py [--program PROGRAM] [--hlr-auc-gw FILE] [--write]
 
-PROGRAM is crates/auc_cli/out/auc_cli, unless it is given. libosmogsm is in Debian's package libosmogsm18. hlr_auc_gw is
-built from Debian's source package: `apt-get source wpa`, then in its folder hostapd `cp defconfig .config`, `echo
-CONFIG_SQLITE=y >> .config`, and `make hlr_auc_gw`. --write puts the table into README.md, between its two marks.
+PROGRAM is crates/auc_cli/out/auc_cli, unless it is given. osmo-hlr and libosmogsm are in Debian's packages osmo-hlr and
+libosmogsm18; without the first it is left out. hlr_auc_gw is built from Debian's source package: `apt-get source wpa`, then in
+its folder hostapd `cp defconfig .config`, `echo CONFIG_SQLITE=y >> .config`, and `make hlr_auc_gw`. --write puts the table into
+README.md, between its two marks. All is on the loopback, and it takes about a minute.
 
-Each trial counts the SQNs of one subscriber's vectors that came before. SQN is AUTN's without AK, and AUTS is made, by
-the program's own f1* to f5*. The trials:
+Each trial looks at the SQNs of one subscriber's vectors, as their AUTNs have them, and counts those that had come before. An
+implementation holds if there are none. osmo-hlr gives 5 vectors a request, the others one. The trials:
 
-killed      a vector is asked for, the process is killed by SIGKILL and started again, 20 times
-two         two processes over one store are asked for 100 vectors each, in turn
+killed      a request is made, the process is killed by SIGKILL and started again, 20 times
+two         two processes over one store are asked at the same time, till each has given 500 vectors
+locked      another process holds the lock of the store while 10 requests are made
 replayed    the AUTS of a USIM that accepted SEQ 100 is handed in; after 50 vectors it is handed in again, and so are 50
-end         three vectors are asked for at the last number but one
+end         vectors are asked for at the last number but one, 3 or more
 
-libosmogsm keeps nothing: its caller hands it a number and gets the next, so the first two trials aren't its own.
+hlr_auc_gw's text file has no lock. libosmogsm keeps nothing: its caller hands it a number and gets the next, so the first three
+trials aren't its own. SQN and AUTS are made by tools/aka_functions.py.
 """
 import argparse
-import ctypes
-import ctypes.util
 import datetime
-import os
+import fcntl
 import signal
-import socket
 import subprocess
 import sys
 import tempfile
 import time
+from concurrent.futures import ThreadPoolExecutor
 from pathlib import Path
 
-from journal import run, write_scenario
+from journal import NAME, run, write_scenario
 from measure import KEYS, TOP
+from rivals import IMSI, LAST, Library, Milenage, OsmoHlr, Sqlite, TextFile
 
 sys.path.append(str(TOP / "tools"))
 from ends import run_main
 
-K, OPC, AMF, IMSI = KEYS[0], KEYS[2], KEYS[3], "001010000000001"
 PAGE = TOP / "README.md"
 BEGIN, END = "<!-- begin: bench/peers.py -->\n", "<!-- end: bench/peers.py -->\n"
-KILLS, EACH, SEEN, AFTER = 20, 100, 100, 50
-LAST = 2**48 - 1
-TRIALS = ("killed", "two", "replayed", "end")
+KILLS, EACH, REQUESTS, SEEN, AFTER = 20, 500, 10, 100, 50
+# Seconds that a client asks at most, and that it waits after a refusal.
+LONGEST_TRIAL, AFTER_REFUSAL = 60, 0.005
+NONE = "keeps no numbers"
+# What each trial does, and what its figures count.
+HEADS = {
+    "killed": f"killed after an answer and started again, {KILLS} times",
+    "two": f"two processes on one store, asked at once for {EACH} vectors each",
+    "locked": f"another process holds the store's lock during {REQUESTS} requests",
+    "replayed": f"an AUTS of SEQ {SEEN} comes a second time, {AFTER} vectors after it each time",
+    "end": "the end of the numbers: vectors at the last one but one",
+}
 
 
 def options():
@@ -52,37 +62,12 @@ def options():
     return parser.parse_args()
 
 
-# ---- what every trial needs
-
-class Milenage:
-    """The functions of Milenage under the subscriber's key, by the program."""
-
-    def __init__(self, program):
-        self.program = program
-        self.kept = {}
-
-    def at(self, rand, sqn=0, amf="0000"):
-        words = ["vector", K, OPC, rand, f"{sqn:012x}", amf]
-        if tuple(words) not in self.kept:
-            text = subprocess.run([self.program, *words], capture_output=True, text=True, check=True).stdout
-            self.kept[tuple(words)] = dict(line.split() for line in text.splitlines())
-        return self.kept[tuple(words)]
-
-    def sqn_in(self, rand, autn):
-        return int(autn[:12], 16) ^ int(self.at(rand)["f5"], 16)
-
-    def auts(self, rand, sqn):
-        """AUTS of a USIM with this SQN_MS (TS 33.102 §6.3.3)."""
-        values = self.at(rand, sqn)
-        return f"{sqn ^ int(values['f5*'], 16):012x}" + values["f1*"]
-
-
-def again(sqns):
-    return len(sqns) - len(set(sqns))
-
-
-def came_again(sqns):
-    return f"{again(sqns)} of {len(sqns)} SQNs came again"
+def came_again(sqns, refused=0):
+    """Whether an SQN came that had come before. It is said if requests were refused."""
+    count, also = len(sqns) - len(set(sqns)), f"; {refused} requests refused" if refused else ""
+    if not sqns:
+        return f"holds: no vector{also}"
+    return f"{count} of {len(sqns)} SQNs came again{also}" if count else f"holds: none of {len(sqns)} SQNs came again{also}"
 
 
 def sqn_of(seq):
@@ -94,10 +79,10 @@ def sqn_of(seq):
 
 class Auc:
     """The program, over one journal."""
+    name = "`auc`"
 
-    def __init__(self, program, folder, milenage):
+    def __init__(self, program, folder):
         self.program, self.folder = str(program.resolve()), folder
-        self.name = "`auc`"
 
     def lines(self, scenario, seq=0):
         keys = [*KEYS[:4], str(seq), "0"]
@@ -111,11 +96,14 @@ class Auc:
     def write_many_rounds(self):
         write_scenario(self.folder, [" ".join(["subscriber", IMSI, *KEYS]), *["round", "job", f"draw {IMSI} 1"] * 1000])
 
+    def started(self):
+        return subprocess.Popen([self.program, "run", "scenario"], cwd=self.folder, stdout=subprocess.PIPE, text=True)
+
     def killed(self):
         sqns = []
         self.write_many_rounds()
         for _ in range(KILLS):
-            child = subprocess.Popen([self.program, "run", "scenario"], cwd=self.folder, stdout=subprocess.PIPE, text=True)
+            child = self.started()
             printed = [child.stdout.readline() for _ in range(3)]
             child.kill()
             printed += child.stdout.readlines()
@@ -125,15 +113,22 @@ class Auc:
 
     def two(self):
         self.write_many_rounds()
-        first = subprocess.Popen([self.program, "run", "scenario"], cwd=self.folder, stdout=subprocess.PIPE, text=True)
+        first = self.started()
         first.stdout.readline()
         first.send_signal(signal.SIGSTOP)
         status, lines = run(self.program, self.folder)
         first.send_signal(signal.SIGCONT)
-        rest = first.communicate()[0].splitlines()
-        assert status == 6 and not lines, (status, lines)
-        assert again(self.sqns([line.split() for line in rest])) == 0
-        return "the second one is refused"
+        sqns = self.sqns([line.split() for line in first.communicate()[0].splitlines()])
+        assert status == 6 and not lines and len(sqns) == len(set(sqns)), (status, lines)
+        return "holds: the second process is refused"
+
+    def locked(self):
+        assert self.lines([f"draw {IMSI} 1"])[0] == 0
+        with open(Path(self.folder) / NAME, "rb") as journal:
+            fcntl.flock(journal, fcntl.LOCK_EX)
+            done = [self.lines([f"draw {IMSI} 1"]) for _ in range(REQUESTS)]
+        refused = sum(status == 6 for status, _ in done)
+        return came_again(self.sqns(line for _, lines in done for line in lines), refused)
 
     def replayed(self):
         status, lines = self.lines([f"sync {IMSI} {SEEN} - {AFTER}", f"sync {IMSI} {SEEN} - {AFTER}"])
@@ -143,180 +138,86 @@ class Auc:
     def end(self):
         status, lines = self.lines([f"draw {IMSI} 3"], seq=2**43 - 2)
         assert status == 0, status
-        spent = sum(line[0] == "exhausted" for line in lines)
-        return f"{len(self.sqns(lines))} vector, then it says that none is left" if spent else "no end"
+        assert any(line[0] == "exhausted" for line in lines), lines
+        return f"holds: {len(self.sqns(lines))} vector, then it says that none is left"
 
 
-# ---- hlr_auc_gw
+# ---- the others
 
-class Gateway:
-    """One process of hlr_auc_gw over a Milenage file."""
-
-    def __init__(self, program, folder, number=0):
-        self.path = str(Path(folder) / f"gateway{number}")
-        self.own = str(Path(folder) / f"client{number}")
-        for path in (self.path, self.own):
-            Path(path).unlink(missing_ok=True)
-        self.child = subprocess.Popen([program, "-u", "-m", str(Path(folder) / "milenage"), "-s", self.path],
-                                      stdout=subprocess.DEVNULL, stderr=subprocess.DEVNULL)
-        self.socket = socket.socket(socket.AF_UNIX, socket.SOCK_DGRAM)
-        self.socket.bind(self.own)
-        self.socket.settimeout(5)
-        while not os.path.exists(self.path):
-            time.sleep(0.002)
-        self.socket.connect(self.path)
-
-    def vector(self):
-        """RAND and AUTN."""
-        self.socket.send(f"AKA-REQ-AUTH {IMSI}".encode())
-        words = self.socket.recv(1000).decode().split()
-        assert words[0] == "AKA-RESP-AUTH" and len(words) > 3, words
-        return words[2], words[3]
-
-    def resynchronise(self, auts, rand):
-        self.socket.send(f"AKA-AUTS {IMSI} {auts} {rand}".encode())
-
-    def end(self):
-        self.child.kill()
-        self.child.wait()
-        self.socket.close()
+def asked(client, count):
+    """The first vectors that a client gets, so many or few more, and how many of its requests were refused. After a refusal it
+    waits a little, so that another client of the store gets on."""
+    vectors, refused, until = [], 0, time.monotonic() + LONGEST_TRIAL
+    while len(vectors) < count and time.monotonic() < until:
+        got = client.vectors()
+        vectors += got
+        refused += not got
+        time.sleep(0 if got else AFTER_REFUSAL)
+    return vectors, refused
 
 
-class HlrAucGw:
-    def __init__(self, program, folder, milenage):
-        self.program, self.folder, self.milenage = str(program.resolve()), folder, milenage
-        self.name = "`hlr_auc_gw`"
+class Rival:
+    """Another implementation in each trial, over a store in a folder of its own."""
 
-    def store(self, sqn=0):
-        (Path(self.folder) / "milenage").write_text(f"{IMSI} {K} {OPC} {AMF} {sqn:012x}\n")
-
-    def sqn(self, gateway):
-        return self.milenage.sqn_in(*gateway.vector())
+    def __init__(self, kind, program, folder):
+        self.rival, self.milenage = kind(program, folder), Milenage()
 
     def killed(self):
-        self.store()
-        sqns = []
+        if not getattr(self.rival, "keeps", True):
+            return NONE
+        self.rival.store()
+        vectors = []
         for _ in range(KILLS):
-            gateway = Gateway(self.program, self.folder)
-            sqns.append(self.sqn(gateway))
-            gateway.end()
-        return came_again(sqns)
+            client = self.rival.start()
+            vectors += client.vectors()
+            client.end()
+        return came_again(self.milenage.sqns(vectors))
 
     def two(self):
-        self.store()
-        both = [Gateway(self.program, self.folder, number) for number in range(2)]
-        sqns = [self.sqn(gateway) for _ in range(EACH) for gateway in both]
-        for gateway in both:
-            gateway.end()
-        return came_again(sqns)
+        if not getattr(self.rival, "keeps", True):
+            return NONE
+        self.rival.store()
+        both = [self.rival.start(number) for number in range(2)]
+        with ThreadPoolExecutor(2) as pool:
+            done = list(pool.map(lambda client: asked(client, EACH), both))
+        for client in both:
+            client.end()
+        vectors = [vector for got, _ in done for vector in got]
+        return came_again(self.milenage.sqns(vectors), sum(refused for _, refused in done))
+
+    def locked(self):
+        if not getattr(self.rival, "keeps", True):
+            return NONE
+        if not hasattr(self.rival, "locked"):
+            return "has no lock"
+        self.rival.store()
+        client = self.rival.start()
+        with self.rival.locked():
+            done = [client.vectors() for _ in range(REQUESTS)]
+        client.end()
+        return came_again(self.milenage.sqns(vector for got in done for vector in got), sum(not got for got in done))
 
     def replayed(self):
-        self.store()
-        gateway = Gateway(self.program, self.folder)
-        rand, _ = gateway.vector()
-        auts, sqns = self.milenage.auts(rand, sqn_of(SEEN)), []
-        for _ in range(2):
-            gateway.resynchronise(auts, rand)
-            sqns += [self.sqn(gateway) for _ in range(AFTER)]
-        gateway.end()
-        return came_again(sqns)
+        self.rival.store()
+        client = self.rival.start()
+        (rand, _), *_ = client.vectors()
+        auts, vectors = self.milenage.auts(rand, sqn_of(SEEN)), []
+        for turn in range(1, 3):
+            vectors += client.resynchronise(auts, rand)
+            vectors += asked(client, turn * AFTER - len(vectors))[0]
+        client.end()
+        return came_again(self.milenage.sqns(vectors))
 
     def end(self):
-        self.store(LAST - 63)
-        gateway = Gateway(self.program, self.folder)
-        sqns = [self.sqn(gateway) for _ in range(3)]
-        gateway.end()
-        return after_the_end(sqns)
-
-
-def after_the_end(sqns):
-    fallen = [later for sqn, later in zip(sqns, sqns[1:]) if later <= sqn]
-    return f"it begins again, with SQN {fallen[0]}" if fallen else "no end"
-
-
-# ---- libosmogsm
-
-# The kind of a UMTS subscriber among those of osmo_sub_auth_type.
-UMTS = 2
-
-
-class Umts(ctypes.Structure):
-    _fields_ = [("opc", ctypes.c_uint8 * 16), ("k", ctypes.c_uint8 * 16), ("amf", ctypes.c_uint8 * 2),
-                ("sqn", ctypes.c_uint64), ("opc_is_op", ctypes.c_int), ("ind_bitlen", ctypes.c_uint),
-                ("ind", ctypes.c_uint), ("sqn_ms", ctypes.c_uint64)]
-
-
-class Subscriber(ctypes.Structure):
-    """osmo_sub_auth_data."""
-    _fields_ = [("type", ctypes.c_int), ("algo", ctypes.c_int), ("umts", Umts)]
-
-
-class Vector(ctypes.Structure):
-    """osmo_auth_vector."""
-    _fields_ = [("rand", ctypes.c_uint8 * 16), ("autn", ctypes.c_uint8 * 16), ("ck", ctypes.c_uint8 * 16),
-                ("ik", ctypes.c_uint8 * 16), ("res", ctypes.c_uint8 * 16), ("res_len", ctypes.c_uint8),
-                ("kc", ctypes.c_uint8 * 8), ("sres", ctypes.c_uint8 * 4), ("auth_types", ctypes.c_uint32)]
-
-
-def octets(kind, text):
-    return (ctypes.c_uint8 * kind)(*bytes.fromhex(text))
-
-
-class Osmo:
-    def __init__(self, program, folder, milenage):
-        self.library = ctypes.CDLL(ctypes.util.find_library("osmogsm") or "libosmogsm.so.18")
-        self.milenage, self.count = milenage, 0
-        self.name = "libosmogsm"
-
-    def subscriber(self, sqn=0):
-        umts = Umts(octets(16, OPC), octets(16, K), octets(2, AMF), sqn, 0, 5, 1, 0)
-        return Subscriber(UMTS, self.library.osmo_auth_alg_parse(b"MILENAGE"), umts)
-
-    def rand(self):
-        self.count += 1
-        return f"{self.count:032x}"
-
-    def sqn(self, subscriber):
-        rand, vector = self.rand(), Vector()
-        done = self.library.osmo_auth_gen_vec(ctypes.byref(vector), ctypes.byref(subscriber), octets(16, rand))
-        assert done >= 0, done
-        return self.milenage.sqn_in(rand, bytes(vector.autn).hex())
-
-    def resynchronised(self, subscriber, auts, rand):
-        new, vector = self.rand(), Vector()
-        done = self.library.osmo_auth_gen_vec_auts(ctypes.byref(vector), ctypes.byref(subscriber), octets(14, auts),
-                                                   octets(16, rand), octets(16, new))
-        assert done >= 0, done
-        return self.milenage.sqn_in(new, bytes(vector.autn).hex())
-
-    def killed(self):
-        return "keeps no numbers"
-
-    def two(self):
-        return "keeps no numbers"
-
-    def replayed(self):
-        subscriber, rand, sqns = self.subscriber(), self.rand(), []
-        auts = self.milenage.auts(rand, sqn_of(SEEN))
-        for _ in range(2):
-            sqns.append(self.resynchronised(subscriber, auts, rand))
-            sqns += [self.sqn(subscriber) for _ in range(AFTER - 1)]
-        return came_again(sqns)
-
-    def end(self):
-        subscriber = self.subscriber(LAST - 63)
-        return after_the_end([self.sqn(subscriber) for _ in range(3)])
+        self.rival.store(LAST - 63)
+        client = self.rival.start()
+        sqns = self.milenage.sqns(asked(client, 3)[0])
+        client.end()
+        fallen = [later for sqn, later in zip(sqns, sqns[1:]) if later <= sqn]
+        return f"it begins again, with SQN {fallen[0]}" if fallen else came_again(sqns)
 
 
 # ---- the table
-
-HEADS = {
-    "killed": f"killed and started again after a vector, {KILLS} times",
-    "two": "two processes on one store",
-    "replayed": "an AUTS that comes a second time",
-    "end": "the end of the numbers",
-}
-
 
 def version_of(package):
     answer = subprocess.run(["dpkg-query", "-W", "-f", "${Version}", package], capture_output=True, text=True)
@@ -329,20 +230,33 @@ def gateway_version(program):
     return text.split('VERSION_STR "')[1].split('"')[0]
 
 
-def table(rows, notes):
-    lines = [f"| Trial | {' | '.join(peer.name for peer in rows)} |", "|---|" + "---|" * len(rows)]
-    for trial in TRIALS:
-        lines.append(f"| {HEADS[trial]} | {' | '.join(row[trial] for row in rows.values())} |")
-    return "\n".join([*lines, notes, ""])
+def peers(given):
+    """Each that is there, with its program, and what is to be said of its version."""
+    kinds, notes = [], []
+    if given.hlr_auc_gw is not None:
+        kinds += [TextFile, Sqlite]
+        notes.append(f"hlr_auc_gw of hostapd {gateway_version(given.hlr_auc_gw)}")
+    if OsmoHlr.is_there():
+        kinds.append(OsmoHlr)
+        notes.append(f"osmo-hlr {version_of('osmo-hlr')} by GSUP, 5 vectors a request")
+    notes.append(f"libosmogsm {version_of('libosmogsm18')} of Debian")
+    return [*kinds, Library], ", ".join(notes)
 
 
-def tried(kind, program, milenage):
+def tried(make):
     """What a peer does in each trial, each in a folder of its own."""
     answers = {}
-    for trial in TRIALS:
-        with tempfile.TemporaryDirectory() as folder:
-            answers[trial] = getattr(kind(program, folder, milenage), trial)()
+    for trial in HEADS:
+        with tempfile.TemporaryDirectory(dir="/tmp") as folder:
+            answers[trial] = getattr(make(folder), trial)()
     return answers
+
+
+def table(rows, notes):
+    lines = [f"| Trial | {' | '.join(rows)} |", "|---|" + "---|" * len(rows)]
+    for trial, head in HEADS.items():
+        lines.append(f"| {head} | {' | '.join(row[trial] for row in rows.values())} |")
+    return "\n".join([*lines, "", notes, ""])
 
 
 def write(text):
@@ -352,18 +266,12 @@ def write(text):
 
 def main():
     given = options()
-    milenage = Milenage(given.program)
-    peers = {Auc: given.program, HlrAucGw: given.hlr_auc_gw, Osmo: None}
-    notes = f"libosmogsm {version_of('libosmogsm18')} of Debian"
-    if given.hlr_auc_gw is None:
-        del peers[HlrAucGw]
-    else:
-        notes = f"hlr_auc_gw of hostapd {gateway_version(given.hlr_auc_gw)} over its text file, {notes}"
-    rows = {}
-    for kind, program in peers.items():
-        with tempfile.TemporaryDirectory() as folder:
-            rows[kind(program, folder, milenage)] = tried(kind, program, milenage)
-    text = table(rows, f"\n{notes}; {datetime.date.today()}. `bench/peers.py` runs the trials.")
+    kinds, notes = peers(given)
+    rows = {Auc.name: tried(lambda folder: Auc(given.program, folder))}
+    for kind in kinds:
+        rows[kind.name] = tried(lambda folder: Rival(kind, given.hlr_auc_gw, folder))
+    text = table(rows, f'Each figure counts the SQNs that one subscriber had got before; "holds" means none. {notes};'
+                       f" {datetime.date.today()}. `bench/peers.py` runs the trials.")
     print(text, end="")
     if given.write:
         write(text)

@@ -22,7 +22,7 @@ MANIFEST = f"{HOME}/installed.json"
 PROGRAM = f"{HOME}/program"
 PAGES = "share/doc/auc"
 TOOLS = ("import", "chart", "pcap", "gateway", "usim", "seqs")
-MODULES = ("ends.py", "transcript.py", "aka_functions.py", "gateway_centre.py")
+MODULES = ("ends.py", "transcript.py", "aka_functions.py", "gateway_centre.py", "import_stores.py")
 PLAIN, RUN = 0o644, 0o755
 
 
