@@ -1,5 +1,8 @@
 #!/usr/bin/env python3
 """Tests of tools/pcap and tools/chart on the outputs of examples/ and on texts that are no transcripts."""
+import math
+import os
+import re
 import struct
 import subprocess
 import sys
@@ -16,7 +19,7 @@ import transcript
 from ends import UNWRITTEN, Missing, run_main
 
 TOOLS = Path(__file__).resolve().parent
-EXAMPLES = TOOLS.parent / "examples"
+EXAMPLES, CHARTS = TOOLS.parent / "examples", TOOLS.parent / "docs/charts"
 FULL = EXAMPLES / "session-full-print.expected"
 PSEUDONYMS = EXAMPLES / "pseudonyms-full-print.expected"
 AGAIN = EXAMPLES / "re-authentication-full-print.expected"
@@ -31,6 +34,13 @@ def loaded(name):
 
 
 chart, pcap = loaded("chart"), loaded("pcap")
+import ladders
+import picture
+
+SVG = "{http://www.w3.org/2000/svg}"
+# A challenge by each method, and answers that tell a permanent identity, a pseudonym and no identity of a known form.
+AKA, PRIME = "0102000817010000", "0102000832010000"
+PERMANENT, PSEUDONYM = (b"0001010000000001@realm", b"20123456789abcdef0123456789abcdef@realm")
 
 # The first packet is lost, the second arrives twice, and the answer reaches another session's server.
 PACKETS = """round 1
@@ -55,7 +65,8 @@ closed 001010000000001 8796093022207 8796093022208 1 0 0 0
 premise held
 """
 
-LADDER = """session 7, round 1, job 2
+LADDER = """session 7, round 1, job 2: method not told, subscriber not told
+server: not ended, peer: failure givenup
 
                      peer                                                           server                         centre
                        |                                                              |                             |
@@ -123,21 +134,261 @@ class Captures(unittest.TestCase):
             self.assertEqual(len(frames_in(path.read_bytes())), 5)
 
 
+def response(identity):
+    return f"0201{5 + len(identity):04x}01{identity.hex()}"
+
+
+def sessions_of(lines):
+    return transcript.sessions_in("".join(line + "\n" for line in ["round 1", "job 1", "session 1 open", *lines]))
+
+
+def ladder_of(lines):
+    return ladders.ladder_of(sessions_of(lines)[0])
+
+
 class Charts(unittest.TestCase):
     def ladders(self, text):
-        return [chart.ladder_of(session) for session in transcript.sessions_in(text)]
+        return [ladders.ladder_of(session) for session in transcript.sessions_in(text)]
 
     def test_ladder_shows_each_event(self):
-        ladders = self.ladders(PACKETS)
-        self.assertEqual(chart.text_ladder(ladders[0], chart.columns_of(ladders)), LADDER)
+        shown = self.ladders(PACKETS)
+        self.assertEqual(chart.text_ladder(shown[0], chart.columns_of(shown)), LADDER)
 
     def test_picture_has_each_label(self):
         for path in EXAMPLES.glob("*.expected"):
-            ladders = self.ladders(path.read_text())
-            root = ElementTree.fromstring(chart.picture(ladders))
-            shown = [it.text for it in root.iter("{http://www.w3.org/2000/svg}text")]
-            labels = [row.label for it in ladders for row in it.rows if not isinstance(row, chart.Words)]
-            self.assertEqual([it for it in labels if it not in shown], [], path.name)
+            shown = [it for it in self.ladders(path.read_text()) if it.rows]
+            if shown:
+                root = ElementTree.fromstring(picture.picture(shown))
+                texts = ["".join(it.itertext()) for it in root.iter(f"{SVG}text")]
+                rows = [row for it in shown for row in it.rows]
+                labels = [row.label if isinstance(row, ladders.Answer) else row.short for row in rows if not isinstance(row, ladders.Words)]
+                self.assertEqual([it for it in labels if it not in texts], [], path.name)
+
+    def test_label_of_a_picture_has_no_name_that_an_earlier_arrow_has(self):
+        rows = [row for ladder in self.ladders(PACKETS) for row in ladder.rows if isinstance(row, ladders.Arrow)]
+        self.assertEqual([row.short for row in rows], [
+            "1 Request/Identity", "2 (copy of 1)", "3 Response/Identity", "2 (copy of 1, again)", "4 (copy of 3, to session 123456)",
+            "5 Request/Identity", "4 (copy of 3, of session 7)", "6 Request/AKA-Notification"])
+        # The first delivery of packet 1 is in another session, so no arrow of this one has its name.
+        lines = ["session 2 open", "start 1 sent 1", "packet 1 0101000501", "deliver 2 peer 1 ignored closed", "deliver 1 peer 1 ignored closed"]
+        self.assertEqual([(row.label, row.short) for row in ladder_of(lines).rows[1:]], [("1 Request/Identity (again)", "1 Request/Identity")])
+
+
+class Titles(unittest.TestCase):
+    def facts(self, *lines):
+        return ladder_of(lines).facts
+
+    def test_method_and_subscriber_come_from_the_packets(self):
+        said = ["start 1 sent 1", "packet 1 0101000501", "deliver 1 peer 1 sent 2"]
+        asked = ["deliver 1 server 2 drew 1 sent 3"]
+        cases = [
+            ([*said, f"packet 2 {response(PERMANENT)}"], "method not told, subscriber 001010000000001"),
+            ([*said, f"packet 2 {response(PERMANENT)}", *asked, f"packet 3 {AKA}"], "EAP-AKA, subscriber 001010000000001"),
+            ([*said, f"packet 2 {response(PERMANENT)}", *asked, f"packet 3 {PRIME}"], "EAP-AKA', subscriber 001010000000001"),
+            ([*said, f"packet 2 {response(PSEUDONYM)}", *asked, f"packet 3 {AKA}"], "EAP-AKA, subscriber under a pseudonym"),
+            ([*said, f"packet 2 {response(b'4' + PSEUDONYM[1:])}"], "method not told, subscriber under a re-authentication identity"),
+            ([*said, f"packet 2 {response(b'nobody@realm')}"], "method not told, subscriber not told"),
+            (said, "method not told, subscriber not told"),
+            (["giveup 1 peer ended failure givenup"], "method not told, subscriber not told"),
+        ]
+        for lines, facts in cases:
+            self.assertEqual(self.facts(*lines), facts, lines)
+
+    def test_brief_print_has_no_method(self):
+        drawn = ["start 1 sent 1", "deliver 1 peer 1 sent 2", "deliver 1 server 2 drew 1 sent 3"]
+        closed = ["closed 001010000000001 0 1 1 0 1 0", "closed 001010000000002 0 1 1 0 1 0"]
+        unknown, known = "method and subscriber not in a brief print", "method not in a brief print, subscriber 001010000000001"
+        self.assertEqual(self.facts(*drawn), unknown)
+        # The only number that moved is that of the session's subscriber, and then only if the round's last line is there.
+        self.assertEqual(self.facts(*drawn, closed[0], "premise held"), known)
+        self.assertEqual(self.facts(*drawn, closed[0]), unknown)
+        self.assertEqual(self.facts(*drawn, *closed, "premise held"), unknown)
+        # A session that draws nothing may be of any subscriber.
+        self.assertEqual(self.facts(*drawn[:2], closed[0], "premise held"), unknown)
+
+    def test_context_is_of_a_subscriber_whose_number_moved_before(self):
+        again = ["round 2", "job 1", "session 2 open", "start 2 sent 1", "deliver 2 peer 1 sent 2", "deliver 2 server 2 resumed 1 sent 3"]
+        for moved, facts in ((1, "method not in a brief print, subscriber 001010000000001"), (2, "method and subscriber not in a brief print")):
+            closed = [f"closed 00101000000000{number} 0 1 1 0 1 0" for number in range(1, moved + 1)]
+            sessions = sessions_of(["start 1 sent 1", *closed, "premise held", *again, "premise held"])
+            self.assertEqual(ladders.ladder_of(sessions[1]).facts, facts)
+
+    def test_no_subscriber_of_an_example_is_wrong(self):
+        for path in EXAMPLES.glob("*.expected"):
+            scenario = path.with_suffix(".scenario").read_text().splitlines()
+            told = {words[1]: words[2] for words in map(str.split, scenario) if len(words) > 6 and words[0] == "session"}
+            for session in transcript.sessions_in(path.read_text()):
+                imsi = transcript.subscriber_of(session)
+                # In the first session of this one a device tells the identity of another subscriber.
+                if (path.stem, session.number) != ("foreign-pseudonym", 1):
+                    self.assertIn(imsi, ("", told[str(session.number)]), (path.name, session.number))
+
+    def test_outcome_is_that_of_both_ends(self):
+        both = ["start 1 sent 1", "deliver 1 peer 1 ended success", "giveup 1 server ended success"]
+        cases = [
+            (both, "both ends succeed"),
+            ([*both, "session 1 agree"], "both ends succeed, with equal keys"),
+            ([*both, "session 1 differ"], "both ends succeed, but their keys differ"),
+            (both[:2], "server: not ended, peer: success"),
+            ([*both[:1], "deliver 1 peer 1 ended failure notified 16384"], "server: not ended, peer: failure notified 16384"),
+            ([*both[:1], "giveup 1 server ended failure givenup", "giveup 1 peer ended failure givenup"],
+             "server: failure givenup, peer: failure givenup"),
+        ]
+        for lines, outcome in cases:
+            self.assertEqual(ladder_of(lines).outcome, outcome)
+
+    def test_picture_has_all_of_it(self):
+        root = ElementTree.fromstring(picture.picture([ladder_of(["start 1 sent 1"])]))
+        self.assertEqual([it.text for it in root.iter(f"{SVG}text")][:3], [
+            "session 1, round 1, job 1", "method and subscriber not in a brief print", "server: not ended, peer: not ended"])
+
+
+class Numbers(unittest.TestCase):
+    def test_both_ends_speak_of_one_number(self):
+        lines = (EXAMPLES / "stale-vector.expected").read_text()
+        rows = [row for session in transcript.sessions_in(lines) for row in ladders.ladder_of(session).rows]
+        told = [row.label if isinstance(row, ladders.Answer) else row.words for row in rows]
+        self.assertEqual([it for it in told if it and it.split()[0] in ("drew", "moved", "accepted", "sync")], [
+            "drew 1", "sync 500 (000000003e94)", "moved 1 500", "drew 501", "accepted 501 (000000003eb5)",
+            "drew 502", "accepted 502 (000000003ed6)"])
+
+    def test_number_of_an_sqn(self):
+        self.assertEqual([ladders.own_note(f"accepted {sqn}") for sqn in ("00000000016b", "ffffffffffff", "000000000000")], [
+            "accepted 11 (00000000016b)", "accepted 8796093022207 (ffffffffffff)", "accepted 0 (000000000000)"])
+        self.assertEqual([ladders.own_note(note) for note in ("counter 1", "wrongmac", "accepted x")], ["counter 1", "wrongmac", "accepted x"])
+
+
+class Slopes(unittest.TestCase):
+    """Arrows in a picture, each as its class and the sides and heights of its two ends."""
+
+    def ways(self, *lines):
+        root = ElementTree.fromstring(picture.picture([ladder_of(lines)]))
+        lives = [float(it.get("x1")) for it in root.iter(f"{SVG}line") if it.get("class") == "life"]
+        sides = {lives[0]: "peer", lives[1]: "server"}
+        end = lambda it, number: (sides.get(float(it.get(f"x{number}"))), float(it.get(f"y{number}")))
+        kinds = {f"{SVG}line": "class", f"{SVG}path": "class", f"{SVG}circle": "class"}
+        self.marks = [it.get(kinds[it.tag]) for it in root.iter() if it.tag in kinds]
+        return [(it.get("class"), end(it, 1), end(it, 2)) for it in root.iter(f"{SVG}line") if it.get("class") in ("way", "lost")]
+
+    def test_each_arrow_falls_from_its_sending_to_its_arrival(self):
+        ways = self.ways("start 1 sent 1", "deliver 1 peer 1 sent 2", "deliver 1 server 2 ended failure")
+        self.assertEqual([(tail[0], tip[0]) for _, tail, tip in ways], [("server", "peer"), ("peer", "server")])
+        (_, first, arrived), (_, answered, last) = ways
+        self.assertTrue(first[1] < arrived[1] < answered[1] < last[1], ways)
+
+    def test_late_packet_arrives_lower(self):
+        ways = self.ways("start 1 sent 1", "repeat 1 sent 2", "deliver 1 peer 2 ignored closed", "deliver 1 peer 1 ignored closed")
+        (_, second, soon), (_, first, late) = ways
+        self.assertTrue(first[1] < second[1] < soon[1] < late[1], ways)
+
+    def test_packet_that_comes_again_has_several_arrows_from_one_sending(self):
+        ways = self.ways("start 1 sent 1", *["deliver 1 peer 1 ignored closed"] * 3)
+        self.assertEqual(len({tail for _, tail, _ in ways}), 1)
+        heights = [tip[1] for _, _, tip in ways]
+        self.assertEqual((len(set(heights)), heights), (3, sorted(heights)))
+
+    def test_lost_packet_ends_with_a_cross_before_the_other_line(self):
+        (kind, tail, tip), = self.ways("start 1 sent 1")
+        self.assertEqual((kind, tail[0], tip[0], self.marks.count("cross")), ("lost", "server", None, 1))
+        self.assertLess(tail[1], tip[1])
+
+    def test_packet_of_another_session_is_open_at_one_end(self):
+        (kind, tail, tip), = self.ways("session 2 open", "start 2 sent 1", "deliver 1 peer 1 ignored closed")
+        self.assertEqual((kind, tail[0], tip[0], self.marks.count("open")), ("way", None, "peer", 1))
+        self.assertLess(tail[1], tip[1])
+
+    def test_no_row_stands_above_the_one_before(self):
+        for path in EXAMPLES.glob("*.expected"):
+            for session in transcript.sessions_in(path.read_text()):
+                if session.events:
+                    rows = ladders.rows_of(session)
+                    heights, left = picture.heights_of(rows, 0)
+                    shown = [y for row, y in zip(rows, heights) if not picture.is_short(row)]
+                    self.assertEqual(shown, sorted(set(shown)), (path.name, session.number))
+                    for row, y in zip(rows, heights):
+                        if isinstance(row, ladders.Arrow) and not row.foreign:
+                            self.assertLess(left[row.packet], y, (path.name, session.number))
+
+
+def letters_of(label):
+    """The places of a label's letters in a picture, each 8 pixels from the one before."""
+    turn, *at = (float(it) for it in re.fullmatch(r"rotate\((.*)\)", label.get("transform"))[1].split())
+    lines = [(float(it.get("y")), it.text) for it in label] or [(at[1], label.text)]
+    right, down = math.cos(math.radians(turn)), math.sin(math.radians(turn))
+    return [(at[0] + off * right + (at[1] - y) * down, at[1] + off * down - (at[1] - y) * right)
+            for y, words in lines for off in range(-int(len(words.strip()) * 3.3), int(len(words.strip()) * 3.3), 8)]
+
+
+class Labels(unittest.TestCase):
+    def test_no_label_of_a_chart_covers_another_one(self):
+        for path in CHARTS.glob("*.svg"):
+            for group in ElementTree.parse(path).iter(f"{SVG}g"):
+                labels = [letters_of(it) for it in group.iter(f"{SVG}text") if it.get("class") == "label"]
+                near = min((math.dist(one, two) for place, letters in enumerate(labels) for others in labels[:place]
+                            for one in letters for two in others), default=99)
+                self.assertGreater(near, 8, (path.name, group[0].text))
+
+
+class Pages(unittest.TestCase):
+    def chart(self, *words, status=0):
+        done = subprocess.run([TOOLS / "chart", *words], capture_output=True, text=True, env=os.environ | {"COLUMNS": "80"})
+        self.assertEqual(done.returncode, status, done.stderr)
+        return done.stdout if status == 0 else done.stderr
+
+    def size(self, *words):
+        return [int(it) for it in re.search(r'width="([0-9]+)" height="([0-9]+)"', self.chart(*words, "--svg", "-")).groups()]
+
+    def test_session_without_events_is_left_out(self):
+        text = (EXAMPLES / "foreign-pseudonym.expected").read_text()
+        self.assertIn("session 2 open", text)
+        shown = self.chart(EXAMPLES / "foreign-pseudonym.expected")
+        self.assertEqual(re.findall(r"(?m)^session ([0-9]+),", shown), ["1", "3", "4", "5"])
+
+    def test_only_the_sessions_that_are_asked_for_are_shown(self):
+        path = EXAMPLES / "storm.expected"
+        shown = self.chart(path, "--session", "23", "--session", "2")
+        self.assertEqual(re.findall(r"(?m)^session ([0-9]+),", shown), ["2", "23"])
+        self.assertEqual(self.chart(path, "--svg", "-", "--session", "4").count("<g "), 1)
+
+    def test_session_that_cannot_be_shown_is_told(self):
+        path = EXAMPLES / "foreign-pseudonym.expected"
+        cases = [(path, "9", f"{path}: it has no session 9\n"), (path, "2", f"{path}: session 2 has no event\n")]
+        for name, number, reason in cases:
+            self.assertEqual(self.chart(name, "--session", number, status=2), f"chart: {reason}")
+
+    def test_transcript_whose_sessions_have_no_event_is_told(self):
+        with tempfile.TemporaryDirectory() as folder:
+            (Path(folder) / "empty").write_text("round 1\njob 1\nsession 1 open\npremise held\n")
+            self.assertIn("no session has an event\n", self.chart(Path(folder) / "empty", status=2))
+
+    def test_ladders_stand_side_by_side(self):
+        path = EXAMPLES / "storm.expected"
+        sizes = {columns: self.size(path, "--columns", str(columns)) for columns in (1, 2, 4, 50)}
+        self.assertEqual([wide for wide, _ in sizes.values()], sorted({wide for wide, _ in sizes.values()}))
+        self.assertEqual([high for _, high in sizes.values()], sorted({high for _, high in sizes.values()}, reverse=True))
+        lines = self.chart(path, "--columns", "2").splitlines()
+        self.assertRegex(lines[0], r"^session 1, .* session 2, ")
+        self.assertEqual(max(line.count("| ended success") for line in lines), 2)
+        for word in "0", "-1", "x":
+            self.assertIn(f"'{word}' is no number from 1", self.chart(path, f"--columns={word}", status=2))
+
+    def test_picture_is_no_wider_than_some_1200_pixels(self):
+        for path in EXAMPLES.glob("*-full-print.expected"):
+            self.assertLess(self.size(path)[0], 1250, path.name)
+        self.assertGreater(self.size(EXAMPLES / "storm.expected")[0], 800)
+
+    def test_picture_is_told_to_screen_readers(self):
+        root = ElementTree.fromstring(self.chart(FULL, "--svg", "-"))
+        groups = list(root.iter(f"{SVG}g"))
+        self.assertEqual([root.get("role"), root[0].tag, root[1].tag, *(it.get("role") for it in groups)],
+                         ["group", f"{SVG}title", f"{SVG}desc", "img"])
+        self.assertEqual(groups[0].find(f"{SVG}title").text,
+                         "session 1, round 1, job 1: EAP-AKA, subscriber 001010000000001; both ends succeed, with equal keys")
+        self.assertEqual(groups[0].find(f"{SVG}desc").text.splitlines()[:5], [
+            "server: start", "server to peer: 1 Request/Identity", "peer to server: 2 Response/Identity (permanent)",
+            "centre to server: drew 1", "server to peer: 3 Request/AKA-Challenge; peer: accepted 1 (000000000021)"])
+        lost = ElementTree.fromstring(picture.picture([ladder_of(["start 1 sent 1"])]))
+        self.assertIn("server to peer: 1, lost", lost.find(f"{SVG}g/{SVG}desc").text)
 
 
 class Growth(unittest.TestCase):
@@ -146,7 +397,7 @@ class Growth(unittest.TestCase):
     def seconds(self, lines):
         text = "".join(line + "\n" for line in ["round 1", "job 1", *lines])
         began = time.process_time()
-        chart.picture([chart.ladder_of(session) for session in transcript.sessions_in(text)])
+        picture.picture([ladders.ladder_of(session) for session in transcript.sessions_in(text)])
         return time.process_time() - began
 
     def is_linear(self, lines_of):
@@ -170,6 +421,10 @@ class Growth(unittest.TestCase):
     def test_chart_of_many_deliveries_of_a_packet(self):
         self.is_linear(lambda count: ["session 1 open", "start 1 sent 1", *["deliver 1 peer 1 ignored closed"] * count])
 
+    def test_chart_of_many_packets_that_cross_in_one_place(self):
+        self.is_linear(lambda count: ["session 1 open", "start 1 sent 1", *(f"repeat 1 sent {it}" for it in range(2, count + 1)),
+                                      *(f"deliver 1 peer {it} ignored closed" for it in range(count, 0, -1))])
+
 
 class Names(unittest.TestCase):
     def test_message_has_the_name_of_its_method(self):
@@ -187,7 +442,7 @@ class Names(unittest.TestCase):
 
     def test_each_end_of_a_refused_challenge_is_drawn(self):
         session = next(it for it in transcript.sessions_in((EXAMPLES / "bidding-down.expected").read_text()) if it.number == 2)
-        words = [row.words for row in chart.ladder_of(session).rows if isinstance(row, chart.Arrow)]
+        words = [row.words for row in ladders.ladder_of(session).rows if isinstance(row, ladders.Arrow)]
         self.assertEqual(words[-2:], ["ended failure rejected", "ended failure downgrade"])
 
 
@@ -250,13 +505,13 @@ class Reauthentications(unittest.TestCase):
     def test_each_counter_stands_at_its_end(self):
         for number, server, peer in (2, "resumed 1", "counter 1"), (3, "resumed 2", "counter 2"):
             session = next(it for it in transcript.sessions_in(AGAIN.read_text()) if it.number == number)
-            words = [(row.to, row.words) for row in chart.ladder_of(session).rows if isinstance(row, chart.Arrow)]
+            words = [(row.to, row.words) for row in ladders.ladder_of(session).rows if isinstance(row, ladders.Arrow)]
             self.assertIn(("server", server), words)
             self.assertIn(("peer", peer), words)
 
     def test_small_counter_is_drawn(self):
         session = next(it for it in transcript.sessions_in((EXAMPLES / "small-counter.expected").read_text()) if it.number == 3)
-        words = [row.words for row in chart.ladder_of(session).rows if isinstance(row, chart.Arrow)]
+        words = [row.words for row in ladders.ladder_of(session).rows if isinstance(row, ladders.Arrow)]
         self.assertIn("small 1", words)
 
     @unittest.skipIf(transcript.Cipher is None, "Python's cryptography is missing")

@@ -19,7 +19,7 @@ CENTRE_NOTES = {"moved": 2, "inrange": 2, "beyond": 2, "drew": 1, "exhausted": 1
 OWN_NOTES = {"badauts": 0, "resumed": 1, "accepted": 1, "sync": 1, "wrongmac": 0, "counter": 1, "small": 1}
 NOTES = CENTRE_NOTES | OWN_NOTES
 # The first words of the lines that tell nothing of a session's packets.
-OTHER_LINES = {"restart", "vector", "bytes", "withheld", "exhausted", "sync", "give", "closed"}
+OTHER_LINES = {"restart", "vector", "bytes", "withheld", "exhausted", "sync", "give"}
 # Of an event's line, the words before its notes.
 EVENTS = {"start": 2, "repeat": 2, "giveup": 3, "deliver": 4}
 REFUSALS = {"nosuchpacket", "nosuchend", "started"}
@@ -88,6 +88,9 @@ class Session:
     events: list = field(default_factory=list)
     packets: list = field(default_factory=list)
     verdict: str = ""
+    # The only subscriber whose number moved in its round, and the only one up to the end of its round; nothing if there are several.
+    only_moved: str = ""
+    only_ever: str = ""
     # The key of what is encrypted in the session since its last challenge or resumption, if the server succeeded in a full
     # print.
     k_encr: bytes | None = None
@@ -176,10 +179,44 @@ def marks_of(packet):
     return marks + (["AT_ENCR_DATA"] if AT_ENCR_DATA in found else [])
 
 
+def is_brief(session):
+    """Whether a session's packets have no bytes, as in a brief print."""
+    return bool(session.packets) and all(packet.data is None for packet in session.packets)
+
+
+def methods_of(session):
+    """The methods of a session's packets; none if none of them is of a method, or if their bytes aren't known."""
+    kinds = {packet.data[4] for packet in session.packets if len(packet.data or b"") > 5 and packet.data[0] in (1, 2)}
+    return [f"EAP-{name}" for kind, name in METHODS.items() if kind in kinds]
+
+
+def subscriber_of(session):
+    """The IMSI of a session's subscriber; nothing if the transcript doesn't tell it.
+
+    A session that draws a number has a subscriber whose number moves in its round. One that takes up a context has a subscriber
+    whose number moved in its round or before. Else the subscriber is the one whose permanent identity the peer told last."""
+    notes = {note.split()[0] for event in session.events for note in event.notes}
+    if "drew" in notes and session.only_moved:
+        return session.only_moved
+    if "resumed" in notes and session.only_ever:
+        return session.only_ever
+    told = [identity_in(packet) or b"" for packet in session.packets if packet.sender == "peer"]
+    names = [identity.partition(b"@")[0] for identity in told]
+    permanent = [name for name in names if re.fullmatch(FORMS["permanent"], name)]
+    return permanent[-1][1:].decode() if permanent else ""
+
+
+def seq_of(sqn):
+    """The number that an SQN has, which is given by its 12 hexadecimal digits (TS 33.102 Annex C.1.1)."""
+    return int(sqn, 16) // 32
+
+
 class Reader:
     def __init__(self):
         # All sessions by their numbers, in the order in which they are opened.
         self.sessions, self.round, self.job_number, self.job, self.event = {}, 0, 0, None, None
+        # The sessions of the round, and the subscribers whose numbers moved in it and up to it.
+        self.opened, self.moved, self.ever = [], set(), set()
 
     def number(self, word):
         if not re.fullmatch(r"[0-9]{1,20}", word):
@@ -205,14 +242,26 @@ class Reader:
             self.keys(words)
         elif word in EVENTS and len(words) > EVENTS[word]:
             self.read_event(line, text, words)
-        elif word not in OTHER_LINES and words[:2] not in (["premise", "held"], ["premise", "broken"]):
+        elif word == "closed" and len(words) > 1:
+            self.moved.add(words[1])
+        elif words[:2] in (["premise", "held"], ["premise", "broken"]):
+            self.end_round()
+        elif word not in OTHER_LINES:
             raise Unreadable(f"{text[:60]!r} is no line of a transcript")
 
     def begin(self, word, number):
         if word == "round":
             self.round, self.job = number, None
+            self.opened, self.moved = [], set()
         else:
             self.job_number, self.job = number, Job()
+
+    def end_round(self):
+        """A round's subscribers are known at its last line, and not if the transcript ends before it."""
+        self.ever |= self.moved
+        for session in self.opened:
+            session.only_moved = "".join(self.moved) if len(self.moved) == 1 else ""
+            session.only_ever = "".join(self.ever) if len(self.ever) == 1 else ""
 
     def open_or_judge(self, words):
         number = self.number(words[1])
@@ -225,6 +274,7 @@ class Reader:
         else:
             session = Session(number, self.round, self.job_number)
             self.job.sessions[number] = self.sessions[number] = session
+            self.opened.append(session)
 
     def bytes_of_packet(self, words):
         packet = self.event and self.event.sent
