@@ -44,8 +44,8 @@ def file_of(path, mode=PLAIN):
 
 def pages():
     """The documents and examples, in the folders that they have in the repository."""
-    patterns = ("README.md", "CHANGELOG.md", "LICENSE", "docs/*.md", "docs/charts/*.svg", "examples/*.scenario", "examples/*.expected",
-                "examples/*.csv")
+    patterns = ("README.md", "CHANGELOG.md", "LICENSE", "docs/*.md", "docs/charts/*.svg", "examples/*.scenario",
+                "examples/*.expected", "examples/*.csv")
     found = [it for pattern in patterns for it in TOP.glob(pattern)]
     return {f"{PAGES}/{it.relative_to(TOP)}": file_of(it) for it in found}
 
