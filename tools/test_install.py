@@ -38,7 +38,8 @@ class Prefix(Checkout):
             (self.top / name).parent.mkdir(exist_ok=True)
             shutil.copy(TOP / name, self.top / name)
         self.prefix = self.room / "prefix"
-        self.environment.pop("DESTDIR", None)
+        for name in ("DESTDIR", "PYTHONDONTWRITEBYTECODE", "PYTHONPYCACHEPREFIX"):
+            self.environment.pop(name, None)
         # An installed script has no -S.
         self.environment["PYTHONNOUSERSITE"] = "1"
         self.release(self.program.read_bytes())
@@ -202,6 +203,7 @@ class Removals(Prefix):
         for _ in range(2):
             self.install()
         self.installed("reserved")
+        self.assertTrue((self.prefix / "lib/auc/tools/launcher/__pycache__").is_dir())
         self.assertEqual(self.installed("install", "--remove", self.prefix).returncode, 0)
         self.assertEqual(sorted(str(it.relative_to(self.prefix)) for it in self.prefix.rglob("*")), ["share", "share/man"])
 
