@@ -6,13 +6,13 @@
 PROGRAM is crates/auc_cli/out/auc_cli, unless it is given. osmo-hlr and libosmogsm are in Debian's packages osmo-hlr and
 libosmogsm18; without the first it is left out. hlr_auc_gw is built from Debian's source package: `apt-get source wpa`, then in
 its folder hostapd `cp defconfig .config`, `echo CONFIG_SQLITE=y >> .config`, and `make hlr_auc_gw`. --write puts the table into
-README.md, between its two marks. All is on the loopback, and it takes about a minute.
+README.md, between its two marks. All is on the loopback, and it takes up to five minutes.
 
 Each trial looks at the SQNs of one subscriber's vectors, as their AUTNs have them, and counts those that had come before. An
 implementation holds if there are none. osmo-hlr gives 5 vectors a request, the others one. The trials:
 
 killed      a request is made, the process is killed by SIGKILL and started again, 20 times
-two         two processes over one store are asked at the same time, till each has given 500 vectors
+two         two processes over one store are asked at the same time, till each has given 2000 vectors, for 60 seconds at most
 locked      another process holds the lock of the store while 10 requests are made
 replayed    the AUTS of a USIM that accepted SEQ 100 is handed in; after 50 vectors it is handed in again, and so are 50
 end         vectors are asked for at the last number but one, 3 or more
@@ -40,14 +40,15 @@ from ends import run_main
 
 PAGE = TOP / "README.md"
 BEGIN, END = "<!-- begin: bench/peers.py -->\n", "<!-- end: bench/peers.py -->\n"
-KILLS, EACH, REQUESTS, SEEN, AFTER = 20, 500, 10, 100, 50
+KILLS, EACH, REQUESTS, SEEN, AFTER = 20, 2000, 10, 100, 50
 # Seconds that a client asks at most, and that it waits after a refusal.
 LONGEST_TRIAL, AFTER_REFUSAL = 60, 0.005
-NONE = "keeps no numbers"
+# The trials of what is stored.
+STORED = ("killed", "two", "locked")
 # What each trial does, and what its figures count.
 HEADS = {
     "killed": f"killed after an answer and started again, {KILLS} times",
-    "two": f"two processes on one store, asked at once for {EACH} vectors each",
+    "two": f"two processes on one store, asked at once for {EACH} vectors each, {LONGEST_TRIAL} seconds at most",
     "locked": f"another process holds the store's lock during {REQUESTS} requests",
     "replayed": f"an AUTS of SEQ {SEEN} comes a second time, {AFTER} vectors after it each time",
     "end": "the end of the numbers: vectors at the last one but one",
@@ -80,6 +81,7 @@ def sqn_of(seq):
 class Auc:
     """The program, over one journal."""
     name = "`auc`"
+    keeps = True
 
     def __init__(self, program, folder):
         self.program, self.folder = str(program.resolve()), folder
@@ -161,10 +163,9 @@ class Rival:
 
     def __init__(self, kind, program, folder):
         self.rival, self.milenage = kind(program, folder), Milenage()
+        self.keeps = self.rival.keeps
 
     def killed(self):
-        if not getattr(self.rival, "keeps", True):
-            return NONE
         self.rival.store()
         vectors = []
         for _ in range(KILLS):
@@ -174,8 +175,6 @@ class Rival:
         return came_again(self.milenage.sqns(vectors))
 
     def two(self):
-        if not getattr(self.rival, "keeps", True):
-            return NONE
         self.rival.store()
         both = [self.rival.start(number) for number in range(2)]
         with ThreadPoolExecutor(2) as pool:
@@ -186,9 +185,7 @@ class Rival:
         return came_again(self.milenage.sqns(vectors), sum(refused for _, refused in done))
 
     def locked(self):
-        if not getattr(self.rival, "keeps", True):
-            return NONE
-        if not hasattr(self.rival, "locked"):
+        if self.rival.locked is None:
             return "has no lock"
         self.rival.store()
         client = self.rival.start()
@@ -248,7 +245,9 @@ def tried(make):
     answers = {}
     for trial in HEADS:
         with tempfile.TemporaryDirectory(dir="/tmp") as folder:
-            answers[trial] = getattr(make(folder), trial)()
+            peer = make(folder)
+            has_none = trial in STORED and not peer.keeps
+            answers[trial] = "keeps no numbers" if has_none else getattr(peer, trial)()
     return answers
 
 

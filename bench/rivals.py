@@ -88,6 +88,7 @@ class Gateway:
 class TextFile:
     """hlr_auc_gw over its Milenage file."""
     name = "hlr_auc_gw, text file"
+    keeps, locked = True, None
 
     def __init__(self, program, folder):
         self.program, self.folder = str(program.resolve()), folder
@@ -235,6 +236,7 @@ class Hlr(GsupClient):
 class OsmoHlr:
     """osmo-hlr over its SQLite database, by GSUP. It gives 5 vectors a request."""
     name = "osmo-hlr"
+    keeps = True
 
     def __init__(self, _, folder):
         self.folder, self.path = folder, Path(folder) / "hlr.db"

@@ -233,6 +233,14 @@ class Rivals(unittest.TestCase):
         wanted = ["23201000002", "1010000000001", IMSI]
         self.assertEqual([line.split(",")[0] for line in done.stdout.splitlines()[1:]], wanted)
 
+    def test_database_of_hlr_auc_gw_with_a_journal_is_refused(self):
+        path = self.made("hostapd.db")
+        Path(f"{path}-journal").touch()
+        done = ran("hostapd-sqlite", path)
+        self.assertEqual((done.returncode, done.stdout), (2, ""))
+        self.assertIn("stop hlr_auc_gw, then undo that", done.stderr)
+        self.assertIn(f"sqlite3 {path} 'SELECT count(*) FROM milenage'", done.stderr)
+
     def test_file_that_hlr_auc_gw_wrote_at_a_stop_with_u(self):
         used = {"001010000000001": 0x63, IMSI: 0xE5}
         reasons = ["line 5 is left out: RES has 4 bytes", "line 7 is left out: RES has 16 bytes"]
