@@ -1,5 +1,5 @@
-"""Reads a transcript, which is what `auc run` prints: its sessions, their events and packets. tools/pcap and tools/chart
-show it.
+"""Reads a transcript, which is what `auc run` prints: its sessions, their events and packets. tools/pcap, tools/chart and
+tools/report show it; tools/transcript_lines.py has its other lines.
 
 A packet's number counts the packets of its job, and a session's number is its own in the whole transcript.
 """
@@ -19,7 +19,7 @@ CENTRE_NOTES = {"moved": 2, "inrange": 2, "beyond": 2, "drew": 1, "exhausted": 1
 OWN_NOTES = {"badauts": 0, "resumed": 1, "accepted": 1, "sync": 1, "wrongmac": 0, "counter": 1, "small": 1}
 NOTES = CENTRE_NOTES | OWN_NOTES
 # The first words of the lines that tell nothing of a session's packets.
-OTHER_LINES = {"restart", "vector", "bytes", "withheld", "exhausted", "sync", "give"}
+OTHER_LINES = {"restart", "vector", "withheld", "exhausted", "sync", "give"}
 # Of an event's line, the words before its notes.
 EVENTS = {"start": 2, "repeat": 2, "giveup": 3, "deliver": 4}
 REFUSALS = {"nosuchpacket", "nosuchend", "started"}
@@ -78,6 +78,9 @@ class Event:
     sent: Packet | None = None
     # What is left of the line: `ended success`, `ignored closed`, `nosuchpacket`; nothing if a packet is all that came.
     step: str = ""
+    # With a full print: RAND, AUTN, XRES, CK and IK of the number that was drawn; K_encr, K_aut, K_re, MSK and EMSK of the end.
+    vector: list | None = None
+    keys: list | None = None
 
 
 @dataclass
@@ -238,15 +241,21 @@ class Reader:
             self.open_or_judge(words)
         elif word == "packet" and len(words) == 3:
             self.bytes_of_packet(words)
+        elif word == "bytes" and len(words) == 6:
+            self.bytes_of_vector(words)
         elif word == "keys" and len(words) == 6:
             self.keys(words)
         elif word in EVENTS and len(words) > EVENTS[word]:
             self.read_event(line, text, words)
         elif word == "closed" and len(words) > 1:
+            self.event = None
             self.moved.add(words[1])
         elif words[:2] in (["premise", "held"], ["premise", "broken"]):
+            self.event = None
             self.end_round()
-        elif word not in OTHER_LINES:
+        elif word in OTHER_LINES:
+            self.event = None
+        else:
             raise Unreadable(f"{text[:60]!r} is no line of a transcript")
 
     def begin(self, word, number):
@@ -282,9 +291,17 @@ class Reader:
             raise Unreadable("the bytes aren't those of the packet that was sent before")
         packet.data = bytes.fromhex(words[2])
 
+    def bytes_of_vector(self, words):
+        """Those of a session's number. The bytes after a line `vector` are of no event."""
+        if not all(re.fullmatch(r"([0-9a-f]{2})+", word) for word in words[1:]):
+            raise Unreadable("the bytes aren't those of a vector")
+        if self.event:
+            self.event.vector = words[1:]
+
     def keys(self, words):
         if not self.event or not re.fullmatch(r"[0-9a-f]{32}", words[1]):
             raise Unreadable("the keys are of no end")
+        self.event.keys = words[1:]
         if self.event.end == "server":
             self.event.session.k_encr = bytes.fromhex(words[1])
 
@@ -358,18 +375,23 @@ def sessions_in(text):
     return list(reader.sessions.values())
 
 
-def sessions_of(path):
-    """The same of a file, or of standard input if the path is `-`."""
+def text_of(path):
+    """The text of a file, or of standard input if the path is `-`."""
     try:
         if path == "-":
-            text = sys.stdin.read()
-        else:
-            with open(path, encoding="utf-8") as file:
-                text = file.read()
-        return sessions_in(text)
+            return sys.stdin.read()
+        with open(path, encoding="utf-8") as file:
+            return file.read()
     except OSError as error:
         raise Unreadable(f"{path}: {error.strerror}") from None
     except UnicodeDecodeError:
         raise Unreadable(f"{path}: it is no text") from None
+
+
+def sessions_of(path):
+    """The sessions of a file, or of standard input if the path is `-`."""
+    text = text_of(path)
+    try:
+        return sessions_in(text)
     except Unreadable as reason:
         raise Unreadable(f"{path}: {reason}") from None
