@@ -1,0 +1,192 @@
+"""Takes the packets of a session apart for tools/report: their fields, what is encrypted in them, and what AT_MAC and the keys
+are made from.
+"""
+import hashlib
+import hmac
+from dataclasses import dataclass, field
+
+import transcript
+from transcript import AT_IDENTITY, CODES, METHODS, SUBTYPES, identity_in, text_in
+
+AKA = 23
+AT_MAC, AT_NONCE_S, AT_KDF_INPUT = 11, 21, 23
+ATTRIBUTES = {1: "AT_RAND", 2: "AT_AUTN", 3: "AT_RES", 4: "AT_AUTS", 6: "AT_PADDING", 7: "AT_NONCE_MT", AT_MAC: "AT_MAC",
+              12: "AT_NOTIFICATION", AT_IDENTITY: "AT_IDENTITY", 15: "AT_VERSION_LIST", 16: "AT_SELECTED_VERSION", 19: "AT_COUNTER",
+              20: "AT_COUNTER_TOO_SMALL", AT_NONCE_S: "AT_NONCE_S", 22: "AT_CLIENT_ERROR_CODE", AT_KDF_INPUT: "AT_KDF_INPUT",
+              24: "AT_KDF", 129: "AT_IV", 130: "AT_ENCR_DATA", 132: "AT_NEXT_PSEUDONYM", 133: "AT_NEXT_REAUTH_ID",
+              134: "AT_CHECKCODE", 135: "AT_RESULT_IND", 136: "AT_BIDDING", **transcript.ASKED}
+REAUTHENTICATION = 13
+
+
+def number_in(value):
+    return int.from_bytes(value[:2], "big")
+
+
+def shown_text(data):
+    return repr(data.decode(errors="replace"))
+
+
+def of_autn(value):
+    amf = value[8:10]
+    bit = "set" if amf and amf[0] & 0x80 else "clear"
+    return f"SQN xor AK {value[2:8].hex()}; AMF {amf.hex()}, its separation bit is {bit}; MAC-A {value[10:].hex()}"
+
+
+def of_notification(value):
+    code = number_in(value)
+    return f"{code}: {'success' if code & 0x8000 else 'failure'}, {'before' if code & 0x4000 else 'after'} the challenge is answered"
+
+
+def of_checkcode(value):
+    return f"hash of the AKA-Identity packets {value[2:].hex()}" if len(value) > 2 else "the session has no AKA-Identity packets"
+
+
+# What the value of an attribute says, by its type.
+MEANINGS = {
+    1: lambda value: f"RAND {value[2:].hex()}",
+    2: of_autn,
+    3: lambda value: f"RES {value[2:2 + number_in(value) // 8].hex()}, {number_in(value)} bits",
+    4: lambda value: f"SQN_MS xor AK* {value[:6].hex()}; MAC-S {value[6:].hex()}",
+    12: of_notification,
+    AT_IDENTITY: lambda value: shown_text(text_in(value)),
+    22: lambda value: f"code {number_in(value)}",
+    AT_KDF_INPUT: lambda value: f"network name {shown_text(text_in(value))}",
+    24: lambda value: f"key derivation function {number_in(value)}",
+    129: lambda value: f"initialisation vector {value[2:].hex()}",
+    130: lambda value: f"{len(value) - 2} bytes encrypted",
+    134: of_checkcode,
+    136: lambda value: "D is set: the server has EAP-AKA'" if value[0] & 0x80 else "D is clear",
+}
+
+
+@dataclass
+class Authentication:
+    """A challenge or a re-authentication: the inputs of its keys, and the keys if one of the two ends succeeded with them."""
+    title: str
+    method: int
+    identity: bytes | None = None
+    name: bytes = b""
+    vector: list | None = None
+    counter: int | None = None
+    nonce: bytes = b""
+    keys: list | None = None
+    # What it is called in the data of the page.
+    place: int = -1
+
+
+@dataclass
+class Ends:
+    """What the ends of a session have at a moment: the identity that reached the server last, and their authentications."""
+    identity: bytes | None = None
+    current: dict = field(default_factory=dict)
+
+
+def attribute_parts(data, start):
+    """The attributes from a byte on: name, first byte of the value, end, and meaning. The last one may not fill its length."""
+    parts = []
+    while start < len(data):
+        size = 4 * data[start + 1] if start + 1 < len(data) else 0
+        if not 0 < size <= len(data) - start:
+            return parts + [["not an attribute", start, len(data), ""]]
+        kind, value = data[start], data[start + 2:start + size]
+        meaning = MEANINGS.get(kind, lambda value: "")(value)
+        parts.append([ATTRIBUTES.get(kind, f"attribute {kind}"), start + 2, start + size, meaning])
+        start += size
+    return parts
+
+
+def parts_of(data):
+    """The fields of a packet: name, first byte, end, and meaning."""
+    parts = [["Code", 0, 1, CODES.get(data[0], "")], ["Identifier", 1, 2, str(data[1])], ["Length", 2, 4, str(number_in(data[2:]))]]
+    if len(data) < 5 or data[0] not in (1, 2):
+        return parts
+    kind = data[4]
+    parts.append(["Type", 4, 5, f"EAP-{METHODS[kind]}" if kind in METHODS else "Identity" if kind == 1 else str(kind)])
+    if kind in METHODS and len(data) >= 8:
+        parts += [["Subtype", 5, 6, SUBTYPES.get(data[5], str(data[5]))], ["Reserved", 6, 8, ""]]
+        return parts + attribute_parts(data, 8)
+    return parts + ([["Type-Data", 5, len(data), shown_text(data[5:]) if kind == 1 else ""]] if len(data) > 5 else [])
+
+
+# ---- authentications
+
+def begun(event, ends):
+    """The authentication that a server begins in an event; nothing if it begins none."""
+    notes = {note.split(" ")[0]: note.split(" ")[1:] for note in event.notes}
+    if not event.sent or not {"drew", "resumed"} & notes.keys() or len(event.sent.data or b"") < 8:
+        return None
+    method, found = event.sent.data[4], transcript.attributes_of(event.sent)
+    if "drew" in notes:
+        name = text_in(found[AT_KDF_INPUT]) if AT_KDF_INPUT in found else b""
+        return Authentication(f"full authentication, number {notes['drew'][0]}", method, ends.identity, name, event.vector)
+    nonce = transcript.encrypted_in(event.sent).get(AT_NONCE_S, b"")[2:]
+    counter = int(notes["resumed"][0])
+    return Authentication(f"re-authentication, counter {counter}", method, ends.identity, counter=counter, nonce=nonce)
+
+
+def authentications_of(sessions):
+    """Of all sessions, the authentication by which each packet is made, by the packet's `id`. A peer answers in that of the
+    packet that it received, whichever session that was sent in."""
+    events = sorted((event for session in sessions for event in session.events), key=lambda it: it.line)
+    ends, made_by = {session.number: Ends() for session in sessions}, {}
+    for event in events:
+        mine = ends[event.session.number]
+        if event.arrives and event.end == "server" and identity_in(event.delivered) is not None:
+            mine.identity = identity_in(event.delivered)
+        if event.end == "server":
+            mine.current["server"] = begun(event, mine) or mine.current.get("server")
+        elif event.arrives and id(event.delivered) in made_by:
+            mine.current["peer"] = made_by[id(event.delivered)]
+        current = mine.current.get(event.end)
+        if current and event.keys:
+            current.keys = event.keys
+        if current and event.sent and AT_MAC in transcript.attributes_of(event.sent):
+            made_by[id(event.sent)] = current
+    return made_by
+
+
+def rows_of(it):
+    """The inputs of the keys of an authentication, and the keys, each with its name."""
+    rows = [["method", f"EAP-{METHODS.get(it.method, it.method)}"]]
+    rows += [["identity", shown_text(it.identity)]] if it.identity is not None else []
+    if it.counter is None:
+        rows += [["network name", shown_text(it.name)]] if it.method != AKA else []
+        rows += inputs_of_challenge(it) if it.vector else []
+    else:
+        rows += [["counter", str(it.counter)], ["NONCE_S", it.nonce.hex() or "not known"]]
+        again = ("XKEY' = SHA-1(identity | counter | NONCE_S | MK); MSK and EMSK = PRF(XKEY')" if it.method == AKA else
+                 "MSK and EMSK = PRF'(K_re, \"EAP-AKA' re-auth\" | identity | counter | NONCE_S)")
+        rows.append(["new keys", again])
+    if it.keys is None:
+        return rows + [["keys", "not printed: no end succeeded with them"]]
+    return rows + [[name, word] for name, word in zip(("K_encr", "K_aut", "K_re", "MSK", "EMSK"), shown_keys(it)) if word]
+
+
+def inputs_of_challenge(it):
+    rand, autn, xres, ck, ik = it.vector
+    prime = "" if it.method == AKA else "'"
+    rows = [["RAND", rand], ["AUTN", autn], ["XRES", xres], [f"CK{prime}", ck], [f"IK{prime}", ik]]
+    if it.method != AKA:
+        return rows + [["keys are", "PRF'(IK' | CK', \"EAP-AKA'\" | identity): K_encr, K_aut, K_re, MSK, EMSK"]]
+    master = hashlib.sha1((it.identity or b"") + bytes.fromhex(ik) + bytes.fromhex(ck)).hexdigest()
+    return rows + [["MK = SHA-1(identity | IK | CK)", master], ["keys are", "PRF(MK): K_encr, K_aut, MSK, EMSK"]]
+
+
+def shown_keys(it):
+    """The printed keys, without the zeros that fill those of EAP-AKA up."""
+    encr, aut, again, msk, emsk = it.keys
+    return (encr, aut[:32], "", msk, emsk) if it.method == AKA else (encr, aut, again, msk, emsk)
+
+
+def mac_of(packet, it):
+    """In words, what AT_MAC of a packet is made from, and whether it is right."""
+    place = next(start for name, start, _, _ in parts_of(packet.data) if name == "AT_MAC") + 2
+    behind = it.nonce if packet.data[0] == 2 and packet.data[5] == REAUTHENTICATION else b""
+    name = "SHA-1" if it.method == AKA else "SHA-256"
+    what = f"HMAC-{name}-128 under K_aut over the packet, with zeros in the place of the MAC" + (" and NONCE_S behind it" if behind else "")
+    if it.keys is None:
+        return f"{what}. K_aut isn't printed, so it wasn't computed."
+    key = bytes.fromhex(shown_keys(it)[1])
+    front = packet.data[:place] + bytes(16) + packet.data[place + 16:] + behind
+    right = hmac.digest(key, front, name.replace("-", "").lower())[:16] == packet.data[place:place + 16]
+    return f"{what}. Computed here with the K_aut below: {'it is right' if right else 'it is another one'}."
