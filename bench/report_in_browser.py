@@ -31,8 +31,8 @@ REPORT = TOP / "tools/report"
 SECONDS = 120
 # The pictures of docs/pictures/: the example, a script that makes the page ready, and the size.
 PICTURES = {
-    "report-session": ("session-full-print", "location.hash = '#session=1&packet=3'; scrollTo(0, byId('ladders').offsetTop - 120)", 1280, 620),
-    "report-numbers": ("out-of-order", "scrollTo(0, 0)", 1280, 470),
+    "report-session": ("session-full-print", "location.hash = '#session=1&packet=3'; scrollTo(0, byId('ladders').offsetTop - 120)", 1280, 760),
+    "report-numbers": ("out-of-order", "scrollTo(0, 0)", 1280, 650),
     "report-crossed": ("crossed-sessions", "scrollTo(0, byId('ladders').offsetTop - 120)", 1180, 720),
 }
 # Opens each arrow of the page, and answers what was wrong.

@@ -47,6 +47,7 @@ MEANINGS = {
     2: of_autn,
     3: lambda value: f"RES {value[2:2 + number_in(value) // 8].hex()}, {number_in(value)} bits",
     4: lambda value: f"SQN_MS xor AK* {value[:6].hex()}; MAC-S {value[6:].hex()}",
+    AT_MAC: lambda value: f"MAC {value[2:].hex()}",
     12: of_notification,
     AT_IDENTITY: lambda value: shown_text(text_in(value)),
     22: lambda value: f"code {number_in(value)}",

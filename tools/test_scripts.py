@@ -100,6 +100,8 @@ class Outputs(unittest.TestCase):
             "chart": [TOOLS / "chart", FULL],
             "pcap": [TOOLS / "pcap", FULL, "-"],
             "seqs": [TOOLS / "seqs", EXAMPLES / "subscribers.csv", "--reserved", "/dev/null", "--margin", "0"],
+            "report": [TOOLS / "report", FULL],
+            "transcript": [TOOLS / "transcript", "--json", FULL],
         }
         self.runs_of_pictures = {"chart": [TOOLS / "chart", FULL, "--svg", "-"]}
 
@@ -142,7 +144,7 @@ class Outputs(unittest.TestCase):
                 self.assertGreater(path.stat().st_size, 500)
 
     def test_closed_standard_input_is_an_input_that_cannot_be_read(self):
-        for words in (["chart", "-"], ["pcap", "-", "/dev/null"]):
+        for words in (["chart", "-"], ["pcap", "-", "/dev/null"], ["report", "-"], ["transcript", "--json", "-"]):
             done = with_closed([0], [TOOLS / words[0], *words[1:]], stderr=subprocess.PIPE)
             self.assertEqual(done, (2, f"{words[0]}: -: Bad file descriptor\n"))
 
@@ -157,7 +159,8 @@ class Outputs(unittest.TestCase):
     def test_interrupted_script_ends_with_a_sentence(self):
         waiting = self.folder / "waiting"
         os.mkfifo(waiting)
-        for words in (["import", "hostapd", waiting], ["chart", waiting], ["pcap", waiting, "-"]):
+        for words in (["import", "hostapd", waiting], ["chart", waiting], ["pcap", waiting, "-"], ["report", waiting],
+                      ["transcript", "--json", waiting]):
             run = [sys.executable, TOOLS / words[0], *words[1:]]
             child = subprocess.Popen(run, stdout=subprocess.PIPE, stderr=subprocess.PIPE)
             # It opens only after the script has come to read it.
@@ -178,7 +181,7 @@ class Outputs(unittest.TestCase):
 class WithoutCryptography(unittest.TestCase):
     def test_script_that_needs_it_says_how_to_install_it(self):
         need = ["tools/eap_rows.py", "bench/random_sessions.py", "bench/foreign_keys.py", "bench/foreign_ends.py"]
-        for words in [[TOP / it] for it in need] + [[TOOLS / "pcap", NAMED, "-"]]:
+        for words in [[TOP / it] for it in need] + [[TOOLS / "pcap", NAMED, "-"], [TOOLS / "report", NAMED]]:
             reason = f"{words[0].name}: Python's module cryptography is missing: apt-get install python3-cryptography\n"
             with self.subTest(words=words):
                 done = subprocess.run([sys.executable, "-S", *words], capture_output=True, text=True)

@@ -1,0 +1,351 @@
+#!/usr/bin/env python3
+"""Tests of tools/transcript and tools/report on the outputs of examples/, on refused runs, and on identities that are markup."""
+import contextlib
+import io
+import json
+import re
+import subprocess
+import sys
+import time
+import unittest
+from html.parser import HTMLParser
+from importlib.machinery import SourceFileLoader
+from importlib.util import module_from_spec, spec_from_loader
+from pathlib import Path
+from unittest import mock
+
+import report_numbers
+import report_packets
+import transcript
+from ends import run_main
+from report_numbers import ACCEPTED, MOVED, REFUSED
+from transcript import Unreadable
+from transcript_lines import LINES, NOTES, REFUSED as REFUSED_FORMS, STATUSES, STEPS, Lines, objects_in
+
+TOOLS = Path(__file__).resolve().parent
+TOP = TOOLS.parent
+EXAMPLES = TOP / "examples"
+EXPECTED = sorted(EXAMPLES.glob("*.expected"))
+WHOLE_PAGE = (TOP / "docs/TRANSCRIPT.md").read_text()
+needs_cryptography = unittest.skipIf(transcript.Cipher is None, "Python's cryptography is missing")
+
+
+def loaded(name):
+    loader = SourceFileLoader(f"{name}_tool", str(TOOLS / name))
+    module = module_from_spec(spec_from_loader(loader.name, loader))
+    sys.modules[loader.name] = module
+    loader.exec_module(module)
+    return module
+
+
+report, tool = loaded("report"), loaded("transcript")
+
+
+def text_of(name):
+    return (EXAMPLES / f"{name}.expected").read_text()
+
+
+def printed(*words, given=""):
+    """What tools/transcript prints in this process: its status, its objects, and standard error."""
+    out, error = io.StringIO(), io.StringIO()
+    with mock.patch.object(sys, "argv", ["transcript", "--json", *map(str, words)]), mock.patch.object(sys, "stdin", io.StringIO(given)), \
+            contextlib.redirect_stdout(out), contextlib.redirect_stderr(error):
+        try:
+            status = tool.main()
+        except SystemExit as end:
+            status = end.code
+    return status, [json.loads(line) for line in out.getvalue().splitlines()], error.getvalue()
+
+
+# ---- an object as the line that it is of
+
+def filled(form, found):
+    return re.sub(r"\{([^}=]+)(?:=[^}]+)?\}", lambda name: str(found[name[1]]), form)
+
+
+def fits(form, found):
+    fields = re.findall(r"\{([^}=]+)=?([^}]*)\}", form)
+    return all(name in found and word in ("", found[name]) for name, word in fields)
+
+
+def form_of(forms, found):
+    """The form with the most fields among those that an object has."""
+    return max((form for form in forms if fits(form, found)), key=lambda form: form.count("{"))
+
+
+def line_of(found):
+    """The line of an object, so that a test can compare it with the transcript's."""
+    if found["kind"] != "event":
+        return filled(form_of((LINES | REFUSED_FORMS)[found["kind"]], found), found)
+    ends = [found["end"]] if found["event"] in ("deliver", "giveup") else []
+    # The `word` or `number` of a note isn't that of the step.
+    words = [found["event"], found["session"], *ends, *([found["packet"]] if "packet" in found else [])]
+    words += [filled(form_of(NOTES, note), note) for note in found["notes"]]
+    words += ["sent", found["sent"]] if "sent" in found else []
+    return " ".join(str(it) for it in [*words, filled(form_of(STEPS, found), found)] if it != "")
+
+
+class Objects(unittest.TestCase):
+    def test_each_line_of_each_example_is_an_object_that_has_all_of_it(self):
+        for path in EXPECTED:
+            status, objects, error = printed(path)
+            self.assertEqual((status, error), (0, ""), path.name)
+            lines = path.read_text().splitlines()
+            self.assertEqual([it["line"] for it in objects], list(range(1, len(lines) + 1)), path.name)
+            self.assertEqual([line_of(it) for it in objects], lines, path.name)
+
+    def test_each_object_has_its_round_and_job(self):
+        for path in EXPECTED:
+            current = {"round": 0, "job": 0}
+            for it in objects_in(path.read_text()):
+                if it["kind"] in current:
+                    current[it["kind"]] = it[it["kind"]]
+                if it["kind"] in ("vector", "give", "event", "packet", "keys", "bytes", "sync", "session"):
+                    self.assertEqual((it["round"], it["job"]), (current["round"], current["job"]), path.name)
+                elif it["kind"] in ("round", "closed", "restart"):
+                    self.assertEqual((it["round"], it["job"]), (current["round"], None), path.name)
+
+    def test_each_kind_of_line_is_in_the_examples_or_here(self):
+        rare = ("round 1\njob 1\nwithheld 001010000000001 7 full\nexhausted 001010000000001 8796093022208\n"
+                "sync 001010000000001 beyond 268435457 0\npremise broken 1 2 peer 3\n")
+        texts = [rare, *(path.read_text() for path in EXPECTED), "usage\n", "refused scenario 3 fields\n"]
+        kinds = {it["kind"] for text in texts for it in objects_in(text)}
+        self.assertEqual(kinds, LINES.keys() | REFUSED_FORMS.keys() | {"event"})
+        objects = list(objects_in(rare))
+        self.assertEqual([line_of(it) for it in objects], rare.splitlines())
+        self.assertEqual(objects[3]["word"], 8796093022208)
+        self.assertEqual({name: objects[5][name] for name in ("round", "job", "session", "end", "packet")},
+                         {"round": 1, "job": 1, "session": 2, "end": "peer", "packet": 3})
+
+    def test_page_names_each_kind_and_field(self):
+        for path in EXPECTED:
+            for found in objects_in(path.read_text()):
+                for it in [found, *found.get("notes", [])]:
+                    for name in it:
+                        self.assertIn(f"`{name}`", WHOLE_PAGE, path.name)
+                self.assertIn(f"`{found['kind']}`", WHOLE_PAGE)
+
+    def test_status_comes_last_with_its_name(self):
+        for number, name in STATUSES.items():
+            _, objects, _ = printed("-", "--status", number, given="round 1\n")
+            self.assertEqual(objects[-1], {"kind": "status", "status": number, "name": name})
+            self.assertRegex(WHOLE_PAGE, rf"\| {number} \| `{name}` \|")
+        self.assertEqual(printed("-", "--status", 11, given="round 1\n")[0], 2)
+
+    def test_refused_run_is_one_object(self):
+        cases = [
+            ("usage\n", {"kind": "usage"}),
+            ("refused subscribers 2 key\n", {"kind": "refused", "file": "subscribers", "row": 2, "why": "key"}),
+            ("refused scenario 3 fields\n", {"kind": "refused", "file": "scenario", "line_of_file": 3, "why": "fields"}),
+            ("refused journal 0\n", {"kind": "refused", "file": "journal", "place": 0}),
+        ]
+        for text, wanted in cases:
+            self.assertEqual(list(objects_in(text)), [{"line": 1, "round": None, "job": None} | wanted])
+
+    def test_cut_line_is_one_only_if_the_output_could_not_be_written(self):
+        cut = "round 1\njob 1\nvector 001010000000001 1"
+        self.assertEqual(printed("-", "--status", 5, given=cut)[1][2]["text"], "vector 001010000000001 1")
+        self.assertEqual(printed("-", given=cut)[2], "transcript: -: line 3: it has no end, so the output was cut there\n")
+
+    def test_text_that_is_no_transcript_is_refused_by_its_line(self):
+        begun = "round 1\njob 1\nsession 1 open\n"
+        cases = [
+            ("hello\n", "line 1: 'hello' is no line of a transcript"),
+            ("round 1\nrefused scenario 3 fields\n", "line 2: 'refused scenario 3 fields' is no line of a transcript"),
+            ("round 1\n\n", "line 2: '' is no line of a transcript"),
+            ("vector 00101 1\n", "line 1: 'vector 00101 1' is no line of a transcript"),
+            ("closed 001010000000001 0 1\n", "line 1: 'closed 001010000000001 0 1' is no line of a transcript"),
+            ("bytes " + "00 " * 4 + "00\n", "line 1: 'bytes 00 00 00 00 00' is no line of a transcript"),
+            ("sync 001010000000001 moved 1\n", "line 1: 'sync 001010000000001 moved 1' is no line of a transcript"),
+            (begun + "start 1 ended failure notified\n", None),
+            (begun + "start 1 ended failure notified x\n", "line 4: 'ended failure notified x' has another form"),
+            (begun + "start 1 drew x sent 1\n", "line 4: 'drew x' has another form"),
+        ]
+        for text, reason in cases:
+            status, _, error = printed("-", given=text)
+            self.assertEqual((status, error), (2, f"transcript: -: {reason}\n") if reason else (0, ""), text)
+
+    def test_bytes_belong_to_the_number_before_them(self):
+        found = [it for it in objects_in(text_of("session-full-print")) if it["kind"] == "bytes"]
+        self.assertEqual([(it["session"], it["number"]) for it in found], [(1, 1)])
+        found = [it for it in objects_in(text_of("full-print")) if it["kind"] == "bytes"]
+        self.assertTrue(found and all(it["imsi"].startswith("00101") for it in found))
+
+
+# ---- the page
+
+class Page(HTMLParser):
+    """The elements of a page, and the text of each script."""
+
+    def __init__(self, text):
+        super().__init__()
+        self.elements, self.scripts, self.within = [], [], None
+        self.feed(text)
+
+    def handle_starttag(self, tag, attrs):
+        self.elements.append((tag, dict(attrs)))
+        self.within = tag
+        if tag == "script":
+            self.scripts.append("")
+
+    def handle_endtag(self, tag):
+        self.within = None
+
+    def handle_data(self, data):
+        if self.within == "script":
+            self.scripts[-1] += data
+
+
+def page_of(text, title="run", scenario=None):
+    page = report.page_of(report.data_of(text, scenario or {}, title))
+    return Page(page), page
+
+
+def markup(identity):
+    data = bytes([2, 1]) + (5 + len(identity)).to_bytes(2, "big") + b"\1" + identity
+    return ("round 1\njob 1\nsession 1 open\nstart 1 sent 1\npacket 1 0101000501\ndeliver 1 peer 1 sent 2\n"
+            f"packet 2 {data.hex()}\npremise held\n")
+
+
+class Reports(unittest.TestCase):
+    def data(self, name):
+        return report.data_of(text_of(name), {}, name)
+
+    def test_page_has_each_session_and_each_event(self):
+        for path in EXPECTED:
+            text = path.read_text()
+            if transcript.Cipher is None and "-full-print" in path.name:
+                continue
+            page, _ = page_of(text)
+            data = json.loads(page.scripts[0])
+            opened = [int(line.split(" ")[1]) for line in text.splitlines() if re.fullmatch(r"session \d+ open", line)]
+            self.assertEqual([it[0] for it in data["sessions"]], opened, path.name)
+            events = [line for line in text.splitlines() if line.split(" ")[0] in transcript.EVENTS]
+            self.assertEqual(sorted(row[2] for it in data["sessions"] for row in it[6]), sorted(events), path.name)
+            self.assertEqual(data["lines"], text.count("\n"))
+
+    def test_page_loads_nothing(self):
+        page, text = page_of(text_of("session"))
+        policy = next(it["content"] for tag, it in page.elements if it.get("http-equiv") == "Content-Security-Policy")
+        self.assertTrue(policy.startswith("default-src 'none'; script-src 'sha256-"), policy)
+        self.assertIn(report.hash_of(page.scripts[1]), policy)
+        self.assertNotIn("unsafe", policy)
+        self.assertEqual([it for _, it in page.elements if {"src", "href", "style"} & it.keys()], [])
+        self.assertNotIn("{{", text)
+
+    def test_texts_of_a_transcript_are_no_markup(self):
+        plain = [tag for tag, _ in page_of(markup(b"abc"))[0].elements]
+        for identity in (b"<script>alert(1)</script>", b"</script><img src=x onerror=alert(1)>", b"<!--<script>", b"]]>&amp;\xe2\x80\xa8", b"{{DATA}}"):
+            page, text = page_of(markup(identity), title=identity.decode())
+            self.assertEqual([tag for tag, _ in page.elements], plain, identity)
+            data = json.loads(page.scripts[0])
+            self.assertIn(repr(identity.decode()), data["texts"])
+            self.assertEqual(text.count("<script"), 2)
+
+    def test_packet_has_its_fields_its_mac_and_its_keys(self):
+        data = self.data("session-full-print")
+        packet, texts = data["sessions"][0][8][2], data["texts"]
+        self.assertEqual([(texts[name], start, end) for name, start, end, _ in packet[6]], [
+            ("Code", 0, 1), ("Identifier", 1, 2), ("Length", 2, 4), ("Type", 4, 5), ("Subtype", 5, 6), ("Reserved", 6, 8),
+            ("AT_RAND", 10, 28), ("AT_AUTN", 30, 48), ("AT_CHECKCODE", 50, 52), ("AT_MAC", 54, 72)])
+        self.assertTrue(texts[packet[9]].endswith("it is right."))
+        title, rows = data["authentications"][packet[8]]
+        self.assertEqual(title, "full authentication, number 1")
+        self.assertEqual([name for name, _ in rows], ["method", "identity", "RAND", "AUTN", "XRES", "CK", "IK", "MK = SHA-1(identity | IK | CK)",
+                                                      "keys are", "K_encr", "K_aut", "MSK", "EMSK"])
+
+    @needs_cryptography
+    def test_each_mac_of_each_full_print_is_right(self):
+        count = 0
+        for path in EXPECTED:
+            data = report.data_of(path.read_text(), {}, path.name)
+            said = [data["texts"][packet[9]] for session in data["sessions"] for packet in session[8] if packet[9] >= 0]
+            self.assertEqual([it for it in said if it.endswith("it is another one.")], [], path.name)
+            count += sum(it.endswith("it is right.") for it in said)
+        self.assertGreater(count, 20)
+
+    def test_wrong_mac_is_told(self):
+        text = text_of("session-full-print").replace("226101\n", "226100\n")
+        data = report.data_of(text, {}, "run")
+        self.assertTrue(data["texts"][data["sessions"][0][8][2][9]].endswith("it is another one."))
+
+    def test_arrows_are_those_of_the_session(self):
+        kinds = lambda name: [[arrow[0] for arrow in session[7]] for session in self.data(name)["sessions"]]
+        self.assertEqual(kinds("session"), [[report.ARRIVES] * 5])
+        self.assertEqual(kinds("lossy-link")[0].count(report.LOST), 2)
+        crossed = kinds("crossed-sessions")
+        self.assertTrue(all(report.AWAY in it and report.FOREIGN in it for it in crossed))
+
+    def test_sessions_are_found_by_what_happened(self):
+        found = {it[0]: (it[4], [self.told[place] for place in it[5]]) for it in self.sessions("failing-sessions")}
+        self.assertTrue(any("failure of the peer: wrongautn" in words for _, words in found.values()))
+        self.assertEqual([it[4] for it in self.sessions("crossed-sessions")], ["differ", "differ"])
+        self.assertEqual([it[4] for it in self.sessions("session")], ["agree"])
+
+    def sessions(self, name):
+        data = self.data(name)
+        self.told = data["texts"]
+        return data["sessions"]
+
+
+class Numbers(unittest.TestCase):
+    def steps(self, name, kind):
+        return [step for _, steps, _ in report.data_of(text_of(name), {}, name)["subscribers"] for step in steps if step[1] == kind]
+
+    def test_refusal_has_its_cause(self):
+        # Number 33 is accepted in line 36, and number 2 in line 37; 1 and 33 have IND 1.
+        self.assertEqual([step[2:] for step in self.steps("out-of-order", REFUSED)], [[1, "place", 33, 36], [2, "place", 2, 37]])
+        self.assertEqual([step[2:] for step in self.steps("stale-vector", REFUSED)], [[1, "before", 500, 0]])
+        self.assertEqual({step[3] for step in self.steps("far-numbers", REFUSED)}, {"far"})
+
+    def test_moved_and_accepted_numbers_are_those_of_the_lines(self):
+        self.assertEqual([step[2:] for step in self.steps("stale-vector", MOVED)], [[1, 500]])
+        self.assertEqual([step[2] for step in self.steps("stale-vector", ACCEPTED)], [501, 502])
+
+    def test_subscriber_is_told_by_the_numbers_only_if_it_can_be_one_alone(self):
+        closed = [{"imsi": "1", "open": 0, "close": 5}, {"imsi": "2", "open": 3, "close": 9}, {"imsi": "3", "open": 20, "close": 21}]
+        found = report_numbers.Intervals(closed)
+        self.assertEqual([found.owner(number) for number in (0, 1, 3, 4, 5, 6, 9, 10, 20, 21, 22)],
+                         [None, "1", "1", None, None, "2", "2", None, None, "3", None])
+
+    def test_scenario_tells_the_devices(self):
+        for path in sorted(EXAMPLES.glob("*.scenario")):
+            scenario = report_numbers.scenario_subscribers(path.read_text())
+            data = report.data_of(path.with_suffix(".expected").read_text(), scenario, path.name)
+            self.assertEqual([it[3] for it in data["sessions"]], list(scenario.values()), path.name)
+
+
+class Growth(unittest.TestCase):
+    """Eight times the sessions take some 8 times the processor time, and not 64 times."""
+
+    def seconds(self, count):
+        jobs = (f"job {number}\nsession {number} open\nstart {number} sent 1\npacket 1 0101000501\ndeliver {number} peer 1 sent 2\n"
+                f"packet 2 02010006013{number % 10}\ndeliver {number} server 2 drew {number} sent 3\ngiveup {number} peer ended failure givenup\n"
+                for number in range(1, count + 1))
+        closed = (f"closed {number:015} {number - 1} {number} 1 0 1 0\n" for number in range(1, count + 1))
+        text = "".join(["round 1\n", *jobs, *closed, "premise held\n"])
+        began = time.process_time()
+        report.page_of(report.data_of(text, {}, "run"))
+        return time.process_time() - began
+
+    def test_page_of_many_sessions_of_many_subscribers(self):
+        # Other work on the machine may lengthen one try, and hardly each.
+        ratios = []
+        while not ratios or ratios[-1] > 22 and len(ratios) < 4:
+            short = min(self.seconds(250) for _ in range(3))
+            ratios.append(self.seconds(2000) / short)
+        self.assertLess(ratios[-1], 22, ratios)
+
+
+class Scripts(unittest.TestCase):
+    def test_report_is_written_and_what_is_no_transcript_is_told(self):
+        run = lambda *words, **more: subprocess.run([TOOLS / "report", *words], capture_output=True, text=True, **more)
+        done = run(EXAMPLES / "session.expected", "--scenario", EXAMPLES / "session.scenario")
+        self.assertEqual((done.returncode, done.stderr), (0, ""))
+        self.assertTrue(done.stdout.startswith("<!DOCTYPE html>"))
+        done = run("-", input="hello\n")
+        self.assertEqual((done.returncode, done.stdout, done.stderr), (2, "", "report: -: line 1: 'hello' is no line of a transcript\n"))
+
+
+if __name__ == "__main__":
+    run_main(unittest.main, __doc__)
