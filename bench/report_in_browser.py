@@ -1,16 +1,16 @@
 #!/usr/bin/env python3
 """Opens the page of tools/report for each example in a browser, and clicks through it.
 
-    bench/report_in_browser.py [--pictures FOLDER] [NAME ..]
+    bench/report_in_browser.py [--pictures FOLDER] [--pages FOLDER] [NAME ..]
 
-The browser is Debian's chromium without a window, spoken to through a pipe. Of each example of examples/, or of the named
-ones, each ladder is scrolled to and each arrow is opened, the first by the mouse and by Enter; Escape closes it and goes back to
-the arrow; each filter is chosen. A failure is a message of the browser (an exception, or a load that the page's policy forbids),
-a request other than for the page, or a packet that doesn't open. Then the same is asked of a page whose identities are markup,
-and of one with 10,000 sessions, whose times are printed.
+The browser is Debian's chromium (`apt-get install chromium`) without a window, spoken to through a pipe. Of each example, or of
+the named ones, each ladder is scrolled to and each arrow is opened, the first by the mouse and by Enter; Escape closes it and goes
+back to the arrow; each filter is chosen. A failure is a message of the browser (an exception, or a load that the page's policy
+forbids), a request other than for the page, or a packet that doesn't open. Then the same is asked of a page whose identities are
+markup; and of one with 10,000 sessions one packet is opened, and its times are printed.
 
-With --pictures the pictures of docs/pictures/ are taken, and one of each page, in light and dark. The exit status is 0; 1 if
-something fails; 3 if chromium is missing.
+With --pictures the pictures of docs/pictures/ are taken, and with --pages one of each page, in light and in dark. The exit status
+is 0; 1 if something fails; 3 if chromium is missing.
 """
 import argparse
 import base64
@@ -232,24 +232,32 @@ def times_of(browser, folder):
             f"filtered in {filtered:.0f} ms"), wrong + browser.complaints(path)
 
 
+def taken(browser, page, picture, ready="", **size):
+    browser.open(page, **size)
+    browser.run(ready)
+    browser.run("new Promise((done) => setTimeout(done, 400))")
+    browser.picture(picture)
+
+
 def take_pictures(browser, folder, pictures):
     pictures.mkdir(parents=True, exist_ok=True)
     for name, (example, ready, width, height) in PICTURES.items():
-        browser.open(folder / f"{example}.html", width=width, height=height)
-        browser.run(ready)
-        browser.run("new Promise((done) => setTimeout(done, 400))")
-        browser.picture(pictures / f"{name}.png")
-    for path in sorted(folder.glob("*.html")):
-        for dark in False, True:
-            browser.open(path, dark=dark)
-            browser.run("new Promise((done) => setTimeout(done, 300))")
-            browser.picture(pictures / f"page-{path.stem}{'-dark' if dark else ''}.png")
+        page = page_of(folder, example, (EXAMPLES / f"{example}.expected").read_text())
+        taken(browser, page, pictures / f"{name}.png", ready, width=width, height=height)
+
+
+def take_pages(browser, folder, pictures):
+    pictures.mkdir(parents=True, exist_ok=True)
+    for page in sorted(folder.glob("*.html")):
+        taken(browser, page, pictures / f"{page.stem}.png")
+        taken(browser, page, pictures / f"{page.stem}-dark.png", dark=True)
 
 
 def words():
     parser = argparse.ArgumentParser(description=__doc__, formatter_class=argparse.RawDescriptionHelpFormatter)
     parser.add_argument("names", metavar="NAME", nargs="*", help="examples; without one, all")
-    parser.add_argument("--pictures", metavar="FOLDER", type=Path, help="where pictures are put")
+    parser.add_argument("--pictures", metavar="FOLDER", type=Path, help="where the pictures of docs/pictures/ are put")
+    parser.add_argument("--pages", metavar="FOLDER", type=Path, help="where a picture of each page is put")
     return parser.parse_args()
 
 
@@ -272,6 +280,8 @@ def main():
             for name, line, wrong in tried(browser, folder, names):
                 print(f"{name}: {line}{': FAILED: ' + '; '.join(wrong) if wrong else ''}", flush=True)
                 failed += bool(wrong)
+            if asked.pages:
+                take_pages(browser, folder, asked.pages)
             if asked.pictures:
                 take_pictures(browser, folder, asked.pictures)
         finally:

@@ -9,6 +9,7 @@ from transcript import AT_NEXT_PSEUDONYM, FORMS, identity_in, text_in
 AT_NEXT_REAUTH_ID = 133
 # How far above the greatest accepted number a USIM accepts another one (TS 33.102 Annex C.2.1).
 REACH = 2**28
+CLOSED = "round", "open", "close", "drawn", "skipped", "released", "withheld"
 DRAWN, ACCEPTED, REFUSED, MOVED, WITHHELD, EXHAUSTED, STAYED = range(7)
 
 
@@ -45,12 +46,13 @@ def scenario_subscribers(text):
 def names_given(session):
     """The names that the server gives in a session, if they can be decrypted."""
     given = [transcript.encrypted_in(packet) for packet in session.packets if packet.sender == "server"]
-    return [text_in(found[kind]).partition(b"@")[0] for found in given for kind in (AT_NEXT_PSEUDONYM, AT_NEXT_REAUTH_ID) if kind in found]
+    names = [found[kind] for found in given for kind in (AT_NEXT_PSEUDONYM, AT_NEXT_REAUTH_ID) if kind in found]
+    return [text_in(name).partition(b"@")[0] for name in names]
 
 
 def told_in(session, names):
-    """The IMSI that the identities of a session tell: a permanent one, or a name that was given before."""
-    for packet in session.packets:
+    """The IMSI that the last identity of a session tells: a permanent one, or a name that was given before."""
+    for packet in reversed(session.packets):
         name = (identity_in(packet) or b"").partition(b"@")[0]
         if re.fullmatch(FORMS["permanent"], name):
             return name[1:].decode()
@@ -59,23 +61,34 @@ def told_in(session, names):
     return None
 
 
-def subscribers_of(sessions, objects, scenario):
-    """The IMSI of each session, as far as scenario, identities or numbers tell it. A scenario tells that of the device; all else
-    that of the one that is challenged."""
-    closed, drawn, names, found = {}, {}, {}, {}
+def drawn_in(objects):
+    """Of each round, its lines `closed`; of each session, the first number that it draws."""
+    closed, drawn = {}, {}
     for it in objects:
         if it["kind"] == "closed":
             closed.setdefault(it["round"], []).append(it)
         for note in it.get("notes", []):
             if note["note"] == "drew":
                 drawn.setdefault(it["session"], note["number"])
-    intervals = {number: Intervals(lines) for number, lines in closed.items()}
+    return {number: Intervals(lines) for number, lines in closed.items()}, drawn
+
+
+@dataclass
+class Subscribers:
+    """The IMSI of each session, as far as something tells it: that of its device, which the scenario tells, and that of the
+    subscriber whom the server challenges, which the numbers tell or else the identities. They are nearly always the same."""
+    devices: dict = field(default_factory=dict)
+    challenged: dict = field(default_factory=dict)
+
+
+def subscribers_of(sessions, objects, scenario):
+    (intervals, drawn), names, found = drawn_in(objects), {}, Subscribers()
     for session in sessions:
-        number = session.number
-        imsi = told_in(session, names)
-        if imsi is None and number in drawn and session.round in intervals:
+        number, imsi = session.number, None
+        if number in drawn and session.round in intervals:
             imsi = intervals[session.round].owner(drawn[number])
-        found[number] = scenario.get(number, imsi)
+        imsi = imsi or told_in(session, names) or scenario.get(number)
+        found.devices[number], found.challenged[number] = scenario.get(number, imsi), imsi
         if imsi is not None:
             names.update(dict.fromkeys(names_given(session), imsi))
     return found
@@ -139,7 +152,7 @@ class Steps:
         elif kind == "exhausted":
             self.of(it["imsi"]).steps.append([line, EXHAUSTED, it["word"]])
         elif kind == "closed":
-            self.of(it["imsi"]).closed.append([it[name] for name in ("round", "open", "close", "drawn", "skipped", "released", "withheld")])
+            self.of(it["imsi"]).closed.append([it[name] for name in CLOSED])
 
     def moved(self, numbers, line, result, it):
         if result == "moved":
@@ -148,7 +161,10 @@ class Steps:
             numbers.steps.append([line, STAYED, it["number"], it["seq"], result])
 
     def event(self, it):
-        numbers, session, line = self.of(self.subscribers.get(it["session"])), it["session"], it["line"]
+        session, line = it["session"], it["line"]
+        # The centre's notes are of the subscriber whom the server challenges, the USIM's of the device.
+        owners = self.subscribers.challenged if it["end"] == "server" else self.subscribers.devices
+        numbers = self.of(owners.get(session))
         for note in it["notes"]:
             word = note["note"]
             if word == "drew":

@@ -11,8 +11,8 @@ from transcript import AT_IDENTITY, CODES, METHODS, SUBTYPES, identity_in, text_
 AKA = 23
 AT_MAC, AT_NONCE_S, AT_KDF_INPUT = 11, 21, 23
 ATTRIBUTES = {1: "AT_RAND", 2: "AT_AUTN", 3: "AT_RES", 4: "AT_AUTS", 6: "AT_PADDING", 7: "AT_NONCE_MT", AT_MAC: "AT_MAC",
-              12: "AT_NOTIFICATION", AT_IDENTITY: "AT_IDENTITY", 15: "AT_VERSION_LIST", 16: "AT_SELECTED_VERSION", 19: "AT_COUNTER",
-              20: "AT_COUNTER_TOO_SMALL", AT_NONCE_S: "AT_NONCE_S", 22: "AT_CLIENT_ERROR_CODE", AT_KDF_INPUT: "AT_KDF_INPUT",
+              12: "AT_NOTIFICATION", AT_IDENTITY: "AT_IDENTITY", 19: "AT_COUNTER", 20: "AT_COUNTER_TOO_SMALL",
+              AT_NONCE_S: "AT_NONCE_S", 22: "AT_CLIENT_ERROR_CODE", AT_KDF_INPUT: "AT_KDF_INPUT",
               24: "AT_KDF", 129: "AT_IV", 130: "AT_ENCR_DATA", 132: "AT_NEXT_PSEUDONYM", 133: "AT_NEXT_REAUTH_ID",
               134: "AT_CHECKCODE", 135: "AT_RESULT_IND", 136: "AT_BIDDING", **transcript.ASKED}
 REAUTHENTICATION = 13
@@ -34,11 +34,13 @@ def of_autn(value):
 
 def of_notification(value):
     code = number_in(value)
-    return f"{code}: {'success' if code & 0x8000 else 'failure'}, {'before' if code & 0x4000 else 'after'} the challenge is answered"
+    when = "before" if code & 0x4000 else "after"
+    return f"{code}: {'success' if code & 0x8000 else 'failure'}, {when} the challenge is answered"
 
 
 def of_checkcode(value):
-    return f"hash of the AKA-Identity packets {value[2:].hex()}" if len(value) > 2 else "the session has no AKA-Identity packets"
+    hashed = value[2:].hex()
+    return f"hash of the AKA-Identity packets {hashed}" if hashed else "the session has no AKA-Identity packets"
 
 
 # What the value of an attribute says, by its type.
@@ -62,7 +64,7 @@ MEANINGS = {
 
 @dataclass
 class Authentication:
-    """A challenge or a re-authentication: the inputs of its keys, and the keys if one of the two ends succeeded with them."""
+    """A challenge or a re-authentication: the inputs of its keys, and the keys of each end that succeeded with them."""
     title: str
     method: int
     identity: bytes | None = None
@@ -70,8 +72,8 @@ class Authentication:
     vector: list | None = None
     counter: int | None = None
     nonce: bytes = b""
-    keys: list | None = None
-    # What it is called in the data of the page.
+    keys: dict = field(default_factory=dict)
+    # Its place in the data of the page; -1 as long as it has none.
     place: int = -1
 
 
@@ -98,7 +100,8 @@ def attribute_parts(data, start):
 
 def parts_of(data):
     """The fields of a packet: name, first byte, end, and meaning."""
-    parts = [["Code", 0, 1, CODES.get(data[0], "")], ["Identifier", 1, 2, str(data[1])], ["Length", 2, 4, str(number_in(data[2:]))]]
+    length = str(number_in(data[2:]))
+    parts = [["Code", 0, 1, CODES.get(data[0], "")], ["Identifier", 1, 2, str(data[1])], ["Length", 2, 4, length]]
     if len(data) < 5 or data[0] not in (1, 2):
         return parts
     kind = data[4]
@@ -136,11 +139,11 @@ def authentications_of(sessions):
             mine.identity = identity_in(event.delivered)
         if event.end == "server":
             mine.current["server"] = begun(event, mine) or mine.current.get("server")
-        elif event.arrives and id(event.delivered) in made_by:
+        elif event.sent and event.delivered and id(event.delivered) in made_by:
             mine.current["peer"] = made_by[id(event.delivered)]
         current = mine.current.get(event.end)
         if current and event.keys:
-            current.keys = event.keys
+            current.keys[event.end] = event.keys
         if current and event.sent and AT_MAC in transcript.attributes_of(event.sent):
             made_by[id(event.sent)] = current
     return made_by
@@ -158,8 +161,10 @@ def rows_of(it):
         again = ("XKEY' = SHA-1(identity | counter | NONCE_S | MK); MSK and EMSK = PRF(XKEY')" if it.method == AKA else
                  "MSK and EMSK = PRF'(K_re, \"EAP-AKA' re-auth\" | identity | counter | NONCE_S)")
         rows.append(["new keys", again])
-    if it.keys is None:
+    if not it.keys:
         return rows + [["keys", "not printed: no end succeeded with them"]]
+    equal = "equal keys" if len(set(map(tuple, it.keys.values()))) == 1 else "different keys"
+    rows.append(["its ends", f"both have {equal}" if len(it.keys) == 2 else f"the {min(it.keys)} alone succeeded with it"])
     return rows + [[name, word] for name, word in zip(("K_encr", "K_aut", "K_re", "MSK", "EMSK"), shown_keys(it)) if word]
 
 
@@ -174,8 +179,8 @@ def inputs_of_challenge(it):
 
 
 def shown_keys(it):
-    """The printed keys, without the zeros that fill those of EAP-AKA up."""
-    encr, aut, again, msk, emsk = it.keys
+    """The printed keys, those of the server if it has some, without the zeros that fill those of EAP-AKA up."""
+    encr, aut, again, msk, emsk = it.keys.get("server") or it.keys["peer"]
     return (encr, aut[:32], "", msk, emsk) if it.method == AKA else (encr, aut, again, msk, emsk)
 
 
@@ -184,8 +189,9 @@ def mac_of(packet, it):
     place = next(start for name, start, _, _ in parts_of(packet.data) if name == "AT_MAC") + 2
     behind = it.nonce if packet.data[0] == 2 and packet.data[5] == REAUTHENTICATION else b""
     name = "SHA-1" if it.method == AKA else "SHA-256"
-    what = f"HMAC-{name}-128 under K_aut over the packet, with zeros in the place of the MAC" + (" and NONCE_S behind it" if behind else "")
-    if it.keys is None:
+    what = f"HMAC-{name}-128 under K_aut over the packet, with zeros in the place of the MAC"
+    what += " and NONCE_S behind it" if behind else ""
+    if not it.keys:
         return f"{what}. K_aut isn't printed, so it wasn't computed."
     key = bytes.fromhex(shown_keys(it)[1])
     front = packet.data[:place] + bytes(16) + packet.data[place + 16:] + behind

@@ -1,5 +1,5 @@
 #!/usr/bin/env python3
-"""Tests of tools/transcript and tools/report on the outputs of examples/, on refused runs, and on identities that are markup."""
+"""Tests of tools/transcript and tools/report on the outputs of examples/, on refused runs and on identities that are markup."""
 import contextlib
 import io
 import json
@@ -15,10 +15,9 @@ from pathlib import Path
 from unittest import mock
 
 import report_numbers
-import report_packets
 import transcript
 from ends import run_main
-from report_numbers import ACCEPTED, MOVED, REFUSED
+from report_numbers import ACCEPTED, DRAWN, MOVED, REFUSED
 from transcript import Unreadable
 from transcript_lines import LINES, NOTES, REFUSED as REFUSED_FORMS, STATUSES, STEPS, Lines, objects_in
 
@@ -48,7 +47,8 @@ def text_of(name):
 def printed(*words, given=""):
     """What tools/transcript prints in this process: its status, its objects, and standard error."""
     out, error = io.StringIO(), io.StringIO()
-    with mock.patch.object(sys, "argv", ["transcript", "--json", *map(str, words)]), mock.patch.object(sys, "stdin", io.StringIO(given)), \
+    argv, stdin = ["transcript", "--json", *map(str, words)], io.StringIO(given)
+    with mock.patch.object(sys, "argv", argv), mock.patch.object(sys, "stdin", stdin), \
             contextlib.redirect_stdout(out), contextlib.redirect_stderr(error):
         try:
             status = tool.main()
@@ -235,7 +235,8 @@ class Reports(unittest.TestCase):
 
     def test_texts_of_a_transcript_are_no_markup(self):
         plain = [tag for tag, _ in page_of(markup(b"abc"))[0].elements]
-        for identity in (b"<script>alert(1)</script>", b"</script><img src=x onerror=alert(1)>", b"<!--<script>", b"]]>&amp;\xe2\x80\xa8", b"{{DATA}}"):
+        for identity in (b"<script>alert(1)</script>", b"</script><img src=x onerror=alert(1)>", b"<!--<script>",
+                         b"]]>&amp;\xe2\x80\xa8", b"{{DATA}}"):
             page, text = page_of(markup(identity), title=identity.decode())
             self.assertEqual([tag for tag, _ in page.elements], plain, identity)
             data = json.loads(page.scripts[0])
@@ -251,8 +252,9 @@ class Reports(unittest.TestCase):
         self.assertTrue(texts[packet[9]].endswith("it is right."))
         title, rows = data["authentications"][packet[8]]
         self.assertEqual(title, "full authentication, number 1")
-        self.assertEqual([name for name, _ in rows], ["method", "identity", "RAND", "AUTN", "XRES", "CK", "IK", "MK = SHA-1(identity | IK | CK)",
-                                                      "keys are", "K_encr", "K_aut", "MSK", "EMSK"])
+        self.assertEqual([name for name, _ in rows], [
+            "method", "identity", "RAND", "AUTN", "XRES", "CK", "IK", "MK = SHA-1(identity | IK | CK)", "keys are", "its ends",
+            "K_encr", "K_aut", "MSK", "EMSK"])
 
     @needs_cryptography
     def test_each_mac_of_each_full_print_is_right(self):
@@ -290,11 +292,13 @@ class Reports(unittest.TestCase):
 
 class Numbers(unittest.TestCase):
     def steps(self, name, kind):
-        return [step for _, steps, _ in report.data_of(text_of(name), {}, name)["subscribers"] for step in steps if step[1] == kind]
+        subscribers = report.data_of(text_of(name), {}, name)["subscribers"]
+        return [step for _, steps, _ in subscribers for step in steps if step[1] == kind]
 
     def test_refusal_has_its_cause(self):
         # Number 33 is accepted in line 36, and number 2 in line 37; 1 and 33 have IND 1.
-        self.assertEqual([step[2:] for step in self.steps("out-of-order", REFUSED)], [[1, "place", 33, 36], [2, "place", 2, 37]])
+        refused = [step[2:] for step in self.steps("out-of-order", REFUSED)]
+        self.assertEqual(refused, [[1, "place", 33, 36], [2, "place", 2, 37]])
         self.assertEqual([step[2:] for step in self.steps("stale-vector", REFUSED)], [[1, "before", 500, 0]])
         self.assertEqual({step[3] for step in self.steps("far-numbers", REFUSED)}, {"far"})
 
@@ -307,6 +311,23 @@ class Numbers(unittest.TestCase):
         found = report_numbers.Intervals(closed)
         self.assertEqual([found.owner(number) for number in (0, 1, 3, 4, 5, 6, 9, 10, 20, 21, 22)],
                          [None, "1", "1", None, None, "2", "2", None, None, "3", None])
+
+    def test_each_number_is_drawn_for_the_subscriber_whose_line_counts_it(self):
+        for path in sorted(EXAMPLES.glob("*.scenario")):
+            scenario = report_numbers.scenario_subscribers(path.read_text())
+            for told in scenario, {}:
+                subscribers = report.data_of(path.with_suffix(".expected").read_text(), told, path.name)["subscribers"]
+                drawn = {imsi: sum(step[1] == DRAWN for step in steps) for imsi, steps, _ in subscribers}
+                released = {imsi: sum(row[5] for row in closed) for imsi, _, closed in subscribers}
+                if told or "" not in drawn:
+                    self.assertEqual(drawn, released, path.name)
+
+    @needs_cryptography
+    def test_ends_of_each_authentication_have_equal_keys(self):
+        for path in EXPECTED:
+            data = report.data_of(path.read_text(), {}, path.name)
+            said = {value for _, rows in data["authentications"] for name, value in rows if name == "its ends"}
+            self.assertLessEqual(said, {"both have equal keys", "the server alone succeeded with it"}, path.name)
 
     def test_scenario_tells_the_devices(self):
         for path in sorted(EXAMPLES.glob("*.scenario")):
