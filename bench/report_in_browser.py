@@ -31,9 +31,9 @@ REPORT = TOP / "tools/report"
 SECONDS = 120
 # The pictures of docs/pictures/: the example, a script that makes the page ready, and the size.
 PICTURES = {
-    "report-session": ("session-full-print", "location.hash = '#session=1&packet=3'; scrollTo(0, byId('ladders').offsetTop - 120)", 1280, 760),
+    "report-session": ("session-full-print", "location.hash = '#session=1&packet=3'", 1340, 590),
     "report-numbers": ("out-of-order", "scrollTo(0, 0)", 1280, 650),
-    "report-crossed": ("crossed-sessions", "scrollTo(0, byId('ladders').offsetTop - 120)", 1180, 720),
+    "report-crossed": ("crossed-sessions", "byId('ladders').scrollIntoView()", 1180, 790),
 }
 # Opens each arrow of the page, and answers what was wrong.
 THROUGH = """(async () => {
@@ -224,7 +224,8 @@ def times_of(browser, folder):
     made = time.monotonic()
     browser.open(path, f"#session={count}&packet=3")
     shown = time.monotonic()
-    wrong = [] if browser.run("byId('panel-title').textContent") == "Packet 3: Request/AKA-Challenge" else ["no packet is open"]
+    is_open = browser.run("byId('panel-title').textContent") == "Packet 3: Request/AKA-Challenge"
+    wrong = [] if is_open and browser.run("opener.isConnected") else ["no packet is open"]
     filtered = browser.run("(() => { closePacket(); const began = performance.now(); byId('number').value = ''; show();"
                            " return performance.now() - began; })()")
     size = path.stat().st_size
@@ -278,12 +279,12 @@ def main():
         browser = Browser(folder)
         try:
             for name, line, wrong in tried(browser, folder, names):
-                print(f"{name}: {line}{': FAILED: ' + '; '.join(wrong) if wrong else ''}", flush=True)
+                print(f"{name}: {line}{'; FAILED: ' + '; '.join(wrong) if wrong else ''}", flush=True)
                 failed += bool(wrong)
-            if asked.pages:
-                take_pages(browser, folder, asked.pages)
             if asked.pictures:
                 take_pictures(browser, folder, asked.pictures)
+            if asked.pages:
+                take_pages(browser, folder, asked.pages)
         finally:
             browser.close()
     return 1 if failed else 0

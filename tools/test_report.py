@@ -125,6 +125,12 @@ class Objects(unittest.TestCase):
                         self.assertIn(f"`{name}`", WHOLE_PAGE, path.name)
                 self.assertIn(f"`{found['kind']}`", WHOLE_PAGE)
 
+    def test_page_shows_objects_as_they_are_printed(self):
+        for name, wanted in ("stale-vector", '{"line": 8, '), ("session", '{"kind": "status", '):
+            objects = [json.dumps(it) for it in printed(EXAMPLES / f"{name}.expected", "--status", 0)[1]]
+            shown = [line for line in WHOLE_PAGE.splitlines() if line.startswith(wanted)]
+            self.assertEqual([line for line in objects if line.startswith(wanted)], shown)
+
     def test_status_comes_last_with_its_name(self):
         for number, name in STATUSES.items():
             _, objects, _ = printed("-", "--status", number, given="round 1\n")
