@@ -52,6 +52,8 @@ TOOLS = [
     ("auc-usim", "plays a USIM for eapol_test or wpa_supplicant"),
     ("auc-chart", "draws the sessions of an output"),
     ("auc-pcap", "writes their packets as a capture"),
+    ("auc-report", "shows a run as a page"),
+    ("auc-transcript", "turns an output into objects of JSON"),
 ]
 
 

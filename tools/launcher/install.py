@@ -21,8 +21,9 @@ HOME = "lib/auc"
 MANIFEST = f"{HOME}/installed.json"
 PROGRAM = f"{HOME}/program"
 PAGES = "share/doc/auc"
-TOOLS = ("import", "chart", "pcap", "gateway", "usim", "seqs")
-MODULES = ("ends.py", "transcript.py", "aka_functions.py", "gateway_centre.py", "import_stores.py")
+TOOLS = ("import", "chart", "pcap", "report", "transcript", "gateway", "usim", "seqs")
+MODULES = ("ends.py", "transcript.py", "transcript_lines.py", "report_numbers.py", "report_packets.py", "report_page.html",
+           "ladders.py", "picture.py", "aka_functions.py", "gateway_centre.py", "import_stores.py")
 PLAIN, RUN = 0o644, 0o755
 
 
@@ -44,7 +45,7 @@ def file_of(path, mode=PLAIN):
 
 def pages():
     """The documents and examples, in the folders that they have in the repository."""
-    patterns = ("README.md", "CHANGELOG.md", "LICENSE", "docs/*.md", "docs/charts/*.svg", "examples/*.scenario",
+    patterns = ("README.md", "CHANGELOG.md", "LICENSE", "docs/*.md", "docs/charts/*.svg", "docs/pictures/*.png", "examples/*.scenario",
                 "examples/*.expected", "examples/*.csv")
     found = [it for pattern in patterns for it in TOP.glob(pattern)]
     return {f"{PAGES}/{it.relative_to(TOP)}": file_of(it) for it in found}
