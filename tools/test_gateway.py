@@ -121,14 +121,20 @@ class Gateways(unittest.TestCase):
             child.wait()
 
     def start(self, *options, **places):
-        """A gateway that serves, and a client of it."""
-        child = self.begin(*options, **places)
-        client, until = self.client(connected=False), time.monotonic() + SOON
+        """A gateway that serves, and a client of it. The gateway has to say that it serves: for a moment the socket of a killed
+        one can still be connected to, as long as the program that it was starting holds it."""
+        served, child, until = self.times_served(), self.begin(*options, **places), time.monotonic() + SOON
         while time.monotonic() < until and child.poll() is None:
-            if client.socket.connect_ex(str(places.get("path", self.path))) == 0:
+            if self.times_served() > served:
+                client = self.client(connected=False)
+                client.socket.connect(str(places.get("path", self.path)))
                 return child, client
             time.sleep(0.01)
         self.fail(f"the gateway doesn't serve: {self.log.read_text()}")
+
+    def times_served(self):
+        """How many gateways have said that they serve."""
+        return self.log.read_text().count("gateway: serves ") if self.log.exists() else 0
 
     def client(self, connected=True):
         self.clients += 1
