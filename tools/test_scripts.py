@@ -52,6 +52,11 @@ def with_closed(descriptors, words, **more):
     return done.returncode, (done.stderr or b"").decode()
 
 
+def heed_interrupts():
+    """Lets a child be interrupted, also if this script runs in the background of a shell, which ignores interrupts."""
+    signal.signal(signal.SIGINT, signal.SIG_DFL)
+
+
 class Helps(unittest.TestCase):
     def each(self, run, scripts):
         """What each script does if it is asked for its help. Python's -S takes the modules of others away."""
@@ -162,7 +167,7 @@ class Outputs(unittest.TestCase):
         for words in (["import", "hostapd", waiting], ["chart", waiting], ["pcap", waiting, "-"], ["report", waiting],
                       ["transcript", "--json", waiting]):
             run = [sys.executable, TOOLS / words[0], *words[1:]]
-            child = subprocess.Popen(run, stdout=subprocess.PIPE, stderr=subprocess.PIPE)
+            child = subprocess.Popen(run, stdout=subprocess.PIPE, stderr=subprocess.PIPE, preexec_fn=heed_interrupts)
             # It opens only after the script has come to read it.
             with child, waiting.open("wb"):
                 child.send_signal(signal.SIGINT)
