@@ -16,8 +16,8 @@ many provers work side by side: RT_JOBS, or else one a processor, as far as each
 --write keeps what was seen in docs/EDITS.md, crate by crate as each ends. It leaves the rows of crates that weren't tried,
 drops those of edits that are gone, and has `not tried` for new ones.
 
---released tries nothing: it lists the edits that docs/EDITS.md doesn't show as refused at the newest version of
-CHANGELOG.md and on the files as they are. A release needs all of them.
+--released tries nothing: it lists the edits that docs/EDITS.md doesn't show as refused on the files as they are. A release
+needs all of them.
 
 --applies tries nothing: it tests that each edit can be applied to the files as they are, which takes no time. It also
 refuses two edits of one name, a crate with a public function and without an edit, and fewer edits than there were. The
@@ -128,7 +128,7 @@ def test_that_all_apply():
 
 
 def test_that_all_are_refused():
-    """Prints each edit that the table doesn't show as refused at this version on these files, and ends the script."""
+    """Prints each edit that the table doesn't show as refused on these files, and ends the script."""
     lacking, edits = verdicts.lacking(TOP), verdicts.all_edits(TOP)
     for crate, whys in lacking.items():
         if len(whys) == len(edits[crate]) and len({*whys.values()}) == 1:
@@ -137,8 +137,7 @@ def test_that_all_are_refused():
             for name, why in whys.items():
                 print(f"{crate}/{name}: {why}")
     count = sum(map(len, lacking.values()))
-    version = version_of(TOP)
-    print(f"{sum(map(len, edits.values())) - count} edits are refused at version {version}, {count} aren't shown to be")
+    print(f"{sum(map(len, edits.values())) - count} edits are refused on these files, {count} aren't shown to be")
     sys.exit(1 if count else 0)
 
 
@@ -271,7 +270,7 @@ def names_to_try(given):
         sys.exit(2)
     names = list(verdicts.lacking(TOP)) if given.missing else given.names or list(every)
     if not names:
-        print("all edits are refused at this version on these files")
+        print("all edits are refused on these files")
         sys.exit(0)
     return names
 

@@ -1,5 +1,4 @@
 """What the scripts of bench/ ask of the repository: its crates and what they stand on, its version, its pages."""
-import hashlib
 import re
 import sys
 from pathlib import Path
@@ -36,18 +35,6 @@ def files_of(top, crate):
     """The files that a verdict on a crate rests on, apart from those of the crates below it."""
     folder = top / "crates" / crate
     return sorted(it for part in PARTS for it in (folder / part).rglob("*") if it.is_file())
-
-
-def checksum(top, crate, uses, seen=None):
-    """A checksum of a crate's sources, definitions and proofs, of those of all crates below it, and of what each uses."""
-    seen = {} if seen is None else seen
-    if crate not in seen:
-        found = hashlib.sha256(repr((crate, uses[crate])).encode())
-        for file in files_of(top, crate):
-            found.update(repr((str(file.relative_to(top)), file.read_bytes())).encode())
-        found.update(repr([checksum(top, it, uses, seen) for it in uses[crate]]).encode())
-        seen[crate] = found.hexdigest()
-    return seen[crate]
 
 
 def version_of(top):

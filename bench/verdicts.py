@@ -5,7 +5,8 @@ import textwrap
 from dataclasses import dataclass, field
 from pathlib import Path
 
-from repository import checksum, uses_of, version_of
+from faces import checksum
+from repository import uses_of, version_of
 
 PAGE = "docs/EDITS.md"
 FEWEST = 651
@@ -28,8 +29,10 @@ and writes this page; nothing else does. Some stand in the gate (`crates/NAME/mu
 - `refused`: the crate isn't proved with the edit. `refused, by a limit`: the prover ended at a limit of its own without a
   verdict. `refused, by a name`: only a proof file that names what the edit took away is refused.
 - Refused at: the version at which the edit was last refused. Seconds: the processor time of the last try that was seen.
-- A verdict holds for the files that it was seen on. So a checksum of the crate and of all crates below it stands with each
-  crate, and one of the edit's own text in its row. `bench/edits.py --released` compares them with the files as they are.
+- A verdict holds for the files that it was seen on. So a checksum stands with each crate, of its own files and of what the
+  crates below it show: their definitions, facts, types and the clauses of their public functions. One of the edit's own text
+  stands in its row. `bench/edits.py --released` compares both with the files as they are: on the same files a verdict of an
+  earlier version holds.
 
 """
 COLUMNS = "| Edit | Stands | Verdict | Refused at | Seconds | Text |\n|---|---|---|---|---:|---|\n"
@@ -149,37 +152,36 @@ def section_text(crate, section):
 
 def write_page(top, sections, last_run):
     """Writes the page for the edits that are there now."""
-    sections, version = as_it_stands(top, sections), version_of(top)
+    sections, uses = as_it_stands(top, sections), uses_of(top)
     rows = [row for it in sections.values() for row in it.rows.values()]
-    refused = sum(row.is_refused() and row.refused_at == version for row in rows)
+    same = [it for crate, it in sections.items() if it.files == files_sum(top, crate, uses)]
+    refused = sum(row.is_refused() for it in same for row in it.rows.values())
     of_gate = sum(row.stands == "gate" for row in rows)
     count = f"{len(rows)} edits of {len(sections)} crates, {of_gate} of them in the gate: "
-    count += f"{refused} refused at version {version}."
+    count += f"{refused} refused on the files of version {version_of(top)}."
     parts = [section_text(crate, it) for crate, it in sections.items()]
     (top / PAGE).write_text(f"{HEAD}{count}\n\n{textwrap.fill(last_run, 120)}\n\n" + "\n".join(parts))
 
 
 def files_sum(top, crate, uses):
-    """The checksum of a crate and of all crates below it, as the page has it."""
+    """The checksum of what the verdicts on a crate's edits rest on, as the page has it."""
     return checksum(top, crate, uses)[:16]
 
 
 def lacking(top):
-    """By crate, why the table doesn't show its edits as refused at the current version, on the files as they are: by the
-    edits' names. A crate of which all is shown isn't there."""
-    sections, version, uses = as_it_stands(top, read_page(top)[0]), version_of(top), uses_of(top)
+    """By crate, why the table doesn't show its edits as refused on the files as they are: by the edits' names. A crate of
+    which all is shown isn't there."""
+    sections, uses = as_it_stands(top, read_page(top)[0]), uses_of(top)
     found = {}
     for crate, section in sections.items():
         other = section.files != files_sum(top, crate, uses)
-        whys = {name: why_lacking(row, version, other) for name, row in section.rows.items()}
+        whys = {name: why_lacking(row, other) for name, row in section.rows.items()}
         found[crate] = {name: why for name, why in whys.items() if why}
     return {crate: whys for crate, whys in found.items() if whys}
 
 
-def why_lacking(row, version, other):
-    """Why a row doesn't show its edit as refused at this version; nothing if it does."""
+def why_lacking(row, other):
+    """Why a row doesn't show its edit as refused on the files as they are; nothing if it does."""
     if not row.is_refused():
         return row.verdict
-    if other:
-        return "tried on other files"
-    return "" if row.refused_at == version else f"last refused at version {row.refused_at}"
+    return "tried on other files" if other else ""

@@ -29,10 +29,11 @@ echo "$*" >>"$CALLS"
 [ -z "$RT_NAP" ] || { echo $$ >"$RT_PID"; exec sleep "$RT_NAP"; }
 while [ -n "$RT_GATE" ] && [ ! -e "$RT_GATE" ]; do sleep 0.05; done
 [ -z "$RT_EDITS" ] || echo more >>"$RT_EDITS"
-[ "$RT_FAILS" != "$1" ] || { rm -f out/auc_cli; exit 1; }
+[ -z "$RT_FAILS" ] || exit 1
 case $1 in
-    all) printf '== auc_low\\n'; sleep 0.6; printf '== auc_cli\\n' ;;
-    run) mkdir -p out; rm -f out/auc_cli; cp "$RT_PROGRAM" out/auc_cli; shift 2; exec out/auc_cli "$@" ;;
+    ci) printf 'jobs=%s\\n' "$RT_JOBS" >>"$CALLS"; find . -type f | LC_ALL=C sort >"$RT_FILES"
+        printf 'rt: auc_low is kept: earlier\\n'; sleep 0.6; printf '== auc_cli\\n'
+        mkdir -p crates/auc_cli/out; cp "$RT_PROGRAM" crates/auc_cli/out/auc_cli ;;
     try) printf '%s\\n' "$SAYS"; echo run=ended >&2; exit "${STATUS:-0}" ;;
 esac
 """
@@ -71,7 +72,7 @@ class Checkout(unittest.TestCase):
         self.room.chmod(0o755)
         self.top, self.here, self.calls = self.room / "top", self.room / "here", self.room / "calls"
         self.out = self.top / "crates/auc_cli/out"
-        for folder in ("top/bench", "top/tools", "top/crates/auc_low/src", "top/crates/auc_cli/src", "here", "bin"):
+        for folder in ("top/bench", "top/tools", "top/crates/auc_low/src", "top/crates/auc_cli/src", "here", "bin", "tmp"):
             (self.room / folder).mkdir(parents=True)
         for name in ("auc", "bench/release.py", "tools/ends.py"):
             shutil.copy(TOP / name, self.top / name)
@@ -82,6 +83,7 @@ class Checkout(unittest.TestCase):
             "crates.txt": "auc_cli: auc_low\nauc_low:\n",
             "crates/auc_low/src/lib.rt": "low",
             "crates/auc_cli/src/main.rt": "cli",
+            "HANDLES": "Handles allowed: none.\n",
         }
         for name, text in texts.items():
             (self.top / name).write_text(text)
@@ -93,6 +95,8 @@ class Checkout(unittest.TestCase):
             "CALLS": str(self.calls),
             "RT_PROGRAM": str(self.program),
             "RT_PID": f"{self.room}/pid",
+            "RT_FILES": f"{self.room}/files",
+            "TMPDIR": f"{self.room}/tmp",
             "XDG_CACHE_HOME": f"{self.room}/cache",
         }
         self.environment.pop("AUC_JOURNAL_DIR", None)

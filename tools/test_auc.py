@@ -280,8 +280,9 @@ class Builds(Checkout):
     def test_the_first_call_proves_side_by_side_and_runs(self):
         ran = self.auc("run", "x", SAYS="hello")
         self.assertEqual((ran.returncode, ran.stdout), (0, "hello\n"))
-        self.assertRegex(self.noted()[0], r"^all check --jobs [1-9]\d*$")
-        self.assertRegex(self.noted()[1], r"^run -- vector ")
+        self.assertEqual(self.noted()[0], "ci")
+        self.assertRegex(self.noted()[1], r"^jobs=[1-9]\d*$")
+        self.assertRegex(self.noted()[2], r": vector ")
         self.assertRegex(ran.stderr, r"(side by side|one crate after the other): 31 minutes of processor time, about 31 minutes in")
         self.assertEqual([int(it) for it in re.findall(r"(\d+) percent", ran.stderr)], [96, 100])
         self.assertEqual(self.auc("run", "x").stderr, "")
@@ -289,19 +290,30 @@ class Builds(Checkout):
 
     def test_prove_builds_and_runs_nothing(self):
         self.assertEqual(self.auc("prove", "--jobs", "3").returncode, 0)
-        self.assertEqual([it.split()[0] for it in self.noted()[:2]], ["all", "run"])
-        self.assertEqual(self.noted()[0], "all check --jobs 3")
+        self.assertEqual((len(self.noted()), self.noted()[:2]), (3, ["ci", "jobs=3"]))
         self.assertIn("proved/auc", self.auc("prove").stderr)
+
+    def test_the_builder_gets_the_programs_crates_alone(self):
+        others = ["auc_low/out/x.rt", "auc_low/must-fail/x.edit", "auc_tests/src/lib.rt"]
+        for name in (*others, "auc_low/proofs/out/Answers.antt"):
+            (self.top / "crates" / name).parent.mkdir(parents=True)
+            (self.top / "crates" / name).write_text("")
+        with (self.top / "crates.txt").open("a") as file:
+            file.write("auc_tests: auc_low\n")
+        self.assertEqual(self.auc("prove").returncode, 0)
+        wanted = {"auc_cli/src/main.rt", "auc_low/proofs/out/Answers.antt", "auc_low/src/lib.rt"}
+        found = (self.room / "files").read_text().splitlines()
+        self.assertEqual({*found}, {"./HANDLES", "./crates.txt", *(f"./crates/{it}" for it in wanted)})
+        self.assertEqual(list((self.room / "tmp").iterdir()), [])
 
     def test_the_old_program_stays_until_the_new_one_is_there(self):
         for place in ("proved/auc", "auc_cli"):
             shutil.rmtree(self.out, ignore_errors=True)
             old = self.executable(f"top/crates/auc_cli/out/{place}", "#!/bin/sh\necho old\n")
             self.aged(old)
-            for verb in ("all", "run"):
-                ran = self.auc("run", "x", RT_FAILS=verb)
-                self.assertEqual((ran.returncode, ran.stdout), (70, ""), "the old program isn't run unless it is asked for")
-            ran = self.auc("--old", "run", "x", RT_FAILS="all")
+            ran = self.auc("run", "x", RT_FAILS=1)
+            self.assertEqual((ran.returncode, ran.stdout), (70, ""), "the old program isn't run unless it is asked for")
+            ran = self.auc("--old", "run", "x", RT_FAILS=1)
             self.assertEqual((ran.returncode, ran.stdout), (0, "old\n"))
             self.assertIn("proved before the sources changed", ran.stderr)
             self.assertEqual(self.auc("run", "x", SAYS="new").stdout, "new\n")
@@ -330,7 +342,7 @@ class Builds(Checkout):
         gate.write_text("open")
         self.assertEqual((first.wait(SECONDS), second.wait(SECONDS)), (0, 0))
         second.communicate()
-        self.assertEqual(sum(it.startswith("all") for it in self.noted()), 1)
+        self.assertEqual(self.noted().count("ci"), 1)
 
     def test_the_builder_ends_if_nobody_listens_any_more(self):
         child = self.started("run", "x", RT_NAP=60, stderr=subprocess.PIPE)
@@ -340,18 +352,20 @@ class Builds(Checkout):
         self.assert_ends(pid)
 
     def test_the_builder_ends_however_the_script_ends(self):
-        for number in (signal.SIGKILL, signal.SIGTERM, signal.SIGINT):
+        for number in (signal.SIGTERM, signal.SIGINT, signal.SIGKILL):
             (self.room / "pid").write_text("")
             child = self.started("run", "x", RT_NAP=60, stderr=subprocess.DEVNULL)
             pid = self.wait_for(self.room / "pid")
             child.send_signal(number)
             child.wait(SECONDS)
             self.assert_ends(pid)
+            if number != signal.SIGKILL:
+                self.assertEqual(list((self.room / "tmp").iterdir()), [], "nothing is left behind")
 
     def test_a_build_without_standard_error_is_silent(self):
         ran = self.auc("run", "x", SAYS="hello", preexec_fn=lambda: os.close(2))
         self.assertEqual((ran.returncode, ran.stdout), (0, "hello\n"))
-        self.assertEqual((self.out / "build.log").read_text(), "== auc_low\n== auc_cli\nhello\n")
+        self.assertEqual((self.out / "build.log").read_text(), "rt: auc_low is kept: earlier\n== auc_cli\nhello\n")
 
     def test_a_machine_without_the_kit_is_told(self):
         ran = self.auc("run", "x", without_rt=True)
@@ -418,9 +432,9 @@ class Releases(Checkout):
             path.parent.mkdir(exist_ok=True)
             path.write_text(text)
             self.assertEqual(self.auc("run", "x", without_rt=True).returncode, 70, name)
-            self.assertEqual(self.auc("run", "x", RT_FAILS="all").returncode, 70, name)
-            self.assertTrue(self.noted()[-1].startswith("all check"), name)
-            ran = self.auc("--old", "run", "x", SAYS="old", RT_FAILS="all")
+            self.assertEqual(self.auc("run", "x", RT_FAILS=1).returncode, 70, name)
+            self.assertEqual(self.noted()[-1], "ci", name)
+            ran = self.auc("--old", "run", "x", SAYS="old", RT_FAILS=1)
             self.assertEqual(ran.stdout, "old\n")
             self.assertEqual(ran.stderr, "auc: this is the proved program of version 1.2.3; the sources at hand are others\n")
             self.assertIn("so nothing is compared", self.check().stdout)
@@ -429,7 +443,7 @@ class Releases(Checkout):
 
     def test_prove_builds_here(self):
         self.assertEqual(self.auc("prove").returncode, 0)
-        self.assertTrue(self.noted()[0].startswith("all check"))
+        self.assertEqual(self.noted()[0], "ci")
         self.assertIn("proved and built here", self.auc("--version").stdout)
 
     def test_one_byte_changed_is_refused(self):

@@ -1,9 +1,11 @@
 """Proves and builds the program.
 
-`rt all check` in the program's folder proves the crates that it stands on side by side. `rt run` then builds the program
-over what was proved and runs it at the first test set of TS 35.208. It ends with status 0 only if all of this went well.
-The new program is moved to its place at the very end, so the old one stays until then.
+`rt ci` proves each crate that the program stands on, crates side by side, and builds the program. What an earlier run on
+this machine passed isn't proved again. It works on a copy of these crates alone, without their must-fail edits: the gate
+tries those. The new program is then run at the first test set of TS 35.208, and moved to its place at the very end, so the
+old one stays until then.
 """
+import contextlib
 import fcntl
 import math
 import os
@@ -13,10 +15,12 @@ import shutil
 import signal
 import subprocess
 import sys
+import tempfile
 import time
+from pathlib import Path
 
 from . import costs, sources
-from .places import CRATE, OUT, Stopped, say
+from .places import CRATE, OUT, TOP, Stopped, say
 
 PROVED = OUT / "proved/auc"
 GATES = OUT / "auc_cli"
@@ -75,25 +79,53 @@ class Progress:
         self.minutes, self.shown = costs.minutes_by_crate(), 0
 
     def tell(self):
-        done = set(re.findall(r"^== (\w+)$", LOG.read_text(errors="replace"), re.M)) & set(self.minutes)
+        found = re.findall(r"^(?:== (\w+)|rt: (\w+) is kept: .*)$", LOG.read_text(errors="replace"), re.M)
+        done = {one or other for one, other in found} & set(self.minutes)
         share = int(100 * sum(self.minutes[it] for it in done) / (sum(self.minutes.values()) or 1))
         if share > self.shown:
             self.shown = share
             say(f"{share} percent of the work is done")
 
 
-def followed(words, log, progress):
+@contextlib.contextmanager
+def leaving_nothing():
+    """Has a signal that would end this process at once end it by its own clean-up."""
+    for number in (signal.SIGTERM, signal.SIGHUP):
+        if signal.getsignal(number) is signal.SIG_DFL:
+            signal.signal(number, lambda number, _: sys.exit(128 + number))
+    with tempfile.TemporaryDirectory(prefix="auc-prove-") as room:
+        yield Path(room)
+
+
+def copy_crates(to):
+    """Copies the crates that the program stands on into a repository of their own."""
+    names = costs.crates_of_program()
+    lines = (TOP / sources.LIST).read_text(encoding="utf-8").splitlines(keepends=True)
+    listed = [it for it in lines if re.split(r"[\s:]", it)[0] in names]
+    (to / sources.LIST).write_text("".join(listed), encoding="utf-8")
+    (to / ".git").mkdir()
+    shutil.copy2(TOP / "HANDLES", to)
+    for name in names:
+        crate = TOP / "crates" / name
+        left = {str(crate): {"out", "must-fail"}}
+        shutil.copytree(crate, to / "crates" / name, ignore=lambda at, _, left=left: left.get(str(at), ()))
+
+
+def followed(folder, jobs, log, progress):
     """Runs the builder to its end and tells how far it is: its exit status. It ends early if nobody listens any more."""
-    builder = subprocess.Popen(
-        words, cwd=CRATE, stdin=subprocess.DEVNULL, stdout=log, stderr=log, preexec_fn=end_with_parent
-    )
+    how = {"cwd": folder, "env": {**os.environ, "RT_JOBS": str(jobs)}, "preexec_fn": end_with_parent}
+    builder = subprocess.Popen(["rt", "ci"], stdin=subprocess.DEVNULL, stdout=log, stderr=log, **how)
     listener = Listener()
-    while builder.poll() is None:
-        if listener.is_gone(EVERY):
+    try:
+        while builder.poll() is None:
+            if listener.is_gone(EVERY):
+                raise Stopped("standard error was closed, so the build was ended")
+            progress.tell()
+    finally:
+        if builder.poll() is None:
             builder.terminate()
             builder.wait()
-            raise Stopped("standard error was closed, so the build was ended")
-        progress.tell()
+    progress.tell()
     return builder.returncode
 
 
@@ -106,28 +138,34 @@ def announce(jobs):
     )
 
 
-def keep():
-    """Moves a copy of the program that rt left to its place, whole."""
+def keep(program):
+    """Moves a copy of the new program to its place, whole."""
     beside = PROVED.with_suffix(".new")
-    shutil.copy2(GATES, beside)
+    shutil.copy2(program, beside)
     os.replace(beside, PROVED)
+
+
+def passes_trial(program, log):
+    try:
+        return subprocess.run([program, *TRIAL], stdin=subprocess.DEVNULL, stdout=log, stderr=log).returncode == 0
+    except OSError:
+        return False
 
 
 def prove(jobs):
     """Proves and builds. The caller holds the lock."""
     began, progress = time.time_ns(), Progress()
     announce(jobs)
-    if last() == GATES:
-        keep()
-    with LOG.open("w") as log:
-        for words in (["rt", "all", "check", "--jobs", str(jobs)], ["rt", "run", "--", *TRIAL]):
-            if followed(words, log, progress) != 0:
-                raise Stopped(
-                    f"the program was not built; see {LOG}. If the memory ran out, `./auc prove --jobs 1` takes less"
-                )
-    # A source that was changed since the beginning makes this program an old one.
-    os.utime(GATES, ns=(began, began))
-    keep()
+    with leaving_nothing() as room, LOG.open("w") as log:
+        copy_crates(room)
+        made = room / "crates" / CRATE.name / "out" / CRATE.name
+        if followed(room, jobs, log, progress) != 0 or not passes_trial(made, log):
+            raise Stopped(
+                f"the program was not built; see {LOG}. If the memory ran out, `./auc prove --jobs 1` takes less"
+            )
+        # A source that was changed since the beginning makes this program an old one.
+        os.utime(made, ns=(began, began))
+        keep(made)
 
 
 def build(jobs=None):
