@@ -2,16 +2,18 @@
 """Tries must-fail edits, those of the gate (crates/NAME/must-fail) and the others (edits/NAME): the prover has to refuse
 each of them.
 
-    bench/edits.py [--jobs N] [--write] [--anew] [--missing | NAME ..]
+    bench/edits.py [--jobs N] [--write] [--alone] [--anew] [--missing | NAME ..]
     bench/edits.py --released
     bench/edits.py --applies
 
-Without NAME all edits of all crates are tried. It works in a temporary clone of the last commit. First one `rt all check`
-proves the crates, and those below them, over what earlier checks on this machine kept. Then one `rt must-fail` a crate
-tries all of its edits over one check of it, crates side by side. A line says of each edit what its try came to, its
-seconds of processor time, and the first error that the prover told. An edit that an earlier run tried on the same files is
-kept by rt, and isn't tried again; --anew tries it too. --missing tries the crates that --released lists. --jobs says how
-many provers work side by side: RT_JOBS, or else one a processor, as far as each finds 5 GB of memory.
+Without NAME all edits of all crates are tried. It works in temporary clones of the last commit. First one `rt all check`
+proves the crates, and those below them, over what earlier checks on this machine kept. Then edits that change the bodies of
+different functions of a crate are tried together, in one check that tells of each function whether it is still proved
+(bench/batches.py), and one `rt must-fail` a crate tries the others one by one, crates side by side. --alone tries each one by
+one. A line says of each edit what its try came to, its seconds of processor time (of a check of many, its share), and what
+the prover told. An edit that an earlier `rt must-fail` tried on the same files is kept by rt, and isn't tried again; --anew
+tries it too. --missing tries the crates that --released lists. --jobs says how many provers work side by side: RT_JOBS, or
+else one a processor, as far as each finds 5 GB of memory.
 
 --write keeps what was seen in docs/EDITS.md, crate by crate as each ends. It leaves the rows of crates that weren't tried,
 drops those of edits that are gone, and has `not tried` for new ones.
@@ -28,6 +30,7 @@ no such crate.
 """
 import argparse
 import os
+import queue
 import re
 import resource
 import shutil
@@ -39,6 +42,7 @@ import time
 from concurrent.futures import ThreadPoolExecutor
 from pathlib import Path
 
+import batches
 import provers
 import verdicts
 from repository import TOP, files_of, uses_of, version_of, with_those_below
@@ -52,6 +56,7 @@ def options():
     parser.add_argument("names", nargs="*", metavar="NAME", help="a crate")
     parser.add_argument("--jobs", type=int, default=0, help="provers side by side")
     parser.add_argument("--write", action="store_true", help="keep what was seen in docs/EDITS.md")
+    parser.add_argument("--alone", action="store_true", help="try no edits together")
     parser.add_argument("--anew", action="store_true", help="also try what an earlier run tried")
     parser.add_argument("--missing", action="store_true", help="only the crates that --released lists")
     parser.add_argument("--released", action="store_true", help="only compare docs/EDITS.md with the files")
@@ -180,6 +185,7 @@ class Trial:
         self.sums = {it: verdicts.files_sum(clone, it, self.uses) for it in names}
         self.sections, self.last_run = verdicts.read_page(TOP)
         self.counts, self.lock, self.sampler = [], threading.Lock(), provers.Sampler(os.getpid())
+        self.lanes = queue.SimpleQueue()
 
     def cost(self, crate):
         """About what the edits of a crate cost, to begin with the dearest."""
@@ -187,42 +193,68 @@ class Trial:
 
     def try_all(self):
         """Tries the edits of all crates, crates side by side."""
+        for number in range(0 if self.given.alone else self.given.jobs):
+            self.lanes.put(batches.Lane(self.clone, self.clone.with_name(f"lane{number}")))
         lanes = max(1, self.given.jobs // len(self.names))
         with self.sampler, ThreadPoolExecutor(self.given.jobs) as pool:
             dearest_first = sorted(self.names, key=self.cost, reverse=True)
             for ended in [pool.submit(self.try_crate, it, lanes) for it in dearest_first]:
                 ended.result()
 
-    def try_crate(self, crate, lanes):
-        """Tries the edits of a crate and gives what was seen."""
-        alone = verdicts.folder_of(self.clone, crate, True)
-        alone.mkdir(exist_ok=True)
-        for edit in self.edits[crate]:
-            if not edit.of_gate:
-                shutil.copy2(edit.path, alone)
+    def try_together(self, crate):
+        """Tries the edits of a crate that can be tried together: the seconds of each that is refused, by its name."""
+        found, places, folder = {}, {}, self.clone / "crates" / crate
+        paths = {it.name: it.path for it in self.edits[crate]}
+        for name, path in paths.items():
+            place = batches.changed_function(folder, list(pairs_of(path.read_text())))
+            if place:
+                places[name] = place
+        lane = self.lanes.get()
+        for batch in batches.in_batches(places):
+            refused, seconds = lane.try_batch(crate, batch, lambda it: pairs_of(paths[it].read_text()))
+            found |= dict.fromkeys(refused, seconds / len(batch))
+        self.lanes.put(lane)
+        return found
+
+    def try_alone(self, crate, left, lanes):
+        """Tries these edits of a crate one by one: what rt said, and the minutes of processor time."""
+        texts, folder = {it.path.name: it.path.read_bytes() for it in left}, verdicts.folder_of(self.clone, crate, True)
+        shutil.rmtree(folder, ignore_errors=True)
+        folder.mkdir()
+        for name, text in texts.items():
+            (folder / name).write_bytes(text)
         words = ["rt", "must-fail", crate, *(["--anew"] if self.given.anew else [])]
         how = {"stdin": subprocess.DEVNULL, "stdout": subprocess.PIPE, "stderr": subprocess.STDOUT, "errors": "replace"}
         child = subprocess.Popen(words, cwd=self.clone, env={**os.environ, "RT_JOBS": str(lanes)}, **how)
         said = child.stdout.read()
         _, status, usage = os.wait4(child.pid, 0)
         child.returncode = os.waitstatus_to_exitcode(status)
+        return said, (usage.ru_utime + usage.ru_stime) / 60
+
+    def try_crate(self, crate, lanes):
+        """Tries the edits of a crate and gives what was seen."""
+        together = {} if self.given.alone else self.try_together(crate)
+        left = [it for it in self.edits[crate] if it.name not in together]
+        said, minutes = self.try_alone(crate, left, lanes) if left else ("", 0)
         shutil.rmtree(self.clone / "crates" / crate / "out/incremental", ignore_errors=True)
         with self.lock:
-            self.tell(crate, said, (usage.ru_utime + usage.ru_stime) / 60)
+            self.tell(crate, said, minutes + sum(together.values()) / 60, together, left)
 
-    def seconds_of(self, crate):
-        """The processor seconds of each edit of a crate that a prover was seen at, by its name."""
-        edits, found = self.edits[crate], {}
+    def seconds_of(self, crate, left):
+        """The processor seconds of each edit that was tried alone and that a prover was seen at, by its name."""
+        found = {}
         for work, seconds in self.sampler.seconds().items():
-            number = 0 if len(edits) == 1 else work.number
+            number = 0 if len(left) == 1 else work.number
             if work.crate == crate and work.kind == "edits" and number is not None:
-                found[edits[number].name] = f"{seconds:.0f}"
+                found[left[number].name] = f"{seconds:.0f}"
         return found
 
-    def tell(self, crate, said, minutes):
+    def tell(self, crate, said, minutes, together, left):
         """Prints what the tries of a crate came to, and puts it into the page."""
         lines = {it[1]: it[0] for it in re.findall(r"(?m)^(rt: must-fail \w+/([\w.-]+)\.edit: .*)$", said)}
-        was, seconds, rows = self.sections.get(crate, verdicts.Section()), self.seconds_of(crate), {}
+        lines |= {it: "refused, as it must be: a goal of its own function is open" for it in together}
+        seconds = {it: f"{much:.0f}" for it, much in together.items()} | self.seconds_of(crate, left)
+        was, rows = self.sections.get(crate, verdicts.Section()), {}
         for edit in self.edits[crate]:
             old = was.rows.get(edit.name, verdicts.Row(""))
             row = verdicts.Row(edit.stands, verdicts.verdict_in(lines.get(edit.name, "")), text=edit.text)

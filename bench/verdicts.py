@@ -28,7 +28,10 @@ and writes this page; nothing else does. Some stand in the gate (`crates/NAME/mu
 
 - `refused`: the crate isn't proved with the edit. `refused, by a limit`: the prover ended at a limit of its own without a
   verdict. `refused, by a name`: only a proof file that names what the edit took away is refused.
-- Refused at: the version at which the edit was last refused. Seconds: the processor time of the last try that was seen.
+- Edits of the bodies of different functions are tried in one check: such an edit is refused if a goal of its own function
+  stays open. The others, and those that such a check doesn't refuse, are tried one by one.
+- Refused at: the version at which the edit was last refused. Seconds: the processor time of the last try that was seen; of a
+  check of many edits, its share.
 - A verdict holds for the files that it was seen on. So a checksum stands with each crate, of its own files and of what the
   crates below it show: their definitions, facts, types and the clauses of their public functions. One of the edit's own text
   stands in its row. `bench/edits.py --released` compares both with the files as they are: on the same files a verdict of an

@@ -112,8 +112,10 @@ def copy_crates(to):
 
 
 def followed(folder, jobs, log, progress):
-    """Runs the builder to its end and tells how far it is: its exit status. It ends early if nobody listens any more."""
-    how = {"cwd": folder, "env": {**os.environ, "RT_JOBS": str(jobs)}, "preexec_fn": end_with_parent}
+    """Runs the builder to its end and tells how far it is: its exit status. It ends early if nobody listens any more. Without
+    a number of jobs rt itself shares the processors and the memory among the crates."""
+    environment = {**os.environ, **({"RT_JOBS": str(jobs)} if jobs else {})}
+    how = {"cwd": folder, "env": environment, "preexec_fn": end_with_parent}
     builder = subprocess.Popen(["rt", "ci"], stdin=subprocess.DEVNULL, stdout=log, stderr=log, **how)
     listener = Listener()
     try:
@@ -155,7 +157,7 @@ def passes_trial(program, log):
 def prove(jobs):
     """Proves and builds. The caller holds the lock."""
     began, progress = time.time_ns(), Progress()
-    announce(jobs)
+    announce(jobs or costs.jobs_here())
     with leaving_nothing() as room, LOG.open("w") as log:
         copy_crates(room)
         made = room / "crates" / CRATE.name / "out" / CRATE.name
@@ -179,6 +181,6 @@ def build(jobs=None):
             say("another call builds the program; waiting for it")
             fcntl.flock(lock, fcntl.LOCK_EX)
         if not current():
-            prove(jobs or costs.jobs_here())
+            prove(jobs)
             say("the program is proved and built")
     return current() or last()
