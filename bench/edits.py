@@ -45,7 +45,7 @@ from pathlib import Path
 import batches
 import provers
 import verdicts
-from repository import TOP, files_of, uses_of, version_of, with_those_below
+from repository import TOP, files_of, keep_only, uses_of, version_of, with_those_below
 from ends import run_main
 
 MEMORY = 5_000_000_000
@@ -155,16 +155,6 @@ def default_jobs():
         return max(1, int(os.environ["RT_JOBS"]))
     free = re.search(r"MemAvailable:\s+(\d+)", Path("/proc/meminfo").read_text())
     return max(1, min(len(os.sched_getaffinity(0)), 1024 * int(free[1]) // MEMORY))
-
-
-def keep_only(clone, names):
-    """Takes each crate out of a clone but these, so that rt proves no other."""
-    lines = (clone / "crates.txt").read_text().splitlines(keepends=True)
-    kept = [it for it in lines if it.startswith("#") or not it.split() or re.split(r"[\s:]", it)[0] in names]
-    (clone / "crates.txt").write_text("".join(kept))
-    for folder in (clone / "crates").iterdir():
-        if folder.name not in names:
-            shutil.rmtree(folder)
 
 
 def prove(clone, jobs):

@@ -1,13 +1,14 @@
 #!/usr/bin/env python3
 """Measures what each function of a crate costs to prove, in seconds of processor time, and prints the five dearest.
 
-    bench/functions.py [--all] [NAME ..]
+    bench/functions.py [--all] [--jobs N] [NAME ..]
 
-Without NAME each crate of crates.txt is measured, each after those that it uses. In a temporary clone of the last commit
-`rt check --jobs 1` proves the crate from nothing and keeps a file for each module that it checked. The processor time of
-the prover between one file and the next is put to the function that the module belongs to. So a crate costs one more proof,
-and the libraries below it are built first, over what earlier checks on this machine kept. A module that belongs to no
-function, such as a definition or a lemma, is in no row. --all prints every function that takes a second or more.
+Without NAME each crate of crates.txt is measured. In a temporary clone of the last commit one `rt all check` proves these
+crates from nothing, N of them side by side, one a processor without --jobs, and keeps a file for each module that it
+checked. The processor time of a crate's prover between one file and the next is put to the function that the module belongs
+to. So a crate costs one more proof, and the libraries below it are built first, over what earlier checks on this machine
+kept. A module that belongs to no function, such as a definition or a lemma, is in no row. --all prints every function that
+takes a second or more.
 
 The exit status is 0, or 1 if a crate isn't proved. It works on Linux alone.
 """
@@ -21,7 +22,7 @@ import tempfile
 from pathlib import Path
 
 from provers import Sampler, need_proc
-from repository import TOP, uses_of, with_those_below
+from repository import TOP, keep_only, uses_of, with_those_below
 from ends import run_main
 
 DEAREST = 5
@@ -30,6 +31,7 @@ DEAREST = 5
 def options():
     parser = argparse.ArgumentParser(description=__doc__, formatter_class=argparse.RawDescriptionHelpFormatter)
     parser.add_argument("names", nargs="*", metavar="NAME", help="a crate")
+    parser.add_argument("--jobs", type=int, default=0, help="crates side by side")
     parser.add_argument("--all", action="store_true", help="every function that takes a second or more")
     return parser.parse_args()
 
@@ -89,20 +91,12 @@ def costs_in(kept, crate, clock):
     return costs
 
 
-def measured(clone, crate, is_program):
-    """Proves a crate of a clone from nothing: the seconds of each function, or nothing if it isn't proved. With another
-    last line, and with a folder of its own for kept work, rt takes over nothing that a check kept elsewhere."""
-    folder = clone / "crates" / crate
-    root, kept = folder / "src" / ("main.rt" if is_program else "lib.rt"), folder / "out/incremental"
-    text = root.read_bytes()
-    kept.mkdir(parents=True)
-    root.write_bytes(text + b"// measured\n")
-    how = {"stdin": subprocess.DEVNULL, "stdout": subprocess.DEVNULL, "stderr": subprocess.DEVNULL}
-    child = subprocess.Popen(["rt", "check", "--jobs", "1"], cwd=folder, **how)
-    with Sampler(child.pid, crate) as sampler:
-        status = child.wait()
-    root.write_bytes(text)
-    return None if status else costs_in(kept, crate, Clock(sampler.moments))
+def begin_anew(folder):
+    """Has rt check a crate from nothing: with another last line, and with a folder of its own for kept work, rt takes over
+    nothing that a check kept elsewhere."""
+    root = next(it for it in (folder / "src/main.rt", folder / "src/lib.rt") if it.is_file())
+    root.write_bytes(root.read_bytes() + b"// measured\n")
+    (folder / "out/incremental").mkdir(parents=True)
 
 
 def dearest(costs, count=DEAREST):
@@ -110,13 +104,21 @@ def dearest(costs, count=DEAREST):
     return sorted(costs.items(), key=lambda it: -it[1])[:count]
 
 
-def measure_all(names):
-    """Measures crates, each after those that it uses, and gives a crate and its costs as each ends."""
+def measured(names, jobs):
+    """Proves crates from nothing: the seconds of each one's functions, or nothing for one that isn't proved."""
     with tempfile.TemporaryDirectory(prefix="auc-functions-") as room:
         clone = Path(room) / "clone"
         subprocess.run(["git", "clone", "-q", TOP, clone], check=True)
-        for crate in [it for it in with_those_below(names, uses_of(clone)) if it in names]:
-            yield crate, measured(clone, crate, (clone / "crates" / crate / "src/main.rt").is_file())
+        keep_only(clone, with_those_below(names, uses_of(clone)))
+        for it in names:
+            begin_anew(clone / "crates" / it)
+        how = {"stdin": subprocess.DEVNULL, "stdout": subprocess.PIPE, "stderr": subprocess.STDOUT, "text": True}
+        child = subprocess.Popen(["rt", "all", "check", "--jobs", str(jobs or os.cpu_count())], cwd=clone, **how)
+        with Sampler(child.pid, has_moments=True) as sampler:
+            proved = {*re.findall(r"(?m)^(\w+): ok$", child.communicate()[0])}
+        clocks = {it: Clock(sampler.moments.get(it, [(0, 0)])) for it in names}
+        kept = {it: clone / "crates" / it / "out/incremental" for it in names}
+        return {it: costs_in(kept[it], it, clocks[it]) if it in proved else None for it in names}
 
 
 def main():
@@ -127,7 +129,7 @@ def main():
         sys.exit(2)
     need_proc()
     unproved = []
-    for crate, costs in measure_all(given.names or list(uses)):
+    for crate, costs in measured(given.names or list(uses), given.jobs).items():
         if costs is None:
             unproved.append(crate)
             print(f"{crate}: not proved", file=sys.stderr, flush=True)

@@ -11,8 +11,8 @@ last fifth of a second is lost. What no prover used is the row before the last: 
 themselves, and rt. The sum is the processor time of the whole command, as the system counts it. --log says where the
 command's output goes; otherwise it goes to standard error.
 
---functions proves each crate once more after that, in a temporary clone of the last commit, to see what each function
-costs: rt ci keeps nothing that tells it. So it takes the processor time of all proofs again.
+--functions proves each crate once more after that, in a temporary clone of the last commit, crates side by side, to see
+what each function costs: rt ci keeps nothing that tells it. So it takes the processor time of all proofs again.
 
 --write puts the table into CONTRIBUTING.md, and what the first build of the program takes into README.md and
 CONTRIBUTING.md, each between its marks. That is the sum of the proofs of the crates that the program stands on, and what
@@ -179,7 +179,7 @@ def main():
     except OSError as error:
         sys.exit(f"{given.command[0]} could not be run: {error.strerror}")
     if given.functions and status == 0:
-        costs.functions = dict(functions.measure_all(sorted(costs.minutes)))
+        costs.functions = functions.measured(sorted(costs.minutes), 0)
     text = table(costs)
     print(text, end="")
     if given.write and status == 0:

@@ -80,12 +80,12 @@ def ticks_at_and_below(pid):
 
 class Sampler(threading.Thread):
     """Reads the ticks of all provers below one process, every fifth of a second. A prover's last fifth of a second is
-    lost. Of the provers of one crate, if it is given, it also keeps how many seconds they had used at each moment."""
+    lost. It also keeps how many seconds the provers of each crate had used at each moment, if it is asked to."""
 
-    def __init__(self, root, crate=None):
+    def __init__(self, root, has_moments=False):
         super().__init__(daemon=True)
-        self.root, self.crate, self.works, self.ticks, self.ended = root, crate, {}, {}, threading.Event()
-        self.moments = []
+        self.root, self.works, self.ticks, self.ended = root, {}, {}, threading.Event()
+        self.has_moments, self.moments = has_moments, {}
 
     def __enter__(self):
         self.start()
@@ -97,15 +97,21 @@ class Sampler(threading.Thread):
 
     def run(self):
         while not self.ended.is_set():
-            self.sample()
+            self.visit(self.root)
+            if self.has_moments:
+                self.note_moment()
             time.sleep(EVERY)
 
-    def sample(self):
-        """Takes one sample."""
-        self.visit(self.root)
-        if self.crate:
-            of_crate = [ticks for top, ticks in self.ticks.items() if self.works[top].crate == self.crate]
-            self.moments.append((time.time(), sum(of_crate) / TICKS))
+    def note_moment(self):
+        """Notes the seconds of each crate whose provers have used more since the last moment."""
+        sums, now = {}, time.time()
+        for top, ticks in self.ticks.items():
+            crate = self.works[top].crate
+            sums[crate] = sums.get(crate, 0) + ticks / TICKS
+        for crate, seconds in sums.items():
+            moments = self.moments.setdefault(crate, [])
+            if not moments or moments[-1][1] != seconds:
+                moments.append((now, seconds))
 
     def visit(self, pid):
         """Notes the ticks of the uppermost provers at and below a process."""

@@ -1,5 +1,6 @@
 """What the scripts of bench/ ask of the repository: its crates and what they stand on, its version, its pages."""
 import re
+import shutil
 import sys
 from pathlib import Path
 
@@ -35,6 +36,16 @@ def files_of(top, crate):
     """The files that a verdict on a crate rests on, apart from those of the crates below it."""
     folder = top / "crates" / crate
     return sorted(it for part in PARTS for it in (folder / part).rglob("*") if it.is_file())
+
+
+def keep_only(clone, names):
+    """Takes each crate out of a clone but these, so that rt proves no other."""
+    lines = (clone / "crates.txt").read_text().splitlines(keepends=True)
+    kept = [it for it in lines if it.startswith("#") or not it.split() or re.split(r"[\s:]", it)[0] in names]
+    (clone / "crates.txt").write_text("".join(kept))
+    for folder in (clone / "crates").iterdir():
+        if folder.name not in names:
+            shutil.rmtree(folder)
 
 
 def version_of(top):
