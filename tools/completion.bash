@@ -11,7 +11,7 @@ _auc() {
     case $form:$before in
         :--journal-dir | install:*) compopt -o filenames && mapfile -t COMPREPLY < <(compgen -d -- "$word") ;;
         run:*) compopt -o filenames && mapfile -t COMPREPLY < <(compgen -f -- "$word") ;;
-        :*) mapfile -t COMPREPLY < <(compgen -W "run reserved vector load install --journal-dir --version --help" -- "$word") ;;
+        :*) mapfile -t COMPREPLY < <(compgen -W "run reserved vector load install --journal-dir --progress --version --help" -- "$word") ;;
     esac
     if [[ $form:$before == install:install ]]; then
         mapfile -t -O "${#COMPREPLY[@]}" COMPREPLY < <(compgen -W "--remove" -- "$word")

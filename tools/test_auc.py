@@ -77,6 +77,25 @@ class Runs(Checkout):
             found = set(map(int, (self.room / "fds").read_text().split()))
             self.assertEqual(found, {0, 1, 2} - set(closed), closed)
 
+    def test_progress_is_told_and_output_and_status_are_the_programs(self):
+        ran = self.auc("--progress", "run", "x", SAYS="round 1\nvector\nround 2", STATUS=6)
+        self.assertEqual((ran.returncode, ran.stdout), (6, "round 1\nvector\nround 2\n"))
+        self.assertEqual(ran.stderr.splitlines()[0], "auc: 2 rounds are written, 3 lines")
+        slow = "#!/bin/sh\nfor it in 1 2 3; do echo round $it; sleep 0.6; done\n"
+        self.executable("top/crates/auc_cli/out/proved/auc", slow)
+        told = self.auc("--progress", "run", "x").stderr.splitlines()
+        self.assertEqual((len(told), told[-1]), (2, "auc: 3 rounds are written, 3 lines"))
+
+    def test_with_progress_an_output_that_fails_is_the_programs_write_fault(self):
+        many = "#!/bin/sh\ntrap '' PIPE\nfor it in 1 2 3; do echo round $it || exit 5; sleep 0.2; done\n"
+        for program in (many, "#!/bin/sh\necho round 1\n"):
+            self.executable("top/crates/auc_cli/out/proved/auc", program)
+            with open("/dev/full", "wb") as full:
+                self.assertEqual(self.auc("--progress", "run", "x", stdout=full).returncode, 5)
+        self.executable("top/crates/auc_cli/out/proved/auc", OPEN.format(self.room / "fds"))
+        self.auc("--progress", "run", "x", preexec_fn=lambda: os.close(1))
+        self.assertEqual((self.room / "fds").read_text().split(), ["0", "2"], "a closed output stays closed")
+
     def test_a_signal_ends_the_program_too(self):
         for number in (signal.SIGTERM, signal.SIGINT, signal.SIGHUP):
             self.executable("top/crates/auc_cli/out/proved/auc", f"#!/bin/sh\necho $$ >{self.room}/pid\nexec sleep 60\n")

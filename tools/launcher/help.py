@@ -20,6 +20,7 @@ FORMS = [
 ]
 OPTIONS = [
     ("--journal-dir DIR", f"the folder of the journal; so does the environment variable {FOLDER}"),
+    ("--progress", "tell on standard error, once a second, how many rounds and lines are written"),
     ("--old", "don't build: if the sources changed, run the program that was proved last"),
     ("--unproved", "run without any proof and without a journal, after about a minute"),
 ]
@@ -66,7 +67,7 @@ def help_text(installed=IS_INSTALLED):
     me = "auc" if installed else "./auc"
     forms, options = served(FORMS, installed), served(OPTIONS, installed)
     heads = [f"usage: {me} ", *[f"       {me} "] * (len(forms) - 1)]
-    lines = [*laid_out(heads, forms), "", "Options, before the first of these words:", *laid_out(["       "] * 3, options)]
+    lines = [*laid_out(heads, forms), "", "Options, before the first of these words:", *laid_out(["       "] * len(options), options)]
     builds = "" if installed else BUILDS.format(**minutes())
     status = STATUS.format(no_words=NO_WORDS, no_journal=NO_JOURNAL, not_run=NOT_RUN, guide=GUIDE, me=me, pages=PAGES)
     return "\n".join(lines) + "\n" + CENTRE + builds + status

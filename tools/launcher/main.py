@@ -24,6 +24,7 @@ class Options:
     folder: str = None
     old: bool = False
     unproved: bool = False
+    progress: bool = False
     words: list = field(default_factory=list)
 
 
@@ -33,7 +34,7 @@ def options(words):
         option, equals, value = words.pop(0).partition("=")
         if option == "--journal-dir" and (equals or words):
             given.folder = value if equals else words.pop(0)
-        elif option in ("--old", "--unproved") and not equals:
+        elif option in ("--old", "--unproved", "--progress") and not equals:
             setattr(given, option[2:], True)
         else:
             raise WrongWords
@@ -116,7 +117,7 @@ def run_proved(given):
         return NO_JOURNAL
     with chosen(given.old) as program:
         was_blank = is_blank(journal)
-        status = running.run(program, words)
+        status = (running.run_telling if given.progress else running.run)(program, words)
         if words[0] == "run" and was_blank and not is_blank(journal):
             say(f"a new journal was begun: {journal.absolute()}")
         explain(Call(program, words, given.words), status)

@@ -1,20 +1,26 @@
 """Runs a program in the caller's place: its descriptors, the signals that the script gets, and its exit status."""
+import os
+import re
 import signal
 import subprocess
+import time
 
 from .places import Stopped, say
 
 PASSED_ON = (signal.SIGINT, signal.SIGTERM, signal.SIGHUP)
 NAME = "auc"
+OUTPUT = 1
+WRITE_FAULT = 5
+CHUNK = 65536
 
 
-def started(program, words):
+def started(program, words, **how):
     """The program, started in this folder with the caller's descriptors as they are, also those that are closed. From then
     on it gets each signal that ends scripts; one that comes meanwhile waits."""
     before = signal.pthread_sigmask(signal.SIG_BLOCK, PASSED_ON)
     try:
         process = subprocess.Popen(
-            [NAME, *words], executable=program, preexec_fn=lambda: signal.pthread_sigmask(signal.SIG_SETMASK, before)
+            [NAME, *words], executable=program, preexec_fn=lambda: signal.pthread_sigmask(signal.SIG_SETMASK, before), **how
         )
         for number in PASSED_ON:
             if signal.getsignal(number) is not signal.SIG_IGN:
@@ -28,11 +34,68 @@ def started(program, words):
 
 def run(program, words):
     """Runs the program: its exit status, as a shell has it."""
-    status = started(program, words).wait()
+    return as_a_shell_has_it(started(program, words).wait())
+
+
+def as_a_shell_has_it(status):
     if status < 0:
         say(f"the program was ended by signal {-status}")
         return 128 - status
     return status
+
+
+class Progress:
+    """How much of a transcript is written. It is told at most once a second, and at the end."""
+
+    def __init__(self):
+        self.lines, self.rounds, self.rest, self.told_at = 0, 0, b"", time.monotonic()
+
+    def add(self, chunk):
+        whole, _, self.rest = (self.rest + chunk).rpartition(b"\n")
+        if whole:
+            lines = whole.split(b"\n")
+            self.lines += len(lines)
+            self.rounds += sum(re.match(rb"round \d", it) is not None for it in lines)
+        if time.monotonic() - self.told_at >= 1:
+            self.tell()
+
+    def tell(self):
+        self.told_at = time.monotonic()
+        say(f"{self.rounds} rounds are written, {self.lines} lines")
+
+
+def write_whole(chunk):
+    """Whether the bytes could be written to standard output."""
+    try:
+        while chunk:
+            chunk = chunk[os.write(OUTPUT, chunk):]
+    except OSError:
+        return False
+    return True
+
+
+def is_open(descriptor):
+    try:
+        os.fstat(descriptor)
+    except OSError:
+        return False
+    return True
+
+
+def run_telling(program, words):
+    """The same as run, and tells what is written. The output goes through the script; if it can't be written, the program
+    finds its own output closed. Lines that the program wrote before it could see that are lost too, so the status then is
+    the write fault's."""
+    if not is_open(OUTPUT):
+        return run(program, words)
+    process, progress, is_written = started(program, words, stdout=subprocess.PIPE), Progress(), True
+    while is_written and (chunk := os.read(process.stdout.fileno(), CHUNK)):
+        is_written = write_whole(chunk)
+        progress.add(chunk)
+    process.stdout.close()
+    status = as_a_shell_has_it(process.wait())
+    progress.tell()
+    return WRITE_FAULT if status == 0 and not is_written else status
 
 
 def printed(program, words, folder):
