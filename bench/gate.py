@@ -3,7 +3,6 @@
 the edits cost in minutes of processor time, and of its five dearest functions.
 
     bench/gate.py [--write] [--functions] [--log FILE] [-- COMMAND ..]
-    bench/gate.py --first-build
 
 COMMAND is `rt ci --anew`, unless it is given; it runs at the top of the repository. Every fifth of a second the
 processor time of each prover that it started is read from /proc and put to the crate that it works on, so a prover's
@@ -14,10 +13,7 @@ command's output goes; otherwise it goes to standard error.
 --functions proves each crate once more after that, in a temporary clone of the last commit, crates side by side, to see
 what each function costs: rt ci keeps nothing that tells it. So it takes the processor time of all proofs again.
 
---write puts the table into CONTRIBUTING.md, and what the first build of the program takes into README.md and
-CONTRIBUTING.md, each between its marks. That is the sum of the proofs of the crates that the program stands on, and what
-is reckoned of it on four processors, one crate on each, a crate after those that it uses. --first-build prints both in
-minutes, from the table in CONTRIBUTING.md, and runs nothing.
+--write puts the table into CONTRIBUTING.md, between its marks.
 
 The exit status is that of COMMAND; if that is 0, it is 1 if a function takes above 20 seconds or a crate above 6 minutes
 and DEAR has no reason for it, or if a crate was not proved once more. It works on Linux alone.
@@ -32,12 +28,11 @@ from pathlib import Path
 
 import functions
 from provers import Sampler, need_proc
-from repository import TOP, part_of, uses_of, version_of, with_those_below, write_part
+from repository import TOP, version_of, write_part
 from ends import run_main
 
 KINDS = ("proof", "tests", "seed", "edits")
-PROGRAM = "auc_cli"
-TABLE, FIRST_BUILD = "bench/gate.py", "bench/gate.py, the first build"
+TABLE = "bench/gate.py"
 MOST_SECONDS, MOST_MINUTES = 20, 6
 # What may be dearer, with its reason: a crate, or a function as `auc_peer::Peer::on_bytes`.
 DEAR = {}
@@ -45,9 +40,8 @@ DEAR = {}
 
 def options():
     parser = argparse.ArgumentParser(description=__doc__, formatter_class=argparse.RawDescriptionHelpFormatter)
-    parser.add_argument("--write", action="store_true", help="put the table and the figures into their pages")
+    parser.add_argument("--write", action="store_true", help="put the table into its page")
     parser.add_argument("--functions", action="store_true", help="prove each crate once more for its dearest functions")
-    parser.add_argument("--first-build", action="store_true", help="print the minutes of the first build, by the table")
     parser.add_argument("--log", type=Path, help="where the command's output goes")
     parser.add_argument("command", nargs="*", default=["rt", "ci", "--anew"])
     return parser.parse_args()
@@ -75,50 +69,6 @@ class Costs:
             for function, seconds in functions.dearest(costs or {}):
                 if seconds > MOST_SECONDS:
                     yield f"{crate}::{functions.label_of(function)}", f"{seconds:.0f} seconds"
-
-
-# ---- the first build
-
-
-def on_processors(minutes, uses, count):
-    """How long proofs take on so many processors, one crate on each, a crate after those that it uses. First comes the one
-    with the longest chain of others above it."""
-    above = {it: [other for other in minutes if it in uses[other]] for it in minutes}
-    chain = {}
-    for it in reversed(with_those_below(minutes, uses)):
-        chain[it] = minutes[it] + max((chain[other] for other in above[it]), default=0)
-    left, running, ended, now = set(minutes), {}, set(), 0
-    while left or running:
-        for it in sorted(left, key=lambda it: -chain[it]):
-            if len(running) < count and ended.issuperset(uses[it]):
-                running[it] = now + minutes[it]
-        left -= running.keys()
-        now = min(running.values())
-        ended |= {it for it, end in running.items() if end <= now}
-        running = {it: end for it, end in running.items() if end > now}
-    return now
-
-
-def first_build(proofs):
-    """The processor minutes of the first build, and its minutes on four processors, by the proof of each crate."""
-    uses = uses_of(TOP)
-    minutes = {it: proofs.get(it, 0) for it in with_those_below([PROGRAM], uses)}
-    return sum(minutes.values()), on_processors(minutes, uses, 4)
-
-
-def proofs_in_table():
-    """The minutes of each crate's proof, by the table in CONTRIBUTING.md."""
-    part = part_of(TOP / "CONTRIBUTING.md", TABLE)[1]
-    return {name: float(minutes) for name, minutes in re.findall(r"(?m)^\| `(\w+)` \| ([\d.]+) \|", part)}
-
-
-def first_build_text():
-    """What README.md and CONTRIBUTING.md say of the first build."""
-    whole, on_four = first_build(proofs_in_table())
-    return (
-        f"The first build proves every crate that the program stands on. That takes {whole:.0f} minutes of processor time\n"
-        f"and, reckoned from the time of each crate, {on_four:.0f} minutes on four free processors.\n"
-    )
 
 
 # ---- the table
@@ -169,9 +119,6 @@ def status_of(costs):
 
 def main():
     given = options()
-    if given.first_build:
-        print("{:.0f} {:.0f}".format(*first_build(proofs_in_table())))
-        sys.exit(0)
     need_proc()
     log = given.log.open("w") if given.log else sys.stderr
     try:
@@ -184,8 +131,6 @@ def main():
     print(text, end="")
     if given.write and status == 0:
         write_part(TOP / "CONTRIBUTING.md", TABLE, text)
-        for page in ("README.md", "CONTRIBUTING.md"):
-            write_part(TOP / page, FIRST_BUILD, first_build_text())
     sys.exit(status or status_of(costs))
 
 

@@ -42,7 +42,9 @@ OPEN = """#!/bin/sh
 exec 9>{}
 for place in 0 1 2 3 4 5 6 7 8; do [ ! -e /proc/$$/fd/$place ] || echo $place >&9; done
 """
-TABLE = """<!-- begin: bench/gate.py -->
+TABLE = """At version 1.2.3 it took 60 minutes of
+processor time, and 24 minutes on 4 free processors.
+<!-- begin: bench/gate.py -->
 | Crate | Proof | Tests | Together |
 |---|---:|---:|---:|
 | `auc_low` | 30.0 | 9.0 | 39.0 |

@@ -4,6 +4,7 @@
 The exit status is 0 only if each test passes.
 """
 import fcntl
+import math
 import os
 import re
 import resource
@@ -14,10 +15,10 @@ import time
 import unittest
 
 from ends import run_main
-from launcher import explain
+from launcher import costs, explain
 from small_checkout import OPEN, PIPES, SECONDS, TOP, Checkout, as_a_user
 
-WRONG = ["", "rnu", "--hlep", "-x run", "--old", "--journal-dir", "prove x", "prove --jobs 0", "--version x"]
+WRONG = ["", "rnu", "--hlep", "-x run", "--old", "--journal-dir", "prove x", "prove --jobs 0", "prove --jobs", "--version x"]
 K, OPC = "465b5ce8b199b49faa5f0a2ee238a6bc", "cd63cb71954a9f4e48a5994e37a02baf"
 RECORD = f"001010000000001,{K},opc,{OPC},8000,0,0"
 HEADER = "imsi,k,kind,op,amf,seq,usim"
@@ -48,8 +49,9 @@ class Words(Checkout):
 
     def test_help_has_the_minutes_of_the_table(self):
         said = self.auc("--help").stdout
-        self.assertIn("about 31 minutes of processor time", said)
-        self.assertRegex(said, r"31 minutes on this machine, and 31 on four\s+processors")
+        self.assertIn("about 60 minutes of processor time", said)
+        self.assertRegex(said, r"\d+ minutes on this machine, and 24 on\s+4 processors")
+        self.assertEqual([math.ceil(costs.Build(60, 24, 4).minutes(it)) for it in (1, 2, 4, 12)], [60, 36, 24, 16])
 
     def test_version_is_that_of_the_changelog_and_tells_whether_it_is_proved(self):
         self.assertRegex(self.auc("--version").stdout, r"^auc 1\.2\.3\nnot proved: ")
@@ -302,7 +304,7 @@ class Builds(Checkout):
         self.assertEqual(self.noted()[0], "ci")
         self.assertEqual(self.noted()[1], "jobs=", "rt shares the processors")
         self.assertRegex(self.noted()[2], r": vector ")
-        self.assertRegex(ran.stderr, r"(side by side|one crate after the other): 31 minutes of processor time, about 31 minutes in")
+        self.assertRegex(ran.stderr, r"(side by side|one crate after the other): 60 minutes of processor time, about \d+ minutes in")
         self.assertEqual([int(it) for it in re.findall(r"(\d+) percent", ran.stderr)], [96, 100])
         self.assertEqual(self.auc("run", "x").stderr, "")
         self.assertEqual(len(self.noted()), 5, "the second call builds nothing")
@@ -311,6 +313,9 @@ class Builds(Checkout):
         self.assertEqual(self.auc("prove", "--jobs", "3").returncode, 0)
         self.assertEqual((len(self.noted()), self.noted()[:2]), (3, ["ci", "jobs=3"]))
         self.assertIn("proved/auc", self.auc("prove").stderr)
+        self.assertEqual(len(self.noted()), 3, "a current program isn't built again")
+        self.assertEqual(self.auc("prove", "--anew").returncode, 0)
+        self.assertEqual(self.noted()[3:5], ["ci --anew", "jobs="])
 
     def test_the_builder_gets_the_programs_crates_alone(self):
         others = ["auc_low/out/x.rt", "auc_low/must-fail/x.edit", "auc_tests/src/lib.rt"]

@@ -17,6 +17,7 @@ import subprocess
 import sys
 import tempfile
 import time
+from dataclasses import dataclass
 from pathlib import Path
 
 from . import costs, sources
@@ -111,12 +112,13 @@ def copy_crates(to):
         shutil.copytree(crate, to / "crates" / name, ignore=lambda at, _, left=left: left.get(str(at), ()))
 
 
-def followed(folder, jobs, log, progress):
+def followed(folder, given, log, progress):
     """Runs the builder to its end and tells how far it is: its exit status. It ends early if nobody listens any more. Without
     a number of jobs rt itself shares the processors and the memory among the crates."""
-    environment = {**os.environ, **({"RT_JOBS": str(jobs)} if jobs else {})}
+    environment = {**os.environ, **({"RT_JOBS": str(given.jobs)} if given.jobs else {})}
     how = {"cwd": folder, "env": environment, "preexec_fn": end_with_parent}
-    builder = subprocess.Popen(["rt", "ci"], stdin=subprocess.DEVNULL, stdout=log, stderr=log, **how)
+    words = ["rt", "ci", *(["--anew"] if given.anew else [])]
+    builder = subprocess.Popen(words, stdin=subprocess.DEVNULL, stdout=log, stderr=log, **how)
     listener = Listener()
     try:
         while builder.poll() is None:
@@ -132,11 +134,11 @@ def followed(folder, jobs, log, progress):
 
 
 def announce(jobs):
-    work, here = math.ceil(costs.processor_minutes()), math.ceil(costs.minutes(jobs))
+    measured = costs.build()
     how = f"{jobs} crates side by side" if jobs > 1 else "one crate after the other"
     say(
-        f"proving and building the program, {how}: {work} minutes of processor time, about {here} minutes in all, less if"
-        f" some crates are proved; the log is {LOG}"
+        f"proving and building the program, {how}: {measured.work} minutes of processor time, about"
+        f" {math.ceil(measured.minutes(jobs))} minutes in all, less if some crates are proved; the log is {LOG}"
     )
 
 
@@ -154,14 +156,14 @@ def passes_trial(program, log):
         return False
 
 
-def prove(jobs):
+def prove(given):
     """Proves and builds. The caller holds the lock."""
     began, progress = time.time_ns(), Progress()
-    announce(jobs or costs.jobs_here())
+    announce(given.jobs or costs.jobs_here())
     with leaving_nothing() as room, LOG.open("w") as log:
         copy_crates(room)
         made = room / "crates" / CRATE.name / "out" / CRATE.name
-        if followed(room, jobs, log, progress) != 0 or not passes_trial(made, log):
+        if followed(room, given, log, progress) != 0 or not passes_trial(made, log):
             raise Stopped(
                 f"the program was not built; see {LOG}. If the memory ran out, `./auc prove --jobs 1` takes less"
             )
@@ -170,7 +172,15 @@ def prove(jobs):
         keep(made)
 
 
-def build(jobs=None):
+@dataclass
+class Options:
+    """How to build: with so many crates side by side, and whether a crate is proved anew that an earlier run passed."""
+
+    jobs: int = None
+    anew: bool = False
+
+
+def build(given=Options()):
     """The proved program of the sources at hand. If another call builds it already, this one waits for it."""
     need_rt()
     PROVED.parent.mkdir(parents=True, exist_ok=True)
@@ -180,7 +190,7 @@ def build(jobs=None):
         except BlockingIOError:
             say("another call builds the program; waiting for it")
             fcntl.flock(lock, fcntl.LOCK_EX)
-        if not current():
-            prove(jobs)
+        if given.anew or not current():
+            prove(given)
             say("the program is proved and built")
     return current() or last()

@@ -1,10 +1,12 @@
-"""What a build costs: the minutes of processor time that CONTRIBUTING.md has for each crate's proof."""
+"""What a build costs, by CONTRIBUTING.md: the minutes of the whole build, and of each crate's proof."""
 import os
 import re
+from typing import NamedTuple
 
 from .places import TOP
 
 TABLE = re.compile(r"<!-- begin: bench/gate\.py -->\n(.*?)<!-- end: bench/gate\.py -->", re.S)
+MEASURED = re.compile(r"it took (\d+) minutes of\s+processor time, and (\d+) minutes on (\d+) free processors")
 PROGRAM = "auc_cli"
 # The memory for one prover, in KiB.
 PROVER = 3 * 1024 * 1024
@@ -30,9 +32,13 @@ def crates_of_program():
     return found
 
 
+def page():
+    return (TOP / "CONTRIBUTING.md").read_text(encoding="utf-8")
+
+
 def minutes_by_crate():
     """The minutes of each crate of the program. A crate that the table doesn't have counts as one minute."""
-    block = TABLE.search((TOP / "CONTRIBUTING.md").read_text(encoding="utf-8"))
+    block = TABLE.search(page())
     found, column = {}, None
     for line in block[1].splitlines() if block else []:
         cells = [it.strip(" `") for it in line.strip("|").split("|")]
@@ -43,17 +49,25 @@ def minutes_by_crate():
     return {it: found.get(it, 1.0) for it in crates_of_program()}
 
 
-def processor_minutes():
-    return sum(minutes_by_crate().values())
+class Build(NamedTuple):
+    """A build that was measured: its minutes of processor time, and by the clock on so many processors."""
+
+    work: int
+    wall: int
+    processors: int
+
+    def minutes(self, processors):
+        """What it takes on so many: a part can't be shared, and the rest is."""
+        if self.processors == 1:
+            return self.work
+        alone = max(0, (self.processors * self.wall - self.work) / (self.processors - 1))
+        return alone + (self.work - alone) / processors
 
 
-def minutes(jobs):
-    """How long a build takes with so many crates side by side: the sum over the jobs, or the longest chain of crates that
-    wait for each other."""
-    used, alone, chain = uses(), minutes_by_crate(), {}
-    for crate, own in alone.items():
-        chain[crate] = own + max((chain[it] for it in used[crate] if it in chain), default=0)
-    return max(sum(alone.values()) / jobs, max(chain.values()))
+def build():
+    """The build that was measured last."""
+    found = MEASURED.search(page())
+    return Build(*map(int, found.groups())) if found else Build(60, 60, 1)
 
 
 def jobs_here():

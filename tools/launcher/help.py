@@ -12,7 +12,7 @@ FORMS = [
     ("reserved", "print up to which number each subscriber's numbers are reserved"),
     ("vector K OPC RAND SQN AMF", "print the functions of Milenage at these hexadecimal values"),
     ("load KEY SUBSCRIBERS JOBS WORKERS", "let workers draw in many jobs, and print a digest of the vectors"),
-    ("prove [--jobs N]", "prove and build the program here, N crates side by side"),
+    ("prove [--jobs N] [--anew]", "prove and build the program here, N crates side by side"),
     ("install PREFIX", "install the program, its pages and its tools under the folder PREFIX"),
     ("install --remove PREFIX", "take away what was installed there"),
     ("--version", "print the version, and whether the program is proved"),
@@ -34,8 +34,8 @@ is the centre: the same files in another folder give the same numbers once more.
 """
 BUILDS = """
 The proved program of the last release runs at once. If the sources aren't those of the release, the first call proves and
-builds the program. That takes about {work} minutes of processor time: {here} minutes on this machine, and {four} on four
-processors.
+builds the program. That takes about {work} minutes of processor time: {here} minutes on this machine, and {measured} on
+{processors} processors.
 """
 STATUS = """
 The status is the program's; but it is {no_words} for words that aren't here, {no_journal} for `reserved` in a folder
@@ -59,8 +59,9 @@ def laid_out(heads, rows):
 
 def minutes():
     """What a build costs."""
-    found = costs.processor_minutes(), costs.minutes(costs.jobs_here()), costs.minutes(4)
-    return dict(zip(("work", "here", "four"), map(math.ceil, found)))
+    found = costs.build()
+    here = math.ceil(found.minutes(costs.jobs_here()))
+    return {"work": found.work, "here": here, "measured": found.wall, "processors": found.processors}
 
 
 def help_text(installed=IS_INSTALLED):

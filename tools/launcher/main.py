@@ -149,15 +149,19 @@ def run_unproved(given):
 
 
 def prove(words):
-    """The words after `prove`: none, or --jobs N."""
-    jobs = None
-    if words:
-        if len(words) != 2 or words[0] != "--jobs" or not words[1].isdecimal() or int(words[1]) == 0:
+    """The words after `prove`: --jobs N and --anew, if they are there."""
+    given, words = build.Options(), list(words)
+    while words:
+        word = words.pop(0)
+        if word == "--anew":
+            given.anew = True
+        elif word == "--jobs" and words and words[0].isdecimal() and int(words[0]) > 0:
+            given.jobs = int(words.pop(0))
+        else:
             raise WrongWords
-        jobs = int(words[1])
     if IS_INSTALLED:
         install.stop_building()
-    say(f"the proved program is {build.build(jobs)}")
+    say(f"the proved program is {build.build(given)}")
     return 0
 
 
