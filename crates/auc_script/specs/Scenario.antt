@@ -29,8 +29,7 @@
 --
 -- All lines together ask for 1000000 vectors at most, a session for two. The lines of sessions in a job count for 1000000
 -- packets at most, a plain for 40 and each other for one. A line without a word and a comment say nothing.
--- What isn't served so far is told before all else: tamper and cut, and a session of seven fields whose OPTIONS are such
--- letters, of which one is r.
+-- What isn't served so far is told before all else: tamper and cut.
 use Rattle.std.specs.Prelude.{ℕ, ◌+◌, ◌==◌, ◌++◌, ◌&&◌, not, nat_le, nat_lt, Bool, false, List, [], ◌∷◌, length, Option, Some, None, is_some, Result, Ok, Err, if◌then◌else◌}
 use Rattle.std.specs.List.{join_with_byte, list_any}
 use Rattle.std.specs.Option.{ok_or, option_to_list}
