@@ -1,10 +1,95 @@
--- A resynchronisation and then a number, as what one turn asked a centre.
-use Rattle.std.proofs.Common.{◌≡◌, ◌≢◌, ℕ, List, [], ◌++◌, Option, Some, sym, ◌∙◌, subst}
+-- What a turn asks a centre for: a resynchronisation and then a number, or nothing.
+use Rattle.std.proofs.Common.{◌≡◌, ◌≢◌, ◌≤◌, ℕ, Bool, false, List, [], ◌++◌, Option, Some, None, is_some, refl, sym, ap, ◌∙◌, subst}
 use Rattle.auc_edge.specs.declared.stop.Stop.{Stop}
 use Rattle.auc_history.specs.declared.entry.Entry.{Entry}
-use Rattle.auc_vector.specs.Notes.{AnswersNumber, AnswersReport, AskedOf, entries_noted, entries_resynced, kept_noted, withheld_noted}
+use Rattle.auc_vector.specs.Notes.{AnswersNote, AnswersNumber, AnswersReport, AskedOf, entries_noted, entries_resynced, kept_noted, withheld_noted}
 use Rattle.auc_vector.specs.declared.notes.Notes.{Notes}
+use Rattle.auc_vector.specs.declared.notes.NumberNote.{NumberNote}
+use Rattle.auc_vector.specs.declared.notes.NumberNote.TheVariants as number
 use Rattle.auc_vector.specs.declared.notes.ResyncNote.{ResyncNote}
+use Rattle.auc_vector.specs.declared.turn.Turn.{Turn}
+use Rattle.auc_reauth.specs.declared.context.Context.{Context}
+use Rattle.auc_sqn.specs.Number.{max_seq}
+use Rattle.auc_server.specs.Contexts.{context_in, homes_left}
+use Rattle.auc_server.specs.InnerServer.{IsNumbered}
+use Rattle.auc_server.specs.Server.{ServerEnd}
+use Rattle.auc_server.specs.Setting.{Setting}
+use Rattle.auc_server.specs.Steps.{AsksAsNeeded, asking}
+use Rattle.auc_server.specs.Table.{reauthenticated, resumed_with, server_does, succeeded}
+use Rattle.auc_server.specs.declared.rows.Row.{Row}
+use Rattle.auc_server.specs.declared.rows.Row.TheVariants as row
+use Rattle.auc_server.specs.declared.server.Challenged.{Challenged}
+use Rattle.auc_server.specs.declared.server.Resumed.{Resumed}
+use Rattle.auc_server.specs.declared.setting.HomeRow.{HomeRow}
+use Rattle.auc_server.specs.declared.why.ServerWhy.{ServerWhy}
+
+-- a centre draws a number of the subscriber, whose greatest number is that of all
+pub numbered : (top : ℕ) (kept : Option ℕ) (drawn : NumberNote) → top ≡ max_seq → AnswersNote top kept drawn → IsNumbered drawn
+numbered top kept (number.Drew n) greatest answer = (answer.1, subst (λ (t : ℕ). n ≤ t) greatest answer.2)
+numbered top kept (number.Exhausted w) greatest answer = tt
+numbered top kept (number.Withheld n stop) greatest answer = tt
+
+-- a row asks for nothing unless it is one of three
+pub asks_alone : (r : Row) → ((sub : ℕ) → r ≡ row.Challenge sub → ⊥) → ((sub : ℕ) → r ≡ row.TooSmall sub → ⊥) → ((sub seq : ℕ) → r ≡ row.Resynchronise sub seq → ⊥)
+    → asking r ≡ None
+asks_alone (row.Challenge sub) first instead again = absurd (first sub refl)
+asks_alone (row.TooSmall sub) first instead again = absurd (instead sub refl)
+asks_alone (row.Resynchronise sub seq) first instead again = absurd (again sub seq refl)
+asks_alone (row.Resume sub) first instead again = refl
+asks_alone row.Success first instead again = refl
+asks_alone row.Reauthenticated first instead again = refl
+asks_alone (row.Ignore cause) first instead again = refl
+asks_alone (row.Ask kind) first instead again = refl
+asks_alone row.UnknownIdentity first instead again = refl
+asks_alone row.WrongMac first instead again = refl
+asks_alone row.WrongCounter first instead again = refl
+asks_alone row.WrongRes first instead again = refl
+asks_alone row.WrongCheckcode first instead again = refl
+asks_alone row.SecondSync first instead again = refl
+asks_alone row.BadAuts first instead again = refl
+asks_alone row.Rejected first instead again = refl
+asks_alone (row.ClientError code) first instead again = refl
+asks_alone (row.Notified cause) first instead again = refl
+
+-- whether a turn notes a number
+abbrev draws : ServerEnd × Turn ServerWhy → Bool
+draws t = is_some t.1.notes.number
+
+resumed_draws : (set : Setting) (left : List HomeRow) (s : ServerEnd) (text : List ℕ) (packets : List (List ℕ)) (sub : ℕ) (c : Option Context)
+    → draws (resumed_with set left s text packets sub c) ≡ false
+resumed_draws set left s text packets sub None = refl
+resumed_draws set left s text packets sub (Some c) = refl
+
+succeeded_draws : (s : ServerEnd) (c : Option Challenged) → draws (succeeded s c) ≡ false
+succeeded_draws s None = refl
+succeeded_draws s (Some sent) = refl
+
+renewed_draws : (s : ServerEnd) (c : Option Resumed) → draws (reauthenticated s c) ≡ false
+renewed_draws s None = refl
+renewed_draws s (Some sent) = refl
+
+-- a row that asks for nothing notes no number
+pub draws_alone : (set : Setting) (homes : List HomeRow) (s new : ServerEnd) (turn : Turn ServerWhy) (text : List ℕ) (packets : List (List ℕ)) (r : Row) → asking r ≡ None
+    → (new, turn) ≡ server_does set homes s text packets r turn.notes → AsksAsNeeded r turn.notes
+draws_alone set homes s new turn text packets (row.Challenge sub) alone step = absurd cc
+draws_alone set homes s new turn text packets (row.TooSmall sub) alone step = absurd cc
+draws_alone set homes s new turn text packets (row.Resynchronise sub seq) alone step = absurd cc
+draws_alone set homes s new turn text packets (row.Resume sub) alone step =
+    ap draws step ∙ resumed_draws set (homes_left s.options.method text homes sub) s text packets sub (context_in s.options.method text homes sub)
+draws_alone set homes s new turn text packets row.Success alone step = ap draws step ∙ succeeded_draws s s.challenged
+draws_alone set homes s new turn text packets row.Reauthenticated alone step = ap draws step ∙ renewed_draws s s.resumed
+draws_alone set homes s new turn text packets (row.Ignore cause) alone step = ap draws step
+draws_alone set homes s new turn text packets (row.Ask kind) alone step = ap draws step
+draws_alone set homes s new turn text packets row.UnknownIdentity alone step = ap draws step
+draws_alone set homes s new turn text packets row.WrongMac alone step = ap draws step
+draws_alone set homes s new turn text packets row.WrongCounter alone step = ap draws step
+draws_alone set homes s new turn text packets row.WrongRes alone step = ap draws step
+draws_alone set homes s new turn text packets row.WrongCheckcode alone step = ap draws step
+draws_alone set homes s new turn text packets row.SecondSync alone step = ap draws step
+draws_alone set homes s new turn text packets row.BadAuts alone step = ap draws step
+draws_alone set homes s new turn text packets row.Rejected alone step = ap draws step
+draws_alone set homes s new turn text packets (row.ClientError code) alone step = ap draws step
+draws_alone set homes s new turn text packets (row.Notified cause) alone step = ap draws step
 
 module _ {S : Type 0} (goes : S → ℕ → List Entry → List (ℕ × Stop) → S → Type 0) (kept : S → ℕ → Option ℕ) (top : S → ℕ → ℕ)
     (joins : (a b c : S) (i : ℕ) (es fs : List Entry) (ws vs : List (ℕ × Stop)) → goes a i es ws b → goes b i fs vs c → goes a i (es ++ fs) (ws ++ vs) c) where

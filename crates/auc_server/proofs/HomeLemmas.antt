@@ -1,28 +1,36 @@
--- The homes, for the rows that ask the centre.
+-- The homes: whose they are, for the rows that ask the centre, and after a turn.
 use Rattle.std.proofs.Common.{◌≡◌, ℕ, ◌<◌, ◌==◌, ◌||◌, Bool, true, false, List, [], ◌∷◌, length, map, Option, Some, None, IfSome, All, arith, refl, sym, ap, ◌∙◌, subst}
 use Rattle.std.proofs.lemmas.Bool.Decides.{nat_tests}
 use Rattle.std.proofs.Math.Seq.{map-set_same}
 use Rattle.std.proofs.lemmas.List.Elements.{All-cons, All-head, All-map, All-nil, All-tail, All-weaker}
 use Rattle.std.specs.List.{list_any}
 use Rattle.auc_subs.specs.declared.row.Row as rows
+use Rattle.auc_vector.specs.declared.notes.Notes.{Notes}
 use Rattle.auc_vector.specs.declared.notes.NumberNote.{NumberNote}
 use Rattle.auc_vector.specs.declared.notes.NumberNote.TheVariants as number
+use Rattle.auc_vector.specs.declared.notes.ResyncNote.{ResyncNote}
+use Rattle.auc_vector.specs.declared.notes.ResyncNote.TheVariants as resync
+use Rattle.auc_vector.specs.declared.parts.Vector.{Vector}
+use Rattle.auc_vector.specs.declared.turn.Turn.{Turn}
 use Rattle.auc_server.specs.InnerRows.{IsHeldRow, IsRowOf}
 use Rattle.auc_hmac.specs.declared.method.Method.{Method}
 use Rattle.auc_reauth.specs.declared.context.Context.{Context}
 use Rattle.auc_reauth.specs.Server.{no_contexts}
-use Rattle.auc_server.specs.Contexts.{context_after, context_of, gives_next, homes_kept, homes_left, homes_resumed, homes_rewon, homes_won, with_context, with_context_at, without, without_at}
+use Rattle.auc_server.specs.Contexts.{context_after, context_in, context_of, gives_next, homes_kept, homes_left, homes_resumed, homes_rewon, homes_won, with_context, with_context_at, without, without_at}
 use Rattle.auc_server.specs.Ordinals.{home_at, home_place, homes_given, homes_with, ordinal_after, with_next}
 use Rattle.auc_server.specs.Rows.{is_held}
 use Rattle.auc_server.specs.Server.{ServerEnd}
 use Rattle.auc_server.specs.Steps.{IsHeld, IsHeldToo, IsHome, IsServed}
-use Rattle.auc_server.specs.Table.{homes_challenged, homes_named}
+use Rattle.auc_server.specs.Setting.{Setting}
+use Rattle.auc_server.specs.Table.{challenged, challenged_with, homes_challenged, homes_done, homes_named, identified, names_given, noted, reauthenticated, resumed_with, resynchronised, resynchronising, server_does, succeeded, vector_at}
+use Rattle.auc_server.specs.declared.naming.GivenNames.{GivenNames}
 use Rattle.auc_server.specs.declared.options.ServerOptions.{ServerOptions}
 use Rattle.auc_server.specs.declared.rows.Row.{Row}
 use Rattle.auc_server.specs.declared.rows.Row.TheVariants as row
 use Rattle.auc_server.specs.declared.server.Challenged.{Challenged}
 use Rattle.auc_server.specs.declared.server.Resumed.{Resumed}
 use Rattle.auc_server.specs.declared.setting.HomeRow.{HomeRow}
+use Rattle.auc_server.specs.declared.why.ServerWhy.{ServerWhy}
 
 -- numbers that are tested as equal are
 same_number : (m n : ℕ) → (m == n) ≡ true → m ≡ n
@@ -170,26 +178,106 @@ held_too_again : (homes later : List HomeRow) (c : Option Resumed) → ((j : ℕ
 held_too_again homes later None same held = tt
 held_too_again homes later (Some sent) same held = same sent.sub ∙ held
 
--- what a server needs, after the homes changed, but not whose they are
-pub served_again : (all : List rows.Row) (subs subs' : ℕ) (top top' : ℕ → ℕ) (homes later : List HomeRow) (s new : ServerEnd)
-    → subs' ≡ subs → ((i : ℕ) → top' i ≡ top i) → map (λ (home : HomeRow). home.sub) later ≡ map (λ (home : HomeRow). home.sub) homes
-    → ((held : List HomeRow) → IsHeld held s.challenged → ((j : ℕ) → is_held held j ≡ is_held homes j) → IsHeld held new.challenged)
-    → ((held : List HomeRow) → IsHeldToo held s.resumed → ((j : ℕ) → is_held held j ≡ is_held homes j) → IsHeldToo held new.resumed)
-    → IsServed all subs top homes s → IsServed all subs' top' later new
-served_again all subs subs' top top' homes later s new same alike is keeps renews served =
+-- ---- what a server needs after a turn
+
+-- no turn changes whose the homes are
+done_subs : (homes : List HomeRow) (s : ServerEnd) (text : List ℕ) (r : Row) (notes : Notes)
+    → map (λ (home : HomeRow). home.sub) (homes_done homes s text r notes) ≡ map (λ (home : HomeRow). home.sub) homes
+done_subs homes s text (row.Challenge sub) notes = challenged_subs s.options homes sub notes.number
+done_subs homes s text (row.Resume sub) notes = resumed_subs s.options text homes sub (context_in s.options.method text homes sub)
+done_subs homes s text (row.TooSmall sub) notes = challenged_subs s.options homes sub notes.number
+done_subs homes s text (row.Resynchronise sub seq) notes = challenged_subs s.options homes sub notes.number
+done_subs homes s text row.Success notes = won_subs s.options.method homes s.challenged
+done_subs homes s text row.Reauthenticated notes = rewon_subs s.options.method homes s.resumed
+done_subs homes s text (row.Ignore cause) notes = refl
+done_subs homes s text (row.Ask kind) notes = refl
+done_subs homes s text row.UnknownIdentity notes = refl
+done_subs homes s text row.WrongMac notes = refl
+done_subs homes s text row.WrongCounter notes = refl
+done_subs homes s text row.WrongRes notes = refl
+done_subs homes s text row.WrongCheckcode notes = refl
+done_subs homes s text row.SecondSync notes = refl
+done_subs homes s text row.BadAuts notes = refl
+done_subs homes s text row.Rejected notes = refl
+done_subs homes s text (row.ClientError code) notes = refl
+done_subs homes s text (row.Notified cause) notes = refl
+
+-- whom a server has challenged or re-authenticates is one of the homes
+abbrev Holds : List HomeRow → ServerEnd → Type 0
+Holds homes s = IsHeld homes s.challenged × IsHeldToo homes s.resumed
+
+with_holds : (homes : List HomeRow) (realm : List ℕ) (s : ServerEnd) (sub n : ℕ) (v : Option Vector) (given : Option GivenNames) (notes : Notes) (checked : Bool)
+    → is_held homes sub ≡ true → Holds homes s → Holds homes (challenged_with realm s sub n v given notes checked).0
+with_holds homes realm s sub n None given notes checked held was = was
+with_holds homes realm s sub n (Some v) given notes checked held was = (held, was.1)
+
+challenged_holds : (set : Setting) (homes : List HomeRow) (s : ServerEnd) (sub : ℕ) (checked : Bool) (resynced : Option ResyncNote) (drawn : Option NumberNote)
+    → is_held homes sub ≡ true → Holds homes s → Holds homes (challenged set homes s sub checked resynced drawn).0
+challenged_holds set homes s sub checked resynced None held was = was
+challenged_holds set homes s sub checked resynced (Some (number.Drew n)) held was =
+    with_holds homes set.realm s sub n (vector_at set s.options sub n) (names_given set homes s sub) (noted resynced (Some (number.Drew n))) checked held was
+challenged_holds set homes s sub checked resynced (Some (number.Exhausted w)) held was = was
+challenged_holds set homes s sub checked resynced (Some (number.Withheld n stop)) held was = was
+
+resynchronised_holds : (set : Setting) (homes : List HomeRow) (s : ServerEnd) (sub : ℕ) (resynced : Option ResyncNote) (drawn : Option NumberNote)
+    → is_held homes sub ≡ true → Holds homes s → Holds homes (resynchronised set homes s sub resynced drawn).0
+resynchronised_holds set homes s sub None drawn held was = was
+resynchronised_holds set homes s sub (Some resync.BadAuts) drawn held was = was
+resynchronised_holds set homes s sub (Some (resync.Beyond seen seq)) drawn held was = was
+resynchronised_holds set homes s sub (Some (resync.InRange seen seq)) drawn held was =
+    challenged_holds set homes (resynchronising s) sub false (Some (resync.InRange seen seq)) drawn held was
+resynchronised_holds set homes s sub (Some (resync.Moved seen seq)) drawn held was =
+    challenged_holds set homes (resynchronising s) sub false (Some (resync.Moved seen seq)) drawn held was
+
+succeeded_holds : (homes : List HomeRow) (s : ServerEnd) (c : Option Challenged) → Holds homes s → Holds homes (succeeded s c).0
+succeeded_holds homes s None was = was
+succeeded_holds homes s (Some sent) was = was
+
+renewed_holds : (homes : List HomeRow) (s : ServerEnd) (c : Option Resumed) → Holds homes s → Holds homes (reauthenticated s c).0
+renewed_holds homes s None was = was
+renewed_holds homes s (Some sent) was = was
+
+resumed_holds : (set : Setting) (homes left : List HomeRow) (s : ServerEnd) (text : List ℕ) (packets : List (List ℕ)) (sub : ℕ) (c : Option Context)
+    → is_held homes sub ≡ true → Holds homes s → Holds homes (resumed_with set left s text packets sub c).0
+resumed_holds set homes left s text packets sub None held was = was
+resumed_holds set homes left s text packets sub (Some c) held was = (was.0, held)
+
+-- also after a turn
+does_hold : (set : Setting) (homes : List HomeRow) (s : ServerEnd) (text : List ℕ) (packets : List (List ℕ)) (r : Row) (notes : Notes)
+    → IsHeldRow homes r → Holds homes s → Holds homes (server_does set homes s text packets r notes).0
+does_hold set homes s text packets (row.Challenge sub) notes held was = challenged_holds set homes (identified s text packets) sub false None notes.number held was
+does_hold set homes s text packets (row.Resume sub) notes held was =
+    resumed_holds set homes (homes_left s.options.method text homes sub) s text packets sub (context_in s.options.method text homes sub) held was
+does_hold set homes s text packets (row.TooSmall sub) notes held was = challenged_holds set homes s sub true None notes.number held was
+does_hold set homes s text packets (row.Resynchronise sub seq) notes held was = resynchronised_holds set homes s sub notes.resync notes.number held.0 was
+does_hold set homes s text packets row.Success notes held was = succeeded_holds homes s s.challenged was
+does_hold set homes s text packets row.Reauthenticated notes held was = renewed_holds homes s s.resumed was
+does_hold set homes s text packets (row.Ignore cause) notes held was = was
+does_hold set homes s text packets (row.Ask kind) notes held was = was
+does_hold set homes s text packets row.UnknownIdentity notes held was = was
+does_hold set homes s text packets row.WrongMac notes held was = was
+does_hold set homes s text packets row.WrongCounter notes held was = was
+does_hold set homes s text packets row.WrongRes notes held was = was
+does_hold set homes s text packets row.WrongCheckcode notes held was = was
+does_hold set homes s text packets row.SecondSync notes held was = was
+does_hold set homes s text packets row.BadAuts notes held was = was
+does_hold set homes s text packets row.Rejected notes held was = was
+does_hold set homes s text packets (row.ClientError code) notes held was = was
+does_hold set homes s text packets (row.Notified cause) notes held was = was
+
+-- what a server needs holds again after a turn, if the centre has as many subscribers with the same greatest numbers
+pub served_again : (all : List rows.Row) (subs subs' : ℕ) (top top' : ℕ → ℕ) (set : Setting) (homes later : List HomeRow) (s new : ServerEnd) (turn : Turn ServerWhy)
+    (text : List ℕ) (packets : List (List ℕ)) (r : Row) → subs' ≡ subs → ((i : ℕ) → top' i ≡ top i)
+    → (new, turn) ≡ server_does set homes s text packets r turn.notes → later ≡ homes_done homes s text r turn.notes
+    → IsHeldRow homes r → IsServed all subs top homes s → IsServed all subs' top' later new
+served_again all subs subs' top top' set homes later s new turn text packets r same alike step done held served =
+    let is : map (λ (home : HomeRow). home.sub) later ≡ map (λ (home : HomeRow). home.sub) homes =
+    ap (λ (l : List HomeRow). map (λ (home : HomeRow). home.sub) l) done ∙ done_subs homes s text r turn.notes in
     let stays : (j : ℕ) → is_held later j ≡ is_held homes j = λ j. same_held homes later j is in
+    let now : Holds homes new =
+    subst (λ (p : ServerEnd × Turn ServerWhy). Holds homes p.0) (sym step) (does_hold set homes s text packets r turn.notes held (served.held, served.resumed)) in
     record {
       each = homes_again all subs subs' top top' later same alike (subs_each (IsHome all subs top) homes later is served.each);
-      held = keeps later (held_again homes later s.challenged stays served.held) stays;
-      resumed = renews later (held_too_again homes later s.resumed stays served.resumed) stays;
+      held = held_again homes later new.challenged stays now.0;
+      resumed = held_too_again homes later new.resumed stays now.1;
     }
-
--- the same after a challenge
-pub served_challenged : (all : List rows.Row) (subs subs' : ℕ) (top top' : ℕ → ℕ) (options : ServerOptions) (homes later : List HomeRow) (sub : ℕ) (drawn : Option NumberNote)
-    (s new : ServerEnd) → subs' ≡ subs → ((i : ℕ) → top' i ≡ top i) → later ≡ homes_challenged options homes sub drawn
-    → ((held : List HomeRow) → IsHeld held s.challenged → is_held held sub ≡ true → IsHeld held new.challenged) → new.resumed ≡ s.resumed
-    → is_held homes sub ≡ true → IsServed all subs top homes s → IsServed all subs' top' later new
-served_challenged all subs subs' top top' options homes later sub drawn s new same alike is keeps still held served =
-    served_again all subs subs' top top' homes later s new same alike
-    (ap (λ (l : List HomeRow). map (λ (home : HomeRow). home.sub) l) is ∙ challenged_subs options homes sub drawn)
-    (λ all' was stays. keeps all' was (stays sub ∙ held)) (λ all' was stays. subst (IsHeldToo all') (sym still) was) served

@@ -8,6 +8,7 @@ mod MakeLemmas
 mod MoveLemmas
 mod OptionsLemmas
 mod OrdinalLemmas
+mod PlanLemmas
 mod ResumeLemmas
 mod RoundLemmas
 mod TurnLemmas

@@ -1,7 +1,11 @@
--- Master keys of a server's session are of its method, and a counter has a next one where it is needed.
-use Rattle.std.specs.Prelude.{◌≡◌, ℕ, ◌<◌, List, Option, Some, None}
+-- Master keys of a server's session are of its method, a counter has a next one where it is needed, and a number that was drawn
+-- is one of a subscriber's.
+use Rattle.std.specs.Prelude.{◌≡◌, ℕ, ◌<◌, ◌≤◌, List, Option, Some, None}
 use Rattle.auc_hmac.specs.declared.method.Method.{Method}
 use Rattle.auc_reauth.specs.Store.{method_of}
+use Rattle.auc_sqn.specs.Number.{max_seq}
+use Rattle.auc_vector.specs.declared.notes.NumberNote.{NumberNote}
+use Rattle.auc_vector.specs.declared.notes.NumberNote.TheVariants as number
 use Rattle.auc_server.specs.declared.server.Challenged.{Challenged}
 use Rattle.auc_server.specs.declared.server.Resumed.{Resumed}
 
@@ -26,3 +30,8 @@ HasNext r = MayGoOn r.context.counter r.next
 abbrev pub HasNextCounter : Option Resumed → Type 0
 HasNextCounter None = Unit {0}
 HasNextCounter (Some r) = HasNext r
+
+-- a number for which there is a vector
+abbrev pub IsNumbered : NumberNote → Type 0
+IsNumbered (number.Drew n) = (1 ≤ n) × (n ≤ max_seq)
+IsNumbered other = Unit {0}

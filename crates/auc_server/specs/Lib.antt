@@ -2,6 +2,7 @@ pub mod Asked
 pub mod Attributes
 pub mod Contexts
 pub mod InnerMessages
+pub mod InnerPlan
 pub mod InnerRooms
 pub mod InnerRows
 pub mod InnerServer

@@ -1,20 +1,19 @@
 //! A challenge: a number of the centre, its vector, and the message.
 
-ghost use Rattle.std.specs.Prelude.{◌≡◌, ◌≢◌, ◌≤◌, ◌<◌, ℕ, true, List, [], length, None, Some};
+ghost use Rattle.std.specs.Prelude.{◌≡◌, ◌≢◌, ◌≤◌, ◌<◌, ℕ, true, [], length, None, Some};
 ghost use Rattle.std.specs.Option.{is_some};
 ghost use Rattle.auc_sqn.specs.Number.{max_seq};
 ghost use Rattle.auc_vector.specs.Notes.{AnswersNumber, AskedOf, entries_noted, kept_noted, withheld_noted};
-ghost use Rattle.auc_server.specs.Rows.{is_held};
-ghost use Rattle.auc_server.specs.Steps.{IsHeld, IsHome, bytes_of, challenges_again};
-ghost use Rattle.auc_server.specs.declared.setting.HomeRow.{HomeRow};
+ghost use Rattle.auc_server.specs.InnerServer.{IsNumbered};
+ghost use Rattle.auc_server.specs.Steps.{IsHome, bytes_of, challenges_again};
 ghost use Rattle.auc_reauth.specs.Store.{method_of};
 ghost use Rattle.auc_vector.specs.Keys.{master_of};
-ghost use Rattle.auc_server.specs.Table.{challenge_of, challenged, first_challenge, homes_challenged, resynchronised, sent_with, vector_at};
+ghost use Rattle.auc_server.specs.Table.{challenge_of, challenged, first_challenge, homes_challenged, noted, resynchronised, sent_with, vector_at};
 
 use crate::messages::challenge;
 use crate::naming::{GivenNames, iv_after, next_given};
 use crate::options::ServerOptions;
-use crate::rooms::Rooms;
+use crate::rooms::{RequestRooms, Rooms};
 use crate::rounds::checkcode;
 use crate::server::{Challenged, Server, ServerState};
 use crate::setting::{HomeRow, Setting};
@@ -75,13 +74,16 @@ impl Server {
         ensures small { length (bytes_of result.step) ≤ 728 }
     {
         let Rooms {
-            message,
-            kept,
-            attrs,
+            request,
             name,
             check,
             names,
         } = rooms;
+        let RequestRooms {
+            message,
+            kept,
+            attrs,
+        } = request;
         let id = self.id.wrapping_add(1);
         let check = checkcode(self.options.method, &self.packets, check);
         let bytes = challenge(
@@ -126,6 +128,46 @@ impl Server {
         }
     }
 
+    /// Challenges a subscriber by what the centre answered.
+    fn challenge_by(
+        &mut self,
+        set: &Setting,
+        homes: &mut [HomeRow],
+        sub: u32,
+        checked: bool,
+        resynced: Option<ResyncNote>,
+        drawn: NumberNote,
+        rooms: Rooms,
+    ) -> Turn<ServerWhy>
+        requires listed { sub < length set.now.rows }
+        requires number { IsNumbered drawn }
+        requires named { rooms ≡ self.old.options.name }
+        requires realm { length set.now.realm ≤ 255 }
+
+        ensures step { (self.new, result) ≡ challenged set.now homes.old self.old sub checked resynced (Some drawn) }
+        ensures homes { homes.new ≡ homes_challenged self.old.options homes.old sub (Some drawn) }
+        ensures small { length (bytes_of result.step) ≤ 728 }
+        ensures notes { result.notes ≡ noted resynced (Some drawn) }
+    {
+        match drawn {
+            NumberNote::Drew(n) => {
+                let vector = vector_at(set, &self.options, sub, n);
+                let given = self.give_names(set, homes, sub);
+                let sent = self.challenged_by(sub, n, vector, next_given(&given));
+                let notes = noted(resynced, Some(NumberNote::Drew(n)));
+                self.send_challenge(set.realm, sent, given, notes, checked, rooms)
+            }
+            NumberNote::Exhausted(word) => {
+                let notes = noted(resynced, Some(NumberNote::Exhausted(word)));
+                self.notify(ServerWhy::Exhausted(word), notes, checked, rooms)
+            }
+            NumberNote::Withheld(n, stop) => {
+                let notes = noted(resynced, Some(NumberNote::Withheld(n, stop)));
+                self.notify(ServerWhy::Stopped(n, stop), notes, checked, rooms)
+            }
+        }
+    }
+
     /// Challenges a subscriber, if the centre gives a number.
     pub(crate) fn challenge<C: Centre, R: Wait>(
         &mut self,
@@ -156,33 +198,12 @@ impl Server {
         ensures kept { C.kept centre.new sub ≡ kept_noted (C.kept centre.old sub) result.notes.number }
         ensures still { (i : ℕ) → i ≢ sub → C.kept centre.new i ≡ C.kept centre.old i }
 
-        // A home stays one, also if it is challenged now.
-        ensures held { (all : List HomeRow) → IsHeld all self.old.challenged → is_held all sub ≡ true
-            → IsHeld all self.new.challenged }
-
-        ensures resumed { self.new.resumed ≡ self.old.resumed }
-
         ensures subs { C.subs centre.new ≡ C.subs centre.old }
         ensures top { (i : ℕ) → C.top centre.new i ≡ C.top centre.old i }
         ensures name { C.name centre.new ≡ C.name centre.old }
     {
-        match ask(rt, centre, sub) {
-            NumberNote::Drew(n) => {
-                let vector = vector_at(set, &self.options, sub, n);
-                let given = self.give_names(set, homes, sub);
-                let sent = self.challenged_by(sub, n, vector, next_given(&given));
-                let notes = noted(resynced, Some(NumberNote::Drew(n)));
-                self.send_challenge(set.realm, sent, given, notes, checked, rooms)
-            }
-            NumberNote::Exhausted(word) => {
-                let notes = noted(resynced, Some(NumberNote::Exhausted(word)));
-                self.notify(ServerWhy::Exhausted(word), notes, checked, rooms)
-            }
-            NumberNote::Withheld(n, stop) => {
-                let notes = noted(resynced, Some(NumberNote::Withheld(n, stop)));
-                self.notify(ServerWhy::Stopped(n, stop), notes, checked, rooms)
-            }
-        }
+        let drawn = ask(rt, centre, sub);
+        self.challenge_by(set, homes, sub, checked, resynced, drawn, rooms)
     }
 }
 
@@ -209,18 +230,11 @@ impl Server {
         ensures asked { AskedOf C.goes C.kept C.top (record { sub = sub; reported = None }) result.notes centre.old centre.new }
         ensures drawn { is_some result.notes.number ≡ true }
 
-        // A home stays one, also if it is challenged now.
-        ensures held { (all : List HomeRow) → IsHeld all self.old.challenged → is_held all sub ≡ true
-            → IsHeld all self.new.challenged }
-
-        ensures resumed { self.new.resumed ≡ self.old.resumed }
-
         ensures subs { C.subs centre.new ≡ C.subs centre.old }
         ensures top { (i : ℕ) → C.top centre.new i ≡ C.top centre.old i }
         ensures name { C.name centre.new ≡ C.name centre.old }
     {
-        self.identity = text;
-        self.packets = packets;
+        self.identify(text, packets);
         self.challenge(rt, set, homes, centre, sub, false, None, rooms)
     }
 
@@ -243,12 +257,6 @@ impl Server {
         ensures small { length (bytes_of result.step) ≤ 728 }
         ensures asked { AskedOf C.goes C.kept C.top (record { sub = sub; reported = None }) result.notes centre.old centre.new }
         ensures drawn { is_some result.notes.number ≡ true }
-
-        // A home stays one, also if it is challenged now.
-        ensures held { (all : List HomeRow) → IsHeld all self.old.challenged → is_held all sub ≡ true
-            → IsHeld all self.new.challenged }
-
-        ensures resumed { self.new.resumed ≡ self.old.resumed }
 
         ensures subs { C.subs centre.new ≡ C.subs centre.old }
         ensures top { (i : ℕ) → C.top centre.new i ≡ C.top centre.old i }
@@ -279,12 +287,6 @@ impl Server {
         ensures small { length (bytes_of result.step) ≤ 728 }
         ensures asked { AskedOf C.goes C.kept C.top (record { sub = sub; reported = Some seq }) result.notes centre.old centre.new }
         ensures drawn { is_some result.notes.number ≡ challenges_again result.notes.resync }
-
-        // A home stays one, also if it is challenged now.
-        ensures held { (all : List HomeRow) → IsHeld all self.old.challenged → is_held all sub ≡ true
-            → IsHeld all self.new.challenged }
-
-        ensures resumed { self.new.resumed ≡ self.old.resumed }
 
         ensures subs { C.subs centre.new ≡ C.subs centre.old }
         ensures top { (i : ℕ) → C.top centre.new i ≡ C.top centre.old i }

@@ -1,19 +1,17 @@
 //! A fast re-authentication: a context is taken up again, and the message.
 
-ghost use Rattle.std.specs.Prelude.{◌≡◌, ◌≤◌, true, List, length};
+ghost use Rattle.std.specs.Prelude.{◌≡◌, ◌≤◌, length};
 ghost use Rattle.auc_reauth.specs.Store.{method_of};
 ghost use Rattle.auc_server.specs.Contexts.{context_in, gives_next, homes_kept, homes_resumed, homes_rewon};
 ghost use Rattle.auc_server.specs.InnerServer.{HasNext};
 ghost use Rattle.auc_server.specs.Ordinals.{homes_given};
-ghost use Rattle.auc_server.specs.Rows.{is_held};
-ghost use Rattle.auc_server.specs.Steps.{IsHeldToo, bytes_of};
-ghost use Rattle.auc_server.specs.declared.setting.HomeRow.{HomeRow};
+ghost use Rattle.auc_server.specs.Steps.{bytes_of};
 ghost use Rattle.auc_server.specs.Table.{reauthenticated, resent, resumed, resumed_keys, resuming, resumption};
 
 use crate::contexts::{context_after, gives_next, keep_context, take_context};
 use crate::messages::{message, reauthentication};
 use crate::naming::index_after;
-use crate::rooms::{Rooms, give_back};
+use crate::rooms::{RequestRooms, Rooms, give_back};
 use crate::rounds::checkcode;
 use crate::server::{Resumed, Server, ServerState};
 use crate::setting::{HomeRow, Setting};
@@ -66,13 +64,16 @@ impl Server {
         ensures small { length (bytes_of result.step) ≤ 728 }
     {
         let Rooms {
-            message,
-            kept,
-            attrs,
+            request,
             check,
             names,
             ..
         } = rooms;
+        let RequestRooms {
+            message,
+            kept,
+            attrs,
+        } = request;
         let id = self.id.wrapping_add(1);
         let iv = self.random_at(set, self.next_iv);
         let method = self.options.method;
@@ -106,11 +107,6 @@ impl Server {
         ensures homes { homes.new
             ≡ homes_resumed self.old.options text homes.old sub (context_in self.old.options.method text homes.old sub) }
         ensures small { length (bytes_of result.step) ≤ 728 }
-        ensures challenged { self.new.challenged ≡ self.old.challenged }
-
-        // A home stays one, also if its context is taken up now.
-        ensures held { (all : List HomeRow) → IsHeldToo all self.old.resumed → is_held all sub ≡ true
-            → IsHeldToo all self.new.resumed }
     {
         match take_context(self.options.method, text.as_slice(), homes, sub) {
             None => {
@@ -119,8 +115,7 @@ impl Server {
             }
             Some(c) => {
                 let sent = self.resumption(set, homes, sub, c);
-                self.identity = text;
-                self.packets = packets;
+                self.identify(text, packets);
                 self.send_reauth(set, sent, rooms)
             }
         }
@@ -146,8 +141,6 @@ impl Server {
         ensures step { (self.new, result) ≡ reauthenticated self.old self.old.resumed }
         ensures homes { homes.new ≡ homes_rewon self.old.options.method homes.old self.old.resumed }
         ensures small { length (bytes_of result.step) ≤ 728 }
-        ensures challenged { self.new.challenged ≡ self.old.challenged }
-        ensures resumed { self.new.resumed ≡ self.old.resumed }
     {
         let room = rooms.into_message();
         match self.resumed {

@@ -48,13 +48,28 @@ impl Model for NameRooms {
     ghost invariant = { λ r. IsFreshName r.text × IsFreshIdentity r.identity × HasInner r.inner };
 }
 
-/// Memory for a turn: the message, its copy, its attributes, the network name for them, a checkcode, and names.
-/// Contracts see the name.
+/// Memory for a request: the message, its copy and its attributes. Contracts see no value of it.
 #[derive(Drop)]
-pub(crate) struct Rooms {
+pub(crate) struct RequestRooms {
     pub(crate) message: Room,
     pub(crate) kept: Room,
     pub(crate) attrs: Places<Attr>,
+}
+
+impl Model for RequestRooms {
+    ghost use Rattle.auc_server.specs.InnerRooms.{HasPlaces, IsFresh};
+
+    ghost Value = { Unit {0} };
+
+    ghost view = { λ _. tt };
+
+    ghost invariant = { λ r. IsFresh r.message × IsFresh r.kept × HasPlaces r.attrs };
+}
+
+/// Memory for a turn: a request, the network name for its attributes, a checkcode, and names. Contracts see the name.
+#[derive(Drop)]
+pub(crate) struct Rooms {
+    pub(crate) request: RequestRooms,
     pub(crate) name: Octets,
     pub(crate) check: Room,
     pub(crate) names: NameRooms,
@@ -62,13 +77,13 @@ pub(crate) struct Rooms {
 
 impl Model for Rooms {
     ghost use Rattle.std.specs.Prelude.{ℕ, List};
-    ghost use Rattle.auc_server.specs.InnerRooms.{IsFresh, IsFreshCheck, HasPlaces};
+    ghost use Rattle.auc_server.specs.InnerRooms.{IsFreshCheck};
 
     ghost Value = { List ℕ };
 
     ghost view = { λ r. r.name };
 
-    ghost invariant = { λ r. IsFresh r.message × IsFresh r.kept × HasPlaces r.attrs × IsFreshCheck r.check };
+    ghost invariant = { λ r. IsFreshCheck r.check };
 }
 
 impl NameRooms {
@@ -79,6 +94,17 @@ impl NameRooms {
             identity: Room::new(alloc, IDENTITY)?,
             inner: Places::new(alloc, INNER)?,
             encryption: EncryptionRoom::new(alloc)?,
+        })
+    }
+}
+
+impl RequestRooms {
+    /// Memory for a request.
+    fn new(alloc: Global) -> Result<RequestRooms, NoMemory> {
+        Ok(RequestRooms {
+            message: message_room(alloc)?,
+            kept: message_room(alloc)?,
+            attrs: attr_places(alloc)?,
         })
     }
 }
@@ -104,11 +130,17 @@ pub(crate) fn let_go(_text: Octets, _packets: IdentityPackets) {}
 pub(crate) fn give_back(_text: Octets, _packets: IdentityPackets, _rooms: Rooms) {}
 
 impl Rooms {
-    /// The memory for the message. The rest is given back.
+    /// The memory for a request. The rest is given back.
+    pub(crate) fn into_request(self) -> RequestRooms {
+        let Rooms { request, .. } = self;
+        request
+    }
+
+    /// The memory for a message. The rest is given back.
     pub(crate) fn into_message(self) -> Room
         ensures { IsFresh result }
     {
-        let Rooms { message, .. } = self;
+        let RequestRooms { message, .. } = self.into_request();
         message
     }
 
@@ -117,9 +149,7 @@ impl Rooms {
         ensures { IfOk result (λ rooms. rooms ≡ name.now) }
     {
         Ok(Rooms {
-            message: Room::new(alloc, MOST)?,
-            kept: Room::new(alloc, MOST)?,
-            attrs: Places::new(alloc, ATTRIBUTES)?,
+            request: RequestRooms::new(alloc)?,
             name: Octets::copied_from(alloc, name)?,
             check: Room::new(alloc, CHECKCODE)?,
             names: NameRooms::new(alloc)?,

@@ -6,7 +6,7 @@ ghost use Rattle.auc_packet.specs.Received.{IsReceived, seen_of};
 ghost use Rattle.auc_seal.specs.Checkcode.{IsHash};
 ghost use Rattle.auc_server.specs.InnerRooms.{IsFreshCheck};
 ghost use Rattle.auc_server.specs.Rounds.{checkcode, heard, packet_in};
-ghost use Rattle.auc_server.specs.Table.{packets_after};
+ghost use Rattle.auc_server.specs.Table.{identity_asked, packets_after};
 
 use crate::messages::aka_identity;
 use crate::rooms::{attr_places, message_room};
@@ -16,6 +16,7 @@ use auc_attr::length_of;
 use auc_edge::{NoMemory, Octets, Room};
 use auc_hmac::Method;
 use auc_packet::{Packet, Reading, Received, Subtype};
+use auc_request::IdentityRequest;
 use auc_seal::IdentityPackets;
 use std::alloc::Global;
 
@@ -72,6 +73,16 @@ fn hear(alloc: Global, packets: &mut IdentityPackets, received: &Received) -> Re
 }
 
 impl Server {
+    /// The AKA-Identity request that is sent next.
+    fn identity_asked(&self, alloc: Global, kind: IdentityRequest) -> Result<Octets, NoMemory>
+        ensures { IfOk result (λ request. request ≡ identity_asked self.now kind) }
+    {
+        let attrs = attr_places(alloc)?;
+        let message = message_room(alloc)?;
+        let id = self.id.wrapping_add(1);
+        Ok(aka_identity(self.options.method, id, kind, attrs, message))
+    }
+
     /// The AKA-Identity packets after a turn with this row.
     pub(crate) fn packets_after(
         &self,
@@ -86,10 +97,7 @@ impl Server {
         hear(alloc, &mut packets, received)?;
         match row {
             Row::Ask(kind) => {
-                let attrs = attr_places(alloc)?;
-                let message = message_room(alloc)?;
-                let id = self.id.wrapping_add(1);
-                let request = aka_identity(self.options.method, id, kind, attrs, message);
+                let request = self.identity_asked(alloc, kind)?;
                 packets.add(alloc, request.as_slice())?;
                 Ok(packets)
             }

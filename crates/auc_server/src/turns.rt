@@ -6,12 +6,12 @@ ghost use Rattle.auc_server.specs.Contexts.{homes_won};
 ghost use Rattle.auc_server.specs.InnerRooms.{IsFresh};
 ghost use Rattle.auc_server.specs.Server.{started};
 ghost use Rattle.auc_server.specs.Steps.{bytes_of};
-ghost use Rattle.auc_server.specs.Table.{asked, awaiting, ended, failed, gave_up, ignored, noted, notified, repeated, requested, silent, succeeded, unknown};
+ghost use Rattle.auc_server.specs.Table.{asked, awaiting, ended, failed, gave_up, identified, ignored, noted, notified, repeated, requested, silent, succeeded, unknown};
 
 use crate::contexts::{context_of, keep_context};
 use crate::messages::{aka_identity, message, notification};
 use crate::options::ServerOptions;
-use crate::rooms::{Rooms, message_room};
+use crate::rooms::{RequestRooms, Rooms, message_room};
 use crate::server::{Challenged, Resumed, Server, ServerState};
 use crate::setting::HomeRow;
 use crate::why::ServerWhy;
@@ -103,12 +103,11 @@ impl Server {
         ensures step { (self.new, result) ≡ notified self.old why notes checked }
         ensures small { length (bytes_of result.step) ≤ 728 }
     {
-        let Rooms {
+        let RequestRooms {
             message,
             kept,
             attrs,
-            ..
-        } = rooms;
+        } = rooms.into_request();
         let bytes = notification(self.options.method, self.id.wrapping_add(1), attrs, message);
         self.request(ServerState::Notifying(why), bytes, notes, checked, kept)
     }
@@ -146,8 +145,6 @@ impl Server {
         ensures step { (self.new, result) ≡ succeeded self.old self.old.challenged }
         ensures homes { homes.new ≡ homes_won self.old.options.method homes.old self.old.challenged }
         ensures small { length (bytes_of result.step) ≤ 728 }
-        ensures challenged { self.new.challenged ≡ self.old.challenged }
-        ensures resumed { self.new.resumed ≡ self.old.resumed }
     {
         let room = rooms.into_message();
         match self.challenged {
@@ -158,6 +155,14 @@ impl Server {
                 self.end(Outcome::Success(sent.keys), bytes, true)
             }
         }
+    }
+
+    /// Keeps the identity that was received, and the AKA-Identity packets after this turn.
+    pub(crate) fn identify(&mut self, text: Octets, packets: IdentityPackets)
+        ensures { self.new ≡ identified self.old text packets }
+    {
+        self.identity = text;
+        self.packets = packets;
     }
 
     /// Asks for another identity (RFC 4187 §4.1.4).
@@ -171,16 +176,14 @@ impl Server {
         ensures step { (self.new, result) ≡ asked self.old text packets kind }
         ensures small { length (bytes_of result.step) ≤ 728 }
     {
-        let Rooms {
+        let RequestRooms {
             message,
             kept,
             attrs,
-            ..
-        } = rooms;
+        } = rooms.into_request();
         let id = self.id.wrapping_add(1);
         let bytes = aka_identity(self.options.method, id, kind, attrs, message);
-        self.identity = text;
-        self.packets = packets;
+        self.identify(text, packets);
         self.request(awaiting(kind), bytes, silent(), false, kept)
     }
 
@@ -194,8 +197,7 @@ impl Server {
         ensures step { (self.new, result) ≡ unknown self.old text packets }
         ensures small { length (bytes_of result.step) ≤ 728 }
     {
-        self.identity = text;
-        self.packets = packets;
+        self.identify(text, packets);
         self.notify(ServerWhy::UnknownIdentity, silent(), false, rooms)
     }
 }
