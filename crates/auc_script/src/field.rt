@@ -129,20 +129,24 @@ pub fn read_bit(text: &[u8]) -> Result<Option<u8>, ScriptWhy>
 pub fn read_end(text: &[u8]) -> Result<End, ScriptWhy>
     ensures { result ≡ end_in text.now }
 {
-    match text {
-        b"server" => Ok(End::Server),
-        b"peer" => Ok(End::Peer),
-        _ => Err(ScriptWhy::Fields),
+    if text == b"server".as_slice() {
+        return Ok(End::Server);
     }
+    if text == b"peer".as_slice() {
+        return Ok(End::Peer);
+    }
+    Err(ScriptWhy::Fields)
 }
 
 /// Whether a field says that vectors are printed in full.
 pub fn read_full(text: &[u8]) -> Result<bool, ScriptWhy>
     ensures { result ≡ full_in text.now }
 {
-    match text {
-        b"brief" => Ok(false),
-        b"full" => Ok(true),
-        _ => Err(ScriptWhy::Fields),
+    if text == b"brief".as_slice() {
+        return Ok(false);
     }
+    if text == b"full".as_slice() {
+        return Ok(true);
+    }
+    Err(ScriptWhy::Fields)
 }

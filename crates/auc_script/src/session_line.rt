@@ -12,14 +12,15 @@ ghost use Rattle.auc_script.specs.Field.{number_between};
 ghost use Rattle.auc_script.specs.Scenario.{deliver_of, give_up_of, number_of_session, session_of};
 ghost use Rattle.auc_script.specs.Session.{has_fit_texts, is_first, is_short};
 
-use crate::field::{first_field, one_field, read_end, read_number, three_fields, two_fields};
+use crate::field::{
+    first_field, four_fields, one_field, read_end, read_number, three_fields, two_fields,
+};
 use crate::limits::{LAST_PACKET, LAST_SESSION, MAX_NAME, MAX_TEXT};
 use crate::refusal::{LineRefusal, ScriptWhy, require};
 use auc_edge::{Imsi, NoMemory, Octets};
 use auc_hmac::Method;
 use auc_lines::{Identity, Line, SessionLine};
 use auc_subs::Subscribers;
-use auc_text::next_word;
 use std::alloc::Global;
 
 /// Whether options are letters, each once.
@@ -61,14 +62,8 @@ fn seven_fields(
     let (session, rest) = first_field(fields)?;
     let (imsi, rest) = first_field(rest)?;
     let (method, rest) = first_field(rest)?;
-    let (sname, rest) = first_field(rest)?;
-    let (pname, rest) = first_field(rest)?;
-    let (options, rest) = first_field(rest)?;
-    let (identity, rest) = first_field(rest)?;
-    match next_word(rest) {
-        None => Ok((session, imsi, method, sname, pname, options, identity)),
-        Some(_) => Err(ScriptWhy::Fields),
-    }
+    let (sname, pname, options, identity) = four_fields(rest)?;
+    Ok((session, imsi, method, sname, pname, options, identity))
 }
 
 /// What the fields `T IMSI METHOD SNAME PNAME OPTIONS IDENTITY` say, with texts of any length.

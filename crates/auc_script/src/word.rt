@@ -130,13 +130,19 @@ fn read_job_word(text: &[u8]) -> Option<JobWord>
 fn read_header_word(text: &[u8]) -> Option<HeaderWord>
     ensures { result ≡ header_word_of text.now }
 {
-    match text {
-        b"randkey" => Some(HeaderWord::Randkey),
-        b"workers" => Some(HeaderWord::Workers),
-        b"print" => Some(HeaderWord::Print),
-        b"realm" => Some(HeaderWord::Realm),
-        _ => None,
+    if text == b"randkey".as_slice() {
+        return Some(HeaderWord::Randkey);
     }
+    if text == b"workers".as_slice() {
+        return Some(HeaderWord::Workers);
+    }
+    if text == b"print".as_slice() {
+        return Some(HeaderWord::Print);
+    }
+    if text == b"realm".as_slice() {
+        return Some(HeaderWord::Realm);
+    }
+    None
 }
 
 /// Whether a line with this first word isn't served so far.
