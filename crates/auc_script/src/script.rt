@@ -1,12 +1,15 @@
 //! A scenario as it was read.
 
-ghost use Rattle.std.specs.Prelude.{ℕ, ◌≡◌, ◌≤◌, length, IfOk, IfErr};
+ghost use Rattle.std.specs.Prelude.{ℕ, ◌≡◌, ◌≤◌, length, IfOk, IfErr, OnOk};
 ghost use Rattle.auc_subs.specs.Subscriber.{AreSubscribers};
 ghost use Rattle.auc_script.specs.Limits.{IsWithin};
+ghost use Rattle.auc_script.specs.InnerSoFar.{IsSoFar, scenario};
+ghost use Rattle.auc_script.specs.Reading.{Keeps, beginning, script_from, script_of};
+ghost use Rattle.auc_script.specs.declared.refusal.ScriptRefusal.TheVariants as refusal;
 
 use crate::refusal::{ScriptRefusal, ScriptWhy};
 use crate::so_far::SoFar;
-use auc_edge::{Items, NoMemory, Octets};
+use auc_edge::{Items, Octets};
 use auc_lines::Part;
 use auc_subs::Subscribers;
 use auc_text::next_line;
@@ -28,9 +31,6 @@ pub struct Script {
 }
 
 impl Script {
-    ghost use Rattle.auc_script.specs.declared.refusal.ScriptRefusal.TheVariants as refusal;
-    ghost use Rattle.auc_script.specs.Reading.{Keeps, script_of};
-
     /// Reads a scenario, which is at most 64 MiB long, and adds its subscribers to those that there are.
     /// The first wrong line is told by its number, from 1, and its first cause. A refusal leaves the
     /// subscribers that the lines before the wrong one added; if memory runs out, those of some first
@@ -49,25 +49,55 @@ impl Script {
         ensures kept { IfErr result (λ refusal. Keeps subs.old bytes.now refusal subs.new) }
     {
         let mut so_far = SoFar::new(alloc);
-        let mut rest = Some(bytes);
-        let mut number = 1;
-        while let Some(text) = rest {
-            let (line, behind) = next_line(text);
-            match so_far.put(alloc, subs, line) {
-                Ok(()) => {
-                    rest = behind;
-                    number += 1;
-                }
-                Err(refusal) => return Err(refusal.at(number)),
+        match put_lines(alloc, bytes, subs, &mut so_far) {
+            Ok(()) => {
+                attest(subs);
+                Ok(so_far.script(alloc)?)
             }
-        }
-        attest(subs);
-        match so_far.script(alloc) {
-            Ok(script) => Ok(script),
-            Err(NoMemory) => Err(ScriptRefusal::NoMemory),
+            Err(refusal) => {
+                give_back(so_far);
+                Err(refusal)
+            }
         }
     }
 }
+
+/// Takes the lines of a text, up to the first wrong one, beginning with what stands before the first line.
+fn put_lines(
+    alloc: Global,
+    bytes: &[u8],
+    subs: &mut Subscribers,
+    so_far: &mut SoFar,
+) -> Result<(), ScriptRefusal>
+    requires size { length bytes.now ≤ 67108864 }
+    requires beginning { scenario subs.old so_far.old ≡ beginning subs.old }
+    requires kept { IsSoFar subs.old so_far.old }
+
+    ensures read { OnOk result (script_of subs.old bytes.now
+        ≡ Ok (script_from (scenario subs.new so_far.new), subs.new)) }
+    ensures within { OnOk result (IsSoFar subs.new so_far.new) }
+    ensures front { OnOk result (Keeps subs.old bytes.now refusal.NoMemory subs.new) }
+    ensures refused { (line : ℕ) (why : ScriptWhy) → result ≡ Err (refusal.Line line why)
+        → script_of subs.old bytes.now ≡ Err (refusal.Line line why) }
+    ensures kept { IfErr result (λ refusal. Keeps subs.old bytes.now refusal subs.new) }
+{
+    let mut rest = Some(bytes);
+    let mut number = 1;
+    while let Some(text) = rest {
+        let (line, behind) = next_line(text);
+        match so_far.put(alloc, subs, line) {
+            Ok(()) => {
+                rest = behind;
+                number += 1;
+            }
+            Err(refusal) => return Err(refusal.at(number)),
+        }
+    }
+    Ok(())
+}
+
+/// Gives what the lines said back.
+fn give_back(_so_far: SoFar) {}
 
 /// Brings the clauses that hold of all lists of subscribers.
 fn attest(subs: &Subscribers)

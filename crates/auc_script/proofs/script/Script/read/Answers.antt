@@ -1,40 +1,11 @@
-use Rattle.std.proofs.Common.{arith, ◌-◌, Some}
-use Rattle.std.specs.Option.{option_copied}
-use Rattle.auc_script.specs.Scenario.{after_line}
-use Rattle.auc_script.specs.InnerSoFar.{scenario}
-use Rattle.auc_script.proofs.ReadingLemmas.{after_front, keeps, lines_left, next_left, next_steps, nothing_read, reads_whole, refused_by, refuses, so_far_more}
 use Rattle.auc_script.proofs.script.Script.read.Goals as goal
 
-pub loop-rest-init : goal.loop-rest-init
-loop-rest-init c = record {
-  read = nothing_read c.args.subs.now c.args.bytes.now (scenario c.args.subs.now c.new-so_far.result) (c.new-so_far.ensures.beginning c.args.subs.now);
-  kept = c.new-so_far.ensures.kept c.args.subs.now;
-  room = omega arith;
-}
+pub put_lines-requires-clause-beginning : goal.put_lines-requires-clause-beginning
+put_lines-requires-clause-beginning c = c.new-so_far.ensures.beginning c.args.subs.now
 
-pub put-requires : goal.put-requires
-put-requires c = c.loop-rest.invariant.kept
+pub put_lines-requires-clause-kept : goal.put_lines-requires-clause-kept
+put_lines-requires-clause-kept c = c.new-so_far.ensures.kept c.args.subs.now
 
-pub loop-rest-preserved : goal.loop-rest-preserved
-loop-rest-preserved c = record {
-  read = so_far_more c.args.subs.now c.args.bytes.now (Some c.in-Some.text.now) c.next_line.result.0.now (option_copied c.next_line.result.1) c.loop-rest.number (scenario c.loop-rest.subs c.loop-rest.so_far) (scenario c.put.new.subs c.put.new.self) (rw c.in-Some.is at c.loop-rest.invariant.read) (next_left c.in-Some.text.now c.next_line.result.0.now c.next_line.result.1 c.next_line.ensures.line) c.in-Ok.ensures.becomes;
-  kept = c.in-Ok.ensures.kept;
-  room = let before = rw c.in-Some.is at c.loop-rest.invariant.room in omega (arith, before, next_steps c.in-Some.text.now c.next_line.result.1 c.next_line.ensures.shorter);
-}
-
-pub returns-in-Err-clause-refused : goal.returns-in-Err-clause-refused
-returns-in-Err-clause-refused c line why same =
-    let by = refused_by c.in-Err.refusal (after_line (scenario c.loop-rest.subs c.loop-rest.so_far) c.next_line.result.0.now) (scenario c.put.new.subs c.put.new.self) c.loop-rest.number line why c.in-Err.ensures.becomes (cc (c.at.ensures, same)) in
-    rw by.1 (refuses c.args.subs.now c.args.bytes.now (Some c.in-Some.text.now) c.next_line.result.0.now (lines_left (option_copied c.next_line.result.1)) c.loop-rest.number (scenario c.loop-rest.subs c.loop-rest.so_far) why (rw c.in-Some.is at c.loop-rest.invariant.read) (next_left c.in-Some.text.now c.next_line.result.0.now c.next_line.result.1 c.next_line.ensures.line) by.0)
-
-pub returns-in-Err-clause-kept : goal.returns-in-Err-clause-kept
-returns-in-Err-clause-kept c =
-    rw (c.at.ensures, c.in-Err.ensures.rows) (keeps c.args.subs.now c.args.bytes.now c.loop-rest.number c.in-Err.refusal c.loop-rest.subs (after_front c.args.subs.now c.args.bytes.now (option_copied c.loop-rest.rest) c.loop-rest.number (scenario c.loop-rest.subs c.loop-rest.so_far) c.loop-rest.invariant.read))
-
-pub returns-in-Ok-script-clause-read : goal.returns-in-Ok-script-clause-read
-returns-in-Ok-script-clause-read c =
-    rw (c.in-Ok-script.ensures.script c.loop-rest.subs) (reads_whole c.args.subs.now c.args.bytes.now c.loop-rest.number (scenario c.loop-rest.subs c.loop-rest.so_far) (rw c.in_default.is at c.loop-rest.invariant.read))
-
-pub returns-in-Err-script-clause-kept : goal.returns-in-Err-script-clause-kept
-returns-in-Err-script-clause-kept c =
-    (c.loop-rest.number - 1, after_front c.args.subs.now c.args.bytes.now (option_copied c.loop-rest.rest) c.loop-rest.number (scenario c.loop-rest.subs c.loop-rest.so_far) c.loop-rest.invariant.read)
+pub returns-in_ok-script-in-Ok-clause-read : goal.returns-in_ok-script-in-Ok-clause-read
+returns-in_ok-script-in-Ok-clause-read c =
+    rw (c.in_ok-script-in-Ok.ensures.script c.put_lines.new.subs) c.in-Ok.ensures.read

@@ -2,7 +2,7 @@ use Rattle.std.proofs.Common.{◌≤◌, ◌+◌, length}
 use Rattle.std.specs.Option.{option_copied}
 use Rattle.auc_script.specs.InnerSoFar.{IsSoFar, scenario}
 use Rattle.auc_script.proofs.ReadingLemmas.{ReadSoFar, steps_left}
-use Rattle.auc_script.proofs.script.Script.read.Given as goal
+use Rattle.auc_script.proofs.script.put_lines.Given as goal
 
 abbrev pub invariant-loop-rest : goal.invariant-loop-rest
 invariant-loop-rest l = record {
