@@ -35,21 +35,7 @@ pub asks_alone : (r : Row) → ((sub : ℕ) → r ≡ row.Challenge sub → ⊥)
 asks_alone (row.Challenge sub) first instead again = absurd (first sub refl)
 asks_alone (row.TooSmall sub) first instead again = absurd (instead sub refl)
 asks_alone (row.Resynchronise sub seq) first instead again = absurd (again sub seq refl)
-asks_alone (row.Resume sub) first instead again = refl
-asks_alone row.Success first instead again = refl
-asks_alone row.Reauthenticated first instead again = refl
-asks_alone (row.Ignore cause) first instead again = refl
-asks_alone (row.Ask kind) first instead again = refl
-asks_alone row.UnknownIdentity first instead again = refl
-asks_alone row.WrongMac first instead again = refl
-asks_alone row.WrongCounter first instead again = refl
-asks_alone row.WrongRes first instead again = refl
-asks_alone row.WrongCheckcode first instead again = refl
-asks_alone row.SecondSync first instead again = refl
-asks_alone row.BadAuts first instead again = refl
-asks_alone row.Rejected first instead again = refl
-asks_alone (row.ClientError code) first instead again = refl
-asks_alone (row.Notified cause) first instead again = refl
+asks_alone other first instead again = refl
 
 -- whether a turn notes a number
 abbrev draws : ServerEnd × Turn ServerWhy → Bool
@@ -78,18 +64,7 @@ draws_alone set homes s new turn text packets (row.Resume sub) alone step =
     ap draws step ∙ resumed_draws set (homes_left s.options.method text homes sub) s text packets sub (context_in s.options.method text homes sub)
 draws_alone set homes s new turn text packets row.Success alone step = ap draws step ∙ succeeded_draws s s.challenged
 draws_alone set homes s new turn text packets row.Reauthenticated alone step = ap draws step ∙ renewed_draws s s.resumed
-draws_alone set homes s new turn text packets (row.Ignore cause) alone step = ap draws step
-draws_alone set homes s new turn text packets (row.Ask kind) alone step = ap draws step
-draws_alone set homes s new turn text packets row.UnknownIdentity alone step = ap draws step
-draws_alone set homes s new turn text packets row.WrongMac alone step = ap draws step
-draws_alone set homes s new turn text packets row.WrongCounter alone step = ap draws step
-draws_alone set homes s new turn text packets row.WrongRes alone step = ap draws step
-draws_alone set homes s new turn text packets row.WrongCheckcode alone step = ap draws step
-draws_alone set homes s new turn text packets row.SecondSync alone step = ap draws step
-draws_alone set homes s new turn text packets row.BadAuts alone step = ap draws step
-draws_alone set homes s new turn text packets row.Rejected alone step = ap draws step
-draws_alone set homes s new turn text packets (row.ClientError code) alone step = ap draws step
-draws_alone set homes s new turn text packets (row.Notified cause) alone step = ap draws step
+draws_alone set homes s new turn text packets other alone step = ap draws step
 
 module _ {S : Type 0} (goes : S → ℕ → List Entry → List (ℕ × Stop) → S → Type 0) (kept : S → ℕ → Option ℕ) (top : S → ℕ → ℕ)
     (joins : (a b c : S) (i : ℕ) (es fs : List Entry) (ws vs : List (ℕ × Stop)) → goes a i es ws b → goes b i fs vs c → goes a i (es ++ fs) (ws ++ vs) c) where

@@ -78,20 +78,7 @@ held_row homes (Some sent) (row.Challenge sub) held of = absurd of
 held_row homes (Some sent) (row.Resume sub) held of = absurd of
 held_row homes (Some sent) (row.TooSmall sub) held of = ap (is_held homes) of ∙ held
 held_row homes (Some sent) (row.Resynchronise sub seq) held of = (ap (is_held homes) of.0 ∙ held, of.1)
-held_row homes c (row.Ignore cause) held of = tt
-held_row homes c (row.Ask kind) held of = tt
-held_row homes c row.UnknownIdentity held of = tt
-held_row homes c row.WrongMac held of = tt
-held_row homes c row.WrongCounter held of = tt
-held_row homes c row.Reauthenticated held of = tt
-held_row homes c row.WrongRes held of = tt
-held_row homes c row.WrongCheckcode held of = tt
-held_row homes c row.Success held of = tt
-held_row homes c row.SecondSync held of = tt
-held_row homes c row.BadAuts held of = tt
-held_row homes c row.Rejected held of = tt
-held_row homes c (row.ClientError code) held of = tt
-held_row homes c (row.Notified cause) held of = tt
+held_row homes c other held of = tt
 
 -- ---- the homes after an ordinal was used
 
@@ -189,18 +176,7 @@ done_subs homes s text (row.TooSmall sub) notes = challenged_subs s.options home
 done_subs homes s text (row.Resynchronise sub seq) notes = challenged_subs s.options homes sub notes.number
 done_subs homes s text row.Success notes = won_subs s.options.method homes s.challenged
 done_subs homes s text row.Reauthenticated notes = rewon_subs s.options.method homes s.resumed
-done_subs homes s text (row.Ignore cause) notes = refl
-done_subs homes s text (row.Ask kind) notes = refl
-done_subs homes s text row.UnknownIdentity notes = refl
-done_subs homes s text row.WrongMac notes = refl
-done_subs homes s text row.WrongCounter notes = refl
-done_subs homes s text row.WrongRes notes = refl
-done_subs homes s text row.WrongCheckcode notes = refl
-done_subs homes s text row.SecondSync notes = refl
-done_subs homes s text row.BadAuts notes = refl
-done_subs homes s text row.Rejected notes = refl
-done_subs homes s text (row.ClientError code) notes = refl
-done_subs homes s text (row.Notified cause) notes = refl
+done_subs homes s text other notes = refl
 
 -- whom a server has challenged or re-authenticates is one of the homes
 abbrev Holds : List HomeRow → ServerEnd → Type 0
@@ -213,21 +189,17 @@ with_holds homes realm s sub n (Some v) given notes checked held was = (held, wa
 
 challenged_holds : (set : Setting) (homes : List HomeRow) (s : ServerEnd) (sub : ℕ) (checked : Bool) (resynced : Option ResyncNote) (drawn : Option NumberNote)
     → is_held homes sub ≡ true → Holds homes s → Holds homes (challenged set homes s sub checked resynced drawn).0
-challenged_holds set homes s sub checked resynced None held was = was
 challenged_holds set homes s sub checked resynced (Some (number.Drew n)) held was =
     with_holds homes set.realm s sub n (vector_at set s.options sub n) (names_given set homes s sub) (noted resynced (Some (number.Drew n))) checked held was
-challenged_holds set homes s sub checked resynced (Some (number.Exhausted w)) held was = was
-challenged_holds set homes s sub checked resynced (Some (number.Withheld n stop)) held was = was
+challenged_holds set homes s sub checked resynced other held was = was
 
 resynchronised_holds : (set : Setting) (homes : List HomeRow) (s : ServerEnd) (sub : ℕ) (resynced : Option ResyncNote) (drawn : Option NumberNote)
     → is_held homes sub ≡ true → Holds homes s → Holds homes (resynchronised set homes s sub resynced drawn).0
-resynchronised_holds set homes s sub None drawn held was = was
-resynchronised_holds set homes s sub (Some resync.BadAuts) drawn held was = was
-resynchronised_holds set homes s sub (Some (resync.Beyond seen seq)) drawn held was = was
 resynchronised_holds set homes s sub (Some (resync.InRange seen seq)) drawn held was =
     challenged_holds set homes (resynchronising s) sub false (Some (resync.InRange seen seq)) drawn held was
 resynchronised_holds set homes s sub (Some (resync.Moved seen seq)) drawn held was =
     challenged_holds set homes (resynchronising s) sub false (Some (resync.Moved seen seq)) drawn held was
+resynchronised_holds set homes s sub other drawn held was = was
 
 succeeded_holds : (homes : List HomeRow) (s : ServerEnd) (c : Option Challenged) → Holds homes s → Holds homes (succeeded s c).0
 succeeded_holds homes s None was = was
@@ -252,18 +224,7 @@ does_hold set homes s text packets (row.TooSmall sub) notes held was = challenge
 does_hold set homes s text packets (row.Resynchronise sub seq) notes held was = resynchronised_holds set homes s sub notes.resync notes.number held.0 was
 does_hold set homes s text packets row.Success notes held was = succeeded_holds homes s s.challenged was
 does_hold set homes s text packets row.Reauthenticated notes held was = renewed_holds homes s s.resumed was
-does_hold set homes s text packets (row.Ignore cause) notes held was = was
-does_hold set homes s text packets (row.Ask kind) notes held was = was
-does_hold set homes s text packets row.UnknownIdentity notes held was = was
-does_hold set homes s text packets row.WrongMac notes held was = was
-does_hold set homes s text packets row.WrongCounter notes held was = was
-does_hold set homes s text packets row.WrongRes notes held was = was
-does_hold set homes s text packets row.WrongCheckcode notes held was = was
-does_hold set homes s text packets row.SecondSync notes held was = was
-does_hold set homes s text packets row.BadAuts notes held was = was
-does_hold set homes s text packets row.Rejected notes held was = was
-does_hold set homes s text packets (row.ClientError code) notes held was = was
-does_hold set homes s text packets (row.Notified cause) notes held was = was
+does_hold set homes s text packets other notes held was = was
 
 -- what a server needs holds again after a turn, if the centre has as many subscribers with the same greatest numbers
 pub served_again : (all : List rows.Row) (subs subs' : ℕ) (top top' : ℕ → ℕ) (set : Setting) (homes later : List HomeRow) (s new : ServerEnd) (turn : Turn ServerWhy)

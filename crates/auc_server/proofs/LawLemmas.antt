@@ -375,24 +375,13 @@ proved_does : (found : Option ℕ) (set : Setting) (homes : List HomeRow) (s : S
     → Says found s seen r → EndsIn keys bytes (server_does set homes s text packets r notes) → IsProved s seen keys (server_does set homes s text packets r notes)
 proved_does found set homes s seen text packets row.Success notes keys bytes right e = proved_by s seen s.challenged keys bytes refl right e
 proved_does found set homes s seen text packets row.Reauthenticated notes keys bytes right e = renewed_by s seen s.resumed keys bytes refl right e
-proved_does found set homes s seen text packets (row.Ignore cause) notes keys bytes right e = absurd cc
-proved_does found set homes s seen text packets (row.Ask kind) notes keys bytes right e = absurd cc
-proved_does found set homes s seen text packets row.UnknownIdentity notes keys bytes right e = absurd cc
 proved_does found set homes s seen text packets (row.Challenge sub) notes keys bytes right e =
     absurd (no_challenged set homes (identified s text packets) sub false None notes.number keys bytes e)
 proved_does found set homes s seen text packets (row.Resume sub) notes keys bytes right e =
     absurd (no_resumed set (homes_left s.options.method text homes sub) s text packets sub (context_in s.options.method text homes sub) keys bytes e)
 proved_does found set homes s seen text packets (row.TooSmall sub) notes keys bytes right e = absurd (no_challenged set homes s sub true None notes.number keys bytes e)
-proved_does found set homes s seen text packets row.WrongCounter notes keys bytes right e = absurd cc
-proved_does found set homes s seen text packets row.WrongMac notes keys bytes right e = absurd cc
-proved_does found set homes s seen text packets row.WrongRes notes keys bytes right e = absurd cc
-proved_does found set homes s seen text packets row.WrongCheckcode notes keys bytes right e = absurd cc
-proved_does found set homes s seen text packets row.SecondSync notes keys bytes right e = absurd cc
-proved_does found set homes s seen text packets row.BadAuts notes keys bytes right e = absurd cc
 proved_does found set homes s seen text packets (row.Resynchronise sub seq) notes keys bytes right e = absurd (no_resynchronised set homes s sub notes.resync notes.number keys bytes e)
-proved_does found set homes s seen text packets row.Rejected notes keys bytes right e = absurd cc
-proved_does found set homes s seen text packets (row.ClientError code) notes keys bytes right e = absurd cc
-proved_does found set homes s seen text packets (row.Notified cause) notes keys bytes right e = absurd cc
+proved_does found set homes s seen text packets other notes keys bytes right e = absurd cc
 
 pub success_is_proved : SuccessNeedsARightMac
 success_is_proved set homes s seen said notes keys bytes e =

@@ -98,19 +98,11 @@ does_moves found set homes s seen text packets (row.Resume sub) notes says f =
     resumed_moves set (homes_left s.options.method text homes sub) s text packets sub (context_in s.options.method text homes sub) says f
 does_moves found set homes s seen text packets (row.TooSmall sub) notes says f =
     challenged_moves set homes s s (record { sub = sub; reported = None }) true None notes.number (alike s)
-does_moves found set homes s seen text packets row.WrongCounter notes says f = inl (record { challenge = refl; identity = λ sent e. refl })
 does_moves found set homes s seen text packets row.Reauthenticated notes says f = renewed_moves set s s.resumed
-does_moves found set homes s seen text packets row.WrongMac notes says f = inl (record { challenge = refl; identity = λ sent e. refl })
-does_moves found set homes s seen text packets row.WrongRes notes says f = inl (record { challenge = refl; identity = λ sent e. refl })
-does_moves found set homes s seen text packets row.WrongCheckcode notes says f = inl (record { challenge = refl; identity = λ sent e. refl })
 does_moves found set homes s seen text packets row.Success notes says f = succeeded_moves set s s.challenged
-does_moves found set homes s seen text packets row.SecondSync notes says f = inl (record { challenge = refl; identity = λ sent e. refl })
-does_moves found set homes s seen text packets row.BadAuts notes says f = inl (record { challenge = refl; identity = λ sent e. refl })
 does_moves found set homes s seen text packets (row.Resynchronise sub seq) notes says f =
     resynchronised_moves set homes s (record { sub = sub; reported = Some seq }) notes.resync notes.number
-does_moves found set homes s seen text packets row.Rejected notes says f = inl (record { challenge = refl; identity = λ sent e. refl })
-does_moves found set homes s seen text packets (row.ClientError code) notes says f = inl (record { challenge = refl; identity = λ sent e. refl })
-does_moves found set homes s seen text packets (row.Notified cause) notes says f = inl (record { challenge = refl; identity = λ sent e. refl })
+does_moves found set homes s seen text packets other notes says f = inl (record { challenge = refl; identity = λ sent e. refl })
 
 -- each turn
 pub each_turn_moves : EachTurnKeepsOrChallenges

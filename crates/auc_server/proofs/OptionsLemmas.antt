@@ -58,25 +58,14 @@ succeeded_keeps s None = refl
 succeeded_keeps s (Some sent) = refl
 
 does_keeps : (set : Setting) (homes : List HomeRow) (s : ServerEnd) (text : List ℕ) (packets : List (List ℕ)) (r : Row) (notes : Notes) → (server_does set homes s text packets r notes).0.options ≡ s.options
-does_keeps set homes s text packets (row.Ignore cause) notes = refl
-does_keeps set homes s text packets (row.Ask kind) notes = refl
-does_keeps set homes s text packets row.UnknownIdentity notes = refl
 does_keeps set homes s text packets (row.Challenge sub) notes = challenged_keeps set homes (identified s text packets) sub false None notes.number
 does_keeps set homes s text packets (row.Resume sub) notes =
     resumed_keeps set (homes_left s.options.method text homes sub) s text packets sub (context_in s.options.method text homes sub)
 does_keeps set homes s text packets (row.TooSmall sub) notes = challenged_keeps set homes s sub true None notes.number
-does_keeps set homes s text packets row.WrongCounter notes = refl
 does_keeps set homes s text packets row.Reauthenticated notes = renewed_keeps s s.resumed
-does_keeps set homes s text packets row.WrongMac notes = refl
-does_keeps set homes s text packets row.WrongRes notes = refl
-does_keeps set homes s text packets row.WrongCheckcode notes = refl
 does_keeps set homes s text packets row.Success notes = succeeded_keeps s s.challenged
-does_keeps set homes s text packets row.SecondSync notes = refl
-does_keeps set homes s text packets row.BadAuts notes = refl
 does_keeps set homes s text packets (row.Resynchronise sub seq) notes = resynchronised_keeps set homes s sub notes.resync notes.number
-does_keeps set homes s text packets row.Rejected notes = refl
-does_keeps set homes s text packets (row.ClientError code) notes = refl
-does_keeps set homes s text packets (row.Notified cause) notes = refl
+does_keeps set homes s text packets other notes = refl
 
 -- after a turn
 pub turn_options : (set : Setting) (homes : List HomeRow) (s : ServerEnd) (seen : Seen) (said : Reply) (notes : Notes) → (server_step set homes s seen said notes).0.options ≡ s.options

@@ -116,18 +116,7 @@ done_rises homes s text (row.Resynchronise sub seq) notes other = challenged_ris
 done_rises homes s text (row.Resume sub) notes other = resumed_rises s.options text homes sub (context_in s.options.method text homes sub) other
 done_rises homes s text row.Success notes other = won_rises s.options.method homes s.challenged other
 done_rises homes s text row.Reauthenticated notes other = rewon_rises s.options.method homes s.resumed other
-done_rises homes s text (row.Ignore cause) notes other = same (home_at homes other)
-done_rises homes s text (row.Ask kind) notes other = same (home_at homes other)
-done_rises homes s text row.UnknownIdentity notes other = same (home_at homes other)
-done_rises homes s text row.WrongMac notes other = same (home_at homes other)
-done_rises homes s text row.WrongRes notes other = same (home_at homes other)
-done_rises homes s text row.WrongCheckcode notes other = same (home_at homes other)
-done_rises homes s text row.WrongCounter notes other = same (home_at homes other)
-done_rises homes s text row.SecondSync notes other = same (home_at homes other)
-done_rises homes s text row.BadAuts notes other = same (home_at homes other)
-done_rises homes s text row.Rejected notes other = same (home_at homes other)
-done_rises homes s text (row.ClientError code) notes other = same (home_at homes other)
-done_rises homes s text (row.Notified cause) notes other = same (home_at homes other)
+done_rises homes s text rest notes other = same (home_at homes other)
 
 pub ordinals_rise : OrdinalsRise
 ordinals_rise set homes s seen said notes place = done_rises homes s (text_in seen.reading) (server_row set homes s seen said) notes place

@@ -165,18 +165,10 @@ does_renews found set homes s seen packets (row.Challenge sub) notes says f =
 does_renews found set homes s seen packets (row.Resume sub) notes says f =
     resumed_renews set homes s seen packets sub (home_place homes sub) (context_in s.options.method (text_in seen.reading) homes sub) refl refl
 does_renews found set homes s seen packets (row.TooSmall sub) notes says f = inl (challenged_keeps set homes s s sub true None notes.number (alike s))
-does_renews found set homes s seen packets row.WrongCounter notes says f = inl (record { resumption = refl; identity = λ sent e. refl }, refl)
 does_renews found set homes s seen packets row.Reauthenticated notes says f = inl (renewed_keeps s s.resumed)
-does_renews found set homes s seen packets row.WrongMac notes says f = inl (record { resumption = refl; identity = λ sent e. refl }, refl)
-does_renews found set homes s seen packets row.WrongRes notes says f = inl (record { resumption = refl; identity = λ sent e. refl }, refl)
-does_renews found set homes s seen packets row.WrongCheckcode notes says f = inl (record { resumption = refl; identity = λ sent e. refl }, refl)
 does_renews found set homes s seen packets row.Success notes says f = inl (succeeded_keeps s s.challenged)
-does_renews found set homes s seen packets row.SecondSync notes says f = inl (record { resumption = refl; identity = λ sent e. refl }, refl)
-does_renews found set homes s seen packets row.BadAuts notes says f = inl (record { resumption = refl; identity = λ sent e. refl }, refl)
 does_renews found set homes s seen packets (row.Resynchronise sub seq) notes says f = inl (resynchronised_keeps set homes s sub notes.resync notes.number)
-does_renews found set homes s seen packets row.Rejected notes says f = inl (record { resumption = refl; identity = λ sent e. refl }, refl)
-does_renews found set homes s seen packets (row.ClientError code) notes says f = inl (record { resumption = refl; identity = λ sent e. refl }, refl)
-does_renews found set homes s seen packets (row.Notified cause) notes says f = inl (record { resumption = refl; identity = λ sent e. refl }, refl)
+does_renews found set homes s seen packets other notes says f = inl (record { resumption = refl; identity = λ sent e. refl }, refl)
 
 -- each turn
 pub each_turn_renews : EachTurnKeepsOrResumes

@@ -80,25 +80,16 @@ succeeded_keeps s (Some sent) = refl
 
 does_identity : (set : Setting) (homes : List HomeRow) (s : ServerEnd) (text : List ℕ) (packets : List (List ℕ)) (r : Row) (notes : Notes)
     → ((server_does set homes s text packets r notes).0.identity ≡ s.identity) ⊎ ((server_does set homes s text packets r notes).0.identity ≡ text)
-does_identity set homes s text packets (row.Ignore cause) notes = inl refl
 does_identity set homes s text packets (row.Ask kind) notes = inr refl
 does_identity set homes s text packets row.UnknownIdentity notes = inr refl
 does_identity set homes s text packets (row.Challenge sub) notes = inr (challenged_keeps set homes (identified s text packets) sub false None notes.number)
 does_identity set homes s text packets (row.Resume sub) notes =
     resumed_identity set (homes_left s.options.method text homes sub) s text packets sub (context_in s.options.method text homes sub)
 does_identity set homes s text packets (row.TooSmall sub) notes = inl (challenged_keeps set homes s sub true None notes.number)
-does_identity set homes s text packets row.WrongCounter notes = inl refl
 does_identity set homes s text packets row.Reauthenticated notes = inl (renewed_keeps s s.resumed)
-does_identity set homes s text packets row.WrongMac notes = inl refl
-does_identity set homes s text packets row.WrongRes notes = inl refl
-does_identity set homes s text packets row.WrongCheckcode notes = inl refl
 does_identity set homes s text packets row.Success notes = inl (succeeded_keeps s s.challenged)
-does_identity set homes s text packets row.SecondSync notes = inl refl
-does_identity set homes s text packets row.BadAuts notes = inl refl
 does_identity set homes s text packets (row.Resynchronise sub seq) notes = inl (resynchronised_keeps set homes s sub notes.resync notes.number)
-does_identity set homes s text packets row.Rejected notes = inl refl
-does_identity set homes s text packets (row.ClientError code) notes = inl refl
-does_identity set homes s text packets (row.Notified cause) notes = inl refl
+does_identity set homes s text packets other notes = inl refl
 
 -- it is that before it, or the one that was received
 pub identity_is : (set : Setting) (homes : List HomeRow) (s : ServerEnd) (seen : Seen) (said : Reply) (notes : Notes)
@@ -195,9 +186,6 @@ IsReported (Some request) notes = (kept : Option ℕ) × AnswersReport kept requ
 does_asks : (set : Setting) (homes : List HomeRow) (s : ServerEnd) (seen : Seen) (text : List ℕ) (packets : List (List ℕ)) (r : Row) (notes : Notes) → Says (subscriber_in s.options.method set homes text) s seen r
     → Fits s → AsksAsNeeded r notes → IsReported (asking r) notes → (server_does set homes s text packets r notes).1.notes ≡ notes
     → AsksFor set homes (sub_asked (asking r)) (server_does set homes s text packets r notes)
-does_asks set homes s seen text packets (row.Ignore cause) notes says f need report told = refl
-does_asks set homes s seen text packets (row.Ask kind) notes says f need report told = refl
-does_asks set homes s seen text packets row.UnknownIdentity notes says f need report told = refl
 does_asks set homes s seen text packets (row.Challenge sub) notes says f need report told =
     first_asks set homes (identified s text packets) sub false notes.number
     (named_first s.resumed (subscriber_in s.options.method set homes text) sub (f.before says.0) says.1) need (ap (λ (n : Notes). n.number) told)
@@ -205,19 +193,11 @@ does_asks set homes s seen text packets (row.Resume sub) notes says f need repor
     resumed_asks set homes (homes_left s.options.method text homes sub) s text packets sub (context_in s.options.method text homes sub)
 does_asks set homes s seen text packets (row.TooSmall sub) notes says f need report told =
     first_asks set homes s sub true notes.number (resumed_is s (subscriber_in s.options.method set homes s.identity) sub says) need (ap (λ (n : Notes). n.number) told)
-does_asks set homes s seen text packets row.WrongCounter notes says f need report told = refl
 does_asks set homes s seen text packets row.Reauthenticated notes says f need report told = renewed_asks set homes s s.resumed
-does_asks set homes s seen text packets row.WrongMac notes says f need report told = refl
-does_asks set homes s seen text packets row.WrongRes notes says f need report told = refl
-does_asks set homes s seen text packets row.WrongCheckcode notes says f need report told = refl
 does_asks set homes s seen text packets row.Success notes says f need report told = succeeded_asks set homes s s.challenged
-does_asks set homes s seen text packets row.SecondSync notes says f need report told = refl
-does_asks set homes s seen text packets row.BadAuts notes says f need report told = refl
 does_asks set homes s seen text packets (row.Resynchronise sub seq) notes says f need report told =
     resynchronised_asks set homes s sub seq report.0 notes.resync notes.number (last_is s sub says) report.1 need (ap (λ (n : Notes). n.number) told)
-does_asks set homes s seen text packets row.Rejected notes says f need report told = refl
-does_asks set homes s seen text packets (row.ClientError code) notes says f need report told = refl
-does_asks set homes s seen text packets (row.Notified cause) notes says f need report told = refl
+does_asks set homes s seen text packets other notes says f need report told = refl
 
 -- the server and its notes tell it
 pub asked_is : (set : Setting) (homes : List HomeRow) (s : ServerEnd) (seen : Seen) (said : Reply) (notes : Notes) → Fits s

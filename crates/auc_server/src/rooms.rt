@@ -149,9 +149,9 @@ impl Rooms {
         ensures { IfOk result (λ rooms. rooms ≡ name.now) }
     {
         Ok(Rooms {
-            request: RequestRooms::new(alloc)?,
             name: Octets::copied_from(alloc, name)?,
             check: Room::new(alloc, CHECKCODE)?,
+            request: RequestRooms::new(alloc)?,
             names: NameRooms::new(alloc)?,
         })
     }
