@@ -3,9 +3,9 @@ use Rattle.std.proofs.Common.{◌≡◌, ◌⊎◌, inl, inr, ⊎_elim, ℕ, ◌
 use Rattle.auc_disk.specs.Disk.{Elapses, Follows, Only, OnlyTold, Puts, Torn, put}
 use Rattle.auc_journal.specs.Settled.{LeavesOnly}
 use Rattle.auc_disk.proofs.Facts.{some_is}
-use Rattle.auc_journal.specs.Image.{Frame, most, read_image}
-use Rattle.auc_journal.specs.Settled.{AtRest, IsBeforeOrAfter, IsSettled}
-use Rattle.auc_journal.proofs.AppendLemmas.{IsBody, put_staged, staged, write_behind, write_gate, written}
+use Rattle.auc_journal.specs.Image.{Frame, most}
+use Rattle.auc_journal.specs.Settled.{AtRest, IsAppending, IsSettled}
+use Rattle.auc_journal.proofs.AppendLemmas.{IsBody, put_staged, rest_closable, staged, write_behind, write_gate, written}
 use Rattle.auc_journal.proofs.MomentLemmas.{goes_on, started}
 
 pub told_or_not : (told : Option (List ℕ)) → (told ≡ None) ⊎ ((file : List ℕ) × (told ≡ Some file))
@@ -21,15 +21,17 @@ module _ {D : Type 0} (seen : D → Option (List ℕ)) (may_leave : D → List �
   Passes old new = Elapses (moment old) (moment new) (left_since old) (left_since new) (may_leave new)
 
   -- a call leaves no more than before it
-  abbrev pub Keeps : D → D → Type 0
-  Keeps old new = (image : List ℕ) → may_leave new image → may_leave old image
+  abbrev pub LeavesNoMore : D → D → Type 0
+  LeavesNoMore old new = (image : List ℕ) → may_leave new image → may_leave old image
 
   -- if there is no call at all
   pub no_call : ((disk : D) (image : List ℕ) → left_since disk (moment disk) image → may_leave disk image)
       → (old : D) (frames : List Frame) (place : ℕ) (frame : Frame) → IsSettled seen may_leave old frames place → (file : List ℕ) → seen old ≡ Some file
-      → LeavesOnly moment left_since old old (IsBeforeOrAfter frames place frame)
+      → LeavesOnly moment left_since old old (IsAppending frames place frame)
   no_call only_now old frames place frame settled file told =
-      started moment left_since old (IsBeforeOrAfter frames place frame) (λ image left. inl (ap read_image (settled.durable file told image (only_now old image left)) ∙ (settled.at_rest file told).read))
+      let rest = settled.at_rest file told in
+      let here : IsAppending frames place frame file = (inl rest.read, rest_closable file frames place rest) in
+      started moment left_since old (IsAppending frames place frame) (λ image left. subst (IsAppending frames place frame) (sym (settled.durable file told image (only_now old image left))) here)
 
   -- a disk that reveals nothing reveals nothing after a write
   none_put : (old new : D) (at : ℕ) (bytes : List ℕ) → Puts (seen old) at bytes (seen new) → seen old ≡ None → seen new ≡ None
@@ -51,7 +53,7 @@ module _ {D : Type 0} (seen : D → Option (List ℕ)) (may_leave : D → List �
       (old : D) (frames : List Frame) (place : ℕ) (frame : Frame) (body bytes : List ℕ) (good : IsBody body frame) (spelled : bytes ≡ body ++ 0 ∷ []) (room : place + 20 ≤ most)
       (settled : IsSettled seen may_leave old frames place) (file : List ℕ) (told : seen old ≡ Some file) where
     abbrev P : List ℕ → Type 0
-    P = IsBeforeOrAfter frames place frame
+    P = IsAppending frames place frame
 
     abbrev Lasts : D → Type 0
     Lasts new = LeavesOnly moment left_since old new P
@@ -76,14 +78,14 @@ module _ {D : Type 0} (seen : D → Option (List ℕ)) (may_leave : D → List �
     behind_leaves wrote crash image now =
         let from = crash image now in
         let torn : Torn (place + 1) 19 file image = subst (λ (n : ℕ). Torn (place + 1) n file image) size (subst (λ (l : List ℕ). Torn (place + 1) (length bytes) l image) (only from.0 from.1) from.2) in
-        inl (write_behind file frames place frame body good rest room image torn)
+        write_behind file frames place frame body good rest room image torn
 
     -- after the body was written
     pub after_body : (wrote : D) → Follows (Torn (place + 1) (length bytes)) (may_leave old) (may_leave wrote) → Passes old wrote → Lasts wrote
     after_body wrote crash time = goes_on moment left_since old old wrote P (may_leave wrote) at_start time (behind_leaves wrote crash)
 
     -- after the first sync
-    pub after_sync : (wrote synced : D) → Follows (Torn (place + 1) (length bytes)) (may_leave old) (may_leave wrote) → Passes old wrote → Keeps wrote synced → Passes wrote synced → Lasts synced
+    pub after_sync : (wrote synced : D) → Follows (Torn (place + 1) (length bytes)) (may_leave old) (may_leave wrote) → Passes old wrote → LeavesNoMore wrote synced → Passes wrote synced → Lasts synced
     after_sync wrote synced crash time keeps later =
         goes_on moment left_since old wrote synced P (may_leave synced) (after_body wrote crash time) later (λ image now. behind_leaves wrote crash image (keeps image now))
 
@@ -107,7 +109,7 @@ module _ {D : Type 0} (seen : D → Option (List ℕ)) (may_leave : D → List �
 
     -- after the second sync
     pub at_end : (wrote synced opened ended : D) → Lasts opened → Puts (seen old) (place + 1) bytes (seen wrote) → OnlyTold (seen wrote) (may_leave synced) → Follows (Torn place 1) (may_leave synced) (may_leave opened)
-        → Keeps opened ended → Passes opened ended → Lasts ended
+        → LeavesNoMore opened ended → Passes opened ended → Lasts ended
     at_end wrote synced opened ended so_far puts durable crash keeps time =
         goes_on moment left_since old opened ended P (may_leave ended) so_far time (λ image now. gate_leaves wrote synced opened puts durable crash image (keeps image now))
 

@@ -1,14 +1,15 @@
 -- How an opening and an append keep what a crash may leave: for the journal.
-use Rattle.std.proofs.Common.{◌≡◌, ⊎_elim, ℕ, ◌+◌, ◌≤◌, ◌<◌, List, [], ◌∷◌, ◌++◌, length, Option, Some, None, is_some, refl, sym, ◌∙◌, ap, subst, arith, true≢false}
-use Rattle.std.specs.Prelude.{Bool, true, false, max, if◌then◌else◌}
+use Rattle.std.proofs.Common.{◌≡◌, inl, inr, ⊎_elim, ℕ, ◌+◌, ◌≤◌, ◌<◌, List, [], ◌∷◌, ◌++◌, length, Option, Some, None, is_some, refl, sym, ◌∙◌, ap, subst, arith, true≢false}
+use Rattle.std.specs.Prelude.{Bool, true, false, max, if◌then◌else◌, Result, Ok}
 use Rattle.auc_edge.specs.Identity.{Identity}
 use Rattle.auc_disk.specs.Disk.{Puts}
 use Rattle.auc_journal.specs.Durable.{Admits, AreBetween, IsBetween, IsDurable, IsReady, IsTold}
-use Rattle.auc_journal.specs.Image.{Frame, read_image, reserved_in, same_identity}
+use Rattle.auc_journal.specs.Image.{Frame, Keeps, Reading, read_image, reserved_as, reserved_by, reserved_in, same_identity}
 use Rattle.auc_journal.specs.Journal.{JournalState, imsi_at, reserved_at}
 use Rattle.auc_journal.specs.Limits.{AreLimits}
 use Rattle.auc_journal.specs.Opening.{Opens}
-use Rattle.auc_journal.specs.Settled.{IsBeforeOrAfter, IsSettled, LeavesOnly}
+use Rattle.auc_journal.specs.Settled.{AtRest, IsAppending, IsBeforeOrAfter, IsClosable, IsSettled, LeavesOnly}
+use Rattle.auc_journal.proofs.AppendLemmas.{rest_closable}
 use Rattle.auc_journal.proofs.LimitLemmas.{reserved-push, rises_by, same_is}
 use Rattle.auc_journal.proofs.MomentLemmas.{leaves_now}
 
@@ -26,21 +27,56 @@ push_below : (b : Bool) (was to most : ℕ) → was ≤ most → (b ≡ true →
 push_below true was to most low top = omega (arith, low, top refl)
 push_below false was to most low top = low
 
-module _ {D : Type 0} (seen : D → Option (List ℕ)) (may_leave : D → List ℕ → Type 0) where
-  -- a journal that is ready leaves what is between
-  pub ready_images : (most : ℕ → ℕ) (journal : JournalState D) → IsReady seen may_leave most journal → (image : List ℕ) → may_leave journal.disk image → IsBetween journal most image
-  ready_images most journal ready image now =
-      let told = told_file (seen journal.disk) ready.tells in (
-        record { frames = ready.frames; end = journal.place },
-        ap read_image (ready.settled.durable told.0 told.1 image now) ∙ (ready.settled.at_rest told.0 told.1).read,
-        λ i inside. (
-          subst (λ (n : ℕ). reserved_at journal i ≤ n) (ready.same (imsi_at journal.imsis i)) (omega arith),
-          subst (λ (n : ℕ). n ≤ most i) (ready.same (imsi_at journal.imsis i)) (ready.below i inside),
-        ),
-      )
+-- what bytes reserve that are read as some frames
+pub reserved-read : (file : List ℕ) (frames : List Frame) (place : ℕ) (imsi : Identity) → read_image file ≡ Ok (record { frames = frames; end = place }) → reserved_by file imsi ≡ reserved_in frames imsi
+reserved-read file frames place imsi read = ap (λ (r : Result Reading ℕ). reserved_as r imsi) read
 
-  ready_durable : (from : D) (most : ℕ → ℕ) (journal : JournalState D) → (IsTold seen may_leave from → IsReady seen may_leave most journal) → IsDurable seen may_leave from most journal
-  ready_durable from most journal ready = record { images = λ told image now. ready_images most journal (ready told) image now; ready = λ told kept. ready told }
+-- an image that is read as frames that keep what a file reserved keeps it
+pub keeps_read : (file image : List ℕ) (frames : List Frame) (place : ℕ) → ((imsi : Identity) → reserved_by file imsi ≤ reserved_in frames imsi)
+    → read_image image ≡ Ok (record { frames = frames; end = place }) → Keeps file image
+keeps_read file image frames place low read = λ imsi. subst (λ (n : ℕ). reserved_by file imsi ≤ n) (sym (reserved-read image frames place imsi read)) (low imsi)
+
+-- one more frame takes nothing away
+pub keeps_push : (frames : List Frame) (frame : Frame) (imsi : Identity) (least : ℕ) → least ≤ reserved_in frames imsi → least ≤ reserved_in (frames ++ frame ∷ []) imsi
+keeps_push frames frame imsi least low =
+    let rise = rises_by (same_identity frame.imsi imsi) (reserved_in frames imsi) frame.limit in
+    subst (λ (n : ℕ). least ≤ n) (sym (reserved-push frames frame imsi)) (omega (arith, low, rise))
+
+-- nor does an append that is broken off
+pub keeps_append : (file image : List ℕ) (frames : List Frame) (place : ℕ) (frame : Frame) → ((imsi : Identity) → reserved_by file imsi ≤ reserved_in frames imsi) → IsBeforeOrAfter frames place frame image → Keeps file image
+keeps_append file image frames place frame low (inl before) = keeps_read file image frames place low before
+keeps_append file image frames place frame low (inr after) = keeps_read file image (frames ++ frame ∷ []) (place + 19) (λ imsi. keeps_push frames frame imsi (reserved_by file imsi) (low imsi)) after
+
+module _ {D : Type 0} (seen : D → Option (List ℕ)) (may_leave : D → List ℕ → Type 0) where
+  -- an image of a journal that is ready is at rest with its frames
+  ready_rests : (file : List ℕ) (most : ℕ → ℕ) (journal : JournalState D) (ready : IsReady seen may_leave file most journal) → (image : List ℕ) → may_leave journal.disk image → AtRest image ready.frames journal.place
+  ready_rests file most journal ready image now =
+      let told = told_file (seen journal.disk) ready.tells in
+      subst (λ (l : List ℕ). AtRest l ready.frames journal.place) (sym (ready.settled.durable told.0 told.1 image now)) (ready.settled.at_rest told.0 told.1)
+
+  -- and keeps what was found
+  pub ready_keeps : (file : List ℕ) (most : ℕ → ℕ) (journal : JournalState D) → IsReady seen may_leave file most journal → (image : List ℕ) → may_leave journal.disk image → Keeps file image × IsClosable image
+  ready_keeps file most journal ready image now =
+      let rest = ready_rests file most journal ready image now in
+      (keeps_read file image ready.frames journal.place ready.keeps rest.read, rest_closable image ready.frames journal.place rest)
+
+  -- a journal that is ready leaves what is between
+  pub ready_images : (file : List ℕ) (most : ℕ → ℕ) (journal : JournalState D) → IsReady seen may_leave file most journal → (image : List ℕ) → may_leave journal.disk image → IsBetween journal most image
+  ready_images file most journal ready image now = (
+    record { frames = ready.frames; end = journal.place },
+    (ready_rests file most journal ready image now).read,
+    λ i inside. (
+      subst (λ (n : ℕ). reserved_at journal i ≤ n) (ready.same (imsi_at journal.imsis i)) (omega arith),
+      subst (λ (n : ℕ). n ≤ most i) (ready.same (imsi_at journal.imsis i)) (ready.below i inside),
+    ),
+  )
+
+  ready_durable : (from : D) (most : ℕ → ℕ) (journal : JournalState D) → ((told : IsTold seen may_leave from) → IsReady seen may_leave told.0 most journal) → IsDurable seen may_leave from most journal
+  ready_durable from most journal ready = record {
+    images = λ told image now. ready_images told.0 most journal (ready told) image now;
+    keeps = λ told image now. ready_keeps told.0 most journal (ready told) image now;
+    ready = λ told kept. ready told;
+  }
 
   -- a greater bound is one too
   pub durable_more : (from : D) (most more : ℕ → ℕ) (journal : JournalState D) → ((i : ℕ) → i < length journal.imsis → most i ≤ more i)
@@ -49,9 +85,10 @@ module _ {D : Type 0} (seen : D → Option (List ℕ)) (may_leave : D → List �
     images = λ told image now.
         let was = is.images told image now in
         (was.0, was.1, λ i inside. ((was.2 i inside).0, omega (arith, le i inside, (was.2 i inside).1)));
+    keeps = is.keeps;
     ready = λ told kept.
         let was = is.ready told kept in
-        record { frames = was.frames; settled = was.settled; same = was.same; below = λ i inside. omega (arith, le i inside, was.below i inside); tells = was.tells };
+        record { frames = was.frames; settled = was.settled; keeps = was.keeps; same = was.same; below = λ i inside. omega (arith, le i inside, was.below i inside); tells = was.tells };
   }
 
   -- a journal that was opened
@@ -60,6 +97,7 @@ module _ {D : Type 0} (seen : D → Option (List ℕ)) (may_leave : D → List �
   opened_durable from journal opens tells = ready_durable from (λ i. reserved_at journal i) journal (λ told. record {
     frames = opens.frames;
     settled = opens.settled;
+    keeps = λ imsi. subst (λ (n : ℕ). n ≤ reserved_in opens.frames imsi) (sym (reserved-read told.0 opens.frames journal.place imsi (opens.read told.0 told.1))) (omega arith);
     same = opens.are.same;
     below = λ i inside. omega arith;
     tells = tells ∙ ap is_some told.1;
@@ -67,9 +105,9 @@ module _ {D : Type 0} (seen : D → Option (List ℕ)) (may_leave : D → List �
 
   module _ (from : D) (most : ℕ → ℕ) (old new : JournalState D) (sub : ℕ) (frame : Frame) (own : frame.imsi ≡ imsi_at old.imsis sub) (going : old.failed ≡ false) (imsis : new.imsis ≡ old.imsis)
       (top : Admits old sub frame.limit most) (was : IsDurable seen may_leave from most old) where
-    below_after : IsReady seen may_leave most old → (i : ℕ) → i < length old.imsis
+    below_after : (file : List ℕ) → IsReady seen may_leave file most old → (i : ℕ) → i < length old.imsis
         → (if same_identity frame.imsi (imsi_at old.imsis i) then max (reserved_at old i) frame.limit else reserved_at old i) ≤ most i
-    below_after ready i inside =
+    below_after file ready i inside =
         push_below (same_identity frame.imsi (imsi_at old.imsis i)) (reserved_at old i) frame.limit (most i) (ready.below i inside) (λ same. top i inside (sym (same_is frame.imsi (imsi_at old.imsis i) same) ∙ own))
 
     -- after an append that succeeded
@@ -81,13 +119,14 @@ module _ {D : Type 0} (seen : D → Option (List ℕ)) (may_leave : D → List �
         record {
           frames = ready.frames ++ frame ∷ [];
           settled = settles ready.frames ready.settled;
+          keeps = λ imsi. keeps_push ready.frames frame imsi (reserved_by told.0 imsi) (ready.keeps imsi);
           same = λ imsi.
               are.same imsi ∙ reserved-push old.limits frame imsi
               ∙ ap (λ (n : ℕ). if same_identity frame.imsi imsi then max n frame.limit else n) (ready.same imsi)
               ∙ sym (reserved-push ready.frames frame imsi);
           below = λ i inside.
               subst (λ (l : List Identity). reserved_in new.limits (imsi_at l i) ≤ most i) (sym imsis)
-              (subst (λ (n : ℕ). n ≤ most i) (sym (are.same (imsi_at old.imsis i) ∙ reserved-push old.limits frame (imsi_at old.imsis i))) (below_after ready i (subst (λ (l : List Identity). i < length l) imsis inside)));
+              (subst (λ (n : ℕ). n ≤ most i) (sym (are.same (imsi_at old.imsis i) ∙ reserved-push old.limits frame (imsi_at old.imsis i))) (below_after told.0 ready i (subst (λ (l : List Identity). i < length l) imsis inside)));
           tells = tells ∙ ready.tells;
         })
 
@@ -99,33 +138,43 @@ module _ {D : Type 0} (seen : D → Option (List ℕ)) (may_leave : D → List �
     between_old frames limits are = subst (λ (l : List Identity). Between new.limits l frames) (sym imsis) (subst (λ (l : List Frame). Between l old.imsis frames) (sym limits) are)
 
     -- the frames from before are between
-    before_is : (ready : IsReady seen may_leave most old) → Between old.limits old.imsis ready.frames
-    before_is ready i inside = (
+    before_is : (file : List ℕ) (ready : IsReady seen may_leave file most old) → Between old.limits old.imsis ready.frames
+    before_is file ready i inside = (
       subst (λ (n : ℕ). reserved_at old i ≤ n) (ready.same (imsi_at old.imsis i)) (omega arith),
       subst (λ (n : ℕ). n ≤ most i) (ready.same (imsi_at old.imsis i)) (ready.below i inside),
     )
 
     -- and so are these with the new one
-    after_is : (ready : IsReady seen may_leave most old) → Between old.limits old.imsis (ready.frames ++ frame ∷ [])
-    after_is ready i inside =
+    after_is : (file : List ℕ) (ready : IsReady seen may_leave file most old) → Between old.limits old.imsis (ready.frames ++ frame ∷ [])
+    after_is file ready i inside =
         let imsi = imsi_at old.imsis i in
         let is : (if same_identity frame.imsi imsi then max (reserved_at old i) frame.limit else reserved_at old i) ≡ reserved_in (ready.frames ++ frame ∷ []) imsi =
         ap (λ (n : ℕ). if same_identity frame.imsi imsi then max n frame.limit else n) (ready.same imsi) ∙ sym (reserved-push ready.frames frame imsi) in (
           subst (λ (n : ℕ). reserved_at old i ≤ n) is (rises_by (same_identity frame.imsi imsi) (reserved_at old i) frame.limit),
-          subst (λ (n : ℕ). n ≤ most i) is (below_after ready i inside),
+          subst (λ (n : ℕ). n ≤ most i) is (below_after file ready i inside),
         )
 
     -- after one that failed
     pub failed_durable : (moment : D → ℕ) (left_since : D → ℕ → List ℕ → Type 0) (counts_now : (disk : D) (t : ℕ) (image : List ℕ) → t ≤ moment disk → may_leave disk image → left_since disk t image)
         → new.failed ≡ true → new.limits ≡ old.limits
-        → ((frames : List Frame) → IsSettled seen may_leave old.disk frames old.place → (file : List ℕ) → seen old.disk ≡ Some file → LeavesOnly moment left_since old.disk new.disk (IsBeforeOrAfter frames old.place frame))
+        → ((frames : List Frame) → IsSettled seen may_leave old.disk frames old.place → (file : List ℕ) → seen old.disk ≡ Some file → LeavesOnly moment left_since old.disk new.disk (IsAppending frames old.place frame))
         → IsDurable seen may_leave from most new
-    failed_durable moment left_since counts_now failed limits leaves = record { images = images; ready = λ told kept. absurd (true≢false (sym failed ∙ kept)) }
+    failed_durable moment left_since counts_now failed limits leaves = record { images = images; keeps = keeps; ready = λ told kept. absurd (true≢false (sym failed ∙ kept)) }
       where
+        left : (file : List ℕ) (ready : IsReady seen may_leave file most old) (image : List ℕ) → may_leave new.disk image → IsAppending ready.frames old.place frame image
+        left file ready image now =
+            let told = told_file (seen old.disk) ready.tells in
+            leaves_now moment left_since may_leave counts_now old.disk new.disk (IsAppending ready.frames old.place frame) (leaves ready.frames ready.settled told.0 told.1) image now
+
         images : IsTold seen may_leave from → (image : List ℕ) → may_leave new.disk image → IsBetween new most image
         images told image now =
             let ready = was.ready told going in
-            let file = told_file (seen old.disk) ready.tells in
-            ⊎_elim (λ before. (record { frames = ready.frames; end = old.place }, before, between_old ready.frames limits (before_is ready)))
-            (λ after. (record { frames = ready.frames ++ frame ∷ []; end = old.place + 19 }, after, between_old (ready.frames ++ frame ∷ []) limits (after_is ready)))
-            (leaves_now moment left_since may_leave counts_now old.disk new.disk (IsBeforeOrAfter ready.frames old.place frame) (leaves ready.frames ready.settled file.0 file.1) image now)
+            ⊎_elim (λ before. (record { frames = ready.frames; end = old.place }, before, between_old ready.frames limits (before_is told.0 ready)))
+            (λ after. (record { frames = ready.frames ++ frame ∷ []; end = old.place + 19 }, after, between_old (ready.frames ++ frame ∷ []) limits (after_is told.0 ready)))
+            (left told.0 ready image now).0
+
+        keeps : (told : IsTold seen may_leave from) → (image : List ℕ) → may_leave new.disk image → Keeps told.0 image × IsClosable image
+        keeps told image now =
+            let ready = was.ready told going in
+            let is = left told.0 ready image now in
+            (keeps_append told.0 image ready.frames old.place frame ready.keeps is.0, is.1)

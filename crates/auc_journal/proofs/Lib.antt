@@ -2,6 +2,7 @@ pub mod Facts
 mod AppendCalls
 mod AppendLemmas
 mod BodyLemmas
+mod ClosingLemmas
 mod DurableLemmas
 mod FillLemmas
 mod FrameLemmas

@@ -147,7 +147,7 @@ pub record Parts (file : List ℕ) (frames : List Frame) (place : ℕ) : Type 0 
   pub whole : file ≡ header ++ (octets ++ 0 ∷ stale)
   pub fits : length file ≤ most
 
-zero_first : (rest : List ℕ) → take 1 rest ≡ 0 ∷ [] → rest ≡ 0 ∷ drop 1 rest
+pub zero_first : (rest : List ℕ) → take 1 rest ≡ 0 ∷ [] → rest ≡ 0 ∷ drop 1 rest
 zero_first [] is = absurd (cc)
 zero_first (byte ∷ rest) is = ap (λ (l : List ℕ). l ++ rest) is
 

@@ -1,12 +1,12 @@
 -- What a crash may leave of a journal, from a disk that it was opened on: limits that aren't lower than the journal's,
--- and that have a bound for each subscriber.
+-- and that have a bound for each subscriber, and no lower one of any identity than the bytes that were found.
 use Rattle.std.specs.Prelude.{◌≡◌, ℕ, ◌<◌, ◌≤◌, List, length, true, false, Option, Some, Ok}
 use Rattle.std.specs.Option.{is_some}
 use Rattle.auc_edge.specs.Identity.{Identity}
 use Rattle.auc_disk.specs.Disk.{Only}
-use Rattle.auc_journal.specs.Image.{Frame, Reading, read_image, reserved_in}
+use Rattle.auc_journal.specs.Image.{Frame, Keeps, Reading, read_image, reserved_by, reserved_in}
 use Rattle.auc_journal.specs.Journal.{JournalState, imsi_at, reserved_at}
-use Rattle.auc_journal.specs.Settled.{IsSettled}
+use Rattle.auc_journal.specs.Settled.{IsClosable, IsSettled}
 
 -- the disk told its bytes, and a crash would have left just these
 abbrev pub IsTold : {D : Type 0} → (D → Option (List ℕ)) → (D → List ℕ → Type 0) → D → Type 0
@@ -21,10 +21,12 @@ AreBetween journal most frames =
 abbrev pub IsBetween : {D : Type 0} → JournalState D → (ℕ → ℕ) → List ℕ → Type 0
 IsBetween journal most image = (reading : Reading) × (read_image image ≡ Ok reading) × AreBetween journal most reading.frames
 
--- what the next append begins with: the disk is settled with such frames, the limits are theirs, and it still tells its bytes
-pub record IsReady {D : Type 0} (seen : D → Option (List ℕ)) (may_leave : D → List ℕ → Type 0) (most : ℕ → ℕ) (journal : JournalState D) : Type 0 where
+-- what the next append begins with: the disk is settled with such frames, which keep what a file reserved; the limits are
+-- theirs, and the disk still tells its bytes
+pub record IsReady {D : Type 0} (seen : D → Option (List ℕ)) (may_leave : D → List ℕ → Type 0) (file : List ℕ) (most : ℕ → ℕ) (journal : JournalState D) : Type 0 where
   pub frames : List Frame
   pub settled : IsSettled seen may_leave journal.disk frames journal.place
+  pub keeps : (imsi : Identity) → reserved_by file imsi ≤ reserved_in frames imsi
   pub same : (imsi : Identity) → reserved_in journal.limits imsi ≡ reserved_in frames imsi
   pub below : (i : ℕ) → i < length journal.imsis → reserved_at journal i ≤ most i
   pub tells : is_some (seen journal.disk) ≡ true
@@ -36,5 +38,7 @@ Admits journal sub limit most = (i : ℕ) → i < length journal.imsis → imsi_
 -- if its disk was such a one at first, what a crash may leave of a journal
 pub record IsDurable {D : Type 0} (seen : D → Option (List ℕ)) (may_leave : D → List ℕ → Type 0) (from : D) (most : ℕ → ℕ) (journal : JournalState D) : Type 0 where
   pub images : IsTold seen may_leave from → (image : List ℕ) → may_leave journal.disk image → IsBetween journal most image
+  -- no image forgets a reservation of the bytes that were told, whosever it is, and each can be opened again without a loss
+  pub keeps : (told : IsTold seen may_leave from) → (image : List ℕ) → may_leave journal.disk image → Keeps told.0 image × IsClosable image
   -- and, unless an append failed, where the next one begins
-  pub ready : IsTold seen may_leave from → journal.failed ≡ false → IsReady seen may_leave most journal
+  pub ready : (told : IsTold seen may_leave from) → journal.failed ≡ false → IsReady seen may_leave told.0 most journal

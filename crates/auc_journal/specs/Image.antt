@@ -1,5 +1,5 @@
 -- What a journal's bytes say: a header, frames of one limit each behind an open gate, and a gate that ends the reading.
-use Rattle.std.specs.Prelude.{ℕ, zero, suc, ◌+◌, ◌^◌, max, ◌==◌, ◌&&◌, nat_le, nat_lt, Bool, if◌then◌else◌, List, [], ◌∷◌, ◌++◌, length, take, drop, slice_index, Result, Ok, Err}
+use Rattle.std.specs.Prelude.{◌≤◌, ℕ, zero, suc, ◌+◌, ◌^◌, max, ◌==◌, ◌&&◌, nat_le, nat_lt, Bool, if◌then◌else◌, List, [], ◌∷◌, ◌++◌, length, take, drop, slice_index, Result, Ok, Err}
 use Rattle.std.specs.Int.{to_be_bytes, from_be_bytes, w64}
 use Rattle.std.specs.Str.{bytes_eq}
 use Rattle.auc_edge.specs.Identity.{Identity, is_imsi}
@@ -77,3 +77,16 @@ same_identity a b = (a.digits == b.digits) && (a.number == b.number)
 abbrev pub reserved_in : List Frame → Identity → ℕ
 reserved_in [] imsi = 0
 reserved_in (frame ∷ frames) imsi = if same_identity frame.imsi imsi then max frame.limit (reserved_in frames imsi) else reserved_in frames imsi
+
+-- what a reading reserves for an identity; bytes that are no journal reserve nothing
+abbrev pub reserved_as : Result Reading ℕ → Identity → ℕ
+reserved_as (Ok reading) imsi = reserved_in reading.frames imsi
+reserved_as (Err place) imsi = 0
+
+-- what the bytes of a file reserve for an identity
+abbrev pub reserved_by : List ℕ → Identity → ℕ
+reserved_by file imsi = reserved_as (read_image file) imsi
+
+-- an image forgets no reservation of a file, whosever it is
+abbrev pub Keeps : List ℕ → List ℕ → Type 0
+Keeps file image = (imsi : Identity) → reserved_by file imsi ≤ reserved_by image imsi

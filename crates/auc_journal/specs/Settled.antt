@@ -1,12 +1,22 @@
 -- Journals on a disk: what is read of one at rest, and what a crash may leave of it.
-use Rattle.std.specs.Prelude.{◌≡◌, ◌⊎◌, ℕ, ◌+◌, List, [], ◌∷◌, ◌++◌, ◌≤◌, take, drop, Option, Some, Ok}
+use Rattle.std.specs.Prelude.{◌≡◌, ◌⊎◌, ℕ, ◌+◌, List, [], ◌∷◌, ◌++◌, ◌≤◌, length, take, drop, true, Option, Some, Ok}
 use Rattle.auc_disk.specs.Disk.{Only}
-use Rattle.auc_journal.specs.Image.{Frame, read_image}
+use Rattle.auc_journal.specs.Image.{Frame, Reading, is_body, read_image}
 
 -- a file is read as these frames, and their reading ends at a closed gate
 pub record AtRest (file : List ℕ) (frames : List Frame) (place : ℕ) : Type 0 where
   pub read : read_image file ≡ Ok (record { frames = frames; end = place })
   pub gate : take 1 (drop place file) ≡ 0 ∷ []
+
+-- a body and a closed gate stand behind a gate
+abbrev pub HasBody : List ℕ → ℕ → Type 0
+HasBody file gate = (is_body (take 18 (drop (gate + 1) file)) ≡ true) × (take 1 (drop (gate + 19) file) ≡ 0 ∷ [])
+
+-- the gate at which the reading of a file ends costs no frame, whatever byte a crash leaves there while it is closed: the file
+-- has no room for a frame, or the gate is closed, or it has a body
+abbrev pub IsClosable : List ℕ → Type 0
+IsClosable file = (reading : Reading) → read_image file ≡ Ok reading
+    → (length file ≤ 17) ⊎ (take 1 (drop reading.end file) ≡ 0 ∷ []) ⊎ HasBody file reading.end
 
 -- if the disk reveals its bytes, they are at rest with these frames, and a crash leaves just these bytes
 pub record IsSettled {D : Type 0} (seen : D → Option (List ℕ)) (may_leave : D → List ℕ → Type 0) (disk : D) (frames : List Frame) (place : ℕ) : Type 0 where
@@ -24,3 +34,7 @@ pub record LeavesOnly {D : Type 0} (moment : D → ℕ) (left_since : D → ℕ 
 abbrev pub IsBeforeOrAfter : List Frame → ℕ → Frame → List ℕ → Type 0
 IsBeforeOrAfter frames place frame image =
     (read_image image ≡ Ok (record { frames = frames; end = place })) ⊎ (read_image image ≡ Ok (record { frames = frames ++ frame ∷ []; end = place + 19 }))
+
+-- what a crash may leave during an append: such an image, whose gate can be closed
+abbrev pub IsAppending : List Frame → ℕ → Frame → List ℕ → Type 0
+IsAppending frames place frame image = IsBeforeOrAfter frames place frame image × IsClosable image

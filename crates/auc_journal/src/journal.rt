@@ -9,8 +9,8 @@ ghost use Rattle.auc_journal.specs.Durable.{Admits, IsDurable};
 ghost use Rattle.auc_journal.specs.Journal.{frame_for, reserved_at};
 ghost use Rattle.auc_journal.specs.InnerLookup.{raised_by};
 ghost use Rattle.auc_journal.specs.Limits.{AreLimits, AreSingle};
-ghost use Rattle.auc_journal.specs.Opening.{LeavesOpening, Opens};
-ghost use Rattle.auc_journal.specs.Settled.{IsBeforeOrAfter, IsSettled, LeavesOnly};
+ghost use Rattle.auc_journal.specs.Opening.{IsAsBefore, LeavesFound, LeavesOpening, Opens};
+ghost use Rattle.auc_journal.specs.Settled.{IsAppending, IsSettled, LeavesOnly};
 ghost use Rattle.auc_journal.specs.declared.open_why.OpenWhy.TheVariants as why;
 
 use crate::append_refusal::AppendRefusal;
@@ -56,7 +56,8 @@ impl<D: Disk + Drop> Journal<D> {
         ensures ready { IfOk result (λ journal. journal.failed ≡ false) }
         ensures quiet { IfOk result (λ journal. D.faults journal.disk ≡ D.faults disk) }
 
-        // If the disk told its bytes, a crash leaves journals with just these limits.
+        // If the disk told its bytes, a crash leaves journals with just these limits, and with those that the file reserves for
+        // any other identity.
         ensures durable { IfOk result (λ journal.
             IsDurable D.seen D.may_leave disk (λ sub. reserved_at journal sub) journal) }
 
@@ -67,6 +68,10 @@ impl<D: Disk + Drop> Journal<D> {
             → Rose (D.faults disk) (D.faults refused.disk)) }
         ensures stands { IfErr result (λ refused. refused.why ≢ why.StoreFault
             → D.faults refused.disk ≡ D.faults disk) }
+
+        // A refusal forgets no reservation of the file that was found, whosever it is, if the gate of the file can be closed.
+        ensures refused { IfErr result (λ refused.
+            LeavesFound D.seen D.may_leave refused.why disk refused.disk) }
 
         // A crash at any moment leaves the file, or what the closing of its gate or a first opening may leave.
         ensures any_moment { IfOk result (λ journal.
@@ -131,7 +136,7 @@ impl<D: Disk + Drop> Journal<D> {
             → IsSettled D.seen D.may_leave self.old.disk frames self.old.place
             → (file : List ℕ) → D.seen self.old.disk ≡ Some file
             → LeavesOnly D.moment D.left_since self.old.disk self.new.disk
-            (IsBeforeOrAfter frames self.old.place (frame_for self.old sub limit)) }
+            (IsAppending frames self.old.place (frame_for self.old sub limit)) }
 
         // Whatever it answers, a crash leaves limits that are no lower, and none above a bound that admits the
         // new one.
@@ -208,13 +213,14 @@ fn prepare<D: Disk>(alloc: Global, disk: &mut D, imsis: &[Imsi]) -> Result<Opene
     ensures wrong { (place : ℕ) → result ≡ Err (OpenWhy.NotJournal place)
         → (file : List ℕ) → D.seen disk.old ≡ Some file → read_image file ≡ Err place }
     ensures any_moment { LeavesOpening D.seen D.may_leave D.moment D.left_since disk.old disk.new }
+    ensures unwritten { IfErr result (λ refusal. refusal ≢ OpenWhy.StoreFault
+        → IsAsBefore D.seen D.may_leave disk.old disk.new) }
     ensures fault { result ≡ Err OpenWhy.StoreFault → Rose (D.faults disk.old) (D.faults disk.new) }
     ensures stands { result ≢ Err OpenWhy.StoreFault → D.faults disk.new ≡ D.faults disk.old }
 {
     let own = imsis.to_vec(alloc)?;
     let mut limits = LimitList::new(alloc);
-    let place = open_file(alloc, disk, &mut limits)?;
-    limits.reserve(own.len())?;
+    let place = open_file(alloc, disk, &mut limits, own.len())?;
     Ok(Opened {
         place,
         imsis: own,

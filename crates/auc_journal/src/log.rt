@@ -6,7 +6,7 @@ ghost use Rattle.auc_edge.specs.Faults.{Rose};
 ghost use Rattle.auc_edge.specs.Identity.{IsIdentity};
 ghost use Rattle.auc_sqn.specs.Number.{max_seq};
 ghost use Rattle.auc_journal.specs.Image.{Frame, body_of};
-ghost use Rattle.auc_journal.specs.Settled.{IsBeforeOrAfter, IsSettled, LeavesOnly};
+ghost use Rattle.auc_journal.specs.Settled.{IsAppending, IsSettled, LeavesOnly};
 
 use crate::append_refusal::AppendRefusal;
 use crate::reading::MOST;
@@ -41,7 +41,7 @@ impl<D: Disk> Log<D> {
             → IsSettled D.seen D.may_leave self.old.disk frames self.old.place
             → (file : List ℕ) → D.seen self.old.disk ≡ Some file
             → LeavesOnly D.moment D.left_since self.old.disk self.new.disk
-            (IsBeforeOrAfter frames self.old.place (record { imsi = imsi; limit = limit })) }
+            (IsAppending frames self.old.place (record { imsi = imsi; limit = limit })) }
 
         // It fails only if the count rose, and is full exactly if the next gate would stand past 2^30 bytes.
         ensures fault { IsErrOf result AppendRefusal.StoreFault
