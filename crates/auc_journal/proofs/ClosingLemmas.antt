@@ -1,5 +1,5 @@
 -- What an opening that closes a gate takes away: nothing, if the gate can be closed. For refused openings.
-use Rattle.std.proofs.Common.{◌≡◌, ◌⊎◌, inl, inr, ⊎_elim, ℕ, ◌+◌, ◌≤◌, List, [], ◌∷◌, ◌++◌, length, get_or, take, drop, refl, sym, ◌∙◌, ap, subst, arith, length-append, length-drop, take-append-drop}
+use Rattle.std.proofs.Common.{◌≡◌, ◌⊎◌, inl, inr, ⊎_elim, ℕ, ◌+◌, ◌≤◌, List, [], ◌∷◌, ◌++◌, length, get_or, take, drop, Option, refl, sym, ◌∙◌, ap, subst, arith, length-append, length-drop, take-append-drop}
 use Rattle.std.specs.Prelude.{◌<◌, max, true, Result, Ok, Err}
 use Rattle.std.proofs.lemmas.Bool.{and_parts}
 use Rattle.std.proofs.lemmas.Bool.Decides.{Decides-eqb}
@@ -8,8 +8,9 @@ use Rattle.auc_edge.specs.Identity.{Identity}
 use Rattle.auc_disk.specs.Disk.{put}
 use Rattle.auc_disk.proofs.Facts.{put-within}
 use Rattle.auc_journal.specs.Image.{Frame, Keeps, Reading, frame_in, header, most, is_body, read_image, reserved_by, reserved_in}
-use Rattle.auc_journal.specs.Opening.{IsOpening}
+use Rattle.auc_journal.specs.Opening.{IsOpening, LeavesFound}
 use Rattle.auc_journal.specs.Settled.{HasBody, IsAppending, IsClosable}
+use Rattle.auc_journal.specs.declared.open_why.OpenWhy.{OpenWhy}
 use Rattle.auc_journal.proofs.AppendLemmas.{IsBody, by_gate, file_with, length-with, put_gate}
 use Rattle.auc_journal.proofs.DurableLemmas.{keeps_append, reserved-read}
 use Rattle.auc_journal.proofs.OpenLemmas.{end_within, new_or_none}
@@ -125,3 +126,14 @@ pub opening_keeps : (file image : List ℕ) → IsClosable file → IsOpening fi
 opening_keeps [] image closable new = ((λ imsi. omega arith), short_closable image new.0)
 opening_keeps (byte ∷ bytes) image closable (inl same) = file_kept (byte ∷ bytes) image closable same
 opening_keeps (byte ∷ bytes) image closable (inr torn) = torn_kept (byte ∷ bytes) image torn.0 torn.1 (omega arith) closable torn.2 torn.3 torn.4
+
+-- an image that is the file keeps what the file reserves, and what is kept twice is kept
+pub keeps_same : (file image : List ℕ) → image ≡ file → Keeps file image
+keeps_same file image same = subst (Keeps file) (sym same) (λ imsi. omega arith)
+
+pub keeps_twice : (file image later : List ℕ) → Keeps file image → Keeps image later → Keeps file later
+keeps_twice file image later first second = λ imsi. omega (arith, first imsi, second imsi)
+
+-- a disk that no call touched leaves what was found
+pub untouched_found : {D : Type 0} (seen : D → Option (List ℕ)) (may_leave : D → List ℕ → Type 0) (refusal : OpenWhy) (disk : D) → LeavesFound seen may_leave refusal disk disk
+untouched_found seen may_leave refusal disk = record { same = λ other. (refl, λ image now. now); keeps = λ told closable image now. file_kept told.0 image closable (told.2 image now) }

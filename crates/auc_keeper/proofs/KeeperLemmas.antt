@@ -1,12 +1,18 @@
 -- What holds since a round began, after a limit was reserved: for the keeper.
-use Rattle.std.proofs.Common.{◌≡◌, ◌≢◌, ℕ, ◌+◌, ◌≤◌, ◌<◌, List, [], ◌∷◌, ◌++◌, length, ◌↔◌, refl, sym, ◌∙◌, ap, arith, true≢false}
-use Rattle.std.specs.Prelude.{AllPairs, Bool, true, false, max, slice_index, slice_set, Option, Some, None, Result, Ok, Err}
+use Rattle.std.proofs.Common.{◌≡◌, ◌≢◌, ℕ, zero, suc, ◌+◌, ◌≤◌, ◌<◌, List, [], ◌∷◌, ◌++◌, length, ◌↔◌, refl, sym, ◌∙◌, ap, subst, arith, true≢false}
+use Rattle.std.specs.Prelude.{AllPairs, Bool, true, false, max, map, ◌^◌, slice_index, slice_set, Option, Some, None, Result, Ok, Err}
+use Rattle.auc_edge.specs.Faults.{Rose}
+use Rattle.auc_edge.specs.Identity.{Identity}
 use Rattle.auc_edge.specs.declared.stop.Stop.{Stop}
+use Rattle.auc_edge.specs.declared.stop.Stop.TheVariants.{Fault, Full}
+use Rattle.auc_draw.specs.Values.{KeeperValue}
+use Rattle.auc_journal.specs.declared.append_refusal.AppendRefusal.{AppendRefusal}
+use Rattle.auc_journal.specs.declared.append_refusal.AppendRefusal.TheVariants.{StoreFault, StoreFull}
+use Rattle.auc_journal.specs.Image.{reserved_in}
 use Rattle.auc_journal.specs.Durable.{Admits, IsDurable}
-use Rattle.auc_journal.specs.Journal.{JournalState, frame_for}
+use Rattle.auc_journal.specs.Journal.{JournalState, frame_for, imsi_at, limits_of, reserved_at}
 use Rattle.auc_journal.specs.Limits.{AreLimits}
-use Rattle.auc_journal.specs.Journal.{reserved_at}
-use Rattle.auc_journal.proofs.Facts.{limits_raised, one_place, reserved_rises}
+use Rattle.auc_journal.proofs.Facts.{durable_more, limits_raised, one_place, reserved_rises}
 use Rattle.auc_keeper.specs.Keeper.{KeeperState, Since}
 
 none_some : (stop : Option Stop) (why : Stop) → stop ≡ None → stop ≡ Some why → ⊥
@@ -24,7 +30,79 @@ not_failed false result value why ok both = refl
 near_each : (seen : List ℕ) (most : ℕ → ℕ) (limit sub i : ℕ) → i ≡ sub → limit ≤ slice_index seen sub + 64 → limit ≤ max (most i) (slice_index seen i + 64)
 near_each seen most limit sub i at near = omega (arith, ap (slice_index seen) at, near)
 
+some_stop : (a b : Stop) → Some a ≡ Some b → a ≡ b
+some_stop a b same = cc
+
+-- a refusal that is no fault is full
+pub full_place : (refusal : AppendRefusal) (place : ℕ) → refusal ≢ StoreFault → ((len : ℕ) → refusal ≡ StoreFull len → 2 ^ 30 < place + 20) → 2 ^ 30 < place + 20
+full_place StoreFault place other full = absurd (other refl)
+full_place (StoreFull len) place other full = full len refl
+
+-- no number word falls by a look
+seen_rises : (seen : List ℕ) (sub word i : ℕ) → slice_index seen sub ≤ word → slice_index seen i ≤ slice_index (slice_set seen sub word) i
+seen_rises [] sub word i le = omega arith
+seen_rises (n ∷ seen) zero word zero le = le
+seen_rises (n ∷ seen) zero word (suc i) le = omega arith
+seen_rises (n ∷ seen) (suc sub) word zero le = omega arith
+seen_rises (n ∷ seen) (suc sub) word (suc i) le = seen_rises seen sub word i le
+
 module _ {D : Type 0} (seen : D → Option (List ℕ)) (may_leave : D → List ℕ → Type 0) (faults : D → ℕ) where
+  -- as the round begins
+  pub new_since : (journal : JournalState D) (pass : KeeperValue) → pass.limits ≡ limits_of journal → journal.failed ≡ false → pass.stop ≡ None
+      → Since seen may_leave faults journal (record { journal = journal; pass = pass })
+  new_since journal pass limits ready running = record {
+    subscribers = refl;
+    limits = limits;
+    rises = λ i inside. omega arith;
+    failed = (λ is. absurd (true≢false (sym is ∙ ready)), λ is. absurd (none_some pass.stop _ running is));
+    fault = λ is. absurd (none_some pass.stop _ running is);
+    quiet = λ other. refl;
+    full = λ is. absurd (none_some pass.stop _ running is);
+    durable = λ from most was. durable_more seen may_leave from most (λ i. max (most i) (slice_index pass.seen i + 64)) journal (λ i inside. omega arith) was;
+  }
+
+  -- after a look at a number word
+  pub looked_since : (opening : JournalState D) (old : KeeperState D) (sub word : ℕ) → slice_index old.pass.seen sub ≤ word
+      → Since seen may_leave faults opening old → Since seen may_leave faults opening (record { journal = old.journal; pass = record old.pass { seen = slice_set old.pass.seen sub word } })
+  looked_since opening old sub word le since = record {
+    subscribers = since.subscribers;
+    limits = since.limits;
+    rises = since.rises;
+    failed = since.failed;
+    fault = since.fault;
+    quiet = since.quiet;
+    full = since.full;
+    durable = λ from most was.
+        durable_more seen may_leave from (λ i. max (most i) (slice_index old.pass.seen i + 64)) (λ i. max (most i) (slice_index (slice_set old.pass.seen sub word) i + 64)) old.journal
+        (λ i inside. let rise = seen_rises old.pass.seen sub word i le in omega (arith, rise)) (since.durable from most was);
+  }
+
+  -- after an append that was refused
+  pub stopped_since : (opening : JournalState D) (old : KeeperState D) (journal : JournalState D) (sub limit : ℕ) (why : Stop)
+      → old.pass.stop ≡ None → AllPairs (λ a b. a ≢ b) old.journal.imsis → sub < length old.journal.imsis → limit ≤ slice_index old.pass.seen sub + 64
+      → journal.imsis ≡ old.journal.imsis → journal.limits ≡ old.journal.limits → ((journal.failed ≡ true) ↔ (why ≡ Fault))
+      → (why ≡ Fault → Rose (faults old.journal.disk) (faults journal.disk)) → (why ≢ Fault → faults journal.disk ≡ faults old.journal.disk) → (why ≡ Full → 2 ^ 30 < journal.place + 20)
+      → ((from : D) (most : ℕ → ℕ) → Admits old.journal sub limit most
+      → IsDurable seen may_leave from most old.journal → IsDurable seen may_leave from most journal)
+      → Since seen may_leave faults opening old → Since seen may_leave faults opening (record { journal = journal; pass = record old.pass { stop = Some why } })
+  stopped_since opening old journal sub limit why running differ there near imsis limits failed rose quiet full bounded since =
+      let before : faults old.journal.disk ≡ faults opening.disk = since.quiet (λ is. none_some old.pass.stop _ running is) in
+      record {
+        subscribers = imsis ∙ since.subscribers;
+        limits = since.limits ∙ sym (λ i. map (λ imsi. reserved_in (limits i) imsi) (imsis i));
+        rises = λ i inside.
+            let same : reserved_at journal i ≡ reserved_at old.journal i = λ k. reserved_in (limits k) (imsi_at (imsis k) i) in
+            omega (arith, since.rises i inside, same);
+        failed = (λ is. ap Some (failed.0 is), λ is. failed.1 (some_stop why Fault is));
+        fault = λ is. subst (λ (count : ℕ). Rose count (faults journal.disk)) before (rose (some_stop why Fault is));
+        quiet = λ other. quiet (λ is. other (ap Some is)) ∙ before;
+        full = λ is. full (some_stop why Full is);
+        durable = λ from most was.
+            bounded from (λ i. max (most i) (slice_index old.pass.seen i + 64))
+            (λ i inside same. near_each old.pass.seen most limit sub i (one_place old.journal.imsis differ i sub inside there same) near)
+            (since.durable from most was);
+      }
+
   pub reserved_since : (opening : JournalState D) (old : KeeperState D) (journal : JournalState D) (sub limit : ℕ)
       → old.pass.stop ≡ None → AllPairs (λ a b. a ≢ b) old.journal.imsis → sub < length old.journal.imsis
       → reserved_at old.journal sub < limit → limit ≤ slice_index old.pass.seen sub + 64

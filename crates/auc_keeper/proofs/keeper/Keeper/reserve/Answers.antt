@@ -1,6 +1,6 @@
 use Rattle.std.proofs.Common.{◌≡◌, ◌≢◌, ◌≤◌, ◌<◌, ℕ, List, length, refl, sym, ◌∙◌, ap, subst, arith}
-use Rattle.std.specs.Prelude.{AllPairs, None, slice_index, slice_set}
-use Rattle.std.proofs.lemmas.Grind.{get_or-set_at}
+use Rattle.std.specs.Prelude.{AllPairs, Err, None, slice_index, slice_set}
+use Rattle.std.proofs.lemmas.Grind.{common_steps, get_or-set_at}
 use Rattle.std.proofs.lemmas.List.{length-map}
 use Rattle.auc_edge.specs.Identity.{Identity}
 use Rattle.auc_draw.specs.Values.{KeeperValue}
@@ -8,7 +8,7 @@ use Rattle.auc_journal.specs.Image.{reserved_in}
 use Rattle.auc_journal.specs.Journal.{reserved_at}
 use Rattle.auc_journal.proofs.Facts.{limits_raised, reserved_raised}
 use Rattle.auc_keeper.specs.Keeper.{Since}
-use Rattle.auc_keeper.proofs.KeeperLemmas.{not_failed, ok_err, reserved_since}
+use Rattle.auc_keeper.proofs.KeeperLemmas.{full_place, not_failed, ok_err, reserved_since, stopped_since}
 use Rattle.auc_keeper.proofs.keeper.Keeper.reserve.Goals as goal
 
 pub invariant_of-self : goal.invariant_of-self
@@ -51,3 +51,19 @@ returns-in-Ok-clause-since g c =
     (reserved_since g.D.Disk.seen g.D.Disk.may_leave g.D.Disk.faults opening (record { journal = c.self.inside.journal; pass = c.self.inside.pass }) c.append.new.self c.args.sub c.next_limit-limit.result
     running c.self.invariant.differ there less (omega (arith, near, c.next_limit-limit.ensures)) c.append.ensures.subscribers (not_failed c.append.new.self.failed c.append.result _ _ c.in-Ok.is c.append.ensures.failed)
     (c.append.ensures.quiet (λ is. ok_err c.append.result _ _ c.in-Ok.is is)) c.in-Ok.ensures.limits c.append.ensures.bounded was))
+
+pub returns-in-Err-clause-since : goal.returns-in-Err-clause-since
+returns-in-Err-clause-since g c =
+    let there : c.args.sub < length c.self.inside.journal.imsis = rw (← c.self.view_is) at c.requires.sub.1 in
+    let running : c.self.inside.pass.stop ≡ None = rw (← c.self.view_is) at c.requires.running in
+    let near : c.args.n ≤ slice_index c.self.inside.pass.seen c.args.sub = rw (← c.self.view_is) at c.requires.seen in
+    rw (← c.self.view_is)
+    (λ opening was.
+    subst (λ (p : KeeperValue). Since g.D.Disk.seen g.D.Disk.may_leave g.D.Disk.faults opening (record { journal = c.append.new.self; pass = p })) (sym c.stop.ensures)
+    (stopped_since g.D.Disk.seen g.D.Disk.may_leave g.D.Disk.faults opening (record { journal = c.self.inside.journal; pass = c.self.inside.pass }) c.append.new.self c.args.sub c.next_limit-limit.result c.cause_of-why.result
+    running c.self.invariant.differ there (omega (arith, near, c.next_limit-limit.ensures)) c.append.ensures.subscribers c.in-Err.ensures.kept.0
+    (λ is. c.cause_of-why.ensures.fault.1 (grind (arith, common_steps)), λ is. c.append.ensures.failed.1 (c.in-Err.is ∙ ap Err (c.cause_of-why.ensures.fault.0 is)))
+    (λ is. grind (arith, common_steps))
+    (λ other. c.append.ensures.quiet (λ is. grind (arith, common_steps)))
+    (λ is. full_place c.in-Err.refusal c.append.new.self.place (c.cause_of-why.ensures.full is) (λ len full. grind (arith, common_steps)))
+    c.append.ensures.bounded was))
