@@ -1,5 +1,5 @@
 -- Disks in memory: the image that one began with, its record of calls, which calls fail, and how it counts faults.
-use Rattle.std.specs.Prelude.{◌≡◌, ◌⊎◌, ℕ, List, ◌∷◌, length, Bool, false}
+use Rattle.std.specs.Prelude.{◌≡◌, ◌⊎◌, ℕ, ◌+◌, List, ◌∷◌, length, Bool, false}
 use Rattle.auc_edge.specs.Faults.{raised}
 use Rattle.auc_disk.specs.Failing.{Failing, is_listed}
 use Rattle.auc_disk.specs.Replay.{Image, ImageSince, seen_after}
@@ -21,6 +21,10 @@ made_of made Len = made.lens
 made_of made ReadAt = made.reads
 made_of made WriteAt = made.writes
 made_of made Sync = made.syncs
+
+-- how many calls of all kinds there were
+abbrev pub calls_in : Made → ℕ
+calls_in made = made.lens + made.reads + made.writes + made.syncs
 
 -- the counts after one more call of a kind
 abbrev pub one_more : Made → DiskCall → Made

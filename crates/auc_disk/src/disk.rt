@@ -26,6 +26,9 @@ pub trait Disk {
     /// How often a call has failed. The count never falls.
     ghost faults: { Self → ℕ };
 
+    /// How often a method was called, as far as the disk counts that: a call counts once at most.
+    ghost calls: { Self → ℕ };
+
     /// How many bytes the file has.
     fn len(&mut self) -> Result<u64, Failed>
         ensures told { IfOk result (λ len. IsLength (seen self.old) len) }
@@ -34,7 +37,8 @@ pub trait Disk {
         ensures crash { (image : List ℕ) → may_leave self.new image → may_leave self.old image }
         ensures time { Elapses (moment self.old) (moment self.new) (left_since self.old) (left_since self.new)
             (may_leave self.new) }
-        ensures cause { HasCause (faults self.old) (faults self.new) result };
+        ensures cause { HasCause (faults self.old) (faults self.new) result }
+        ensures calls { calls self.new ≤ calls self.old + 1 };
 
     /// Reads bytes of the file from an offset on into the front of a buffer, and answers how many. If the
     /// buffer isn't empty, it answers 0 only at an offset that isn't below the last answer of `len`.
@@ -47,7 +51,8 @@ pub trait Disk {
         ensures crash { (image : List ℕ) → may_leave self.new image → may_leave self.old image }
         ensures time { Elapses (moment self.old) (moment self.new) (left_since self.old) (left_since self.new)
             (may_leave self.new) }
-        ensures cause { HasCause (faults self.old) (faults self.new) result };
+        ensures cause { HasCause (faults self.old) (faults self.new) result }
+        ensures calls { calls self.new ≤ calls self.old + 1 };
 
     /// Writes bytes over those at an offset, and past the end of the file. Until the next sync a crash may
     /// leave any bytes in the range, also if the call fails; what a read gives after a failed call isn't
@@ -59,7 +64,8 @@ pub trait Disk {
         ensures crash { Follows (Torn at (length bytes.now)) (may_leave self.old) (may_leave self.new) }
         ensures time { Elapses (moment self.old) (moment self.new) (left_since self.old) (left_since self.new)
             (may_leave self.new) }
-        ensures cause { HasCause (faults self.old) (faults self.new) result };
+        ensures cause { HasCause (faults self.old) (faults self.new) result }
+        ensures calls { calls self.new ≤ calls self.old + 1 };
 
     /// Makes what was written durable: after it a crash leaves what a read gives. If it fails, a crash may
     /// leave no more than before.
@@ -69,7 +75,8 @@ pub trait Disk {
         ensures crash { (image : List ℕ) → may_leave self.new image → may_leave self.old image }
         ensures time { Elapses (moment self.old) (moment self.new) (left_since self.old) (left_since self.new)
             (may_leave self.new) }
-        ensures cause { HasCause (faults self.old) (faults self.new) result };
+        ensures cause { HasCause (faults self.old) (faults self.new) result }
+        ensures calls { calls self.new ≤ calls self.old + 1 };
 
     /// What a crash may leave now, it may have left since an earlier moment.
     ghost counts_now: { (disk : Self) (t : ℕ) (image : List ℕ) → t ≤ moment disk → may_leave disk image → left_since disk t image };

@@ -6,7 +6,7 @@ ghost use Rattle.auc_edge.specs.Faults.{raised};
 ghost use Rattle.auc_edge.specs.Shelf.{GivesFrom};
 ghost use Rattle.auc_disk.specs.Disk.{Elapses, Follows, HasCause, IsLength, OnlyTold, Puts, ReadsAt, Torn};
 ghost use Rattle.auc_disk.specs.InnerReplay.{as_it_reads, counts_now, only_now, some_is};
-ghost use Rattle.auc_disk.specs.MemDisk.{AfterFailedWrite, LeavesNow, LeftSince, after_call, after_fault, after_len, after_record, is_failing, made_of, one_more, seen_of};
+ghost use Rattle.auc_disk.specs.MemDisk.{AfterFailedWrite, LeavesNow, LeftSince, after_call, after_fault, after_len, after_record, calls_in, is_failing, made_of, one_more, seen_of};
 ghost use Rattle.auc_disk.specs.Replay.{image_by};
 ghost use Rattle.auc_disk.specs.declared.call.Call.TheVariants.{Wrote, Synced};
 ghost use Rattle.auc_disk.specs.declared.disk_call.DiskCall.TheVariants.{Len, ReadAt, WriteAt, Sync};
@@ -194,6 +194,8 @@ impl Disk for MemDisk {
 
     ghost faults = { λ d. d.faults };
 
+    ghost calls = { λ d. calls_in d.made };
+
     ghost counts_now = { λ d t image early here. counts_now d.first d.calls t image early here };
 
     ghost only_now = { λ d image since. only_now d.first d.calls image since };
@@ -208,6 +210,7 @@ impl Disk for MemDisk {
         ensures time { Elapses (length self.old.calls) (length self.new.calls) (LeftSince self.old)
             (LeftSince self.new) (LeavesNow self.new) }
         ensures cause { HasCause self.old.faults self.new.faults result }
+        ensures calls { calls_in self.new.made ≤ calls_in self.old.made + 1 }
 
         // Exactly when it fails, and what it leaves.
         ensures outcome { is_err result ≡ is_failing self.old Len }
@@ -231,6 +234,7 @@ impl Disk for MemDisk {
         ensures time { Elapses (length self.old.calls) (length self.new.calls) (LeftSince self.old)
             (LeftSince self.new) (LeavesNow self.new) }
         ensures cause { HasCause self.old.faults self.new.faults result }
+        ensures calls { calls_in self.new.made ≤ calls_in self.old.made + 1 }
 
         // Exactly when it fails, and what it leaves.
         ensures outcome { is_err result ≡ is_failing self.old ReadAt }
@@ -251,6 +255,7 @@ impl Disk for MemDisk {
         ensures time { Elapses (length self.old.calls) (length self.new.calls) (LeftSince self.old)
             (LeftSince self.new) (LeavesNow self.new) }
         ensures cause { HasCause self.old.faults self.new.faults result }
+        ensures calls { calls_in self.new.made ≤ calls_in self.old.made + 1 }
 
         // It fails if it was told to, and what it leaves.
         ensures told { IsTrue (is_failing self.old WriteAt) → IsErr result }
@@ -271,6 +276,7 @@ impl Disk for MemDisk {
         ensures time { Elapses (length self.old.calls) (length self.new.calls) (LeftSince self.old)
             (LeftSince self.new) (LeavesNow self.new) }
         ensures cause { HasCause self.old.faults self.new.faults result }
+        ensures calls { calls_in self.new.made ≤ calls_in self.old.made + 1 }
 
         // It fails if it was told to, and what it leaves.
         ensures told { IsTrue (is_failing self.old Sync) → IsErr result }

@@ -153,6 +153,9 @@ impl<D: Disk + Drop> Journal<D> {
             → (len ≡ self.old.place + 1) × (2 ^ 30 < len + 19) × (self.new ≡ self.old) }
         ensures is_full { 2 ^ 30 < self.old.place + 1 + 19
             → result ≡ Err (AppendRefusal.StoreFull (self.old.place + 1)) }
+
+        // It makes four calls of the disk at most.
+        ensures calls { D.calls self.new.disk ≤ D.calls self.old.disk + 4 }
     {
         let imsi = self.imsis[sub as usize];
         match self.log.append(imsi, limit) {

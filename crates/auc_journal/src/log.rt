@@ -49,6 +49,7 @@ impl<D: Disk> Log<D> {
         ensures quiet { result ≢ Err AppendRefusal.StoreFault
             → D.faults self.new.disk ≡ D.faults self.old.disk }
         ensures later { D.faults self.old.disk ≤ D.faults self.new.disk }
+        ensures calls { D.calls self.new.disk ≤ D.calls self.old.disk + 4 }
         ensures full { (len : ℕ) → result ≡ Err (AppendRefusal.StoreFull len)
             → (len ≡ self.old.place + 1) × (2 ^ 30 < len + 19) × (self.new ≡ self.old) }
         ensures is_full { 2 ^ 30 < self.old.place + 1 + 19
