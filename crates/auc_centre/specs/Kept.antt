@@ -1,8 +1,9 @@
 -- What a lock keeps in a round.
-use Rattle.std.specs.Prelude.{◌≡◌, ℕ, List, length, Option, Some, None}
+use Rattle.std.specs.Prelude.{◌≡◌, ℕ, ◌<◌, ◌≤◌, List, length, Option, Some, None}
 use Rattle.atomic_table.specs.Seated.{TableId}
 use Rattle.auc_journal.specs.Journal.{JournalState}
-use Rattle.auc_keeper.specs.Keeper.{KeeperState, Since}
+use Rattle.auc_keeper.specs.Keeper.{Ensures, KeeperState, Since, looked}
+use Rattle.auc_keeper.specs.declared.keeper.Ensured.{Ensured}
 
 -- how many subscribers the journal of the opening is for
 abbrev pub subs_of : {D : Type 0} → Option (JournalState D) → ℕ
@@ -20,3 +21,10 @@ pub record IsKept {D : Type 0} (seen : D → Option (List ℕ)) (may_leave : D �
   pub own : k.pass.id ≡ table
   pub all : k.pass.passes ≡ passes
   pub since : SinceOpening seen may_leave faults opening k
+
+-- the keeper was asked to reserve a drawn number of a subscriber: it looked at the subscriber's word, and if it found the
+-- number or a higher one there, it ensured the number. Of no other subscriber, and for no other number, it did anything
+pub record AsksFor {D : Type 0} (sub n : ℕ) (old new : KeeperState D) : Type 0 where
+  pub word : ℕ
+  pub seen : n ≤ word → (answer : Ensured) × Ensures sub n (looked sub word old) answer new
+  pub unseen : word < n → new ≡ looked sub word old

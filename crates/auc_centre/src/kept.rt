@@ -1,12 +1,14 @@
 //! The keeper of a round, as its lock keeps it.
 
-ghost use Rattle.std.specs.Prelude.{◌≡◌, ◌<◌, ◌≤◌, length};
+ghost use Rattle.std.specs.Prelude.{◌≡◌, ◌<◌, ◌≤◌, Contains, length};
+ghost use Rattle.auc_history.specs.declared.entry.Entry.TheVariants.{Drawn};
 ghost use Rattle.auc_sqn.specs.Number.{max_seq};
-ghost use Rattle.auc_centre.specs.Kept.{IsKept, subs_of};
+ghost use Rattle.auc_draw.specs.Deeds.{entries_of};
+ghost use Rattle.auc_centre.specs.Kept.{AsksFor, IsKept, subs_of};
 
 use crate::naming::Naming;
 use auc_disk::Disk;
-use auc_draw::Book;
+use auc_draw::{Book, Pass};
 use auc_keeper::Keeper;
 use std::marker::{Model, PhantomData};
 
@@ -48,13 +50,15 @@ impl<L: Naming<D>, D: Disk + Drop> Kept<L, D> {
         self.keeper
     }
 
-    /// Has the keeper reserve a drawn number of a subscriber. It looks at the subscriber's word first, since it reserves
-    /// no number that it hasn't seen there.
-    pub(crate) fn reserve(&mut self, book: &Book, sub: u32, n: u64)
+    /// Has the keeper reserve a number of a subscriber that a pass drew, if it is above the subscriber's limit. It looks at
+    /// the subscriber's word first, since it reserves no number that it hasn't seen there.
+    pub(crate) fn reserve(&mut self, book: &Book, _pass: &Pass, sub: u32, n: u64)
         requires shared { book.now.id ≡ L.table }
         requires sub { sub < length book.now.openings }
         requires sized { subs_of L.opening ≡ length book.now.openings }
+        requires drawn { Contains (entries_of sub _pass.now.deeds) (Drawn n) }
         requires number { n ≤ max_seq }
+        ensures asks { AsksFor sub n self.old self.new }
     {
         if self.keeper.look(book, sub) >= n {
             self.keeper.ensure(book, sub, n);

@@ -38,7 +38,7 @@ pub(crate) fn settle<L: Naming<D>, D: Disk + Drop, R: Wait>(
         if let Some(answer) = release(pass, book, sub, n) {
             return answer;
         }
-        keeper.lock(rt).reserve(book, sub, n);
+        keeper.lock(rt).reserve(book, pass, sub, n);
     }
     unreachable!()
 }

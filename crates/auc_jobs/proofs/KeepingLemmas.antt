@@ -8,9 +8,10 @@ use Rattle.auc_draw.specs.Values.{BookValue, KeeperValue, PassValue}
 use Rattle.auc_edge.specs.Identity.{Identity}
 use Rattle.auc_edge.specs.declared.no_memory.NoMemory.{NoMemory}
 use Rattle.auc_edge.specs.declared.stop.Stop.{Stop}
+use Rattle.auc_edge.specs.declared.stop.Stop.TheVariants.{Full}
 use Rattle.auc_history.proofs.Facts.{AllPairs-cons, AllPairs-head, AllPairs-tail}
 use Rattle.auc_journal.specs.Image.{reserved_in}
-use Rattle.auc_journal.specs.Journal.{JournalState, limits_of}
+use Rattle.auc_journal.specs.Journal.{JournalState, NeedsFrame, limits_of}
 use Rattle.auc_journal.proofs.Facts.{durable_more}
 use Rattle.auc_keeper.specs.Keeper.{Since}
 use Rattle.auc_lines.specs.declared.part.Line.{Line}
@@ -44,6 +45,10 @@ pub if_ok_map : {A E : Type 0} (P Q : A → Type 0) (result : Result A E) → ((
 if_ok_map P Q (Ok x) f holds = f x holds
 if_ok_map P Q (Err e) f holds = tt
 
+pub if_ok_map_two : {A E : Type 0} (P Q R : A → Type 0) (result : Result A E) → ((x : A) → P x → Q x → R x) → IfOk result P → IfOk result Q → IfOk result R
+if_ok_map_two P Q R (Ok x) f first second = f x first second
+if_ok_map_two P Q R (Err e) f first second = tt
+
 -- a crash leaves nothing above the words, if the keeper saw nothing above them
 pub stays_near : {D : Type 0} (seen : D → Option (List ℕ)) (may_leave : D → List ℕ → Type 0) (faults : D → ℕ) (journal after : JournalState D) (pass : KeeperValue) (words openings : List ℕ)
     → Since seen may_leave faults journal (record { journal = after; pass = pass }) → length journal.imsis ≡ length openings
@@ -58,6 +63,16 @@ stays_near seen may_leave faults journal after pass words openings since sized l
   where
     higher : (m a b : ℕ) → a ≤ b → max m (a + 64) ≤ max m (b + 64)
     higher m a b low = omega (arith, low)
+
+-- a stop for a full file needed a frame, if the keeper saw nothing above the words
+pub needs_frame : {D : Type 0} (seen : D → Option (List ℕ)) (may_leave : D → List ℕ → Type 0) (faults : D → ℕ) (journal after : JournalState D) (pass : KeeperValue) (words openings : List ℕ)
+    → Since seen may_leave faults journal (record { journal = after; pass = pass }) → length journal.imsis ≡ length openings
+    → ((i : ℕ) → i < length openings → slice_index pass.seen i ≤ slice_index words i) → pass.stop ≡ Some Full → NeedsFrame after words
+needs_frame seen may_leave faults journal after pass words openings since sized looked full =
+    let needs = (since.full full).1 in
+    let same = ap (λ (imsis : List Identity). length imsis) since.subscribers in
+    let low = looked needs.0 (omega (arith, needs.1, same, sized)) in
+    (needs.0, needs.1, omega (arith, low, needs.2))
 
 -- a keeper can begin a round over its journal
 pub can_keep : {D : Type 0} (rows : List Row) (openings : List ℕ) (workers : ℕ) (journal : JournalState D) (book : BookValue) (passes : List PassValue) (pass : KeeperValue)
@@ -90,8 +105,9 @@ pub served_round : {D : Type 0} (seen : D → Option (List ℕ)) (may_leave : D 
     (done : RoundPieces) (result : Result Ran NoMemory) → IfOk result (λ ran. (early : List LineRecord) → StandsAt set early state → LeadsOn set done.stop early state jobs ran.round done.words next)
     → OnOk result (next.words ≡ reopened done.words) → IfOk result (λ ran. (ran.round.jobs ≡ done.jobs.records) × (ran.vectors ≡ done.jobs.vectors) × (ran.stop ≡ done.stop))
     → after.imsis ≡ map (λ row. row.imsi) set.rows → GoesByLimits set done.stop done.jobs.records (limits_of journal) done.words (limits_of after) → StaysNear seen may_leave journal done.words after
+    → (done.stop ≡ Some Full → NeedsFrame after done.words)
     → IfOk result (λ ran. (early : List LineRecord) → StandsAt set early state → Serves seen may_leave set early state jobs ran.round ran.stop journal next after)
-served_round seen may_leave set state next jobs journal after done (Ok ran) lawful opens parts subscribers limits near = λ early stands.
+served_round seen may_leave set state next jobs journal after done (Ok ran) lawful opens parts subscribers limits near needs = λ early stands.
     let leads : LeadsOn set ran.stop early state jobs ran.round done.words next =
     subst (λ (stop : Option Stop). LeadsOn set stop early state jobs ran.round done.words next) (sym parts.2) (lawful early stands) in
     record {
@@ -104,9 +120,10 @@ served_round seen may_leave set state next jobs journal after done (Ok ran) lawf
           subst (λ (records : List (List LineRecord)). All (λ n. reserved_in after.limits row.imsi < n) (withheld_of sub (all_lines records))) (sym parts.0)
           (subst (λ (limit : ℕ). All (λ n. limit < n) (withheld_of sub (all_lines done.jobs.records))) (limit_of_row set.rows after sub row subscribers there)
           (limits.above sub (slice_get_within set.rows sub row there)));
+      needs = λ full. needs (sym parts.2 ∙ full);
       durable = near;
     }
-served_round seen may_leave set state next jobs journal after done (Err e) lawful opens parts subscribers limits near = tt
+served_round seen may_leave set state next jobs journal after done (Err e) lawful opens parts subscribers limits near needs = tt
 
 -- what holds where a result is Ok holds of what it has
 pub if_ok_at : {A E : Type 0} (P : A → Type 0) (result : Result A E) (x : A) → result ≡ Ok x → IfOk result P → P x

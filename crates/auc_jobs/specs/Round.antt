@@ -1,9 +1,10 @@
 -- A round that is served with a journal.
 use Rattle.std.specs.Prelude.{◌≡◌, ℕ, ◌+◌, ◌<◌, ◌≤◌, max, false, List, All, length, map, slice_get, slice_index, Option, Some}
 use Rattle.auc_edge.specs.declared.stop.Stop.{Stop}
+use Rattle.auc_edge.specs.declared.stop.Stop.TheVariants.{Full}
 use Rattle.auc_journal.specs.Durable.{IsDurable}
 use Rattle.auc_journal.specs.Image.{reserved_in}
-use Rattle.auc_journal.specs.Journal.{JournalState, limits_of, reserved_at}
+use Rattle.auc_journal.specs.Journal.{JournalState, NeedsFrame, limits_of, reserved_at}
 use Rattle.auc_lines.specs.declared.part.Line.{Line}
 use Rattle.auc_subs.specs.declared.row.Row.{Row}
 use Rattle.auc_world.specs.Limits.{Raises, least_step}
@@ -34,6 +35,8 @@ pub record Serves {D : Type 0} (seen : D → Option (List ℕ)) (may_leave : D �
   pub limits : Raises set.rows (all_lines round.jobs) (limits_of journal) words (limits_of after)
   -- each withheld number is above what the journal reserves for its subscriber, by the identity
   pub withheld : (sub : ℕ) (row : Row) → slice_get set.rows sub ≡ Some row → All (λ n. reserved_in after.limits row.imsi < n) (withheld_of sub (all_lines round.jobs))
+  -- reservations ended as full only if a subscriber needed a frame
+  pub needs : stop ≡ Some Full → NeedsFrame after words
   -- a crash leaves these limits at least, and none above that of before and a step above the word
   pub durable : (from : D) (most : ℕ → ℕ) → IsDurable seen may_leave from most journal → IsDurable seen may_leave from (λ i. max (most i) (slice_index words i + least_step)) after
 

@@ -1,9 +1,10 @@
 //! The workers of a round, and what they served in the order of the jobs.
 
-ghost use Rattle.std.specs.Prelude.{◌≡◌, ◌≤◌, ◌<◌, ◌+◌, ℕ, [], All, AllPairs, IsPermutation, List, length, map, slice_index, IfOk, if◌then◌else◌};
+ghost use Rattle.std.specs.Prelude.{◌≡◌, ◌≤◌, ◌<◌, ◌+◌, ℕ, [], All, AllPairs, IsPermutation, List, length, map, slice_index, Some, IfOk, if◌then◌else◌};
 ghost use Rattle.auc_centre.specs.Kept.{subs_of};
 ghost use Rattle.auc_draw.specs.Book.{IsNew, Opens};
-ghost use Rattle.auc_journal.specs.Journal.{limits_of};
+ghost use Rattle.auc_edge.specs.declared.stop.Stop.TheVariants.{Full};
+ghost use Rattle.auc_journal.specs.Journal.{NeedsFrame, limits_of};
 ghost use Rattle.auc_keeper.specs.Keeper.{Since};
 ghost use Rattle.auc_sqn.specs.Number.{max_seq};
 ghost use Rattle.auc_subs.specs.Subscriber.{AreSubscribers};
@@ -283,6 +284,7 @@ pub(crate) fn serve_pieces<D: Disk + Drop + Send, G: Gate + Sync, R: Threads + W
     ensures leaves { LeavesMore D.seen D.may_leave journal result.journal }
     ensures near { IfOk result.result (λ done. StaysNear D.seen D.may_leave journal done.words result.journal) }
     ensures stop { IfOk result.result (λ done. TellsStop D.faults journal done.stop result.journal) }
+    ensures needs { IfOk result.result (λ done. done.stop ≡ Some Full → NeedsFrame result.journal done.words) }
 {
     let (book, passes, keeper) = match open_book(alloc, openings, &journal, workers) {
         Ok(opened) => opened,

@@ -1,5 +1,5 @@
 -- Journals that are open.
-use Rattle.std.specs.Prelude.{ℕ, Bool, List, map, slice_index_or}
+use Rattle.std.specs.Prelude.{ℕ, ◌<◌, Bool, List, length, map, slice_index, slice_index_or}
 use Rattle.auc_edge.specs.Identity.{Identity}
 use Rattle.auc_journal.specs.Image.{Frame, reserved_in}
 
@@ -30,3 +30,7 @@ limits_of journal = map (λ imsi. reserved_in journal.limits imsi) journal.imsis
 -- the frame that an append for a subscriber adds
 abbrev pub frame_for : {D : Type 0} → JournalState D → ℕ → ℕ → Frame
 frame_for journal sub limit = record { imsi = imsi_at journal.imsis sub; limit = limit }
+
+-- a number of some subscriber is above the limit that it has: the journal needs a frame for it
+abbrev pub NeedsFrame : {D : Type 0} → JournalState D → List ℕ → Type 0
+NeedsFrame journal numbers = (sub : ℕ) × (sub < length journal.imsis) × (reserved_at journal sub < slice_index numbers sub)

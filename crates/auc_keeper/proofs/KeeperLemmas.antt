@@ -71,7 +71,10 @@ module _ {D : Type 0} (seen : D → Option (List ℕ)) (may_leave : D → List �
     failed = since.failed;
     fault = since.fault;
     quiet = since.quiet;
-    full = since.full;
+    full = λ is.
+        let needs = since.full is in
+        let rise = seen_rises old.pass.seen sub word needs.1.0 le in
+        (needs.0, (needs.1.0, needs.1.1, omega (arith, needs.1.2, rise)));
     durable = λ from most was.
         durable_more seen may_leave from (λ i. max (most i) (slice_index old.pass.seen i + 64)) (λ i. max (most i) (slice_index (slice_set old.pass.seen sub word) i + 64)) old.journal
         (λ i inside. let rise = seen_rises old.pass.seen sub word i le in omega (arith, rise)) (since.durable from most was);
@@ -80,12 +83,12 @@ module _ {D : Type 0} (seen : D → Option (List ℕ)) (may_leave : D → List �
   -- after an append that was refused
   pub stopped_since : (opening : JournalState D) (old : KeeperState D) (journal : JournalState D) (sub limit : ℕ) (why : Stop)
       → old.pass.stop ≡ None → AllPairs (λ a b. a ≢ b) old.journal.imsis → sub < length old.journal.imsis → limit ≤ slice_index old.pass.seen sub + 64
-      → journal.imsis ≡ old.journal.imsis → journal.limits ≡ old.journal.limits → ((journal.failed ≡ true) ↔ (why ≡ Fault))
+      → reserved_at old.journal sub < slice_index old.pass.seen sub → journal.imsis ≡ old.journal.imsis → journal.limits ≡ old.journal.limits → ((journal.failed ≡ true) ↔ (why ≡ Fault))
       → (why ≡ Fault → Rose (faults old.journal.disk) (faults journal.disk)) → (why ≢ Fault → faults journal.disk ≡ faults old.journal.disk) → (why ≡ Full → 2 ^ 30 < journal.place + 20)
       → ((from : D) (most : ℕ → ℕ) → Admits old.journal sub limit most
       → IsDurable seen may_leave from most old.journal → IsDurable seen may_leave from most journal)
       → Since seen may_leave faults opening old → Since seen may_leave faults opening (record { journal = journal; pass = record old.pass { stop = Some why } })
-  stopped_since opening old journal sub limit why running differ there near imsis limits failed rose quiet full bounded since =
+  stopped_since opening old journal sub limit why running differ there near above imsis limits failed rose quiet full bounded since =
       let before : faults old.journal.disk ≡ faults opening.disk = since.quiet (λ is. none_some old.pass.stop _ running is) in
       record {
         subscribers = imsis ∙ since.subscribers;
@@ -96,7 +99,10 @@ module _ {D : Type 0} (seen : D → Option (List ℕ)) (may_leave : D → List �
         failed = (λ is. ap Some (failed.0 is), λ is. failed.1 (some_stop why Fault is));
         fault = λ is. subst (λ (count : ℕ). Rose count (faults journal.disk)) before (rose (some_stop why Fault is));
         quiet = λ other. quiet (λ is. other (ap Some is)) ∙ before;
-        full = λ is. full (some_stop why Full is);
+        full = λ is.
+            let same : reserved_at journal sub ≡ reserved_at old.journal sub = λ k. reserved_in (limits k) (imsi_at (imsis k) sub) in
+            let counts = ap (λ (l : List Identity). length l) imsis in
+            (full (some_stop why Full is), (sub, omega (arith, there, counts), omega (arith, same, above)));
         durable = λ from most was.
             bounded from (λ i. max (most i) (slice_index old.pass.seen i + 64))
             (λ i inside same. near_each old.pass.seen most limit sub i (one_place old.journal.imsis differ i sub inside there same) near)

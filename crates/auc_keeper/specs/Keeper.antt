@@ -6,7 +6,7 @@ use Rattle.auc_edge.specs.declared.stop.Stop.TheVariants.{Fault, Full}
 use Rattle.auc_sqn.specs.Number.{max_seq}
 use Rattle.auc_draw.specs.Values.{KeeperValue}
 use Rattle.auc_journal.specs.Durable.{IsDurable}
-use Rattle.auc_journal.specs.Journal.{JournalState, frame_for, limits_of, reserved_at}
+use Rattle.auc_journal.specs.Journal.{JournalState, NeedsFrame, frame_for, limits_of, reserved_at}
 use Rattle.auc_journal.specs.Limits.{AreLimits}
 use Rattle.auc_keeper.specs.declared.keeper.Ensured.{Ensured}
 use Rattle.auc_keeper.specs.declared.keeper.Ensured.TheVariants.{Yes, Stopped}
@@ -54,6 +54,10 @@ pub record Ensures {D : Type 0} (sub n : ℕ) (old : KeeperState D) (result : En
   -- which it is as full, if the file would have more than 2^30 bytes
   pub full : old.pass.stop ≡ None → reserved_at old.journal sub < n → 2 ^ 30 < old.journal.place + 20 → result ≡ Stopped Full
 
+-- a keeper after it looked at a subscriber's number word and found this
+abbrev pub looked : {D : Type 0} → ℕ → ℕ → KeeperState D → KeeperState D
+looked sub word k = record k { pass = record k.pass { seen = slice_set k.pass.seen sub word } }
+
 -- an answer as its caller uses it: the limit is on the disk and in the pass, or the pass has stopped
 abbrev pub Tells : {D : Type 0} → ℕ → ℕ → Ensured → KeeperState D → Type 0
 Tells sub n (Yes limit) new = (n ≤ limit) × (slice_index new.pass.limits sub ≡ limit) × (reserved_at new.journal sub ≡ limit)
@@ -69,8 +73,8 @@ pub record Since {D : Type 0} (seen : D → Option (List ℕ)) (may_leave : D �
   pub failed : (k.journal.failed ≡ true) ↔ (k.pass.stop ≡ Some Fault)
   pub fault : k.pass.stop ≡ Some Fault → Rose (faults opening.disk) (faults k.journal.disk)
   pub quiet : k.pass.stop ≢ Some Fault → faults k.journal.disk ≡ faults opening.disk
-  -- and as full only if the file would have more than 2^30 bytes
-  pub full : k.pass.stop ≡ Some Full → 2 ^ 30 < k.journal.place + 20
+  -- and as full only if the file would have more than 2^30 bytes with the frame that it needed
+  pub full : k.pass.stop ≡ Some Full → (2 ^ 30 < k.journal.place + 20) × NeedsFrame k.journal k.pass.seen
   -- a crash leaves journals with these limits at least, and with none above that of the opening and 64 above the
   -- number that was seen
   pub durable : (from : D) (most : ℕ → ℕ) → IsDurable seen may_leave from most opening

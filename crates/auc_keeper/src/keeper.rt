@@ -4,7 +4,7 @@ ghost use Rattle.std.specs.Prelude.{◌≡◌, ◌≢◌, ◌≤◌, ◌<◌, �
 ghost use Rattle.auc_edge.specs.declared.stop.Stop.TheVariants as stop;
 ghost use Rattle.auc_sqn.specs.Number.{max_seq};
 ghost use Rattle.auc_journal.specs.Journal.{JournalState, limits_of, reserved_at};
-ghost use Rattle.auc_keeper.specs.Keeper.{AnswersAbove, Ensures, Since, Tells, limit_for};
+ghost use Rattle.auc_keeper.specs.Keeper.{AnswersAbove, Ensures, Since, Tells, limit_for, looked};
 
 use auc_disk::Disk;
 use auc_draw::{Book, KeeperPass};
@@ -64,9 +64,7 @@ impl<D: Disk + Drop> Keeper<D> {
         requires own { self.old.pass.id ≡ book.now.id }
         requires sub { sub < length book.now.openings }
 
-        ensures looked { self.new ≡ record self.old {
-          pass = record self.old.pass { seen = slice_set self.old.pass.seen sub result };
-        } }
+        ensures looked { self.new ≡ looked sub result self.old }
         ensures found { slice_index self.new.pass.seen sub ≡ result }
         ensures rises { slice_index self.old.pass.seen sub ≤ result }
 
@@ -92,6 +90,9 @@ impl<D: Disk + Drop> Keeper<D> {
         // Of the pass only the limits and the stop change.
         ensures book { (self.new.pass.id ≡ self.old.pass.id) × (self.new.pass.passes ≡ self.old.pass.passes) }
         ensures seen { self.new.pass.seen ≡ self.old.pass.seen }
+
+        // It makes four calls of the disk at most.
+        ensures calls { D.calls self.new.journal.disk ≤ D.calls self.old.journal.disk + 4 }
 
         // What held since the round began, holds.
         ensures since { (opening : JournalState D) → Since D.seen D.may_leave D.faults opening self.old
@@ -134,6 +135,7 @@ impl<D: Disk + Drop> Keeper<D> {
         ensures answers { AnswersAbove sub n self.old result self.new }
         ensures full { 2 ^ 30 < self.old.journal.place + 20 → result ≡ Ensured.Stopped stop.Full }
         ensures told { Tells sub n result self.new }
+        ensures calls { D.calls self.new.journal.disk ≤ D.calls self.old.journal.disk + 4 }
         ensures since { (opening : JournalState D) → Since D.seen D.may_leave D.faults opening self.old
             → Since D.seen D.may_leave D.faults opening self.new }
     {

@@ -57,11 +57,12 @@ returns-in-Err-clause-since g c =
     let there : c.args.sub < length c.self.inside.journal.imsis = rw (← c.self.view_is) at c.requires.sub.1 in
     let running : c.self.inside.pass.stop ≡ None = rw (← c.self.view_is) at c.requires.running in
     let near : c.args.n ≤ slice_index c.self.inside.pass.seen c.args.sub = rw (← c.self.view_is) at c.requires.seen in
+    let above : reserved_at c.self.inside.journal c.args.sub < c.args.n = rw (← c.self.view_is) at c.requires.above in
     rw (← c.self.view_is)
     (λ opening was.
     subst (λ (p : KeeperValue). Since g.D.Disk.seen g.D.Disk.may_leave g.D.Disk.faults opening (record { journal = c.append.new.self; pass = p })) (sym c.stop.ensures)
     (stopped_since g.D.Disk.seen g.D.Disk.may_leave g.D.Disk.faults opening (record { journal = c.self.inside.journal; pass = c.self.inside.pass }) c.append.new.self c.args.sub c.next_limit-limit.result c.cause_of-why.result
-    running c.self.invariant.differ there (omega (arith, near, c.next_limit-limit.ensures)) c.append.ensures.subscribers c.in-Err.ensures.kept.0
+    running c.self.invariant.differ there (omega (arith, near, c.next_limit-limit.ensures)) (omega (arith, above, near)) c.append.ensures.subscribers c.in-Err.ensures.kept.0
     (λ is. c.cause_of-why.ensures.fault.1 (grind (arith, common_steps)), λ is. c.append.ensures.failed.1 (c.in-Err.is ∙ ap Err (c.cause_of-why.ensures.fault.0 is)))
     (λ is. grind (arith, common_steps))
     (λ other. c.append.ensures.quiet (λ is. grind (arith, common_steps)))
