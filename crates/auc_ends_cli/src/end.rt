@@ -6,6 +6,7 @@ ghost use Rattle.auc_sqn.specs.Number.{max_seq};
 
 use crate::peer_end::PeerEnd;
 use crate::server_end::ServerEnd;
+use crate::text::Text;
 use auc_core::Core;
 use auc_edge::{NoMemory, Octets};
 use auc_hmac::Method;
@@ -27,6 +28,9 @@ pub enum End {
     Peer(PeerEnd),
 }
 
+/// What is printed of a line that is none of those above.
+const NOT_UNDERSTOOD: &str = "not understood";
+
 impl End {
     /// What is printed of a line.
     pub fn answer<R: Wait>(
@@ -35,102 +39,123 @@ impl End {
         alloc: Global,
         line: &str,
     ) -> Result<String, AllocError> {
+        let mut text = Text::new(alloc);
+        self.put_answer(rt, alloc, line, &mut text);
+        text.whole()
+    }
+
+    fn put_answer<R: Wait>(&mut self, rt: &R, alloc: Global, line: &str, text: &mut Text) {
         let (word, rest) = line.split_once(' ').unwrap_or((line, ""));
         match word {
-            "#" => String::from_str(alloc, line),
-            "server" => self.begin_server(alloc, rest),
-            "peer" => self.begin_peer(alloc, rest),
-            "next" => self.begin_next(alloc, rest),
-            "bytes" => match hex::decode(alloc, rest) {
-                Ok(bytes) => self.receive(rt, alloc, bytes.as_slice()),
-                Err(hex::FromHexError::OutOfMemory) => Err(AllocError),
-                Err(_) => not_understood(alloc),
-            },
-            "repeat" => self.repeat(alloc),
-            "giveup" => self.give_up(alloc),
-            _ => not_understood(alloc),
+            "#" => text.put(line),
+            "server" => self.begin_server(alloc, rest, text),
+            "peer" => self.begin_peer(alloc, rest, text),
+            "next" => self.begin_next(alloc, rest, text),
+            "bytes" => self.receive_digits(rt, alloc, rest, text),
+            "repeat" => self.repeat(alloc, text),
+            "giveup" => self.give_up(alloc, text),
+            _ => text.put(NOT_UNDERSTOOD),
         }
     }
 
-    fn begin_server(&mut self, alloc: Global, rest: &str) -> Result<String, AllocError> {
+    fn begin_server(&mut self, alloc: Global, rest: &str, text: &mut Text) {
         let Some((word, rest)) = rest.split_once(' ') else {
-            return not_understood(alloc);
+            text.put(NOT_UNDERSTOOD);
+            return;
         };
         let (held, options) = rest.split_once(' ').unwrap_or((rest, ""));
-        let Ok(options) = server_options(alloc, 1, options) else {
-            return Err(AllocError);
-        };
-        let Ok(core) = Core::new(alloc, &[number(word)]) else {
-            return Err(AllocError);
-        };
-        let centre = CoreCentre::new(core);
-        let (server, text) = ServerEnd::begin(alloc, options, centre, held == "held")?;
-        *self = End::Server(server);
-        Ok(text)
+        match new_server(alloc, number(word), held == "held", options, text) {
+            Ok(server) => self.set(End::Server(server)),
+            Err(NoMemory) => text.fail(),
+        }
     }
 
-    fn begin_peer(&mut self, alloc: Global, rest: &str) -> Result<String, AllocError> {
+    fn begin_peer(&mut self, alloc: Global, rest: &str, text: &mut Text) {
         let (word, options) = rest.split_once(' ').unwrap_or((rest, ""));
-        let Ok(options) = peer_options(alloc, 1, options) else {
-            return Err(AllocError);
-        };
-        let Some(peer) = PeerEnd::begin(alloc, options, number(word)) else {
-            return not_understood(alloc);
-        };
-        *self = End::Peer(peer);
-        String::from_str(alloc, "peer")
+        match new_peer(alloc, number(word), options) {
+            Ok(peer) => {
+                self.set(End::Peer(peer));
+                text.put("peer");
+            }
+            Err(NoMemory) => text.fail(),
+        }
     }
 
-    fn begin_next(&mut self, alloc: Global, options: &str) -> Result<String, AllocError> {
+    fn set(&mut self, end: End) {
+        *self = end;
+    }
+
+    fn begin_next(&mut self, alloc: Global, options: &str, text: &mut Text) {
         match self {
-            End::Neither => not_understood(alloc),
+            End::Neither => text.put(NOT_UNDERSTOOD),
             End::Server(server) => {
-                let Ok(options) = server_options(alloc, server.next_session(), options) else {
-                    return Err(AllocError);
-                };
-                server.next(alloc, options)
+                match server_options(alloc, server.next_session(), options) {
+                    Ok(options) => server.next(alloc, options, text),
+                    Err(NoMemory) => text.fail(),
+                }
             }
-            End::Peer(peer) => {
-                let Ok(options) = peer_options(alloc, peer.next_session(), options) else {
-                    return Err(AllocError);
-                };
-                peer.next(alloc, options);
-                String::from_str(alloc, "peer")
-            }
+            End::Peer(peer) => match peer_options(alloc, peer.next_session(), options) {
+                Ok(options) => {
+                    peer.next(alloc, options);
+                    text.put("peer");
+                }
+                Err(NoMemory) => text.fail(),
+            },
         }
     }
 
-    fn receive<R: Wait>(
-        &mut self,
-        rt: &R,
-        alloc: Global,
-        bytes: &[u8],
-    ) -> Result<String, AllocError> {
-        match self {
-            End::Neither => not_understood(alloc),
-            End::Server(server) => server.receive(rt, alloc, bytes),
-            End::Peer(peer) => peer.receive(alloc, bytes),
+    fn receive_digits<R: Wait>(&mut self, rt: &R, alloc: Global, digits: &str, text: &mut Text) {
+        match hex::decode(alloc, digits) {
+            Ok(bytes) => self.receive(rt, alloc, bytes.as_slice(), text),
+            Err(hex::FromHexError::OutOfMemory) => text.fail(),
+            Err(_) => text.put(NOT_UNDERSTOOD),
         }
     }
 
-    fn repeat(&self, alloc: Global) -> Result<String, AllocError> {
+    fn receive<R: Wait>(&mut self, rt: &R, alloc: Global, bytes: &[u8], text: &mut Text) {
         match self {
-            End::Server(server) => server.repeat(alloc),
-            _ => not_understood(alloc),
+            End::Neither => text.put(NOT_UNDERSTOOD),
+            End::Server(server) => server.receive(rt, alloc, bytes, text),
+            End::Peer(peer) => peer.receive(alloc, bytes, text),
         }
     }
 
-    fn give_up(&mut self, alloc: Global) -> Result<String, AllocError> {
+    fn repeat(&self, alloc: Global, text: &mut Text) {
         match self {
-            End::Neither => not_understood(alloc),
-            End::Server(server) => server.give_up(alloc),
-            End::Peer(peer) => peer.give_up(alloc),
+            End::Server(server) => server.repeat(alloc, text),
+            _ => text.put(NOT_UNDERSTOOD),
+        }
+    }
+
+    fn give_up(&mut self, alloc: Global, text: &mut Text) {
+        match self {
+            End::Neither => text.put(NOT_UNDERSTOOD),
+            End::Server(server) => server.give_up(alloc, text),
+            End::Peer(peer) => peer.give_up(alloc, text),
         }
     }
 }
 
-fn not_understood(alloc: Global) -> Result<String, AllocError> {
-    String::from_str(alloc, "not understood")
+/// A server of the first session, whose subscriber's last number is a word. Its first request is printed.
+fn new_server(
+    alloc: Global,
+    word: u64,
+    is_held: bool,
+    options: &str,
+    text: &mut Text,
+) -> Result<ServerEnd<CoreCentre>, NoMemory>
+    requires { word ≤ max_seq }
+{
+    let options = server_options(alloc, 1, options)?;
+    let centre = CoreCentre::new(Core::new(alloc, &[word])?);
+    ServerEnd::begin(alloc, options, centre, is_held, text)
+}
+
+/// A peer of the first session, whose USIM counts the numbers up to a word as accepted.
+fn new_peer(alloc: Global, word: u64, options: &str) -> Result<PeerEnd, NoMemory>
+    requires { word ≤ max_seq }
+{
+    PeerEnd::begin(alloc, peer_options(alloc, 1, options)?, word)
 }
 
 /// The first 255 bytes of a text.

@@ -31,14 +31,34 @@ mod end;
 mod peer_end;
 mod server_end;
 mod text;
+mod turn;
 
+use end::End;
+use std::alloc::Global;
 use std::io;
+use std::io::{Input, Print};
+use std::sync::Wait;
 
 fn main(rt: HostRuntime) -> io::Result<()> {
-    let mut end = end::End::Neither;
-    for line in rt.lines(rt.alloc()) {
-        let text = end.answer(&rt, rt.alloc(), line?.as_str())?;
-        println!(rt; "{text}")?;
+    let mut end = End::Neither;
+    answer_all(&rt, rt.alloc(), &mut end)
+}
+
+/// Prints what an end does at each line of the input.
+fn answer_all<R: Input + Print + Wait>(rt: &R, alloc: Global, end: &mut End) -> io::Result<()> {
+    for line in rt.lines(alloc) {
+        answer_line(rt, alloc, end, line?.as_str())?;
     }
     Ok(())
+}
+
+/// Prints what an end does at a line.
+fn answer_line<R: Print + Wait>(
+    rt: &R,
+    alloc: Global,
+    end: &mut End,
+    line: &str,
+) -> io::Result<()> {
+    let text = end.answer(rt, alloc, line)?;
+    println!(rt; "{text}")
 }

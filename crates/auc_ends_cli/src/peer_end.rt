@@ -4,14 +4,15 @@ ghost use Rattle.std.specs.Prelude.{◌≤◌, length};
 ghost use Rattle.auc_sqn.specs.Number.{max_seq};
 
 use crate::server_end::random_key;
-use crate::text::{peer_step, peer_turn};
-use auc_edge::{Imsi, Octets};
+use crate::text::Text;
+use crate::turn::{put_peer_step, put_peer_turn};
+use auc_edge::{Imsi, NoMemory, Octets};
 use auc_milenage::Secret;
 use auc_peer::{Device, Peer, PeerOptions};
 use auc_random::Rands;
 use auc_reauth::DeviceStore;
 use auc_usim::Usim;
-use std::alloc::{AllocError, Global};
+use std::alloc::Global;
 
 /// A peer with its device.
 #[derive(Drop)]
@@ -25,13 +26,15 @@ pub struct PeerEnd {
 
 impl PeerEnd {
     /// A peer whose USIM counts the numbers up to a word as accepted.
-    pub fn begin(alloc: Global, options: PeerOptions, word: u64) -> Option<PeerEnd>
+    pub fn begin(alloc: Global, options: PeerOptions, word: u64) -> Result<PeerEnd, NoMemory>
         requires { word ≤ max_seq }
     {
-        let imsi = Imsi::read(b"001010000000001")?;
+        let Some(imsi) = Imsi::read(b"001010000000001") else {
+            return Err(NoMemory);
+        };
         let usim = Usim::new(secret(), word);
         let realm = Octets::new(alloc);
-        Some(PeerEnd {
+        Ok(PeerEnd {
             rands: Rands::new(random_key()),
             peer: Peer::new(options, alloc),
             device: Device {
@@ -55,19 +58,19 @@ impl PeerEnd {
         self.peer = Peer::new(options, alloc);
     }
 
-    /// What is printed of received bytes.
-    pub fn receive(&mut self, alloc: Global, bytes: &[u8]) -> Result<String, AllocError> {
+    /// Receives bytes.
+    pub fn receive(&mut self, alloc: Global, bytes: &[u8], text: &mut Text) {
         let device = &mut self.device;
         match self.peer.on_bytes(alloc, &self.rands, device, bytes) {
-            Ok(turn) => peer_turn(alloc, &turn),
-            Err(_) => Err(AllocError),
+            Ok(turn) => put_peer_turn(&turn, text),
+            Err(NoMemory) => text.fail(),
         }
     }
 
-    /// What is printed if the peer gives up.
-    pub fn give_up(&mut self, alloc: Global) -> Result<String, AllocError> {
+    /// The peer gives up.
+    pub fn give_up(&mut self, alloc: Global, text: &mut Text) {
         let step = self.peer.give_up(alloc);
-        peer_step(alloc, &step)
+        put_peer_step(&step, text);
     }
 }
 

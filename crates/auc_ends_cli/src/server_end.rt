@@ -3,14 +3,16 @@
 ghost use Rattle.std.specs.Prelude.{◌≡◌, ◌≤◌, ◌<◌, ℕ, length};
 ghost use Rattle.auc_sqn.specs.Number.{max_seq};
 
-use crate::text::{server_step, server_turn};
+use crate::text::Text;
+use crate::turn::{put_sent, put_server_step, put_server_turn};
+use auc_edge::NoMemory;
 use auc_ident::{Names, Ordinals};
 use auc_random::Rands;
 use auc_reauth::ServerStore;
 use auc_server::{HomeRow, Server, ServerOptions, Setting};
 use auc_subs::Subscribers;
 use auc_vector::Centre;
-use std::alloc::{AllocError, Global};
+use std::alloc::Global;
 use std::marker::Model;
 use std::sync::Wait;
 
@@ -41,13 +43,14 @@ impl<C: Centre> Model for ServerEnd<C> {
 }
 
 impl<C: Centre + Drop> ServerEnd<C> {
-    /// A server of the subscriber, which is held or not, and what is printed of its first request.
+    /// A server of the subscriber, which is held or not. Its first request is printed.
     pub fn begin(
         alloc: Global,
         options: ServerOptions,
         centre: C,
         is_held: bool,
-    ) -> Result<(ServerEnd<C>, String), AllocError>
+        text: &mut Text,
+    ) -> Result<ServerEnd<C>, NoMemory>
         requires name { length options.name ≤ 255 }
         requires subs { 0 < C.subs centre }
         requires top { (sub : ℕ) → C.top centre sub ≡ max_seq }
@@ -55,7 +58,7 @@ impl<C: Centre + Drop> ServerEnd<C> {
         let mut subs = Subscribers::new(alloc);
         let mut homes = Vec::new(alloc);
         if subs.add(SUBSCRIBER).is_err() {
-            return Err(AllocError);
+            return Err(NoMemory);
         }
         if is_held && 0 < subs.len() {
             homes.push(HomeRow {
@@ -64,10 +67,9 @@ impl<C: Centre + Drop> ServerEnd<C> {
                 store: ServerStore::new(),
             })?;
         }
-        let Ok((server, first)) = Server::start(options, alloc) else {
-            return Err(AllocError);
-        };
-        let end = ServerEnd {
+        let (server, first) = Server::start(options, alloc)?;
+        put_sent(first.as_slice(), text);
+        Ok(ServerEnd {
             subs,
             rands: Rands::new(random_key()),
             names: Names::new(random_key()),
@@ -75,9 +77,7 @@ impl<C: Centre + Drop> ServerEnd<C> {
             centre,
             server,
             sessions: 1,
-        };
-        let text = first_request(alloc, first.as_slice())?;
-        Ok((end, text))
+        })
     }
 
     /// The number of the next session.
@@ -85,26 +85,23 @@ impl<C: Centre + Drop> ServerEnd<C> {
         self.sessions.wrapping_add(1)
     }
 
-    /// What is printed of the next session's first request.
-    pub fn next(&mut self, alloc: Global, options: ServerOptions) -> Result<String, AllocError>
+    /// The next session begins. Its first request is printed.
+    pub fn next(&mut self, alloc: Global, options: ServerOptions, text: &mut Text)
         requires { length options.name ≤ 255 }
     {
         let session = options.session;
-        let Ok((server, first)) = Server::start(options, alloc) else {
-            return Err(AllocError);
-        };
-        self.sessions = session;
-        self.server = server;
-        first_request(alloc, first.as_slice())
+        match Server::start(options, alloc) {
+            Ok((server, first)) => {
+                self.sessions = session;
+                self.server = server;
+                put_sent(first.as_slice(), text);
+            }
+            Err(NoMemory) => text.fail(),
+        }
     }
 
-    /// What is printed of received bytes.
-    pub fn receive<R: Wait>(
-        &mut self,
-        rt: &R,
-        alloc: Global,
-        bytes: &[u8],
-    ) -> Result<String, AllocError> {
+    /// Receives bytes.
+    pub fn receive<R: Wait>(&mut self, rt: &R, alloc: Global, bytes: &[u8], text: &mut Text) {
         let set = Setting {
             subs: &self.subs,
             rands: &self.rands,
@@ -116,29 +113,24 @@ impl<C: Centre + Drop> ServerEnd<C> {
             .server
             .on_bytes(rt, alloc, &set, homes, &mut self.centre, bytes)
         {
-            Ok(turn) => server_turn(alloc, &turn),
-            Err(_) => Err(AllocError),
+            Ok(turn) => put_server_turn(&turn, text),
+            Err(NoMemory) => text.fail(),
         }
     }
 
-    /// What is printed if the server repeats its last request.
-    pub fn repeat(&self, alloc: Global) -> Result<String, AllocError> {
+    /// The server repeats its last request.
+    pub fn repeat(&self, alloc: Global, text: &mut Text) {
         match self.server.repeat(alloc) {
-            Ok(step) => server_step(alloc, &step),
-            Err(_) => Err(AllocError),
+            Ok(step) => put_server_step(&step, text),
+            Err(NoMemory) => text.fail(),
         }
     }
 
-    /// What is printed if the server gives up.
-    pub fn give_up(&mut self, alloc: Global) -> Result<String, AllocError> {
+    /// The server gives up.
+    pub fn give_up(&mut self, alloc: Global, text: &mut Text) {
         let step = self.server.give_up(alloc);
-        server_step(alloc, &step)
+        put_server_step(&step, text);
     }
-}
-
-fn first_request(alloc: Global, bytes: &[u8]) -> Result<String, AllocError> {
-    let bytes = hex::encode(alloc, bytes)?;
-    format!(in alloc; "sent {bytes}")
 }
 
 /// The key 00 01 .. 1f of the random bytes.
