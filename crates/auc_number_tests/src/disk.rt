@@ -4,16 +4,23 @@ use auc_disk::{Disk, DiskCall, FailList, FileDisk, MemDisk};
 use auc_edge::{Failed, Octets};
 use std::alloc::Global;
 use std::fs;
-use std::test::Fail;
+use std::process::Abort;
 
-fn disk_of(alloc: Global, first: &[u8], fail: FailList) -> Result<MemDisk, Fail> {
-    Ok(MemDisk::new(alloc, Octets::copied_from(alloc, first)?, fail)?)
+fn disk_of(rt: &impl Abort, alloc: Global, first: &[u8], fail: FailList) -> MemDisk {
+    let image = Octets::copied_from(alloc, first).expect(rt, "memory");
+    MemDisk::new(alloc, image, fail).expect(rt, "memory")
+}
+
+// What a crash of a disk by a choice leaves is these bytes.
+fn leaves(rt: &impl Abort, alloc: Global, disk: MemDisk, choice: u32, bytes: &[u8]) -> bool {
+    let image = disk.crash(alloc, choice).expect(rt, "memory");
+    image.as_slice() == bytes
 }
 
 // Computed by hand: WXYZ is written at 4, then Q at 1, with a sync between them or not. Of each write that
 // isn't durable, choice 0 leaves the old bytes, 1 the new ones, and others their low byte; 42 is a star.
 #[test]
-fn a_crash_leaves_each_write_by_its_choice(rt: HostRuntime) -> Result<(), Fail> {
+fn a_crash_leaves_each_write_by_its_choice(rt: HostRuntime) {
     let alloc = rt.alloc();
     let cases = [
         (b"abcdef".as_slice(), false, 0, b"abcdef".as_slice()),
@@ -28,13 +35,18 @@ fn a_crash_leaves_each_write_by_its_choice(rt: HostRuntime) -> Result<(), Fail> 
         (b"ab", true, 256, b"a\0\0\0WXYZ"),
     ];
     for (first, synced, choice, image) in cases {
-        let mut disk = disk_of(alloc, first, FailList::new(alloc))?;
-        assert!(rt; disk.write_at(4, b"WXYZ").is_ok(), "at {choice}");
-        assert!(rt; !synced || disk.sync().is_ok(), "at {choice}");
-        assert!(rt; disk.write_at(1, b"Q").is_ok(), "at {choice}");
-        assert_eq!(rt; disk.crash(alloc, choice)?.as_slice(), image, "at {choice}");
+        let mut disk = disk_of(&rt, alloc, first, FailList::new(alloc));
+        let is_written = is_written(&mut disk, synced);
+        let is_left = leaves(&rt, alloc, disk, choice, image);
+        assert!(rt; is_written && is_left, "at {choice}");
     }
-    Ok(())
+}
+
+// Whether the writes succeed, and the sync between them if there is one.
+fn is_written(disk: &mut MemDisk, synced: bool) -> bool {
+    disk.write_at(4, b"WXYZ").is_ok()
+        && (!synced || disk.sync().is_ok())
+        && disk.write_at(1, b"Q").is_ok()
 }
 
 // A worker on another thread may have the value.
@@ -53,7 +65,7 @@ fn successes(disk: &mut MemDisk, bytes: &[u8; 3]) -> [bool; 4] {
 
 // The second call of one kind fails. A crash by choice 0 leaves what was durable before it.
 #[test]
-fn the_call_that_is_told_to_fails(rt: HostRuntime) -> Result<(), Fail> {
+fn the_call_that_is_told_to_fails(rt: HostRuntime) {
     let alloc = rt.alloc();
     let cases = [
         (DiskCall::Len, [false, true, true, true], b"two"),
@@ -63,45 +75,79 @@ fn the_call_that_is_told_to_fails(rt: HostRuntime) -> Result<(), Fail> {
     ];
     for (call, succeed, image) in cases {
         let mut fail = FailList::new(alloc);
-        fail.push(call, 2)?;
-        let mut disk = disk_of(alloc, b"old", fail)?;
+        fail.push(call, 2).expect(&rt, "memory");
+        let mut disk = disk_of(&rt, alloc, b"old", fail);
         is_sent(&disk);
-        assert_eq!(rt; successes(&mut disk, b"one"), [true; 4], "at {call:?}");
-        assert_eq!(rt; successes(&mut disk, b"two"), succeed, "at {call:?}");
-        assert_eq!(rt;
-            disk.crash(alloc, 0)?.as_slice(),
-            image.as_slice(),
-            "at {call:?}"
-        );
+        let found = [successes(&mut disk, b"one"), successes(&mut disk, b"two")];
+        let is_left = leaves(&rt, alloc, disk, 0, image);
+        assert!(rt; is_left && found == [[true; 4], succeed], "at {call:?}");
     }
-    Ok(())
+}
+
+// What a disk answers to a first call, a write and a sync, and to a read of 8 bytes.
+type Made = (
+    Result<u64, Failed>,
+    [Result<(), Failed>; 2],
+    Result<usize, Failed>,
+    [u8; 8],
+);
+
+fn made<D: Disk>(disk: &mut D) -> Made {
+    let mut buf = [9; 8];
+    let len = disk.len();
+    let written = [disk.write_at(2, b"cd"), disk.sync()];
+    let count = disk.read_at(0, &mut buf);
+    (len, written, count, buf)
+}
+
+// Whether each call of a disk fails.
+fn fails<D: Disk>(disk: &mut D) -> bool {
+    let mut buf = [0; 8];
+    disk.len().is_err()
+        && disk.read_at(0, &mut buf).is_err()
+        && disk.write_at(0, b"ab").is_err()
+        && disk.sync().is_err()
+}
+
+// The length of a disk, and how much is read behind 4 bytes.
+fn seen<D: Disk>(disk: &mut D) -> (Result<u64, Failed>, Result<usize, Failed>) {
+    (disk.len(), disk.read_at(4, &mut [0; 8]))
+}
+
+// Whether the real file is missing.
+fn is_missing(rt: &HostRuntime) -> bool {
+    fs::read(rt, "auc.journal").is_err()
+}
+
+// Whether the real file is cut off at its beginning, as another program may do.
+fn is_cut_off(rt: &HostRuntime) -> bool {
+    fs::write(rt, "auc.journal", b"").is_ok()
+}
+
+fn is_removed(rt: &HostRuntime) -> bool {
+    fs::remove_file(rt, "auc.journal").is_ok()
 }
 
 // The first call makes the file. The second disk gets it once the first is dropped. If another program cuts
 // the file off below the last length, a read is a fault.
 #[test]
-fn a_real_file_is_made_written_and_locked(rt: HostRuntime) -> Result<(), Fail> {
-    assert!(rt; fs::read(&rt, "auc.journal").is_err());
+fn a_real_file_is_made_written_and_locked(rt: HostRuntime) {
+    assert!(rt; is_missing(&rt));
     let mut disk = FileDisk::new(&rt);
     let mut second = FileDisk::new(&rt);
-    is_sent(&disk);
-    let mut buf = [9; 8];
-    assert_eq!(rt; disk.len(), Ok(0));
-    assert_eq!(rt; (disk.write_at(2, b"cd"), disk.sync()), (Ok(()), Ok(())));
-    assert_eq!(rt;
-        (disk.read_at(0, &mut buf), buf),
-        (Ok(4), *b"\0\0cd\t\t\t\t")
-    );
-    assert_eq!(rt; second.len(), Err(Failed));
-    assert_eq!(rt; second.read_at(0, &mut buf), Err(Failed));
-    assert_eq!(rt;
-        (second.write_at(0, b"ab"), second.sync()),
-        (Err(Failed), Err(Failed))
-    );
+    let first = made(&mut disk);
+    let is_locked = fails(&mut second);
     drop(disk);
-    assert_eq!(rt; (second.len(), second.read_at(4, &mut buf)), (Ok(4), Ok(0)));
-    fs::write(&rt, "auc.journal", b"")?;
-    assert_eq!(rt; second.read_at(0, &mut buf), Err(Failed));
-    fs::remove_file(&rt, "auc.journal")?;
-    Ok(())
+    let seen = seen(&mut second);
+    let is_cut_off = is_cut_off(&rt);
+    let cut = second.read_at(0, &mut [0; 8]);
+    let answer = (Ok(0), [Ok(()); 2], Ok(4), *b"\0\0cd\t\t\t\t");
+    assert!(rt; is_locked && first == answer);
+    assert!(rt; is_cut_off && (seen, cut) == ((Ok(4), Ok(0)), Err(Failed)));
+    assert!(rt; is_removed(&rt));
+}
+
+#[test]
+fn a_real_file_may_be_another_threads(rt: HostRuntime) {
+    is_sent(&FileDisk::new(&rt));
 }

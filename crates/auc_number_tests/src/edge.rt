@@ -1,58 +1,93 @@
 //! What no clause says: that calls succeed while there is memory, and how the real files answer.
 
+ghost use Rattle.std.specs.Prelude.{◌≤◌, ◌^◌};
+
 use auc_edge::{
-    Failed, FileShelf, Gate, Imsi, Items, MemShelf, MemSink, Octets, ReadRefusal, Sink, StdSink,
-    TurnGate, read_all, write_whole,
+    Failed, FileShelf, Gate, Imsi, Items, MemShelf, MemSink, Octets, ReadRefusal, Shelf, Sink,
+    StdSink, TurnGate, read_all, write_whole,
 };
 use std::alloc::Global;
 use std::fs;
-use std::test::Fail;
+use std::process::Abort;
 
 const LIMIT: usize = 200_000;
 
-fn numbered(alloc: Global, size: usize) -> Result<Vec<u8>, Fail> {
-    Ok((0..size).map(|at| (at % 251) as u8).collect(alloc)?)
+fn numbered(rt: &impl Abort, alloc: Global, size: usize) -> Vec<u8> {
+    (0..size)
+        .map(|at| (at % 251) as u8)
+        .collect(alloc)
+        .expect(rt, "memory")
+}
+
+// A shelf with one file.
+fn shelf_of(rt: &impl Abort, alloc: Global, name: &[u8], bytes: &[u8]) -> MemShelf {
+    let mut shelf = MemShelf::new(alloc);
+    shelf.add(name, bytes).expect(rt, "memory");
+    shelf
+}
+
+// Whether a file is read, and reads as these bytes; or why it isn't.
+fn reads<H: Shelf>(
+    alloc: Global,
+    shelf: &mut H,
+    name: &[u8],
+    limit: usize,
+    bytes: &[u8],
+) -> Result<bool, ReadRefusal>
+    requires { limit ≤ 2 ^ 30 }
+{
+    match read_all(alloc, shelf, name, limit) {
+        Ok(text) => Ok(text.as_slice() == bytes),
+        Err(why) => Err(why),
+    }
+}
+
+// Whether a file of so many bytes is read whole up to a limit.
+fn reads_numbered(
+    rt: &impl Abort,
+    alloc: Global,
+    size: usize,
+    limit: usize,
+) -> Result<bool, ReadRefusal>
+    requires { limit ≤ 2 ^ 30 }
+{
+    let bytes = numbered(rt, alloc, size);
+    let mut shelf = shelf_of(rt, alloc, b"scenario", bytes.as_slice());
+    reads(alloc, &mut shelf, b"scenario", limit, bytes.as_slice())
 }
 
 // Each limit is the size, above it or below it; the third file takes three reads.
 #[test]
-fn a_file_is_read_whole_up_to_the_limit(rt: HostRuntime) -> Result<(), Fail> {
+fn a_file_is_read_whole_up_to_the_limit(rt: HostRuntime) {
     let alloc = rt.alloc();
     let cases = [
-        (0, 0, true),
-        (5, 5, true),
-        (5, 4, false),
-        (150_000, LIMIT, true),
-        (150_000, 149_999, false),
+        (0, 0, Ok(true)),
+        (5, 5, Ok(true)),
+        (5, 4, Err(ReadRefusal::TooLong)),
+        (150_000, LIMIT, Ok(true)),
+        (150_000, 149_999, Err(ReadRefusal::TooLong)),
     ];
-    for (size, limit, fits) in cases {
-        let bytes = numbered(alloc, size)?;
-        let mut shelf = MemShelf::new(alloc);
-        shelf.add(b"scenario", &bytes)?;
-        let is_right = match read_all(alloc, &mut shelf, b"scenario", limit) {
-            Ok(text) => fits && text.as_slice() == bytes.as_slice(),
-            Err(why) => !fits && why == ReadRefusal::TooLong,
-        };
-        assert!(rt; is_right, "at {size}");
+    for (size, limit, answer) in cases {
+        let found = reads_numbered(&rt, alloc, size, limit);
+        assert!(rt; found == answer, "at {size}");
     }
-    Ok(())
 }
 
 // The second of three reads of a file fails, then none does; another name is missing.
 #[test]
-fn a_read_that_fails_in_the_middle_is_a_fault(rt: HostRuntime) -> Result<(), Fail> {
+fn a_read_that_fails_in_the_middle_is_a_fault(rt: HostRuntime) {
     let alloc = rt.alloc();
-    let bytes = numbered(alloc, 150_000)?;
-    let mut shelf = MemShelf::new(alloc);
-    shelf.add(b"scenario", &bytes)?;
-    shelf.fail(2)?;
-    let refused = read_all(alloc, &mut shelf, b"scenario", LIMIT).err();
-    assert_eq!(rt; refused, Some(ReadRefusal::ReadFault));
-    let text = read_all(alloc, &mut shelf, b"scenario", LIMIT)?;
-    assert_eq!(rt; text.len(), 150_000);
-    let missing = read_all(alloc, &mut shelf, b"subscribers", LIMIT).err();
-    assert_eq!(rt; missing, Some(ReadRefusal::ReadFault));
-    Ok(())
+    let bytes = numbered(&rt, alloc, 150_000);
+    let bytes = bytes.as_slice();
+    let mut shelf = shelf_of(&rt, alloc, b"scenario", bytes);
+    shelf.fail(2).expect(&rt, "memory");
+    let found = [
+        reads(alloc, &mut shelf, b"scenario", LIMIT, bytes),
+        reads(alloc, &mut shelf, b"scenario", LIMIT, bytes),
+        reads(alloc, &mut shelf, b"subscribers", LIMIT, bytes),
+    ];
+    let fault = Err(ReadRefusal::ReadFault);
+    assert!(rt; found == [fault, Ok(true), fault]);
 }
 
 // An output that takes at most three bytes at a time.
@@ -74,83 +109,88 @@ impl Sink for ShortSink {
 }
 
 #[test]
-fn a_text_is_written_whole_by_short_writes(rt: HostRuntime) -> Result<(), Fail> {
+fn a_text_is_written_whole_by_short_writes(rt: HostRuntime) {
     let alloc = rt.alloc();
     let cases = [(0, b"vector 1".as_slice(), true), (2, b"vec", false)];
     for (failing, written, succeeds) in cases {
-        let mut out = ShortSink {
-            sink: MemSink::new(alloc),
-        };
-        out.sink.fail(failing)?;
-        assert_eq!(rt;
-            write_whole(&mut out, b"vector 1").is_ok(),
-            succeeds,
+        let mut sink = MemSink::new(alloc);
+        sink.fail(failing).expect(&rt, "memory");
+        let mut out = ShortSink { sink };
+        let is_ok = write_whole(&mut out, b"vector 1").is_ok();
+        assert!(rt;
+            (is_ok, out.sink.as_slice()) == (succeeds, written),
             "at {failing}"
         );
-        assert_eq!(rt; out.sink.as_slice(), written, "at {failing}");
     }
-    Ok(())
+}
+
+// The digits and the number of an identity, if a text is one, and whether it is written as that text.
+fn identity_of(rt: &impl Abort, alloc: Global, text: &[u8]) -> Option<(u8, u64, bool)> {
+    let imsi = Imsi::read(text)?;
+    let (digits, number) = (imsi.digits(), imsi.number());
+    let mut out = Octets::new(alloc);
+    imsi.write_to(&mut out).expect(rt, "memory");
+    let is_same = out.as_slice() == text && Imsi::of(digits, number) == Some(imsi);
+    Some((digits, number, is_same))
 }
 
 // TS 23.003 §2.2 and RFC 4186 Appendix A.2 (its permanent identity without the leading 1).
 #[test]
-fn identities_are_read_and_written(rt: HostRuntime) -> Result<(), Fail> {
+fn identities_are_read_and_written(rt: HostRuntime) {
+    let alloc = rt.alloc();
     let cases = [
         (
             b"244070100000001".as_slice(),
-            Some((15, 244_070_100_000_001)),
+            Some((15, 244_070_100_000_001, true)),
         ),
-        (b"001010000000001", Some((15, 1_010_000_000_001))),
-        (b"000000", Some((6, 0))),
+        (b"001010000000001", Some((15, 1_010_000_000_001, true))),
+        (b"000000", Some((6, 0, true))),
         (b"00101", None),
         (b"0010100000000012", None),
         (b"00101000000001a", None),
         (b"+01010000000001", None),
     ];
     for (text, identity) in cases {
-        match Imsi::read(text) {
-            None => assert_eq!(rt; identity, None),
-            Some(imsi) => {
-                assert_eq!(rt; identity, Some((imsi.digits(), imsi.number())));
-                assert_eq!(rt; Imsi::of(imsi.digits(), imsi.number()), Some(imsi));
-                let mut out = Octets::new(rt.alloc());
-                imsi.write_to(&mut out)?;
-                assert_eq!(rt; out.as_slice(), text);
-            }
-        }
+        assert!(rt; identity_of(&rt, alloc, text) == identity, "at {text:?}");
     }
-    Ok(())
+}
+
+fn grown_octets(rt: &impl Abort, alloc: Global) -> Octets {
+    let mut text = Octets::new(alloc);
+    text.append(b"vector ").expect(rt, "memory");
+    text.append_number(18_446_744_073_709_551_615)
+        .expect(rt, "memory");
+    text
+}
+
+fn grown_list(rt: &impl Abort, alloc: Global) -> Items<u64> {
+    let mut list = Items::new(alloc);
+    list.push(5).expect(rt, "memory");
+    list.push(7).expect(rt, "memory");
+    list
 }
 
 #[test]
-fn lists_and_octets_grow(rt: HostRuntime) -> Result<(), Fail> {
-    let alloc = rt.alloc();
-    let mut text = Octets::new(alloc);
-    text.append(b"vector ")?;
-    text.append_number(18_446_744_073_709_551_615)?;
-    assert_eq!(rt; text.as_slice(), b"vector 18446744073709551615".as_slice());
-    let mut list = Items::new(alloc);
-    list.push(5u64)?;
-    list.push(7)?;
-    assert_eq!(rt; list.pop(), Some(7));
-    assert_eq!(rt; list.as_slice(), [5].as_slice());
-    Ok(())
+fn lists_and_octets_grow(rt: HostRuntime) {
+    let text = grown_octets(&rt, rt.alloc());
+    assert!(rt; text.as_slice() == b"vector 18446744073709551615".as_slice());
+    let mut list = grown_list(&rt, rt.alloc());
+    assert!(rt; (list.pop(), list.as_slice()) == (Some(7), [5].as_slice()));
 }
 
 // A missing file, a folder, the empty name and one that isn't UTF-8 are faults.
 #[test]
-fn real_files_are_read(rt: HostRuntime) -> Result<(), Fail> {
+fn real_files_are_read(rt: HostRuntime) {
     let alloc = rt.alloc();
-    fs::write(&rt, "words.tmp", b"aircraft\n")?;
+    fs::write(&rt, "words.tmp", b"aircraft\n").expect(&rt, "a file");
     let mut shelf = FileShelf::new(&rt);
-    let text = read_all(alloc, &mut shelf, b"words.tmp", 100)?;
-    fs::remove_file(&rt, "words.tmp")?;
-    assert_eq!(rt; text.as_slice(), b"aircraft\n".as_slice());
+    let found = reads(alloc, &mut shelf, b"words.tmp", 100, b"aircraft\n");
+    fs::remove_file(&rt, "words.tmp").expect(&rt, "a file");
+    assert!(rt; found == Ok(true));
     for name in [b"words.tmp".as_slice(), b".", b"", b"words\xff"] {
-        let refused = read_all(alloc, &mut shelf, name, 100).err();
-        assert_eq!(rt; refused, Some(ReadRefusal::ReadFault));
+        let refused = reads(alloc, &mut shelf, name, 100, b"");
+        assert!(rt; refused == Err(ReadRefusal::ReadFault));
     }
-    Ok(())
 }
 
 #[test]
@@ -165,9 +205,9 @@ fn gate_holds_one_of_two_jobs(rt: HostRuntime) {
     let gate = TurnGate::new(3);
     gate.enter(&rt, 2);
     gate.leave(&rt, 3);
-    assert_eq!(rt; (gate.left(), gate.expired()), (1, false));
+    let first = (gate.left(), gate.expired());
     gate.leave(&rt, 1);
-    assert_eq!(rt; (gate.left(), gate.expired()), (2, true));
+    let second = (gate.left(), gate.expired());
     gate.leave(&rt, 2);
-    assert_eq!(rt; gate.left(), 3);
+    assert!(rt; (first, second, gate.left()) == ((1, false), (2, true), 3));
 }

@@ -74,6 +74,6 @@ fn legal_histories_are_told_from_others(rt: HostRuntime) {
         ("back to an earlier number", 4, 3, &[], false),
     ];
     for (what, opening, closing, entries, legal) in cases {
-        assert_eq!(rt; is_legal(TOP, opening, closing, entries), legal, "{what}");
+        assert!(rt; is_legal(TOP, opening, closing, entries) == legal, "{what}");
     }
 }

@@ -1,33 +1,37 @@
 //! A keeper, call by call, over a disk in memory.
 
-ghost use Rattle.std.specs.Prelude.{◌≡◌, ◌<◌, ◌≤◌, ℕ, length, IfOk, false};
+ghost use Rattle.std.specs.Prelude.{◌≡◌, ◌<◌, ◌≤◌, ℕ, length, false};
 ghost use Rattle.auc_sqn.specs.Number.{max_seq};
 
 use auc_disk::{DiskCall, FailList, MemDisk};
 use auc_draw::Book;
-use auc_edge::{Imsi, NoMemory, Octets, Stop};
+use auc_edge::{Imsi, Octets, Stop};
 use auc_journal::Journal;
 use auc_keeper::{Ensured, Keeper};
 use auc_sqn::MAX_SEQ;
 use std::alloc::Global;
-use std::test::Fail;
+use std::process::Abort;
 
 // A worker on another thread may have the value.
 fn is_sent<T: Send>(_value: &T) {}
 
 // A new journal of one subscriber, on a disk of which these writes fail.
-fn journal_of(alloc: Global, write: u64) -> Result<Journal<MemDisk>, Fail>
-    ensures { IfOk result (λ journal. (length journal.imsis ≡ 1) × (journal.failed ≡ false)) }
+fn journal_of(rt: &impl Abort, alloc: Global, write: u64) -> Journal<MemDisk>
+    ensures { (length result.imsis ≡ 1) × (result.failed ≡ false) }
 {
     let mut fail = FailList::new(alloc);
-    fail.push(DiskCall::Len, 2)?;
-    fail.push(DiskCall::ReadAt, 1)?;
-    fail.push(DiskCall::WriteAt, write)?;
-    let disk = MemDisk::new(alloc, Octets::new(alloc), fail)?;
-    let imsi = Imsi::read(b"001010000000001").ok_or(NoMemory)?;
+    for (call, ordinal) in [
+        (DiskCall::Len, 2),
+        (DiskCall::ReadAt, 1),
+        (DiskCall::WriteAt, write),
+    ] {
+        fail.push(call, ordinal).expect(rt, "memory");
+    }
+    let disk = MemDisk::new(alloc, Octets::new(alloc), fail).expect(rt, "memory");
+    let imsi = Imsi::read(b"001010000000001").expect(rt, "an IMSI");
     match Journal::open(alloc, disk, &[imsi]) {
-        Ok(journal) => Ok(journal),
-        Err(_) => Err(Fail::from(NoMemory)),
+        Ok(journal) => journal,
+        Err(_) => panic!(rt; "no journal"),
     }
 }
 
@@ -45,10 +49,25 @@ fn ask(keeper: &mut Keeper<MemDisk>, book: &Book, n: u64) -> Option<Ensured>
     Some(keeper.ensure(book, 0, n))
 }
 
+// What a new keeper answers to a number, if the word stands at this opening, and the limit in its journal after that.
+fn reserve(rt: &impl Abort, alloc: Global, opening: u64, n: u64) -> (Option<Ensured>, u64)
+    requires { (opening ≤ max_seq) × (n ≤ max_seq) }
+{
+    let journal = journal_of(rt, alloc, 9);
+    let limits = [journal.reserved(0)];
+    let Ok((book, _passes, pass)) = Book::open(alloc, &[opening], &limits, 1) else {
+        panic!(rt; "no memory")
+    };
+    let mut keeper = Keeper::new(journal, pass);
+    is_sent(&keeper);
+    let answer = ask(&mut keeper, &book, n);
+    let (journal, _pass) = keeper.parts();
+    (answer, journal.reserved(0))
+}
+
 // By hand: the opening at which the word stands, the number, and the limit, which is 63 above it or the greatest number.
 #[test]
-fn a_number_is_reserved_with_the_63_after_it(rt: HostRuntime) -> Result<(), Fail> {
-    let alloc = rt.alloc();
+fn a_number_is_reserved_with_the_63_after_it(rt: HostRuntime) {
     let cases = [
         (1, 1, 64),
         (100, 100, 163),
@@ -56,39 +75,38 @@ fn a_number_is_reserved_with_the_63_after_it(rt: HostRuntime) -> Result<(), Fail
         (MAX_SEQ, MAX_SEQ - 5, MAX_SEQ),
     ];
     for (opening, n, limit) in cases {
-        let journal = journal_of(alloc, 9)?;
-        let limits = [journal.reserved(0)];
-        let (book, _passes, pass) = Book::open(alloc, &[opening], &limits, 1)?;
-        let mut keeper = Keeper::new(journal, pass);
-        is_sent(&keeper);
-        assert!(rt;
-            ask(&mut keeper, &book, n) == Some(Ensured::Yes(limit)),
-            "at {n}"
-        );
-        let (journal, _pass) = keeper.parts();
-        assert_eq!(rt; journal.reserved(0), limit);
+        assert!(rt; opening <= MAX_SEQ && n <= MAX_SEQ);
+        let found = reserve(&rt, rt.alloc(), opening, n);
+        assert!(rt; found == (Some(Ensured::Yes(limit)), limit), "at {n}");
     }
-    Ok(())
+}
+
+// The answers to five numbers.
+fn ask_five(keeper: &mut Keeper<MemDisk>, book: &Book) -> [Option<Ensured>; 5]
+    requires own { keeper.old.pass.id ≡ book.now.id }
+    requires sub { (1 ≤ length book.now.openings) × (1 ≤ length keeper.old.journal.imsis) }
+{
+    [
+        ask(keeper, book, 1),
+        ask(keeper, book, 64),
+        ask(keeper, book, 1),
+        ask(keeper, book, 65),
+        ask(keeper, book, 1),
+    ]
 }
 
 // An opening and an append make three writes, and the fourth fails. So a number up to its limit makes no call of the
 // disk, and a greater one does. A keeper that stopped answers that for each number.
 #[test]
-fn a_number_up_to_its_limit_makes_no_call(rt: HostRuntime) -> Result<(), Fail> {
-    let alloc = rt.alloc();
-    let cases = [
-        (1, Ensured::Yes(64)),
-        (64, Ensured::Yes(64)),
-        (1, Ensured::Yes(64)),
-        (65, Ensured::Stopped(Stop::Fault)),
-        (1, Ensured::Stopped(Stop::Fault)),
-    ];
-    let journal = journal_of(alloc, 4)?;
+fn a_number_up_to_its_limit_makes_no_call(rt: HostRuntime) {
+    let journal = journal_of(&rt, rt.alloc(), 4);
     let limits = [journal.reserved(0)];
-    let (book, _passes, pass) = Book::open(alloc, &[100], &limits, 1)?;
+    let Ok((book, _passes, pass)) = Book::open(rt.alloc(), &[100], &limits, 1) else {
+        panic!(rt; "no memory")
+    };
     let mut keeper = Keeper::new(journal, pass);
-    for (n, answer) in cases {
-        assert!(rt; ask(&mut keeper, &book, n) == Some(answer), "at {n}");
-    }
-    Ok(())
+    let found = ask_five(&mut keeper, &book);
+    let yes = Some(Ensured::Yes(64));
+    let stopped = Some(Ensured::Stopped(Stop::Fault));
+    assert!(rt; found == [yes, yes, yes, stopped, stopped]);
 }

@@ -1,16 +1,30 @@
 //! The core, event by event.
 
-ghost use Rattle.std.specs.Prelude.{◌≡◌, ◌<◌, ◌≤◌, length};
+ghost use Rattle.std.specs.Prelude.{◌≡◌, ◌<◌, ◌≤◌, All, length};
 ghost use Rattle.auc_sqn.specs.Number.{max_seq};
 
 use auc_core::{Core, Event, Reply};
 use auc_sqn::MAX_SEQ;
-use std::test::Fail;
+use std::alloc::Global;
+use std::process::Abort;
+
+/// A core of which each subscriber stands at its number.
+fn core_of(rt: &impl Abort, alloc: Global, openings: &[u64]) -> Core
+    requires count { length openings.now ≤ 65536 }
+    requires numbers { All (λ n. n ≤ max_seq) openings.now }
+    ensures { length result ≡ length openings.now }
+{
+    match Core::new(alloc, openings) {
+        Ok(core) => core,
+        Err(_) => panic!(rt; "no memory"),
+    }
+}
 
 // By hand: two subscribers, the second one number short of the greatest.
 #[test]
-fn each_subscriber_draws_its_own_numbers_to_the_greatest(rt: HostRuntime) -> Result<(), Fail> {
-    let mut core = Core::new(rt.alloc(), &[10, MAX_SEQ - 1])?;
+fn each_subscriber_draws_its_own_numbers_to_the_greatest(rt: HostRuntime) {
+    let alloc = rt.alloc();
+    let mut core = core_of(&rt, alloc, &[10, MAX_SEQ - 1]);
     let replies = [
         core.apply(Event::Draw(0)),
         core.apply(Event::Draw(1)),
@@ -26,8 +40,7 @@ fn each_subscriber_draws_its_own_numbers_to_the_greatest(rt: HostRuntime) -> Res
         Reply::Number(12),
     ];
     assert!(rt; replies == expected);
-    assert_eq!(rt; (core.word(0), core.word(1)), (12, MAX_SEQ + 1));
-    Ok(())
+    assert!(rt; (core.word(0), core.word(1)) == (12, MAX_SEQ + 1));
 }
 
 /// The answer to a resynchronisation.
@@ -42,8 +55,9 @@ fn resync(core: &mut Core, sub: u32, seq_ms: u64) -> Reply
 // TS 33.102 §6.3.5 and Annex C.2.1 with a range of 2^28 = 268435456; the sums are by hand: 268435456 + 1 - 1 is
 // in range, and 268435456 + 1 - 0 isn't. Subscriber, SEQ, reply, the subscriber's word after it.
 #[test]
-fn a_resynchronisation_moves_the_number_up_and_never_back(rt: HostRuntime) -> Result<(), Fail> {
-    let mut core = Core::new(rt.alloc(), &[0, 268435456, MAX_SEQ])?;
+fn a_resynchronisation_moves_the_number_up_and_never_back(rt: HostRuntime) {
+    let alloc = rt.alloc();
+    let mut core = core_of(&rt, alloc, &[0, 268435456, MAX_SEQ]);
     assert!(rt; core.apply(Event::Draw(2)) == Reply::Exhausted(MAX_SEQ));
     let cases = [
         (0, 700, Reply::Moved(0, 700), 700),
@@ -62,5 +76,4 @@ fn a_resynchronisation_moves_the_number_up_and_never_back(rt: HostRuntime) -> Re
             "of {sub} at {seq_ms}"
         );
     }
-    Ok(())
 }

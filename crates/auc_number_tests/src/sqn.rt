@@ -14,9 +14,8 @@ fn sqn_of_spells_seq_and_ind_and_split_reads_them(rt: HostRuntime) {
         (MAX_SEQ, [0xff, 0xff, 0xff, 0xff, 0xff, 0xff], 31),
     ];
     for (number, sqn, ind) in cases {
-        assert_eq!(rt;
-            (sqn_of(number), split(sqn)),
-            (sqn, (number, ind)),
+        assert!(rt;
+            (sqn_of(number), split(sqn)) == (sqn, (number, ind)),
             "at {number}"
         );
     }
@@ -44,7 +43,7 @@ fn untouched_array_refuses_seq_0_and_accepts_up_to_its_reach(rt: HostRuntime) {
         );
     }
     let mut spent = SqnArray::opening(MAX_SEQ);
-    assert_eq!(rt; spent.highest(), [255; 6]);
+    assert!(rt; spent.highest() == [255; 6]);
     assert!(rt; spent.check([255; 6]) == Verdict::Old(MAX_SEQ));
 }
 
@@ -53,7 +52,7 @@ fn untouched_array_refuses_seq_0_and_accepts_up_to_its_reach(rt: HostRuntime) {
 #[test]
 fn each_verdict_comes_where_it_should(rt: HostRuntime) {
     let mut array = SqnArray::opening(0);
-    assert_eq!(rt; array.highest(), [0, 0, 0, 0, 0, 0]);
+    assert!(rt; array.highest() == [0, 0, 0, 0, 0, 0]);
     let cases = [
         (33, Verdict::Fresh),
         (33, Verdict::Old(33)),
@@ -68,7 +67,7 @@ fn each_verdict_comes_where_it_should(rt: HostRuntime) {
     for (number, verdict) in cases {
         assert!(rt; array.check(sqn_of(number)) == verdict, "at {number}");
     }
-    assert_eq!(rt; array.highest(), sqn_of(33 + 268435456));
+    assert!(rt; array.highest() == sqn_of(33 + 268435456));
 }
 
 // By hand: the numbers 1 to 500 count as accepted, and 469 to 500 are the last of them with
@@ -76,7 +75,7 @@ fn each_verdict_comes_where_it_should(rt: HostRuntime) {
 #[test]
 fn opening_counts_the_numbers_up_to_it(rt: HostRuntime) {
     let mut array = SqnArray::opening(500);
-    assert_eq!(rt; array.highest(), [0, 0, 0, 0, 0x3e, 0x94]);
+    assert!(rt; array.highest() == [0, 0, 0, 0, 0x3e, 0x94]);
     for (number, verdict) in [
         (500, Verdict::Old(500)),
         (469, Verdict::Old(469)),
