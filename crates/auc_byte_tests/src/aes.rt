@@ -28,14 +28,12 @@ fn a_block_is_encrypted_and_decrypted_as_in_the_standard(rt: HostRuntime) {
     ];
     for (key, plaintext, ciphertext) in cases {
         let key = Key::new(key.to_be_bytes());
-        assert_eq!(rt;
-            key.encrypt(plaintext.to_be_bytes()),
-            ciphertext.to_be_bytes(),
+        assert!(rt;
+            key.encrypt(plaintext.to_be_bytes()) == ciphertext.to_be_bytes(),
             "at {plaintext}"
         );
-        assert_eq!(rt;
-            key.decrypt(ciphertext.to_be_bytes()),
-            plaintext.to_be_bytes(),
+        assert!(rt;
+            key.decrypt(ciphertext.to_be_bytes()) == plaintext.to_be_bytes(),
             "at {ciphertext}"
         );
     }
@@ -60,7 +58,7 @@ fn four_blocks_are_encrypted_and_decrypted_by_cbc_as_in_the_standard(rt: HostRun
     ]);
     let mut bytes = plaintext;
     key.cbc_encrypt(iv, &mut bytes);
-    assert_eq!(rt; bytes, ciphertext);
+    assert!(rt; bytes == ciphertext);
     key.cbc_decrypt(iv, &mut bytes);
-    assert_eq!(rt; bytes, plaintext);
+    assert!(rt; bytes == plaintext);
 }

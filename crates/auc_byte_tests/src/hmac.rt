@@ -65,7 +65,7 @@ fn hmac_sha1_agrees_with_the_published_cases_cut_anywhere(rt: HostRuntime) {
     for (key, text, tag) in cases {
         for cut in 0..text.len() {
             let (front, rest) = text.split_at(cut);
-            assert_eq!(rt; hmac_sha1(key, front, rest), tag, "cut at {cut}");
+            assert!(rt; hmac_sha1(key, front, rest) == tag, "cut at {cut}");
         }
     }
 }
@@ -124,7 +124,7 @@ fn hmac_sha256_agrees_with_the_published_cases_cut_anywhere(rt: HostRuntime) {
     for (key, text, tag) in cases {
         for cut in 0..text.len() {
             let (front, rest) = text.split_at(cut);
-            assert_eq!(rt; hmac_sha256(key, front, rest), tag, "cut at {cut}");
+            assert!(rt; hmac_sha256(key, front, rest) == tag, "cut at {cut}");
         }
     }
 }
@@ -194,7 +194,10 @@ fn hmac_sha1_takes_keys_of_each_size(rt: HostRuntime) {
     ];
     let key = key();
     for (size, tag) in cases {
-        assert_eq!(rt; hmac_sha1(&key[..size], b"Hi", b" There"), tag, "at {size}");
+        assert!(rt;
+            hmac_sha1(&key[..size], b"Hi", b" There") == tag,
+            "at {size}"
+        );
     }
 }
 
@@ -261,9 +264,8 @@ fn hmac_sha256_takes_keys_of_each_size(rt: HostRuntime) {
     ];
     let key = key();
     for (size, tag) in cases {
-        assert_eq!(rt;
-            hmac_sha256(&key[..size], b"Hi", b" There"),
-            tag,
+        assert!(rt;
+            hmac_sha256(&key[..size], b"Hi", b" There") == tag,
             "at {size}"
         );
     }

@@ -15,7 +15,7 @@ fn permanent_identities_begin_with_the_digit_of_the_method(rt: HostRuntime) {
     ];
     for (method, digits, text) in cases {
         match Imsi::read(digits) {
-            Some(imsi) => assert_eq!(rt; permanent(method, imsi).as_slice(), text),
+            Some(imsi) => assert!(rt; permanent(method, imsi).as_slice() == text),
             None => assert!(rt; false),
         }
     }
@@ -41,7 +41,7 @@ fn identities_are_read_back_without_their_realm(rt: HostRuntime) {
         (Method::Aka, b"@0001010000000001", None),
     ];
     for (method, text, imsi) in cases {
-        assert_eq!(rt; permanent_in(method, username(text)), imsi);
+        assert!(rt; permanent_in(method, username(text)) == imsi);
     }
 }
 
@@ -88,8 +88,8 @@ fn names_are_those_of_another_implementation(rt: HostRuntime) {
     ];
     let names = names();
     for (kind, method, sub, ordinal, text) in cases {
-        assert_eq!(rt; names.text(kind, method, sub, ordinal).as_slice(), text);
-        assert_eq!(rt; names.resolve(kind, method, text), Some((sub, ordinal)));
+        assert!(rt; names.text(kind, method, sub, ordinal).as_slice() == text);
+        assert!(rt; names.resolve(kind, method, text) == Some((sub, ordinal)));
     }
 }
 
@@ -106,10 +106,7 @@ fn only_names_are_resolved(rt: HostRuntime) {
     ];
     let names = names();
     for (text, found) in cases {
-        assert_eq!(rt;
-            names.resolve(NameKind::Pseudonym, Method::Aka, text),
-            found
-        );
+        assert!(rt; names.resolve(NameKind::Pseudonym, Method::Aka, text) == found);
     }
 }
 
@@ -117,10 +114,9 @@ fn only_names_are_resolved(rt: HostRuntime) {
 #[test]
 fn each_ordinal_is_given_once(rt: HostRuntime) {
     let mut ordinals = Ordinals::at(0);
-    assert_eq!(rt; [ordinals.next(), ordinals.next()], [Ok(1), Ok(2)]);
+    assert!(rt; [ordinals.next(), ordinals.next()] == [Ok(1), Ok(2)]);
     let mut last = Ordinals::at(281474976710654);
-    assert_eq!(rt;
-        [last.next(), last.next(), last.next()],
-        [Ok(281474976710655), Err(Spent), Err(Spent)]
+    assert!(rt;
+        [last.next(), last.next(), last.next()] == [Ok(281474976710655), Err(Spent), Err(Spent)]
     );
 }

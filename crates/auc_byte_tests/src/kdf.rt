@@ -61,9 +61,8 @@ fn primed_ck_and_ik_are_those_of_the_published_cases(rt: HostRuntime) {
         ),
     ];
     for (name, ck, ik) in cases {
-        assert_eq!(rt;
-            prime_ck_ik(CK, IK, name, SQN_XOR_AK),
-            (ck, ik),
+        assert!(rt;
+            prime_ck_ik(CK, IK, name, SQN_XOR_AK) == (ck, ik),
             "at {}",
             name.len()
         );
@@ -104,7 +103,7 @@ fn keys_of_the_first_published_case_are_found(rt: HostRuntime) {
             0xba, 0xd5, 0x63, 0x8b, 0x63, 0xbc, 0x23, 0xfb,
         ],
     };
-    assert_eq!(rt; prime_keys(IDENTITY, ik, ck), keys);
+    assert!(rt; prime_keys(IDENTITY, ik, ck) == keys);
 }
 
 // RFC 5448 Appendix C, test case 2.
@@ -141,7 +140,7 @@ fn keys_of_the_second_published_case_are_found(rt: HostRuntime) {
             0x0c, 0x1d, 0xa6, 0x12, 0x46, 0x6e, 0x40, 0x2c,
         ],
     };
-    assert_eq!(rt; prime_keys(IDENTITY, ik, ck), keys);
+    assert!(rt; prime_keys(IDENTITY, ik, ck) == keys);
 }
 
 // Python's `hmac`, by the formulas of RFC 9048 §3.3 and §3.4.1, over the K_re of RFC 5448 Appendix C, test

@@ -134,13 +134,12 @@ fn each_function_gives_the_values_of_the_test_sets(rt: HostRuntime) {
             ak: set.f5,
         };
         let mac_a = set.f1.to_be_bytes();
-        assert_eq!(rt;
+        assert!(rt;
             (
                 s.opc,
                 f1_star(&s, rand, set.sqn, set.amf),
                 f5_star(&s, rand)
-            ),
-            (
+            ) == (
                 set.opc.to_be_bytes(),
                 set.f1_star.to_be_bytes(),
                 set.f5_star
@@ -183,9 +182,8 @@ fn auts_masks_sqn_ms_and_authenticates_it(rt: HostRuntime) {
             k: k.to_be_bytes(),
             opc: opc.to_be_bytes(),
         };
-        assert_eq!(rt;
-            make_auts(&s, rand.to_be_bytes(), sqn_ms),
-            auts,
+        assert!(rt;
+            make_auts(&s, rand.to_be_bytes(), sqn_ms) == auts,
             "at {auts:?}"
         );
     }

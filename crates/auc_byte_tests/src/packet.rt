@@ -1,18 +1,22 @@
 //! Packets by hand. Each Subtype, each attribute at its least and its greatest size, and a packet of 4096 bytes stand in
 //! the stored run of `auc_packet_cli`.
 
+ghost use Rattle.std.specs.Prelude.{◌≡◌, []};
+
 use auc_attr::{Attr, AttrList, AttrRefusal, read_attrs};
 use auc_edge::{Octets, Room};
 use auc_hmac::Method;
 use auc_packet::{
-    Draft, Head, PacketRefusal, Subtype, head, is_malformed, is_missing, is_sealed, put_packet,
-    put_sealed, read_packet, receive, write_packet,
+    Draft, Head, Packet, PacketRefusal, Subtype, head, is_malformed, is_missing, is_sealed,
+    put_packet, put_sealed, read_packet, receive, write_packet,
 };
-use std::test::Fail;
+use std::alloc::Global;
+use std::process::Abort;
 
 // RFC 3748 §4, RFC 4187 §8.1 and §10, by hand.
 #[test]
 fn first_fault_of_a_packet_is_told(rt: HostRuntime) {
+    let alloc = rt.alloc();
     let cases: [(&[u8], PacketRefusal); 12] = [
         (&[1, 2, 0], PacketRefusal::Short),
         (&[5, 2, 0, 4], PacketRefusal::BadCode),
@@ -46,17 +50,37 @@ fn first_fault_of_a_packet_is_told(rt: HostRuntime) {
         ),
     ];
     for (bytes, refusal) in cases {
-        assert_eq!(rt;
-            read_packet(rt.alloc(), bytes).err(),
-            Some(refusal),
+        assert!(rt;
+            read_packet(alloc, bytes).err() == Some(refusal),
             "at {bytes:?}"
         );
     }
 }
 
+/// A room of 4096 bytes.
+fn room(rt: &impl Abort, alloc: Global) -> Room
+    ensures { (result.written ≡ []) × (result.left ≡ 4096) }
+{
+    match Room::new(alloc, 4096) {
+        Ok(room) => room,
+        Err(_) => panic!(rt; "no memory"),
+    }
+}
+
+/// Whether a packet is written as these bytes, in both ways.
+fn is_written_as(rt: &impl Abort, alloc: Global, packet: &Packet, bytes: &[u8]) -> bool {
+    assert!(rt; packet.writable());
+    let mut out = Octets::new(alloc);
+    write_packet(packet, &mut out).expect(rt, "memory");
+    let mut room = room(rt, alloc);
+    put_packet(packet, &mut room);
+    out.as_slice() == bytes && room.into_octets().as_slice() == bytes
+}
+
 // RFC 3748 §4.2 and §5.1, RFC 4187 §9 and §10, RFC 9048 §3.2, by hand.
 #[test]
-fn packet_is_read_and_written_again(rt: HostRuntime) -> Result<(), Fail> {
+fn packet_is_read_and_written_again(rt: HostRuntime) {
+    let alloc = rt.alloc();
     let cases: [&[u8]; 8] = [
         &[3, 2, 0, 4],
         &[4, 2, 0, 4],
@@ -71,16 +95,9 @@ fn packet_is_read_and_written_again(rt: HostRuntime) -> Result<(), Fail> {
         &[2, 3, 0, 12, 50, 14, 0, 0, 22, 1, 0, 0],
     ];
     for bytes in cases {
-        let packet = read_packet(rt.alloc(), bytes)?;
-        assert!(rt; packet.writable());
-        let mut out = Octets::new(rt.alloc());
-        write_packet(&packet, &mut out)?;
-        assert_eq!(rt; out.as_slice(), bytes);
-        let mut room = Room::new(rt.alloc(), 4096)?;
-        put_packet(&packet, &mut room);
-        assert_eq!(rt; room.into_octets().as_slice(), bytes);
+        let packet = read_packet(alloc, bytes).expect(&rt, "a packet");
+        assert!(rt; is_written_as(&rt, alloc, &packet, bytes), "at {bytes:?}");
     }
-    Ok(())
 }
 
 // RFC 3748 §4, by hand.
@@ -96,7 +113,7 @@ fn head_tells_code_identifier_and_type(rt: HostRuntime) {
         (&[1, 9, 0, 7, 23, 3, 0, 0], None),
     ];
     for (bytes, expected) in cases {
-        assert_eq!(rt; head(bytes), expected, "at {bytes:?}");
+        assert!(rt; head(bytes) == expected, "at {bytes:?}");
     }
 }
 
@@ -111,76 +128,82 @@ const NONCE_S: [u8; 16] = [
     160, 161, 162, 163, 164, 165, 166, 167, 168, 169, 170, 171, 172, 173, 174, 175,
 ];
 
-// Python's `hmac`: `hmac.new(key, packet + nonce, 'sha1' or 'sha256').digest()[:16]`, the key 16 or 32 bytes, of a
-// Reauthentication response with an empty AT_CHECKCODE.
+/// A Reauthentication response with an empty AT_CHECKCODE.
+fn sealed(rt: &impl Abort, alloc: Global, method: Method) -> Octets {
+    let mut attrs = AttrList::new(alloc);
+    attrs
+        .push(Attr::Checkcode(Octets::new(alloc)))
+        .expect(rt, "memory");
+    let draft = Draft {
+        method,
+        request: false,
+        id: 9,
+        subtype: Subtype::Reauthentication,
+        attrs,
+    };
+    assert!(rt; draft.writable());
+    let mut room = room(rt, alloc);
+    put_sealed(&draft, &K_AUT, &NONCE_S, &mut room);
+    room.into_octets()
+}
+
+// Python's `hmac`: `hmac.new(key, packet + nonce, 'sha1' or 'sha256').digest()[:16]`, the key 16 or 32 bytes.
 #[test]
-fn sealed_message_is_received_with_a_right_mac(rt: HostRuntime) -> Result<(), Fail> {
-    let cases: [(Method, u8, [u8; 16]); 2] = [
+fn sealed_message_is_received_with_a_right_mac(rt: HostRuntime) {
+    let alloc = rt.alloc();
+    let cases: [(Method, u128, u128); 2] = [
         (
             Method::Aka,
-            23,
-            [
-                0x35, 0xf8, 0x4d, 0x44, 0x8f, 0x72, 0x6d, 0xdb, 0xaf, 0xb0, 0x8d, 0x84, 0x22, 0x59,
-                0x2e, 0xd9,
-            ],
+            0x02090020_170d0000_86010000_0b050000,
+            0x35f84d44_8f726ddb_afb08d84_22592ed9,
         ),
         (
             Method::Prime,
-            50,
-            [
-                0x40, 0x16, 0xa4, 0x76, 0x94, 0x9a, 0x99, 0x75, 0x06, 0x67, 0x87, 0xc5, 0x55, 0x7a,
-                0x59, 0x5d,
-            ],
+            0x02090020_320d0000_86010000_0b050000,
+            0x4016a476_949a9975_066787c5_557a595d,
         ),
     ];
-    for (method, kind, mac) in cases {
-        let mut attrs = AttrList::new(rt.alloc());
-        attrs.push(Attr::Checkcode(Octets::new(rt.alloc())))?;
-        let draft = Draft {
-            method,
-            request: false,
-            id: 9,
-            subtype: Subtype::Reauthentication,
-            attrs,
-        };
-        assert!(rt; draft.writable());
-        let mut room = Room::new(rt.alloc(), 4096)?;
-        put_sealed(&draft, &K_AUT, &NONCE_S, &mut room);
-        let bytes = room.into_octets();
-        let mut expected = Octets::new(rt.alloc());
-        expected.append(&[2, 9, 0, 32, kind, 13, 0, 0, 134, 1, 0, 0, 11, 5, 0, 0])?;
-        expected.append(&mac)?;
-        assert_eq!(rt; bytes.as_slice(), expected.as_slice(), "of type {kind}");
-        let received = receive(rt.alloc(), bytes.as_slice())?;
-        assert!(rt; is_sealed(&received, method, &K_AUT, &NONCE_S));
-        assert!(rt; !is_sealed(&received, method, &K_AUT, &[]));
+    for (method, front, mac) in cases {
+        let bytes = sealed(&rt, alloc, method);
+        let bytes = bytes.as_slice();
+        assert!(rt; bytes.len() == 32, "for {method:?}");
+        let parts = (&bytes[..16], &bytes[16..]);
+        assert!(rt;
+            parts == (front.to_be_bytes().as_slice(), mac.to_be_bytes().as_slice()),
+            "for {method:?}"
+        );
+        let received = receive(alloc, bytes).expect(&rt, "a packet");
+        let with_nonce = is_sealed(&received, method, &K_AUT, &NONCE_S);
+        let without = is_sealed(&received, method, &K_AUT, &[]);
+        assert!(rt; (with_nonce, without) == (true, false), "for {method:?}");
     }
-    Ok(())
 }
 
-// Attributes of these types, with values of zero bytes.
-fn list_of(rt: &HostRuntime, kinds: &[u8]) -> Result<AttrList, Fail> {
-    let mut bytes = Vec::new(rt.alloc());
-    for &kind in kinds {
-        match kind {
-            1 | 2 | 11 | 21 | 129 => {
-                bytes.extend_from_slice(&[kind, 5])?;
-                bytes.extend_from_slice(&[0; 18])?;
-            }
-            3 => bytes.extend_from_slice(&[3, 2, 0, 32, 0, 0, 0, 0])?,
-            4 => {
-                bytes.extend_from_slice(&[4, 4])?;
-                bytes.extend_from_slice(&[0; 14])?;
-            }
-            _ => bytes.extend_from_slice(&[kind, 1, 0, 0])?,
-        }
+/// The length of an attribute of this type, and its value.
+fn zeros(kind: u8) -> (u8, &'static [u8]) {
+    match kind {
+        1 | 2 | 11 | 21 | 129 => (5, &[0; 18]),
+        3 => (2, &[0, 32, 0, 0, 0, 0]),
+        4 => (4, &[0; 14]),
+        _ => (1, &[0; 2]),
     }
-    Ok(read_attrs(rt.alloc(), bytes.as_slice())?)
+}
+
+/// Attributes of these types, with values of zero bytes.
+fn list_of(rt: &impl Abort, alloc: Global, kinds: &[u8]) -> AttrList {
+    let mut bytes = Octets::new(alloc);
+    for &kind in kinds {
+        let (words, value) = zeros(kind);
+        bytes.append(&[kind, words]).expect(rt, "memory");
+        bytes.append(value).expect(rt, "memory");
+    }
+    read_attrs(alloc, bytes.as_slice()).expect(rt, "attributes")
 }
 
 // RFC 4187 §9 and §10.1, RFC 9048 §3: the types below 128 that a message may have.
 #[test]
-fn each_message_may_have_the_attributes_of_its_row(rt: HostRuntime) -> Result<(), Fail> {
+fn each_message_may_have_the_attributes_of_its_row(rt: HostRuntime) {
+    let alloc = rt.alloc();
     let rows: [(Subtype, bool, Method, &[u8]); 14] = [
         (Subtype::Identity, true, Method::Aka, &[10, 13, 17]),
         (Subtype::Identity, false, Method::Aka, &[14]),
@@ -208,19 +231,17 @@ fn each_message_may_have_the_attributes_of_its_row(rt: HostRuntime) -> Result<()
     ];
     for (subtype, request, method, row) in rows {
         for kind in kinds {
-            assert_eq!(rt;
-                is_malformed(subtype, request, method, &list_of(&rt, &[kind])?),
-                kind < 128 && !row.contains(&kind),
-                "type {kind} in {subtype:?}"
-            );
+            let found = is_malformed(subtype, request, method, &list_of(&rt, alloc, &[kind]));
+            let expected = kind < 128 && !row.contains(&kind);
+            assert!(rt; found == expected, "type {kind} in {subtype:?}");
         }
     }
-    Ok(())
 }
 
 // RFC 4187 §9, by hand.
 #[test]
-fn message_without_a_needed_attribute_is_told(rt: HostRuntime) -> Result<(), Fail> {
+fn message_without_a_needed_attribute_is_told(rt: HostRuntime) {
+    let alloc = rt.alloc();
     let cases: [(Subtype, bool, &[u8], bool); 17] = [
         (Subtype::Identity, true, &[], true),
         (Subtype::Identity, true, &[13], false),
@@ -241,11 +262,7 @@ fn message_without_a_needed_attribute_is_told(rt: HostRuntime) -> Result<(), Fai
         (Subtype::ClientError, false, &[], true),
     ];
     for (subtype, request, kinds, missing) in cases {
-        assert_eq!(rt;
-            is_missing(subtype, request, &list_of(&rt, kinds)?),
-            missing,
-            "{kinds:?} in {subtype:?}"
-        );
+        let found = is_missing(subtype, request, &list_of(&rt, alloc, kinds));
+        assert!(rt; found == missing, "{kinds:?} in {subtype:?}");
     }
-    Ok(())
 }

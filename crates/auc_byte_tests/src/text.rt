@@ -1,7 +1,6 @@
 //! Tables of texts, and the lines, words, numbers and octets in them.
 
 use auc_text::{are_digits, joined, next_line, next_word, read_decimal, read_octets, word_count};
-use std::test::Fail;
 
 // By hand.
 #[test]
@@ -24,7 +23,7 @@ fn the_first_line_ends_with_lf_or_crlf_or_the_text(rt: HostRuntime) {
         ),
     ];
     for (text, line, behind) in cases {
-        assert_eq!(rt; next_line(text), (line, behind), "at {text:?}");
+        assert!(rt; next_line(text) == (line, behind), "at {text:?}");
     }
 }
 
@@ -49,13 +48,13 @@ fn the_first_word_ends_at_a_blank(rt: HostRuntime) {
         (b"\x0b", Some((b"\x0b".as_slice(), b"".as_slice()))),
     ];
     for (text, word) in cases {
-        assert_eq!(rt; next_word(text), word, "at {text:?}");
+        assert!(rt; next_word(text) == word, "at {text:?}");
     }
 }
 
 // By hand.
 #[test]
-fn words_are_counted_and_joined(rt: HostRuntime) -> Result<(), Fail> {
+fn words_are_counted_and_joined(rt: HostRuntime) {
     let cases = [
         (b"".as_slice(), 0, b"".as_slice()),
         (b"\t \t", 0, b""),
@@ -64,11 +63,10 @@ fn words_are_counted_and_joined(rt: HostRuntime) -> Result<(), Fail> {
         (b"a\x0bb \x0c \r", 3, b"a\x0bb \x0c \r"),
     ];
     for (text, count, line) in cases {
-        assert_eq!(rt; word_count(text), count, "at {text:?}");
-        let words = joined(rt.alloc(), text).ok().ok_or("no memory")?;
-        assert_eq!(rt; words.as_slice(), line, "at {text:?}");
+        assert!(rt; word_count(text) == count, "at {text:?}");
+        let words = joined(rt.alloc(), text).expect(&rt, "memory");
+        assert!(rt; words.as_slice() == line, "at {text:?}");
     }
-    Ok(())
 }
 
 // By hand.
@@ -83,7 +81,7 @@ fn digits_are_those_from_0_to_9(rt: HostRuntime) {
         (b"1 ", false),
     ];
     for (text, digits) in cases {
-        assert_eq!(rt; are_digits(text), digits, "at {text:?}");
+        assert!(rt; are_digits(text) == digits, "at {text:?}");
     }
 }
 
@@ -105,7 +103,7 @@ fn a_number_has_so_many_digits_and_is_not_too_great(rt: HostRuntime) {
         (b"-1".as_slice(), None),
     ];
     for (text, number) in cases {
-        assert_eq!(rt; read_decimal(text, 20, 1000), number, "at {text:?}");
+        assert!(rt; read_decimal(text, 20, 1000) == number, "at {text:?}");
     }
 }
 
@@ -123,11 +121,8 @@ fn octets_are_twice_as_many_digits(rt: HostRuntime) {
         (b"00 f", None),
     ];
     for (text, octets) in cases {
-        assert_eq!(rt; read_octets::<2>(text), octets, "at {text:?}");
+        assert!(rt; read_octets::<2>(text) == octets, "at {text:?}");
     }
-    assert_eq!(rt;
-        read_octets::<6>(b"ff9bb4d0b607"),
-        Some([0xff, 0x9b, 0xb4, 0xd0, 0xb6, 0x07])
-    );
-    assert_eq!(rt; read_octets::<0>(b""), Some([]));
+    assert!(rt; read_octets::<6>(b"ff9bb4d0b607") == Some([0xff, 0x9b, 0xb4, 0xd0, 0xb6, 0x07]));
+    assert!(rt; read_octets::<0>(b"") == Some([]));
 }
