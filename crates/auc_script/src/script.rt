@@ -49,9 +49,16 @@ impl Script {
         ensures kept { IfErr result (λ refusal. Keeps subs.old bytes.now refusal subs.new) }
     {
         let mut so_far = SoFar::new(alloc);
-        put_lines(alloc, bytes, subs, &mut so_far)?;
-        attest(subs);
-        Ok(so_far.script(alloc)?)
+        match put_lines(alloc, bytes, subs, &mut so_far) {
+            Ok(()) => {
+                attest(subs);
+                Ok(so_far.script(alloc)?)
+            }
+            Err(refusal) => {
+                give_back(so_far);
+                Err(refusal)
+            }
+        }
     }
 }
 
@@ -88,6 +95,9 @@ fn put_lines(
     }
     Ok(())
 }
+
+/// Gives what the lines said back.
+fn give_back(_so_far: SoFar) {}
 
 /// Brings the clauses that hold of all lists of subscribers.
 fn attest(subs: &Subscribers)
