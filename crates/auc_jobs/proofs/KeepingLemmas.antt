@@ -1,6 +1,7 @@
 -- For the keeper of a round: the journal after it.
 use Rattle.std.proofs.Common.{◌≡◌, ◌≢◌, ℕ, zero, suc, ◌+◌, ◌<◌, ◌≤◌, List, [], ◌∷◌, length, map, max, slice_get, slice_index, All, AllPairs, Option, Some, Result, Ok, Err, arith, refl, sym, ap, ◌∙◌, subst}
 use Rattle.std.specs.Prelude.{IfOk, OnOk}
+use Rattle.std.specs.Result.{result_and}
 use Rattle.std.proofs.lemmas.Option.{slice_get_within}
 use Rattle.std.proofs.lemmas.List.Elements.{All-map}
 use Rattle.auc_draw.specs.Book.{Opens}
@@ -48,6 +49,16 @@ if_ok_map P Q (Err e) f holds = tt
 pub if_ok_map_two : {A E : Type 0} (P Q R : A → Type 0) (result : Result A E) → ((x : A) → P x → Q x → R x) → IfOk result P → IfOk result Q → IfOk result R
 if_ok_map_two P Q R (Ok x) f first second = f x first second
 if_ok_map_two P Q R (Err e) f first second = tt
+
+-- what holds where two results are both Ok: of the first, and of the second
+pub first_ok : {A B : Type 0} (first : Result A NoMemory) (second : Result B NoMemory) (value : B) (P : Type 0) → result_and first second ≡ Ok value → OnOk first P → P
+first_ok (Ok a) second value P is holds = holds
+first_ok (Err e) second value P is holds = cc
+
+pub second_ok : {A B : Type 0} (first : Result A NoMemory) (second : Result B NoMemory) (value : B) (Q : B → Type 0) → result_and first second ≡ Ok value → IfOk second Q → Q value
+second_ok (Ok a) (Ok b) value Q is holds = let same : b ≡ value = cc in subst Q same holds
+second_ok (Ok a) (Err e) value Q is holds = cc
+second_ok (Err e) second value Q is holds = cc
 
 -- a crash leaves nothing above the words, if the keeper saw nothing above them
 pub stays_near : {D : Type 0} (seen : D → Option (List ℕ)) (may_leave : D → List ℕ → Type 0) (faults : D → ℕ) (journal after : JournalState D) (pass : KeeperValue) (words openings : List ℕ)

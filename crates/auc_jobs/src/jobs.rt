@@ -170,7 +170,7 @@ fn told(
 }
 
 /// Gives the lines and the network of a job back.
-fn give_back(_lines: JobRecord, _world: World) {}
+pub(crate) fn give_back(_lines: JobRecord, _world: World) {}
 
 /// What a job gave whose lines are these, and whose network came to this.
 pub(crate) fn served_job(

@@ -258,7 +258,37 @@ fn finish(
         × (ran.vectors ≡ done.jobs.vectors) × (ran.stop ≡ done.stop)) }
     ensures kept { OnErr result (state.new ≡ state.old) }
 {
-    let summary = sum_up(alloc, jobs, set, state, &done)?;
+    match sum_up(alloc, jobs, set, state, &done) {
+        Ok(summary) => Ok(record_round(number, summary, done)),
+        Err(error) => {
+            give_back(done);
+            Err(error)
+        }
+    }
+}
+
+/// Gives what the jobs of a round gave back.
+fn give_back(_done: RoundPieces) {}
+
+/// What a round of this number did, whose jobs gave this.
+fn record_round(number: u32, summary: Summary, done: RoundPieces) -> Ran
+    ensures { result ≡ record {
+      round = record {
+        number = number;
+        jobs = done.jobs.records;
+        closings = summary.closings;
+        sessions = summary.sessions;
+        premise = summary.premise;
+      };
+      vectors = done.jobs.vectors;
+      stop = done.stop;
+    } }
+{
+    let Summary {
+        closings,
+        sessions,
+        premise,
+    } = summary;
     let RoundPieces {
         jobs: given,
         stop,
@@ -269,15 +299,15 @@ fn finish(
         vectors,
         ..
     } = given;
-    Ok(Ran {
+    Ran {
         round: RoundRecord {
             number,
             jobs: records,
-            closings: summary.closings,
-            sessions: summary.sessions,
-            premise: summary.premise,
+            closings,
+            sessions,
+            premise,
         },
         vectors,
         stop,
-    })
+    }
 }

@@ -85,8 +85,7 @@ impl RoundJobs<'_> {
         let served = worker.serve_lines(rt, alloc, asked);
         let ended = worker.end(alloc);
         let _centre = worker.into_centre();
-        served?;
-        let (lines, world) = ended?;
+        let (lines, world) = served.and(ended)?;
         served_job(alloc, self.set, self.full, lines, world)
     }
 

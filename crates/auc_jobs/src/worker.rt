@@ -6,6 +6,7 @@ ghost use Rattle.auc_jobs.specs.InnerWorker.{WorkerState, AreForRows};
 ghost use Rattle.auc_jobs.specs.Usims.{HaveSecrets};
 
 use crate::job_lines::JobLines;
+use crate::jobs::give_back;
 use auc_edge::NoMemory;
 use auc_released::Numbers;
 use auc_vector::Centre;
@@ -93,7 +94,22 @@ impl<'a, C: Centre> Worker<'a, C> {
         ensures lent { result.ghost_name ≡ self.entry.lent }
         ensures centre { result.now ≡ self.entry.centre }
     {
-        let Worker { centre, .. } = self;
+        let (centre, lines, world) = self.into_parts();
+        give_back(lines, world);
         centre
+    }
+
+    /// The centre, and the lines and the network of the job.
+    fn into_parts(self) -> (&'a mut C, JobRecord, World)
+        ensures lent { result.0.ghost_name ≡ self.entry.lent }
+        ensures centre { result.0.now ≡ self.entry.centre }
+    {
+        let Worker {
+            centre,
+            world,
+            lines,
+            ..
+        } = self;
+        (centre, lines.into_lines(), world)
     }
 }
