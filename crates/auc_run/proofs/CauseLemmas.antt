@@ -27,7 +27,7 @@ ok_err x a e ok err = apart (sym ok ∙ err)
     apart : Ok a ≡ Err e → ⊥
     apart same = cc
 
-some_none : {A : Type 0} (x : Option A) (a : A) → x ≡ Some a → x ≡ None → ⊥
+pub some_none : {A : Type 0} (x : Option A) (a : A) → x ≡ Some a → x ≡ None → ⊥
 some_none x a some none = apart (sym some ∙ none)
   where
     apart : Some a ≡ None → ⊥
@@ -79,7 +79,7 @@ begins_same there (Some name) rows others (text, has, read) (other, there_is, re
     ok_same (subscribers_in text) rows others read (ap subscribers_in (text_same there name text other has there_is) ∙ reads)
 
 -- files that are right aren't wrong
-right_wrong : (there : List File) (files : Files) (cause : Refusal) → AreRight (Some there) files → AreWrong (Some there) files cause → ⊥
+pub right_wrong : (there : List File) (files : Files) (cause : Refusal) → AreRight (Some there) files → AreWrong (Some there) files cause → ⊥
 right_wrong there files (refused.Subscribers row fault) right (name, text, named, has, wrong) =
     wrong_begins there files.subscribers name text _ right.rows named has wrong right.are_read.begins
 right_wrong there files (refused.Scenario line fault) right (rows, text, read, wrong) =
@@ -230,7 +230,7 @@ comes_files there files seen cause refused.TooLong ended mid new wrong stop (inl
 comes_files there files seen cause refused.TooLong ended mid new wrong stop (inr untold) = absurd untold
 
 -- the word `reserved` names no file
-asks_unnamed : (words : List (List ℕ)) → asks_reserved words ≡ true → files_named words ≡ None
+pub asks_unnamed : (words : List (List ℕ)) → asks_reserved words ≡ true → files_named words ≡ None
 asks_unnamed [] asks = refl
 asks_unnamed (word ∷ []) asks = refl
 asks_unnamed (word ∷ next ∷ more) asks = absurd (apart asks)

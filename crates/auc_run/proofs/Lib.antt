@@ -11,4 +11,5 @@ mod OutcomeLemmas
 mod RefusalLemmas
 mod TopLemmas
 mod CauseLemmas
+mod EndLemmas
 mod LoadLemmas

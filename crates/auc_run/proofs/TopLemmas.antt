@@ -4,7 +4,7 @@ use Rattle.auc_edge.specs.Shelf.{File}
 use Rattle.auc_edge.specs.Sink.{Appends, AppendsFront}
 use Rattle.auc_run.specs.Inner.{FilesLeave, IsSilent, JournalStops, ReservedStops, Stops, Tells, open_refusal}
 use Rattle.auc_load.specs.declared.words.LoadWords.{LoadWords}
-use Rattle.auc_run.specs.Outcome.{EndsBefore, EndsLoad, IsCause, IsQuiet, IsStop, NeedsNoJournal, Refuses, RunsFiles, RunsScenario}
+use Rattle.auc_run.specs.Outcome.{EndsLoad, IsCause, IsQuiet, IsStop, NeedsNoJournal, Refuses, RunsFiles, RunsScenario}
 use Rattle.auc_run.specs.Refusal.{line_of, status_of}
 use Rattle.auc_forms.specs.Reserved.{IsReservedText}
 use Rattle.auc_journal.specs.Image.{Frame, reserved_in}
@@ -35,73 +35,18 @@ front_none (Some old) new bytes same = record { front = []; rest = bytes; whole 
 
 -- ---- a run of a scenario that ended early, and whose refusal was told
 
-still_runs : (told : Option (List File)) (files : Files) (seen : Option (List ℕ)) (leaves : List ℕ → Type 0) (s ended : Status) (old mid new : Option (List ℕ))
+pub still_runs : (told : Option (List File)) (files : Files) (seen : Option (List ℕ)) (leaves : List ℕ → Type 0) (s ended : Status) (old mid new : Option (List ℕ))
     → ended ≡ s → Appends mid new [] → RunsFiles told files seen leaves s old mid → RunsFiles told files seen leaves ended old new
 still_runs told files seen leaves s ended old mid new is none runs =
     subst (λ (e : Status). RunsFiles told files seen leaves e old new) (sym is)
     (subst (λ (o : Option (List ℕ)). RunsFiles told files seen leaves s old o) (sym (Appends-nothing mid new none)) runs)
 
-ends_so : (s ended : Status) (old new : Option (List ℕ)) → ended ≡ s → EndsBefore s old new → EndsBefore ended old new
-ends_so s ended old new is ends = subst (λ (e : Status). EndsBefore e old new) (sym is) ends
-
-from_old : (old mid new : Option (List ℕ)) (bytes : List ℕ) → mid ≡ old → AppendsFront mid new bytes → AppendsFront old new bytes
+pub from_old : (old mid new : Option (List ℕ)) (bytes : List ℕ) → mid ≡ old → AppendsFront mid new bytes → AppendsFront old new bytes
 from_old old mid new bytes same front = subst (λ (o : Option (List ℕ)). AppendsFront o new bytes) same front
 
 load_still : (load : LoadWords) (s ended : Status) (old mid new : Option (List ℕ)) → ended ≡ s → Appends mid new [] → EndsLoad load s old mid → EndsLoad load ended old new
 load_still load s ended old mid new is none ends =
     subst (λ (e : Status). EndsLoad load e old new) (sym is) (subst (λ (o : Option (List ℕ)). EndsLoad load s old o) (sym (Appends-nothing mid new none)) ends)
-
-pub ran_told : (told : Option (List File)) (files : Files) (seen : Option (List ℕ)) (leaves : List ℕ → Type 0) (refusal : Refusal) (ended : Status) (old mid new : Option (List ℕ))
-    → FilesLeave told files seen leaves (status_of refusal) old mid → Tells refusal ended mid new → AppendsFront mid new (line_of refusal)
-    → RunsFiles told files seen leaves ended old new ⊎ EndsBefore ended old new
-ran_told told files seen leaves refused.StoreFull ended old mid new runs (inl (is, none)) front = inl (still_runs told files seen leaves status.StoreFull ended old mid new is none runs)
-ran_told told files seen leaves refused.StoreFull ended old mid new runs (inr untold) front = absurd untold
-ran_told told files seen leaves refused.WriteFault ended old mid new (inl runs) (inl (is, none)) front = inl (still_runs told files seen leaves status.WriteFault ended old mid new is none runs)
-ran_told told files seen leaves refused.WriteFault ended old mid new (inr still) (inl (is, none)) front =
-    inr (ends_so status.WriteFault ended old new is (refused.WriteFault, from_old old mid new [] still front))
-ran_told told files seen leaves refused.WriteFault ended old mid new runs (inr untold) front = absurd untold
-ran_told told files seen leaves refused.NoMemory ended old mid new (inl runs) (inl (is, none)) front = inl (still_runs told files seen leaves status.NoMemory ended old mid new is none runs)
-ran_told told files seen leaves refused.NoMemory ended old mid new (inr still) (inl (is, none)) front =
-    inr (ends_so status.NoMemory ended old new is (refused.NoMemory, from_old old mid new [] still front))
-ran_told told files seen leaves refused.NoMemory ended old mid new runs (inr untold) front = absurd untold
-ran_told told files seen leaves refused.StoreFault ended old mid new (inl runs) (inl (is, none)) front = inl (still_runs told files seen leaves status.StoreFault ended old mid new is none runs)
-ran_told told files seen leaves refused.StoreFault ended old mid new (inr still) (inl (is, none)) front =
-    inr (ends_so status.StoreFault ended old new is (subst (λ (o : Option (List ℕ)). Appends o new []) still none))
-ran_told told files seen leaves refused.StoreFault ended old mid new runs (inr untold) front = absurd untold
-ran_told told files seen leaves refused.Usage ended old mid new (inl runs) tells front = absurd runs.stopped
-ran_told told files seen leaves refused.Usage ended old mid new (inr still) (inl (is, line)) front =
-    inr (ends_so status.Usage ended old new is (refused.Usage, from_old old mid new (line_of refused.Usage) still front))
-ran_told told files seen leaves refused.Usage ended old mid new (inr still) (inr is) front =
-    inr (ends_so status.WriteFault ended old new is (refused.Usage, from_old old mid new (line_of refused.Usage) still front))
-ran_told told files seen leaves (refused.Subscribers row fault) ended old mid new (inl runs) tells front = absurd runs.stopped
-ran_told told files seen leaves (refused.Subscribers row fault) ended old mid new (inr still) (inl (is, line)) front =
-    inr (ends_so status.SubscribersRefused ended old new is (refused.Subscribers row fault, from_old old mid new (line_of (refused.Subscribers row fault)) still front))
-ran_told told files seen leaves (refused.Subscribers row fault) ended old mid new (inr still) (inr (inl is)) front =
-    inr (ends_so status.WriteFault ended old new is (refused.Subscribers row fault, from_old old mid new (line_of (refused.Subscribers row fault)) still front))
-ran_told told files seen leaves (refused.Subscribers row fault) ended old mid new (inr still) (inr (inr is)) front =
-    inr (ends_so status.NoMemory ended old new is (refused.Subscribers row fault, from_old old mid new (line_of (refused.Subscribers row fault)) still front))
-ran_told told files seen leaves (refused.Scenario row fault) ended old mid new (inl runs) tells front = absurd runs.stopped
-ran_told told files seen leaves (refused.Scenario row fault) ended old mid new (inr still) (inl (is, line)) front =
-    inr (ends_so status.ScenarioRefused ended old new is (refused.Scenario row fault, from_old old mid new (line_of (refused.Scenario row fault)) still front))
-ran_told told files seen leaves (refused.Scenario row fault) ended old mid new (inr still) (inr (inl is)) front =
-    inr (ends_so status.WriteFault ended old new is (refused.Scenario row fault, from_old old mid new (line_of (refused.Scenario row fault)) still front))
-ran_told told files seen leaves (refused.Scenario row fault) ended old mid new (inr still) (inr (inr is)) front =
-    inr (ends_so status.NoMemory ended old new is (refused.Scenario row fault, from_old old mid new (line_of (refused.Scenario row fault)) still front))
-ran_told told files seen leaves (refused.NotJournal place) ended old mid new (inl runs) tells front = absurd runs.stopped
-ran_told told files seen leaves (refused.NotJournal place) ended old mid new (inr still) (inl (is, line)) front =
-    inr (ends_so status.NotJournal ended old new is (refused.NotJournal place, from_old old mid new (line_of (refused.NotJournal place)) still front))
-ran_told told files seen leaves (refused.NotJournal place) ended old mid new (inr still) (inr (inl is)) front =
-    inr (ends_so status.WriteFault ended old new is (refused.NotJournal place, from_old old mid new (line_of (refused.NotJournal place)) still front))
-ran_told told files seen leaves (refused.NotJournal place) ended old mid new (inr still) (inr (inr is)) front =
-    inr (ends_so status.NoMemory ended old new is (refused.NotJournal place, from_old old mid new (line_of (refused.NotJournal place)) still front))
-ran_told told files seen leaves refused.ReadFault ended old mid new (inl runs) tells front = absurd runs.stopped
-ran_told told files seen leaves refused.ReadFault ended old mid new (inr still) (inl (is, line)) front =
-    inr (ends_so status.ReadFault ended old new is (refused.ReadFault, from_old old mid new [] still front))
-ran_told told files seen leaves refused.ReadFault ended old mid new (inr still) (inr untold) front = absurd untold
-ran_told told files seen leaves refused.TooLong ended old mid new (inl runs) tells front = absurd runs.stopped
-ran_told told files seen leaves refused.TooLong ended old mid new (inr still) (inl (is, line)) front =
-    inr (ends_so status.TooLong ended old new is (refused.TooLong, from_old old mid new [] still front))
-ran_told told files seen leaves refused.TooLong ended old mid new (inr still) (inr untold) front = absurd untold
 
 -- a load that ended early, and whose refusal was told
 pub load_told : (load : LoadWords) (refusal : Refusal) (ended : Status) (old mid new : Option (List ℕ)) → EndsLoad load (status_of refusal) old mid → Tells refusal ended mid new → EndsLoad load ended old new
@@ -321,7 +266,7 @@ cause_of words told seen (refused.NotJournal place) (inr (inr (inr (none, no_val
 cause_of words told seen (refused.NotJournal place) (inr (inr (inr (none, no_values, asks, inr (load, named, stop))))) = absurd stop
 
 -- the words of a refusal of the files
-files_of : (words : List (List ℕ)) (told : Option (List File)) (seen : Option (List ℕ)) (refusal : Refusal) (ended : Status) (old mid new : Option (List ℕ)) (cause : IsCause words told seen refusal)
+pub files_of : (words : List (List ℕ)) (told : Option (List File)) (seen : Option (List ℕ)) (refusal : Refusal) (ended : Status) (old mid new : Option (List ℕ)) (cause : IsCause words told seen refusal)
     → ended ≡ status_of refusal → mid ≡ old → Appends mid new (line_of refusal) → Refuses words told seen ended old new
 files_of words told seen refusal ended old mid new cause is still line =
     record { refusal = refusal; is_status = is; cause = cause; written = subst (λ (o : Option (List ℕ)). Appends o new (line_of refusal)) still line }

@@ -2,12 +2,12 @@
 use Rattle.std.specs.Prelude.{◌≡◌, ℕ, ◌+◌, ◌<◌, ◌≤◌, ◌⊎◌, ◌++◌, max, true, false, AllPairs, All, Bool, List, [], length, map, slice_index, Option, Some, None, Result, Ok, Err}
 use Rattle.std.specs.Option.{option_copied}
 use Rattle.auc_edge.specs.Shelf.{File, IsLongerFile}
-use Rattle.auc_edge.specs.Sink.{Appends}
+use Rattle.auc_edge.specs.Sink.{Appends, AppendsFront}
 use Rattle.auc_edge.specs.declared.stop.Stop.{Stop}
 use Rattle.auc_edge.specs.declared.read_refusal.ReadRefusal.{ReadRefusal}
 use Rattle.auc_edge.specs.declared.read_refusal.ReadRefusal.TheVariants as unread
 use Rattle.auc_forms.specs.Algorithm.{values_named}
-use Rattle.auc_forms.specs.Reserved.{asks_reserved}
+use Rattle.auc_forms.specs.Reserved.{IsReservedText, asks_reserved}
 use Rattle.auc_forms.specs.declared.algorithm.AlgorithmWords.{AlgorithmWords}
 use Rattle.auc_journal.specs.Durable.{IsDurable, IsTold}
 use Rattle.auc_journal.specs.Image.{Frame}
@@ -41,7 +41,7 @@ use Rattle.auc_world.specs.declared.record.LineRecord.{LineRecord}
 use Rattle.auc_world.specs.declared.record.PartRecord.{PartRecord}
 use Rattle.auc_world.specs.declared.record.RoundRecord.{RoundRecord}
 use Rattle.auc_run.specs.Crash.{IsFound, IsFull, IsKept, IsNoJournal, MayLeave, limits_in}
-use Rattle.auc_run.specs.Outcome.{HasText, AreRead, AreRight, AreWrong, IsStopOf, IsWritten, RunsFiles, max_file}
+use Rattle.auc_run.specs.Outcome.{HasText, AreLimitLines, AreRead, AreRight, AreWrong, IsStopOf, IsWritten, RunsFiles, max_file}
 use Rattle.auc_run.specs.Refusal.{status_of, line_of}
 use Rattle.auc_run.specs.Words.{Files, files_named}
 use Rattle.auc_run.specs.declared.forms.InputFiles.{InputFiles}
@@ -135,6 +135,7 @@ pub record IsRead (told : Option (List File)) (files : Files) (rows : List Row) 
 abbrev pub FilesLeave : Option (List File) → Files → Option (List ℕ) → (List ℕ → Type 0) → Status → Option (List ℕ) → Option (List ℕ) → Type 0
 FilesLeave told files seen leaves Done old new = RunsFiles told files seen leaves Done old new
 FilesLeave told files seen leaves StoreFull old new = RunsFiles told files seen leaves StoreFull old new
+FilesLeave told files seen leaves WriteFault old new = RunsFiles told files seen leaves WriteFault old new
 FilesLeave told files seen leaves status old new = RunsFiles told files seen leaves status old new ⊎ (new ≡ old)
 
 -- a run ended before the journal was opened, and not because memory ran out
@@ -163,6 +164,18 @@ InputStops seen refusal = JournalStops seen refusal ⊎ RoundsStop refusal
 abbrev pub ReservedStops : Option (List ℕ) → Refusal → Type 0
 ReservedStops seen refused.WriteFault = Unit {0}
 ReservedStops seen refusal = JournalStops seen refusal
+
+-- limits were written, or some first bytes of their lines if the output failed, or nothing
+abbrev pub WritesLimits : List Frame → Status → Option (List ℕ) → Option (List ℕ) → Type 0
+WritesLimits limits Done old new = (text : List ℕ) × IsReservedText limits text × Appends old new text
+WritesLimits limits WriteFault old new = (text : List ℕ) × IsReservedText limits text × AppendsFront old new text
+WritesLimits limits _ old new = new ≡ old
+
+-- the same of the limits of the journal that was found
+abbrev pub LimitsLeave : Option (List ℕ) → Status → Option (List ℕ) → Option (List ℕ) → Type 0
+LimitsLeave seen Done old new = (text : List ℕ) × AreLimitLines seen text × Appends old new text
+LimitsLeave seen WriteFault old new = (text : List ℕ) × AreLimitLines seen text × AppendsFront old new text
+LimitsLeave seen _ old new = new ≡ old
 
 -- why a load ends early: the words are none of a load, or in serving it or writing its lines
 abbrev pub LoadStops : List (List ℕ) → Refusal → Type 0

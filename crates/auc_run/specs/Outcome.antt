@@ -26,7 +26,7 @@ use Rattle.auc_run.specs.Words.{Files, files_named}
 use Rattle.auc_run.specs.declared.refusal.Refusal.{Refusal}
 use Rattle.auc_run.specs.declared.refusal.Refusal.TheVariants as refused
 use Rattle.auc_run.specs.declared.status.Status.{Status}
-use Rattle.auc_run.specs.declared.status.Status.TheVariants.{Done, Usage, SubscribersRefused, ScenarioRefused, ReadFault, WriteFault, StoreFault, StoreFull, TooLong, NoMemory}
+use Rattle.auc_run.specs.declared.status.Status.TheVariants.{Done, Usage, SubscribersRefused, ScenarioRefused, ReadFault, WriteFault, StoreFault, NotJournal, StoreFull, TooLong, NoMemory}
 
 -- ---- the input, in the order in which it is read
 
@@ -113,13 +113,6 @@ pub record RunsFiles (told : Option (List File)) (files : Files) (seen : Option 
 abbrev pub RunsScenario : List (List ℕ) → Option (List File) → Option (List ℕ) → (List ℕ → Type 0) → Status → Option (List ℕ) → Option (List ℕ) → Type 0
 RunsScenario words told seen leaves status old new = (files : Files) × (files_named words ≡ Some files) × RunsFiles told files seen leaves status old new
 
--- the rounds didn't begin: nothing was written, or a line that says what is refused, or its first bytes
-abbrev pub EndsBefore : Status → Option (List ℕ) → Option (List ℕ) → Type 0
-EndsBefore Done old new = ⊥
-EndsBefore StoreFull old new = ⊥
-EndsBefore StoreFault old new = Appends old new []
-EndsBefore status old new = (refusal : Refusal) × AppendsFront old new (line_of refusal)
-
 -- the words give the values of Milenage's functions, and these were written
 abbrev pub PrintsAlgorithm : List (List ℕ) → Option (List ℕ) → Option (List ℕ) → Type 0
 PrintsAlgorithm words old new = (values : AlgorithmWords) × (values_named words ≡ Some values) × Appends old new (algorithm_text values)
@@ -136,6 +129,14 @@ EndsLoad load WriteFault old new = AppendsFront old new (load_text load)
 EndsLoad load NoMemory old new = new ≡ old
 EndsLoad load _ old new = ⊥
 
+-- how a run ends whose words give the values of Milenage's functions, and what was written then: the seven lines, or some first
+-- bytes of them if the output failed, or nothing if memory ran out
+abbrev pub EndsAlgorithm : AlgorithmWords → Status → Option (List ℕ) → Option (List ℕ) → Type 0
+EndsAlgorithm values Done old new = Appends old new (algorithm_text values)
+EndsAlgorithm values WriteFault old new = AppendsFront old new (algorithm_text values)
+EndsAlgorithm values NoMemory old new = new ≡ old
+EndsAlgorithm values _ old new = ⊥
+
 -- the word is `reserved`, and the limits of the journal that was found were written
 pub record PrintsReserved (words : List (List ℕ)) (seen : Option (List ℕ)) (old new : Option (List ℕ)) : Type 0 where
   pub asks : asks_reserved words ≡ true
@@ -144,6 +145,36 @@ pub record PrintsReserved (words : List (List ℕ)) (seen : Option (List ℕ)) (
   pub text : List ℕ
   pub is_text : IsReservedText found text
   pub written : Appends old new text
+
+-- a text is the lines of the limits of the journal that was found
+abbrev pub AreLimitLines : Option (List ℕ) → List ℕ → Type 0
+AreLimitLines seen text = (found : List Frame) × IsFound seen found × IsReservedText found text
+
+-- how a run ends whose word is `reserved`, and what was written then: the lines of the limits, or some first bytes of them if
+-- the output failed; or, if the file is no journal, the line that says so, or some first bytes of it; or nothing if the disk
+-- failed or memory ran out
+abbrev pub EndsReserved : Option (List ℕ) → Status → Option (List ℕ) → Option (List ℕ) → Type 0
+EndsReserved seen Done old new = (text : List ℕ) × AreLimitLines seen text × Appends old new text
+EndsReserved seen WriteFault old new = ((text : List ℕ) × AreLimitLines seen text × AppendsFront old new text)
+    ⊎ ((place : ℕ) × IsNoJournal seen place × AppendsFront old new (line_of (refused.NotJournal place)))
+EndsReserved seen NotJournal old new = (place : ℕ) × IsNoJournal seen place × Appends old new (line_of (refused.NotJournal place))
+EndsReserved seen StoreFault old new = new ≡ old
+EndsReserved seen NoMemory old new = new ≡ old
+EndsReserved seen _ old new = ⊥
+
+-- the words have none of the program's forms
+pub record AreUnknown (words : List (List ℕ)) : Type 0 where
+  pub no_files : files_named words ≡ None
+  pub no_values : values_named words ≡ None
+  pub no_load : load_named words ≡ None
+  pub no_limits : asks_reserved words ≡ false
+
+-- how a run ends whose words have no form, and what was written then: the word `usage`, or some first bytes of it if the output
+-- failed. No memory is taken for it
+abbrev pub EndsUsage : Status → Option (List ℕ) → Option (List ℕ) → Type 0
+EndsUsage Usage old new = Appends old new (line_of refused.Usage)
+EndsUsage WriteFault old new = AppendsFront old new (line_of refused.Usage)
+EndsUsage _ old new = ⊥
 
 -- ---- what is refused
 
@@ -170,6 +201,25 @@ pub record Refuses (words : List (List ℕ)) (told : Option (List File)) (seen :
   pub is_status : status ≡ status_of refusal
   pub cause : IsCause words told seen refusal
   pub written : Appends old new (line_of refusal)
+
+-- the output failed in the line of a refusal: the refusal's cause is there, and some first bytes of its line were written
+pub record RefusesInPart (words : List (List ℕ)) (told : Option (List File)) (seen : Option (List ℕ)) (old new : Option (List ℕ)) : Type 0 where
+  pub refusal : Refusal
+  pub cause : IsCause words told seen refusal
+  pub written : AppendsFront old new (line_of refusal)
+
+-- how a run of files ends whose rounds didn't begin, and what was written then: the line of a refusal whose cause is there, or
+-- some first bytes of it if the output failed; or nothing if a file couldn't be read, the disk failed or memory ran out
+abbrev pub EndsBefore : List (List ℕ) → Option (List File) → Option (List ℕ) → Status → Option (List ℕ) → Option (List ℕ) → Type 0
+EndsBefore words told seen SubscribersRefused old new = Refuses words told seen SubscribersRefused old new
+EndsBefore words told seen ScenarioRefused old new = Refuses words told seen ScenarioRefused old new
+EndsBefore words told seen NotJournal old new = Refuses words told seen NotJournal old new
+EndsBefore words told seen TooLong old new = Refuses words told seen TooLong old new
+EndsBefore words told seen WriteFault old new = RefusesInPart words told seen old new
+EndsBefore words told seen ReadFault old new = new ≡ old
+EndsBefore words told seen StoreFault old new = new ≡ old
+EndsBefore words told seen NoMemory old new = new ≡ old
+EndsBefore words told seen _ old new = ⊥
 
 -- a fault, a journal that is full, or want of memory
 abbrev pub IsStop : Status → Type 0
@@ -201,4 +251,4 @@ NeedsNoJournal words SubscribersRefused = Unit {0}
 NeedsNoJournal words ScenarioRefused = Unit {0}
 NeedsNoJournal words ReadFault = Unit {0}
 NeedsNoJournal words TooLong = Unit {0}
-NeedsNoJournal words _ = ((values : AlgorithmWords) × (values_named words ≡ Some values)) ⊎ ((load : LoadWords) × (load_named words ≡ Some load))
+NeedsNoJournal words _ = ((values : AlgorithmWords) × (values_named words ≡ Some values)) ⊎ ((load : LoadWords) × (load_named words ≡ Some load)) ⊎ AreUnknown words

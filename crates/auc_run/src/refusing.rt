@@ -22,6 +22,7 @@ pub(crate) fn tell<K: Sink>(alloc: Global, refusal: Refusal, out: &mut K) -> Sta
         → Rose (K.faults out.old) (K.faults out.new) }
     ensures quiet { result ≢ Status.WriteFault → K.faults out.new ≡ K.faults out.old }
     ensures silent { refusal ≡ Refusal.WriteFault → K.faults out.new ≡ K.faults out.old }
+    ensures spared { result ≡ Status.NoMemory → K.written out.new ≡ K.written out.old }
 {
     match write_refusal(alloc, refusal, out) {
         Ok(()) => refusal.status(),
@@ -35,6 +36,7 @@ fn write_refusal<K: Sink>(alloc: Global, refusal: Refusal, out: &mut K) -> Resul
     ensures written { OnOk result (Appends (K.written out.old) (K.written out.new) (line_of refusal)) }
     ensures front { AppendsFront (K.written out.old) (K.written out.new) (line_of refusal) }
     ensures refused { IfErr result (λ stop. IsUntold refusal (status_of stop)) }
+    ensures spared { IsErrOf result Refusal.NoMemory → K.written out.new ≡ K.written out.old }
     ensures fault { IsErrOf result Refusal.WriteFault → Rose (K.faults out.old) (K.faults out.new) }
     ensures quiet { result ≢ Err Refusal.WriteFault → K.faults out.new ≡ K.faults out.old }
 {

@@ -17,8 +17,8 @@ ghost use Rattle.auc_script.specs.declared.script.Script.{Script};
 ghost use Rattle.auc_subs.specs.declared.row.Row.{Row};
 ghost use Rattle.auc_world.specs.Agreement.{IsRealm};
 ghost use Rattle.auc_run.specs.Crash.{IsFound, IsFull, MayLeave};
-ghost use Rattle.auc_run.specs.Inner.{FilesLeave, FilesStop, InputStops, IsBeforeJournal, IsRead, IsSilent, OutputStops, ReadingStops, ReservedStops, Stops, files_seen, status_in};
-ghost use Rattle.auc_run.specs.Outcome.{AreRead, EndsBefore, EndsLoad, IsCause, IsQuiet, IsReadNext, IsStop, MayPrint, MayRun, MayTell, NeedsNoJournal, PrintsAlgorithm, PrintsReserved, Refuses, RunsFiles, RunsLoad, RunsScenario};
+ghost use Rattle.auc_run.specs.Inner.{FilesLeave, FilesStop, InputStops, IsBeforeJournal, IsRead, IsSilent, LimitsLeave, OutputStops, ReadingStops, ReservedStops, Stops, WritesLimits, files_seen, status_in};
+ghost use Rattle.auc_run.specs.Outcome.{AreRead, AreUnknown, AreWrong, EndsAlgorithm, EndsBefore, EndsLoad, EndsReserved, EndsUsage, IsCause, IsQuiet, IsReadNext, IsStop, MayPrint, MayRun, MayTell, NeedsNoJournal, PrintsAlgorithm, PrintsReserved, Refuses, RunsFiles, RunsLoad, RunsScenario};
 ghost use Rattle.auc_run.specs.Refusal.{MayRefuse};
 ghost use Rattle.auc_run.specs.Words.{Files, files_named};
 
@@ -78,20 +78,28 @@ pub fn run<R: Threads + Wait + Sync, H: Shelf, K: Sink, D: Disk + Drop + Send, G
         ⊎ Refuses words.now (H.files shelf.old) (D.seen disk) result.status (K.written out.old) (K.written out.new) }
 
     // However a run of a scenario ends: the rounds that were written are a lawful transcript of its first parts, and a
-    // crash leaves a journal that reserves each number of their vectors.
+    // crash leaves a journal that reserves each number of their vectors; or no round began, and nothing was written but a
+    // refusal's line or some first bytes of it.
     ensures ran { (files : Files) → files_named words.now ≡ Some files
         → RunsFiles (H.files shelf.old) files (D.seen disk) (MayLeave D.seen D.may_leave disk result.disk) result.status
         (K.written out.old) (K.written out.new)
-        ⊎ EndsBefore result.status (K.written out.old) (K.written out.new) }
+        ⊎ EndsBefore words.now (H.files shelf.old) (D.seen disk) result.status (K.written out.old) (K.written out.new) }
     ensures store_full { result.status ≡ Status.StoreFull
         → RunsScenario words.now (H.files shelf.old) (D.seen disk) (MayLeave D.seen D.may_leave disk result.disk) Status.StoreFull
         (K.written out.old) (K.written out.new)
         × (IsTold D.seen D.may_leave disk → IsFull (D.seen result.disk)) }
     ensures untouched { NeedsNoJournal words.now result.status → result.disk ≡ disk }
+    ensures unopened { (there : List File) (files : Files) (cause : Refusal) → H.files shelf.old ≡ Some there
+        → files_named words.now ≡ Some files → AreWrong (Some there) files cause → result.disk ≡ disk }
 
-    // However a load ends: its lines were written, or some first bytes of them if the output failed, or nothing.
+    // However another form ends: its lines were written, or some first bytes of them if the output failed, or nothing.
+    ensures algorithm_ran { (values : AlgorithmWords) → values_named words.now ≡ Some values
+        → EndsAlgorithm values result.status (K.written out.old) (K.written out.new) }
+    ensures reserved_ran { asks_reserved words.now ≡ true
+        → EndsReserved (D.seen disk) result.status (K.written out.old) (K.written out.new) }
     ensures load_ran { (load : LoadWords) → load_named words.now ≡ Some load
         → EndsLoad load result.status (K.written out.old) (K.written out.new) }
+    ensures usage_ran { AreUnknown words.now → EndsUsage result.status (K.written out.old) (K.written out.new) }
 
     // A fault comes only with a risen count: that of the file to be read next, of the output, or of the disk.
     ensures read_fault { result.status ≡ Status.ReadFault → (files : Files) × (files_named words.now ≡ Some files)
@@ -154,6 +162,12 @@ fn perform<R: Threads + Wait + Sync, H: Shelf, K: Sink, D: Disk + Drop + Send, G
     ensures store_full { IsErrOf result.result Refusal.StoreFull → IsTold D.seen D.may_leave disk
         → IsFull (D.seen result.disk) }
     ensures untouched { NeedsNoJournal words.now (status_in result.result) → result.disk ≡ disk }
+    ensures unopened { (there : List File) (files : Files) (cause : Refusal) → H.files shelf.old ≡ Some there
+        → files_named words.now ≡ Some files → AreWrong (Some there) files cause → result.disk ≡ disk }
+    ensures algorithm_ran { (values : AlgorithmWords) → values_named words.now ≡ Some values
+        → EndsAlgorithm values (status_in result.result) (K.written out.old) (K.written out.new) }
+    ensures limits_ran { asks_reserved words.now ≡ true
+        → LimitsLeave (D.seen disk) (status_in result.result) (K.written out.old) (K.written out.new) }
     ensures load_ran { (load : LoadWords) → load_named words.now ≡ Some load
         → EndsLoad load (status_in result.result) (K.written out.old) (K.written out.new) }
 
@@ -200,6 +214,8 @@ fn run_files<R: Threads + Wait + Sync, H: Shelf, K: Sink, D: Disk + Drop + Send,
     ensures store_full { IsErrOf result.result Refusal.StoreFull → IsTold D.seen D.may_leave disk
         → IsFull (D.seen result.disk) }
     ensures untouched { IsBeforeJournal (status_in result.result) → result.disk ≡ disk }
+    ensures unopened { (there : List File) (cause : Refusal) → H.files shelf.old ≡ Some there
+        → AreWrong (Some there) (files_seen files.now) cause → result.disk ≡ disk }
 
     // A fault comes only with a risen count.
     ensures read_fault { IsErrOf result.result Refusal.ReadFault → (name : List ℕ)
@@ -301,6 +317,7 @@ fn read_input<H: Shelf>(alloc: Global, files: &InputFiles, shelf: &mut H) -> Res
 fn print_reserved<K: Sink, D: Disk + Drop>(alloc: Global, out: &mut K, disk: D) -> Performed<D>
     ensures done { OnOk result.result ((found : List Frame) × IsFound (D.seen disk) found
         × (text : List ℕ) × IsReservedText found text × Appends (K.written out.old) (K.written out.new) text) }
+    ensures ran { LimitsLeave (D.seen disk) (status_in result.result) (K.written out.old) (K.written out.new) }
     ensures refused { IfErr result.result (ReservedStops (D.seen disk)) }
     ensures silent { IfErr result.result (λ refusal. refusal ≢ Refusal.WriteFault
         → K.written out.new ≡ K.written out.old) }
@@ -328,6 +345,7 @@ fn print_reserved<K: Sink, D: Disk + Drop>(alloc: Global, out: &mut K, disk: D) 
 fn write_limits<K: Sink>(alloc: Global, limits: &LimitList, out: &mut K) -> Result<(), Refusal>
     ensures written { OnOk result ((text : List ℕ) × IsReservedText limits.now.written text
         × Appends (K.written out.old) (K.written out.new) text) }
+    ensures ran { WritesLimits limits.now.written (status_in result) (K.written out.old) (K.written out.new) }
     ensures refused { IfErr result OutputStops }
     ensures silent { IfErr result (λ refusal. refusal ≢ Refusal.WriteFault
         → K.written out.new ≡ K.written out.old) }
@@ -346,6 +364,7 @@ fn print_algorithm<K: Sink>(
     out: &mut K,
 ) -> Result<(), Refusal>
     ensures written { OnOk result (Appends (K.written out.old) (K.written out.new) (algorithm_text values.now)) }
+    ensures ran { EndsAlgorithm values.now (status_in result) (K.written out.old) (K.written out.new) }
     ensures refused { IfErr result OutputStops }
     ensures fault { IsErrOf result Refusal.WriteFault → Rose (K.faults out.old) (K.faults out.new) }
     ensures quiet { result ≢ Err Refusal.WriteFault → K.faults out.new ≡ K.faults out.old }

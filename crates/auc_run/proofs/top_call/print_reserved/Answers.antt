@@ -1,4 +1,6 @@
+use Rattle.auc_run.proofs.EndLemmas.{limits_found, limits_unopened}
 use Rattle.auc_run.proofs.TopLemmas.{reserved_found, unopened_stops}
+use Rattle.auc_run.specs.Inner.{status_in}
 use Rattle.auc_run.proofs.top_call.print_reserved.Goals as goal
 
 pub returns-in-Ok-clause-done : goal.returns-in-Ok-clause-done
@@ -8,3 +10,11 @@ returns-in-Ok-clause-done g c =
 
 pub returns-in-Err-clause-refused : goal.returns-in-Err-clause-refused
 returns-in-Err-clause-refused g c = rw c.from.ensures (unopened_stops (g.D.Disk.seen c.args.disk) c.in-Err.field-0.why c.in-Err.ensures.not_journal)
+
+pub returns-in-Ok-clause-ran : goal.returns-in-Ok-clause-ran
+returns-in-Ok-clause-ran g c =
+    limits_found g.D.Disk.seen g.D.Disk.may_leave c.args.disk c.in-Ok.journal.disk c.in-Ok.journal.limits c.listed.result.now.written c.in-Ok.journal.place (status_in c.write_limits-result.result)
+    (g.K.Sink.written c.args.out.now) (g.K.Sink.written c.write_limits-result.new.out) c.in-Ok.ensures.opened c.listed.ensures c.write_limits-result.ensures.ran
+
+pub returns-in-Err-clause-ran : goal.returns-in-Err-clause-ran
+returns-in-Err-clause-ran g c = rw c.from.ensures (limits_unopened (g.D.Disk.seen c.args.disk) c.in-Err.field-0.why (g.K.Sink.written c.args.out.now))

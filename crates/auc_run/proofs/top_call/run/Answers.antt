@@ -1,10 +1,11 @@
-use Rattle.std.proofs.Common.{◌≡◌, inl, inr, refl, subst}
+use Rattle.std.proofs.Common.{◌≡◌, ◌∙◌, inl, inr, refl, subst}
 use Rattle.auc_run.specs.Inner.{Tells}
 use Rattle.auc_run.specs.declared.refusal.Refusal.{Refusal}
 use Rattle.auc_run.specs.declared.refusal.Refusal.TheVariants as refused
 use Rattle.auc_run.proofs.CauseLemmas.{comes_at}
 use Rattle.auc_run.specs.Crash.{MayLeave}
-use Rattle.auc_run.proofs.TopLemmas.{full_runs, full_told, load_told, ran_told, read_told, refused_told}
+use Rattle.auc_run.proofs.EndLemmas.{algorithm_may, algorithm_told, ran_told, reserved_told, usage_told, write_told}
+use Rattle.auc_run.proofs.TopLemmas.{full_runs, full_told, load_told, read_told, refused_told}
 use Rattle.auc_run.proofs.top_call.run.Goals as goal
 
 pub returns-in-Ok-clause-ran : goal.returns-in-Ok-clause-ran
@@ -12,8 +13,9 @@ returns-in-Ok-clause-ran g c = λ files named. inl (rw c.in-Ok.is at (c.perform-
 
 pub returns-in-Err-clause-ran : goal.returns-in-Err-clause-ran
 returns-in-Err-clause-ran g c = λ files named.
-    ran_told (g.H.Shelf.files c.args.shelf.now) files (g.D.Disk.seen c.args.disk) (MayLeave g.D.Disk.seen g.D.Disk.may_leave c.args.disk c.perform-disk.result.disk) c.in-Err.refusal c.tell.result
-    (g.K.Sink.written c.args.out.now) (g.K.Sink.written c.perform-disk.new.out) (g.K.Sink.written c.tell.new.out) (rw c.in-Err.is at (c.perform-disk.ensures.ran files named)) c.tell.ensures.told c.tell.ensures.front
+    ran_told c.args.words.now (g.H.Shelf.files c.args.shelf.now) files (g.D.Disk.seen c.args.disk) (MayLeave g.D.Disk.seen g.D.Disk.may_leave c.args.disk c.perform-disk.result.disk) c.in-Err.refusal c.tell.result
+    (g.K.Sink.written c.args.out.now) (g.K.Sink.written c.perform-disk.new.out) (g.K.Sink.written c.tell.new.out) named (rw c.in-Err.is at c.perform-disk.ensures.refused)
+    (rw c.in-Err.is at (c.perform-disk.ensures.ran files named)) c.tell.ensures.told c.tell.ensures.front c.tell.ensures.spared
 
 pub returns-in-Err-clause-refused : goal.returns-in-Err-clause-refused
 returns-in-Err-clause-refused g c =
@@ -38,9 +40,42 @@ returns-in-Err-clause-load_ran g c = λ load named.
     load_told load c.in-Err.refusal c.tell.result (g.K.Sink.written c.args.out.now) (g.K.Sink.written c.perform-disk.new.out) (g.K.Sink.written c.tell.new.out)
     (rw c.in-Err.is at (c.perform-disk.ensures.load_ran load named)) c.tell.ensures.told
 
+pub returns-in-Ok-clause-algorithm_ran : goal.returns-in-Ok-clause-algorithm_ran
+returns-in-Ok-clause-algorithm_ran g c = λ values named. rw c.in-Ok.is at (c.perform-disk.ensures.algorithm_ran values named)
+
+pub returns-in-Err-clause-algorithm_ran : goal.returns-in-Err-clause-algorithm_ran
+returns-in-Err-clause-algorithm_ran g c = λ values named.
+    algorithm_told values c.in-Err.refusal c.tell.result (g.K.Sink.written c.args.out.now) (g.K.Sink.written c.perform-disk.new.out) (g.K.Sink.written c.tell.new.out)
+    (rw c.in-Err.is at (c.perform-disk.ensures.algorithm_ran values named)) c.tell.ensures.told
+
+pub returns-in-Err-clause-algorithm_comes : goal.returns-in-Err-clause-algorithm_comes
+returns-in-Err-clause-algorithm_comes g c = λ values named.
+    algorithm_may values c.tell.result (g.K.Sink.written c.args.out.now) (g.K.Sink.written c.tell.new.out) (returns-in-Err-clause-algorithm_ran g c values named)
+
+pub returns-in-Ok-clause-reserved_ran : goal.returns-in-Ok-clause-reserved_ran
+returns-in-Ok-clause-reserved_ran g c = λ asks. rw c.in-Ok.is at (c.perform-disk.ensures.limits_ran asks)
+
+pub returns-in-Err-clause-reserved_ran : goal.returns-in-Err-clause-reserved_ran
+returns-in-Err-clause-reserved_ran g c = λ asks.
+    reserved_told c.args.words.now (g.H.Shelf.files c.args.shelf.now) (g.D.Disk.seen c.args.disk) c.in-Err.refusal c.tell.result
+    (g.K.Sink.written c.args.out.now) (g.K.Sink.written c.perform-disk.new.out) (g.K.Sink.written c.tell.new.out) asks (rw c.in-Err.is at c.perform-disk.ensures.refused)
+    (rw c.in-Err.is at (c.perform-disk.ensures.limits_ran asks)) c.tell.ensures.told c.tell.ensures.front c.tell.ensures.spared
+
+pub returns-in-Err-clause-usage_ran : goal.returns-in-Err-clause-usage_ran
+returns-in-Err-clause-usage_ran g c = λ unknown.
+    usage_told c.args.words.now (g.H.Shelf.files c.args.shelf.now) (g.D.Disk.seen c.args.disk) c.in-Err.refusal c.tell.result
+    (g.K.Sink.written c.args.out.now) (g.K.Sink.written c.perform-disk.new.out) (g.K.Sink.written c.tell.new.out) unknown (rw c.in-Err.is at c.perform-disk.ensures.refused)
+    (rw c.in-Err.is at c.perform-disk.ensures.silent) c.tell.ensures.told c.tell.ensures.front
+
 pub returns-in-Err-clause-quiet_shelf : goal.returns-in-Err-clause-quiet_shelf
 returns-in-Err-clause-quiet_shelf g c = λ not_read.
     c.perform-disk.ensures.quiet_shelf (λ is. let same : c.in-Err.refusal ≡ refused.ReadFault = cc (is, c.in-Err.is) in not_read (read_told c.tell.result (g.K.Sink.written c.perform-disk.new.out) (g.K.Sink.written c.tell.new.out)
+    (subst (λ (r : Refusal). Tells r c.tell.result (g.K.Sink.written c.perform-disk.new.out) (g.K.Sink.written c.tell.new.out)) same c.tell.ensures.told)))
+
+pub returns-in-Err-clause-quiet_output : goal.returns-in-Err-clause-quiet_output
+returns-in-Err-clause-quiet_output g c = λ not_write.
+    c.tell.ensures.quiet not_write
+    ∙ c.perform-disk.ensures.quiet_output (λ is. let same : c.in-Err.refusal ≡ refused.WriteFault = cc (is, c.in-Err.is) in not_write (write_told c.tell.result (g.K.Sink.written c.perform-disk.new.out) (g.K.Sink.written c.tell.new.out)
     (subst (λ (r : Refusal). Tells r c.tell.result (g.K.Sink.written c.perform-disk.new.out) (g.K.Sink.written c.tell.new.out)) same c.tell.ensures.told)))
 
 pub returns-in-Err-clause-refused_comes : goal.returns-in-Err-clause-refused_comes
