@@ -44,6 +44,7 @@ mod PlainLineLemmas
 mod PlainLemmas
 mod ResumedLemmas
 mod Examples
+mod WitnessLemmas
 mod JobFoldLemmas
 mod PutBackLemmas
 mod SqnLemmas

@@ -77,6 +77,7 @@ pub record IsOnlyEvent (rows : List Row) (front : List Line) (session : ℕ) (ba
   pub opening : SessionLine
   pub opened : opening_in session front ≡ Some opening
   pub suited : IsSuited rows opening
+  -- no other event line is of the session
   pub first : All (λ l. session_named l ≢ Some session) front
   pub last : All (λ l. session_named l ≢ Some session) back
 
@@ -89,6 +90,7 @@ pub record IsAlone (rows : List Row) (front : List Line) (session : ℕ) (back :
   pub known : slice_get rows opening.sub ≡ Some row
   pub name : IsName opening.name
   pub identity : IsShortIdentity opening.identity
+  -- and it is the session's only event line
   pub first : All (λ l. session_named l ≢ Some session) front
   pub last : All (λ l. session_named l ≢ Some session) back
 

@@ -103,6 +103,7 @@ IsFailure given.Absent = ⊥
 pub record IsPresented (records : List PartRecord) (before : List LineRecord) (sub n : ℕ) (answer : GiveVerdict) : Type 0 where
   pub after : List LineRecord
   pub lines_are : lines_of records ≡ before ++ Give sub n answer ∷ after
+  -- the centre had released it
   pub released : answer ≢ given.Absent
 
 -- each released vector that is in reach gets a synchronisation failure if and only if it fails by its place

@@ -58,6 +58,7 @@ pub record IsOfUnbrokenJob (nets : List (List Net)) (a : Session) : Type 0 where
   pub net : Net
   pub is_job : Contains round net
   pub is_in : Contains net.sessions a
+  -- no delivery broke it in the job
   pub unbroken : net.broken ≡ None
 
 -- a server and a peer that ended in Success over one challenge or in one fast re-authentication have equal keys, if the premise

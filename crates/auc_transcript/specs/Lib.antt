@@ -6,3 +6,4 @@ pub mod OneTold
 pub mod Position
 pub mod Presented
 pub mod Rounds
+pub mod Witnesses

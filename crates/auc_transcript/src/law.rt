@@ -8,6 +8,7 @@ ghost use Rattle.auc_transcript.specs.OneTold.{EachToldTranscriptIsOne};
 ghost use Rattle.auc_transcript.specs.Position.{EachMoveStandsBetween, EachPlaceIsAPosition};
 ghost use Rattle.auc_transcript.specs.Presented.{EachFailureInSessionsIsByPlace, EachFailureInSessionsOfRoundsIsByPlace, EachPresentedVectorHasARightMac};
 ghost use Rattle.auc_transcript.specs.Rounds.{EachFailureInRoundsIsByPlace, EachSqnInRoundsIsGenuine};
+ghost use Rattle.auc_transcript.specs.Witnesses.{ContextsAreKept, KeysAreEqual, MacIsRight, PlacesDecide, PlacesDecideInSessions, PlainSessionWins, ResumedSessionWins};
 
 use auc_attr::bytes_have_one_reading_or_one_fault;
 use auc_ident::each_name_is_given_once;
@@ -172,4 +173,18 @@ pub fn each_resumed_session_agrees()
     equal_bytes_are_received_alike();
     opening_has_one_answer();
     each_resumed_session_succeeds();
+}
+
+/// No promise is empty: for each there are transcripts of a few lines that meet its premise, with a part left open that the promise
+/// determines.
+pub fn each_promise_has_a_witness()
+    ensures places { PlacesDecide }
+    ensures sessions { PlacesDecideInSessions }
+    ensures macs { MacIsRight }
+    ensures keys { KeysAreEqual }
+    ensures contexts { ContextsAreKept }
+    ensures plain { PlainSessionWins }
+    ensures resumed { ResumedSessionWins }
+{
+    written_packets_are_read();
 }

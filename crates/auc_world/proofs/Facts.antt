@@ -13,10 +13,10 @@ pub use Rattle.auc_world.proofs.JobRunLemmas.{IsKnown, IsOfJob, counted_once, jo
 pub use Rattle.auc_world.proofs.LimitLemmas.{get_or-greater, length-opened, opened_above}
 pub use Rattle.auc_world.proofs.NetLemmas.{AreAt, IsPresentedAt, OpensAt, places_stay, presented_is_at}
 pub use Rattle.auc_world.proofs.PastLemmas.{each_accepted_in_past}
-pub use Rattle.auc_world.proofs.PeerMoveLemmas.{IsNamed}
+pub use Rattle.auc_world.proofs.PeerMoveLemmas.{Counts, IsNamed, IsQuiet, giving_up_counts, new_is_quiet, taken_in, turn_counts}
 pub use Rattle.auc_world.proofs.PieceLemmas.{pieces_split_the_round}
 pub use Rattle.auc_world.proofs.PlaceMoveLemmas.{get_here, get_there, pushes}
-pub use Rattle.auc_world.proofs.PlainVectorLemmas.{sixteen_block}
+pub use Rattle.auc_world.proofs.PlainVectorLemmas.{autn_size, rand_block, sixteen_block}
 pub use Rattle.auc_world.proofs.RowPlaceLemmas.{places_differ}
 pub use Rattle.auc_world.proofs.RunLemmas.{IsOfResumption, one_challenge_is_of_one_number, peer_success_is_drawn, peer_success_is_resumed, server_success_is_drawn, server_success_is_resumed}
 pub use Rattle.auc_world.proofs.TurningLemmas.{turn_subs}

@@ -1,0 +1,24 @@
+-- The laws are lemmas on the witnesses, by the law of written packets.
+use Rattle.auc_transcript.proofs.WitnessLemmas.{contexts_are_kept, keys_are_equal, mac_is_right, places_decide, places_decide_in_sessions, plain_session_wins, resumed_session_wins}
+use Rattle.auc_transcript.proofs.law.each_promise_has_a_witness.Goals as goal
+
+pub returns-clause-places : goal.returns-clause-places
+returns-clause-places c = places_decide
+
+pub returns-clause-sessions : goal.returns-clause-sessions
+returns-clause-sessions c = places_decide_in_sessions c.written_packets_are_read.ensures
+
+pub returns-clause-macs : goal.returns-clause-macs
+returns-clause-macs c = mac_is_right c.written_packets_are_read.ensures
+
+pub returns-clause-keys : goal.returns-clause-keys
+returns-clause-keys c = keys_are_equal
+
+pub returns-clause-contexts : goal.returns-clause-contexts
+returns-clause-contexts c = contexts_are_kept
+
+pub returns-clause-plain : goal.returns-clause-plain
+returns-clause-plain c = plain_session_wins
+
+pub returns-clause-resumed : goal.returns-clause-resumed
+returns-clause-resumed c = resumed_session_wins

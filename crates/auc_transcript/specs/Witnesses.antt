@@ -1,0 +1,325 @@
+-- Witnesses of the promises: for each promise transcripts of a few lines that meet its premise, with a part left open. The promise
+-- determines that part. So no promise is empty: if nothing met the premise, it would determine nothing, and the law here would be
+-- false.
+use Rattle.std.specs.Prelude.{◌≡◌, ◌≢◌, ℕ, true, false, List, [], ◌∷◌, ◌++◌, map, replicate, Contains, Option, Some, None, Ok}
+use Rattle.auc_attr.specs.declared.attr.Attr.TheVariants as attr
+use Rattle.auc_history.specs.History.{numbers_after}
+use Rattle.auc_hmac.specs.declared.keys.KeySet.{KeySet}
+use Rattle.auc_hmac.specs.declared.keys.Master.TheVariants as master
+use Rattle.auc_hmac.specs.declared.method.Method.TheVariants as method
+use Rattle.auc_ident.specs.Permanent.{username}
+use Rattle.auc_lines.specs.declared.part.End.TheVariants as end
+use Rattle.auc_lines.specs.declared.part.Identity.TheVariants as identity
+use Rattle.auc_lines.specs.declared.part.Line.TheVariants as line
+use Rattle.auc_lines.specs.declared.part.Part.{Part}
+use Rattle.auc_lines.specs.declared.part.Part.TheVariants as part
+use Rattle.auc_lines.specs.declared.part.SessionLine.{SessionLine}
+use Rattle.auc_packet.specs.Spelling.{packet_text}
+use Rattle.auc_packet.specs.declared.packet.Packet.{Packet}
+use Rattle.auc_packet.specs.declared.packet.Packet.TheVariants as packet
+use Rattle.auc_packet.specs.declared.subtype.Subtype.TheVariants as subtype
+use Rattle.auc_peer.specs.Table.{new_peer}
+use Rattle.auc_peer.specs.declared.decrypted.Decrypted.TheVariants as decrypted
+use Rattle.auc_peer.specs.declared.next.NextContext.TheVariants as next
+use Rattle.auc_random.specs.Random.{rand_of}
+use Rattle.auc_reauth.specs.Device.{Keeps}
+use Rattle.auc_reauth.specs.Server.{no_contexts}
+use Rattle.auc_reauth.specs.declared.context.Context.{Context}
+use Rattle.auc_server.specs.Server.{started}
+use Rattle.auc_server.specs.Table.{silent}
+use Rattle.auc_server.specs.declared.server.ServerState.{ServerState}
+use Rattle.auc_server.specs.declared.server.ServerState.TheVariants as state
+use Rattle.auc_sqn.specs.Number.{sqn_bytes}
+use Rattle.auc_subs.specs.declared.row.Row.{Row}
+use Rattle.auc_vector.specs.Vector.{autn_of}
+use Rattle.auc_vector.specs.declared.notes.CounterNote.TheVariants as counts
+use Rattle.auc_vector.specs.declared.notes.Notes.{Notes}
+use Rattle.auc_vector.specs.declared.notes.NumberNote.TheVariants as number
+use Rattle.auc_vector.specs.declared.notes.UsimNote.{UsimNote}
+use Rattle.auc_vector.specs.declared.notes.UsimNote.TheVariants as usim
+use Rattle.auc_vector.specs.declared.turn.Outcome.TheVariants as outcome
+use Rattle.auc_vector.specs.declared.turn.Step.TheVariants as step
+use Rattle.auc_world.specs.Came.{of_opening}
+use Rattle.auc_world.specs.Happened.{new_session, peer_options, server_options}
+use Rattle.auc_world.specs.Net.{Net}
+use Rattle.auc_world.specs.Plain.{Succeeds}
+use Rattle.auc_world.specs.Setting.{Setting}
+use Rattle.auc_world.specs.Told.{no_keys}
+use Rattle.auc_world.specs.declared.event.Event.{Event as Happens}
+use Rattle.auc_world.specs.declared.event.Event.TheVariants as event
+use Rattle.auc_world.specs.declared.event.Note.{Note}
+use Rattle.auc_world.specs.declared.event.NoteStep.TheVariants as did
+use Rattle.auc_world.specs.declared.net.Session.{Session}
+use Rattle.auc_world.specs.declared.record.GiveVerdict.{GiveVerdict}
+use Rattle.auc_world.specs.declared.record.GiveVerdict.TheVariants as given
+use Rattle.auc_world.specs.declared.record.LineRecord.{LineRecord}
+use Rattle.auc_world.specs.declared.record.LineRecord.TheVariants.{Vector, Give, Event}
+use Rattle.auc_world.specs.declared.record.PartRecord.{PartRecord}
+use Rattle.auc_world.specs.declared.record.PartRecord.TheVariants as record_of
+use Rattle.auc_world.specs.declared.record.Premise.TheVariants as premise
+use Rattle.auc_world.specs.declared.record.RoundRecord.{RoundRecord}
+use Rattle.auc_world.specs.declared.record.SessionVerdict.{SessionVerdict}
+use Rattle.auc_transcript.specs.Completeness.{PlainSessionsAgree, ResumedSessionsAgree}
+use Rattle.auc_transcript.specs.Counters.{KeepsContexts}
+use Rattle.auc_transcript.specs.Headline.{FailsExactlyByPlace, IsFailure}
+use Rattle.auc_transcript.specs.Keys.{EndsAgree}
+use Rattle.auc_transcript.specs.Presented.{FailsExactlyByPlaceInSessions, FindsRightMacs, IsNotedFailure}
+
+-- ---- one subscriber, and a round of one job
+
+abbrev pub zeros : List ℕ
+zeros = replicate 16 0
+
+-- its USIM is opened at 0
+abbrev pub subscriber : Row
+subscriber = record {
+  imsi = record { digits = 6; number = 1 };
+  secret = record { k = zeros; opc = zeros };
+  amf = 128 ∷ 0 ∷ [];
+  seq = 0;
+  usim = 0;
+}
+
+abbrev pub setting : List ℕ → Setting
+setting key = record { key = key; names = zeros; rows = subscriber ∷ []; realm = [] }
+
+-- the record of a round, without its closings
+abbrev pub round_of : ℕ → List LineRecord → List SessionVerdict → RoundRecord
+round_of n lines verdicts = record { number = n; jobs = lines ∷ []; closings = []; sessions = verdicts; premise = premise.Held }
+
+abbrev pub transcript_of : List LineRecord → List PartRecord
+transcript_of lines = record_of.Round (round_of 1 lines []) ∷ []
+
+-- ---- vectors that lines give
+
+-- the vectors of 1 to 33 are released, and that of 33 is accepted, which is 32 places after 1
+abbrev pub accepted_late : List LineRecord
+accepted_late = map (Vector 0) (numbers_after 0 33) ++ Give 0 33 given.Accepted ∷ []
+
+-- then that of 1 is presented, with this answer
+abbrev pub given_late : GiveVerdict → List PartRecord
+given_late answer = transcript_of (accepted_late ++ Give 0 1 answer ∷ [])
+
+-- the first vector is presented before any other
+abbrev pub given_first : GiveVerdict → List PartRecord
+given_first answer = transcript_of (Vector 0 1 ∷ Give 0 1 answer ∷ [])
+
+-- the late vector gets a synchronisation failure, and the first one doesn't
+abbrev pub PlacesDecide : Type 0
+PlacesDecide = (answer : GiveVerdict) → answer ≢ given.Absent → (FailsExactlyByPlace (subscriber ∷ []) (given_late answer) → IsFailure answer)
+    × (FailsExactlyByPlace (subscriber ∷ []) (given_first answer) → IsFailure answer → ⊥)
+
+-- ---- the lines of a session
+
+-- a session of EAP-AKA with re-authentication identities
+abbrev pub opening : ℕ → SessionLine
+opening session = record {
+  session = session;
+  sub = 0;
+  method = method.Aka;
+  name = [];
+  peer_name = None;
+  pseudonym = false;
+  reauth = true;
+  bidding = false;
+  any = false;
+  has_prime = false;
+  identity = identity.Held;
+}
+
+abbrev pub line_of : Happens → Note → LineRecord
+line_of e note = Event (record { event = e; result = Ok note })
+
+-- the server sent bytes, the job's packet of a number, and asked the centre for a subscriber if it asked
+abbrev pub server_sent : Notes → Option ℕ → List ℕ → ℕ → Note
+server_sent notes asked bytes n = record { notes = notes; step = did.Server (step.Sent bytes); packet = Some n; asked = asked; device = None; vector = None }
+
+abbrev pub peer_sent : Notes → List ℕ → ℕ → Note
+peer_sent notes bytes n = record { notes = notes; step = did.Peer (step.Sent bytes); packet = Some n; asked = None; device = Some 0; vector = None }
+
+-- a session begins: its packets 1 and 2 ask for the identity and give it. What they are is no matter
+abbrev pub beginning : ℕ → List LineRecord
+beginning session =
+    line_of (event.Start session) (server_sent silent None [] 1)
+    ∷ line_of (event.Deliver session end.Peer 1) (peer_sent silent [] 2)
+    ∷ []
+
+-- the server draws number 1 and sends a Challenge, packet 3
+abbrev pub challenging : ℕ → List ℕ → LineRecord
+challenging session bytes = line_of (event.Deliver session end.Server 2) (server_sent (record silent { number = Some (number.Drew 1) }) (Some 0) bytes 3)
+
+-- it reaches the peer, whose USIM answers
+abbrev pub presenting : ℕ → UsimNote → ℕ → LineRecord
+presenting session answer n = line_of (event.Deliver session end.Peer 3) (peer_sent (record silent { usim = Some answer }) [] n)
+
+-- both ends end in Success
+abbrev pub winning : ℕ → List LineRecord
+winning session =
+    line_of (event.Deliver session end.Server 4)
+    (record { notes = silent; step = did.Server (step.Ended (outcome.Success no_keys) zeros); packet = Some 5; asked = None; device = None; vector = None })
+    ∷ line_of (event.Deliver session end.Peer 5)
+    (record { notes = silent; step = did.Peer (step.Ended (outcome.Success no_keys) []); packet = None; asked = None; device = Some 0; vector = None })
+    ∷ []
+
+-- ---- vectors that sessions present
+
+-- the Challenge of number 1, by its RAND and its AUTN
+abbrev pub challenge : List ℕ → Packet
+challenge key = packet.Aka true 2 method.Aka subtype.Challenge (
+    attr.Rand (rand_of key 0 1) ∷ attr.Autn (autn_of subscriber.secret.k subscriber.secret.opc (rand_of key 0 1) subscriber.amf 1) ∷ []
+    )
+
+-- the lines before the Challenge is presented
+abbrev pub challenged : List ℕ → List LineRecord
+challenged key = line_of (event.Open (opening 1)) of_opening ∷ (beginning 1 ++ challenging 1 (packet_text (challenge key)) ∷ [])
+
+-- it is presented, with this answer
+abbrev pub presented_first : List ℕ → UsimNote → List PartRecord
+presented_first key answer = transcript_of (challenged key ++ presenting 1 answer 4 ∷ [])
+
+-- it is accepted
+abbrev pub accepted_once : List ℕ → List LineRecord
+accepted_once key = challenged key ++ presenting 1 (usim.Accepted (sqn_bytes 1)) 4 ∷ []
+
+-- and then presented again, with this answer
+abbrev pub presented_again : List ℕ → UsimNote → List PartRecord
+presented_again key answer = transcript_of (accepted_once key ++ presenting 1 answer 5 ∷ [])
+
+-- the vector gets a synchronisation failure when it is presented again, and not before
+abbrev pub PlacesDecideInSessions : Type 0
+PlacesDecideInSessions = (key : List ℕ) (answer : UsimNote)
+    → (FailsExactlyByPlaceInSessions (setting key) (presented_again key answer) → IsNotedFailure answer)
+    × (FailsExactlyByPlaceInSessions (setting key) (presented_first key answer) → IsNotedFailure answer → ⊥)
+
+-- the USIM doesn't find its MAC wrong
+abbrev pub MacIsRight : Type 0
+MacIsRight = (key : List ℕ) (answer : UsimNote) → FindsRightMacs (setting key) (presented_first key answer) → answer ≢ usim.WrongMac
+
+-- ---- keys
+
+-- the network of a job's sessions after its last line, in which no delivery broke the premise
+abbrev pub net_of : List Session → Net
+net_of sessions = record { packets = []; sessions = sessions; released = []; homes = []; devices = []; stores = []; broken = None }
+
+abbrev pub one_job : List Session → List (List Net)
+one_job sessions = (net_of sessions ∷ []) ∷ []
+
+-- a context of the full authentication 1
+abbrev pub context : List ℕ → ℕ → Context
+context name counter = record { origin = 1; identity = name; k_encr = zeros; k_aut = zeros; master = master.Aka zeros; counter = counter }
+
+-- a session whose ends ended in Success under these keys, over one challenge
+abbrev pub won : KeySet → KeySet → Session
+won k l = record (new_session (opening 1) 0) {
+  server = Some (record (started (server_options (opening 1))) {
+    state = state.Ended (outcome.Success k);
+    challenged = Some (record {
+      sub = 0;
+      number = 1;
+      vector = record { n = 1; rand = zeros; autn = zeros; xres = []; ck = zeros; ik = zeros };
+      keys = k;
+      master = master.Aka zeros;
+      next = None;
+    });
+  });
+  peer = record (new_peer (peer_options (opening 1))) { accepted = Some (record { rand = zeros; autn = zeros }) };
+  peer_keys = Some l;
+}
+
+-- and one whose ends did so in a fast re-authentication
+abbrev pub won_again : KeySet → KeySet → Session
+won_again k l = record (new_session (opening 1) 0) {
+  server = Some (record (started (server_options (opening 1))) {
+    state = state.Ended (outcome.Success k);
+    resumed = Some (record { sub = 0; context = context [] 1; nonce = zeros; next = None });
+  });
+  peer = record (new_peer (peer_options (opening 1))) { resumed = Some (context [] 1) };
+  peer_keys = Some l;
+}
+
+-- the keys are equal
+abbrev pub KeysAreEqual : Type 0
+KeysAreEqual = (k l : KeySet) → (EndsAgree (one_job (won k l ∷ [])) → k ≡ l) × (EndsAgree (one_job (won_again k l ∷ [])) → k ≡ l)
+
+-- ---- contexts
+
+-- a session whose server took up a context again
+abbrev pub resuming : Context → Session
+resuming c = record (new_session (opening 1) 0) {
+  server = Some (record (started (server_options (opening 1))) { resumed = Some (record { sub = 0; context = c; nonce = zeros; next = None }) });
+}
+
+-- and one whose peer sent a text and accepted the counter of its device's context
+abbrev pub accepting : List ℕ → Context → Session
+accepting text c = record (new_session (opening 1) 0) {
+  peer = record (new_peer (peer_options (opening 1))) {
+    identity = Some text;
+    inner = decrypted.Attributes (record { pseudonym = None; identity = None; counter = Some c.counter; nonce = Some zeros });
+    resumed = Some c;
+    next = next.Renamed c.identity None;
+  };
+}
+
+-- the counters and the identities of two resumptions differ, and so do the counters of two acceptances; the text that was sent has
+-- the identity of the context
+abbrev pub ContextsAreKept : Type 0
+ContextsAreKept = (text x y : List ℕ) (c d : ℕ)
+    → (KeepsContexts (one_job (resuming (context x c) ∷ resuming (context y d) ∷ [])) → (c ≢ d) × (x ≢ y))
+    × (KeepsContexts (one_job (accepting text (context x c) ∷ accepting text (context y d) ∷ [])) → (c ≢ d) × (username text ≡ x))
+
+-- ---- plain sessions
+
+-- a job of a session whose only event line is `plain`
+abbrev pub plain_round : ℕ → Part
+plain_round session = part.Round ((line.Session (opening session) ∷ line.Plain session ∷ []) ∷ [])
+
+-- its records, in a full authentication
+abbrev pub plain_lines : List LineRecord
+plain_lines =
+    line_of (event.Open (opening 1)) of_opening
+    ∷ (beginning 1 ++ challenging 1 [] ∷ presenting 1 (usim.Accepted (sqn_bytes 1)) 4 ∷ winning 1)
+
+-- whatever network and verdicts there are: the session succeeds, and there is the verdict that its ends agree
+abbrev pub PlainSessionWins : Type 0
+PlainSessionWins = (verdicts : List SessionVerdict) (net : Net)
+    → PlainSessionsAgree (subscriber ∷ []) (plain_round 1 ∷ []) (record_of.Round (round_of 1 plain_lines verdicts) ∷ []) ((net ∷ []) ∷ [])
+    → Succeeds net 1 × Contains verdicts (record { session = 1; agree = true })
+
+-- ---- resumed sessions
+
+-- after that session the device keeps a context
+abbrev pub device : Keeps
+device = record { pseudonyms = record { aka = None; prime = None }; contexts = record { aka = Some (context zeros 1); prime = None } }
+
+abbrev pub first_net : Net
+first_net = record (net_of []) { homes = record { sub = 0; ordinals = 1; store = no_contexts } ∷ []; stores = device ∷ [] }
+
+-- in the next round a session's server takes it up again, and the device accepts its counter
+abbrev pub resumed_lines : List LineRecord
+resumed_lines =
+    beginning 2
+    ++ line_of (event.Deliver 2 end.Server 2) (server_sent (record silent { resumed = Some 1 }) None [] 3)
+    ∷ line_of (event.Deliver 2 end.Peer 3) (peer_sent (record silent { counter = Some (counts.Taken 1) }) [] 4)
+    ∷ winning 2
+
+-- the network after it, whatever state the server is in and whatever keys the peer has
+abbrev pub second_net : ServerState → Option KeySet → Net
+second_net now keys = net_of (record (new_session (opening 2) 0) {
+  server = Some (record (started (server_options (opening 2))) {
+    state = now;
+    resumed = Some (record { sub = 0; context = context zeros 1; nonce = zeros; next = None });
+  });
+  peer_keys = keys;
+} ∷ [])
+
+abbrev pub two_rounds : List SessionVerdict → List PartRecord
+two_rounds verdicts =
+    record_of.Round (round_of 1 plain_lines [])
+    ∷ record_of.Round (round_of 2 (line_of (event.Open (opening 2)) of_opening ∷ resumed_lines) verdicts)
+    ∷ []
+
+-- the session succeeds too
+abbrev pub ResumedSessionWins : Type 0
+ResumedSessionWins = (key : List ℕ) (verdicts : List SessionVerdict) (now : ServerState) (keys : Option KeySet)
+    → ResumedSessionsAgree (setting key) (plain_round 1 ∷ plain_round 2 ∷ []) (two_rounds verdicts) ((first_net ∷ []) ∷ (second_net now keys ∷ []) ∷ [])
+    → Succeeds (second_net now keys) 2 × Contains verdicts (record { session = 2; agree = true })
