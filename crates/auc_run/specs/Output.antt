@@ -54,7 +54,8 @@ pub record IsOutput (rows : List Row) (script : Script) (reserved : List ℕ) (s
   pub are_nets : AreNets (setting_of rows script) parts transcript nets
   pub keys : EndsAgree nets
   pub breaches : BreachesAreTold transcript nets
-  -- no counter is used twice, no identity is resumed twice, and each acceptance is of the device's own context
-  pub contexts : KeepsContexts nets
+  -- the counters that are told are those that were used, none is told twice, no identity is resumed twice, and each acceptance is of
+  -- the device's own context
+  pub contexts : KeepsContexts transcript nets
   pub plain : PlainSessionsAgree rows parts transcript nets
   pub resumed : ResumedSessionsAgree (setting_of rows script) parts transcript nets

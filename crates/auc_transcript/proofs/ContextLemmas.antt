@@ -18,6 +18,7 @@ use Rattle.auc_world.specs.Happened.{happened}
 use Rattle.auc_world.specs.Lines.{all_lines}
 use Rattle.auc_world.specs.Net.{Net}
 use Rattle.auc_world.specs.Places.{EachEventMovesDevicesOnce}
+use Rattle.auc_world.specs.Resumption.{counters_accepted}
 use Rattle.auc_world.specs.Setting.{Setting}
 use Rattle.auc_world.specs.Start.{Kept, fresh_kept, kept_by_jobs, kept_of, start_of}
 use Rattle.auc_world.specs.Transcript.{lines_of}
@@ -26,7 +27,7 @@ use Rattle.auc_world.specs.declared.record.LineRecord.{LineRecord}
 use Rattle.auc_world.specs.declared.record.PartRecord.{PartRecord}
 use Rattle.auc_world.specs.declared.record.PartRecord.TheVariants as record_of
 use Rattle.auc_world.proofs.Facts.{IsNamed, PeerLaws, run_is_named}
-use Rattle.auc_transcript.specs.Counters.{AcceptancesAreOwn, all_accepted, all_sessions}
+use Rattle.auc_transcript.specs.Counters.{AcceptancesAreOwn, all_sessions}
 use Rattle.auc_transcript.specs.Keys.{AreNets, AreNetsAfter, IsHeldApart}
 use Rattle.auc_transcript.proofs.DeviceFoldLemmas.{DeviceState, after-append, device_busy, device_idle}
 use Rattle.auc_transcript.proofs.JobFoldLemmas.{job_keeps}
@@ -89,14 +90,14 @@ kept_first (row ∷ rows) (suc sub) = kept_first rows sub
 
 -- no device accepts a counter twice
 pub counters_accepted_once : EachCounterOnce → EachEventMovesDevicesOnce → (set : Setting) (parts : List Part) (records : List PartRecord) (nets : List (List Net)) → AreSubscribers set.rows
-    → All (IsHeldApart (length set.rows)) parts → AreNets set parts records nets → (m : Method) (sub : ℕ) → AllPairs AreDifferent (all_accepted m sub nets)
+    → All (IsHeldApart (length set.rows)) parts → AreNets set parts records nets → (m : Method) (sub : ℕ) → AllPairs AreDifferent (counters_accepted m sub (all_sessions nets))
 counters_accepted_once once moves set parts records nets are held lead m sub =
     let (k, last) = rounds_fold set sub (lines_of records) (DeviceState m sub)
     (λ early kept beside job lines net k sessions gives known free st. device_idle set are m sub early kept beside job lines net k sessions gives known free st)
     (λ early kept beside job lines net all sessions gives known holds front size st. device_busy moves set are m sub early kept beside job lines net all sessions gives known holds size st)
     [] (map (λ (row : Row). fresh_kept) set.rows) parts records nets [] lead held ([], sym (append-nil (lines_of records))) (length-map set.rows (λ (row : Row). fresh_kept))
     (subst (λ (k : Kept). DeviceState m sub [] k []) (sym (kept_first set.rows sub)) begins) in
-    led_counters_differ once IsFresh (stored_alone (entry m k.device.contexts)) (all_accepted m sub nets) last.origins last.given (λ move w fresh. fresh) last.led
+    led_counters_differ once IsFresh (stored_alone (entry m k.device.contexts)) (counters_accepted m sub (all_sessions nets)) last.origins last.given (λ move w fresh. fresh) last.led
   where
     nothing : (m : Method) (i : ℕ) → stored_alone (entry m fresh_kept.device.contexts) i ≡ None
     nothing method.Aka zero = refl

@@ -29,7 +29,7 @@ use Rattle.auc_world.specs.Start.{Kept, fresh_kept, kept_of}
 use Rattle.auc_world.specs.Transcript.{IsLawful, lines_of}
 use Rattle.auc_world.specs.declared.net.Session.{Session}
 use Rattle.auc_world.specs.declared.record.PartRecord.{PartRecord}
-use Rattle.auc_transcript.specs.Counters.{IdentitiesComeOnce, all_resumed, all_sessions}
+use Rattle.auc_transcript.specs.Counters.{IdentitiesComeOnce, all_sessions}
 use Rattle.auc_transcript.specs.Keys.{AreNets, IsHeldApart}
 use Rattle.auc_transcript.proofs.HomeJobLemmas.{HomeState, home_busy, home_idle}
 use Rattle.auc_transcript.proofs.HomeKeepLemmas.{AtHome, IsNameUpTo, names_upto}
@@ -84,21 +84,21 @@ module _ (laws : HomeLaws) (set : Setting) (reserved : List ℕ) (stop : Option 
       (subst (λ (k : Kept). HomeState set m sub [] k []) (sym (kept_first set.rows sub)) (begins_empty set m sub))
 
   -- no server resumes a counter twice under the keys of one full authentication
-  pub resumed_differ : EachCounterOnce → (m : Method) (sub : ℕ) → AllPairs AreDifferent (all_resumed m sub nets)
+  pub resumed_differ : EachCounterOnce → (m : Method) (sub : ℕ) → AllPairs AreDifferent (counters_resumed m sub (all_sessions nets))
   resumed_differ counters m sub =
       let (k, h) = home_ends m sub in
-      led_counters_differ counters AtHome (stored_alone (entry m k.home)) (all_resumed m sub nets) h.keeps.origins h.keeps.given (λ x w meets. meets.0) h.keeps.led
+      led_counters_differ counters AtHome (stored_alone (entry m k.home)) (counters_resumed m sub (all_sessions nets)) h.keeps.origins h.keeps.given (λ x w meets. meets.0) h.keeps.led
 
-  names_differ : (m : Method) (sub : ℕ) → AllPairs HaveOwnNames (all_resumed m sub nets)
+  names_differ : (m : Method) (sub : ℕ) → AllPairs HaveOwnNames (counters_resumed m sub (all_sessions nets))
   names_differ m sub =
       let (k, h) = home_ends m sub in
-      led_names_differ laws.identities AtHome (stored_alone (entry m k.home)) (all_resumed m sub nets) h.keeps.origins h.keeps.given (λ x w meets. meets.1) h.keeps.led
+      led_names_differ laws.identities AtHome (stored_alone (entry m k.home)) (counters_resumed m sub (all_sessions nets)) h.keeps.origins h.keeps.given (λ x w meets. meets.1) h.keeps.led
 
-  all_named : (m : Method) (sub : ℕ) → All (λ u. IsNameUpTo set.names m sub last_ordinal u.identity) (all_resumed m sub nets)
+  all_named : (m : Method) (sub : ℕ) → All (λ u. IsNameUpTo set.names m sub last_ordinal u.identity) (counters_resumed m sub (all_sessions nets))
   all_named m sub =
       let (k, h) = home_ends m sub in
       let upto = names_upto set.names m sub k.ordinals last_ordinal h.keeps.given h.within h.keeps.named in
-      led_named (IsNameUpTo set.names m sub last_ordinal) AtHome (stored_alone (entry m k.home)) (all_resumed m sub nets) h.keeps.origins h.keeps.given (λ x w meets. meets.1) h.keeps.led upto
+      led_named (IsNameUpTo set.names m sub last_ordinal) AtHome (stored_alone (entry m k.home)) (counters_resumed m sub (all_sessions nets)) h.keeps.origins h.keeps.given (λ x w meets. meets.1) h.keeps.led upto
 
   -- names of two methods are different
   methods_apart : (m n : Method) (sub : ℕ) (a b : List ℕ) → m ≢ n → IsNameUpTo set.names m sub last_ordinal a → IsNameUpTo set.names n sub last_ordinal b → a ≢ b

@@ -1,5 +1,6 @@
 -- For the laws of contexts: what each event of a job keeps, the job keeps.
-use Rattle.std.proofs.Common.{◌≡◌, ℕ, List, [], ◌∷◌, ◌++◌, Option, Some, None, sym, ap, ◌∙◌, subst, append_assoc, append-nil}
+use Rattle.std.proofs.Common.{◌≡◌, ℕ, List, [], ◌∷◌, ◌++◌, All, Option, Some, None, sym, ap, ◌∙◌, subst, append_assoc, append-nil}
+use Rattle.std.proofs.lemmas.List.Elements.{All-cons, All-nil}
 use Rattle.auc_lines.specs.declared.part.End.{End}
 use Rattle.auc_lines.specs.declared.part.End.TheVariants as end
 use Rattle.auc_lines.specs.declared.part.Line.{Line}
@@ -10,6 +11,9 @@ use Rattle.auc_world.specs.Setting.{Setting}
 use Rattle.auc_world.specs.declared.event.Event.{Event}
 use Rattle.auc_world.specs.declared.event.Event.TheVariants as event
 use Rattle.auc_world.specs.declared.record.LineRecord.{LineRecord}
+use Rattle.auc_world.specs.declared.record.LineRecord.TheVariants.{Give, Sync}
+use Rattle.auc_transcript.specs.Headline.{IsOutsideSessions}
+use Rattle.auc_transcript.proofs.WalkLemmas.{draw_quiet, follows_quiet}
 
 -- after no line
 behind_none : (place : Before) → behind place [] ≡ place
@@ -20,14 +24,14 @@ pub behind_on : (place : Before) (front rest : List LineRecord) → behind (behi
 behind_on place front rest = ap (λ (own : List LineRecord). record { early = place.early; beside = place.beside; own = own }) (append_assoc place.own front rest)
 
 -- what lines without an event keep, and what each event keeps
-module _ (set : Setting) (P : Before → Net → Type 0) (quiet : (place : Before) (w : Net) (lines : List LineRecord) → P place w → P (behind place lines) w)
+module _ (set : Setting) (P : Before → Net → Type 0) (quiet : (place : Before) (w : Net) (lines : List LineRecord) → All IsOutsideSessions lines → P place w → P (behind place lines) w)
     (happens : (place : Before) (w next : Net) (e : Event) (lines : List LineRecord) → EventGives set place w e lines next → P place w → P (behind place lines) next) where
-  quiet_keeps : (place : Before) (w next : Net) (lines : List LineRecord) → next ≡ w → P place w → P (behind place lines) next
-  quiet_keeps place w next lines same p = subst (P (behind place lines)) (sym same) (quiet place w lines p)
+  quiet_keeps : (place : Before) (w next : Net) (lines : List LineRecord) → All IsOutsideSessions lines → next ≡ w → P place w → P (behind place lines) next
+  quiet_keeps place w next lines outside same p = subst (P (behind place lines)) (sym same) (quiet place w lines outside p)
 
   relay_keeps : (place : Before) (w next : Net) (session : ℕ) (at' : End) (o : Option ℕ) (lines : List LineRecord) → RelayGives set place w session at' o lines next
       → P place w → P (behind place lines) next
-  relay_keeps place w next session at' None [] gives p = quiet_keeps place w next [] gives p
+  relay_keeps place w next session at' None [] gives p = quiet_keeps place w next [] (All-nil IsOutsideSessions) gives p
   relay_keeps place w next session at' None (line ∷ lines) gives p = absurd gives
   relay_keeps place w next session at' (Some packet) [] gives p = absurd gives
   relay_keeps place w next session at' (Some packet) (line ∷ lines) (mid, first, more) p =
@@ -42,9 +46,14 @@ module _ (set : Setting) (P : Before → Net → Type 0) (quiet : (place : Befor
       (relay_keeps (behind place (line ∷ [])) mid next session end.Peer (packet_of line) lines more (happens place w mid (event.Start session) (line ∷ []) first p))
 
   line_keeps : (place : Before) (w next : Net) (l : Line) (lines : List LineRecord) → LineGives set place w l lines next → P place w → P (behind place lines) next
-  line_keeps place w next (line.Draw sub count) lines (gives, same) p = quiet_keeps place w next lines same p
-  line_keeps place w next (line.Sync sub seq bit count) lines (gives, same) p = quiet_keeps place w next lines same p
-  line_keeps place w next (line.Give sub n) lines (gives, same) p = quiet_keeps place w next lines same p
+  line_keeps place w next (line.Draw sub count) lines (gives, same) p = quiet_keeps place w next lines (draw_quiet set sub count lines gives) same p
+  line_keeps place w next (line.Sync sub seq bit count) lines (gives, same) p =
+      quiet_keeps place w next lines
+      (subst (All IsOutsideSessions) (sym gives.lines_are)
+      (All-cons IsOutsideSessions (Sync sub gives.answer) gives.more tt (follows_quiet set sub count gives.answer gives.more gives.follows))) same p
+  line_keeps place w next (line.Give sub n) lines (gives, same) p =
+      quiet_keeps place w next lines
+      (subst (All IsOutsideSessions) (sym gives.lines_are) (All-cons IsOutsideSessions (Give sub n gives.answer) [] tt (All-nil IsOutsideSessions))) same p
   line_keeps place w next (line.Session opening) lines gives p = happens place w next (event.Open opening) lines gives p
   line_keeps place w next (line.Start session) lines gives p = happens place w next (event.Start session) lines gives p
   line_keeps place w next (line.Deliver session at' packet) lines gives p = happens place w next (event.Deliver session at' packet) lines gives p
@@ -53,8 +62,14 @@ module _ (set : Setting) (P : Before → Net → Type 0) (quiet : (place : Befor
   line_keeps place w next (line.Plain session) lines gives p = plain_keeps place w next session lines gives p
 
   -- a job
-  pub job_keeps : (place : Before) (w last : Net) (job : List Line) (lines : List LineRecord) → JobGives set place w job lines last → P place w → P (behind place lines) last
-  job_keeps place w last [] lines (none, same) p = quiet_keeps place w last lines same p
-  job_keeps place w last (l ∷ job) lines (front, rest, next, cut, gives, more) p =
+  pub job_keeps_outside : (place : Before) (w last : Net) (job : List Line) (lines : List LineRecord) → JobGives set place w job lines last → P place w → P (behind place lines) last
+  job_keeps_outside place w last [] lines (none, same) p = quiet_keeps place w last lines (subst (All IsOutsideSessions) (sym none) (All-nil IsOutsideSessions)) same p
+  job_keeps_outside place w last (l ∷ job) lines (front, rest, next, cut, gives, more) p =
       subst (λ (b : Before). P b last) (behind_on place front rest ∙ ap (behind place) (sym cut))
-      (job_keeps (behind place front) next last job rest more (line_keeps place w next l front gives p))
+      (job_keeps_outside (behind place front) next last job rest more (line_keeps place w next l front gives p))
+
+-- and what lines keep, whatever they are
+module _ (set : Setting) (P : Before → Net → Type 0) (quiet : (place : Before) (w : Net) (lines : List LineRecord) → P place w → P (behind place lines) w)
+    (happens : (place : Before) (w next : Net) (e : Event) (lines : List LineRecord) → EventGives set place w e lines next → P place w → P (behind place lines) next) where
+  pub job_keeps : (place : Before) (w last : Net) (job : List Line) (lines : List LineRecord) → JobGives set place w job lines last → P place w → P (behind place lines) last
+  job_keeps = job_keeps_outside set P (λ place w lines outside p. quiet place w lines p) happens

@@ -52,3 +52,7 @@ mod DeviceEventLemmas
 mod RoundFoldLemmas
 mod DeviceFoldLemmas
 mod ContextLemmas
+mod ToldTurnLemmas
+mod ToldSessionLemmas
+mod ToldEventLemmas
+mod ToldCounterLemmas

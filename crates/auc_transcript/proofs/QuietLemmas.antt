@@ -45,7 +45,7 @@ none_in session lines none = ap numbers_told none
 
 -- ---- lines without events
 
-outside_none : (session : ℕ) (lines : List LineRecord) → All IsOutsideSessions lines → records_of session lines ≡ []
+pub outside_none : (session : ℕ) (lines : List LineRecord) → All IsOutsideSessions lines → records_of session lines ≡ []
 outside_none session [] all = refl
 outside_none session (l ∷ lines) all =
     cond-false (is_of_session session l) (l ∷ records_of session lines) (records_of session lines) (one l (All-head IsOutsideSessions l lines all))

@@ -56,7 +56,7 @@ use Rattle.auc_transcript.specs.Counters.{KeepsContexts}
 use Rattle.auc_transcript.specs.Headline.{FailsByPlace, FailsExactlyByPlace, IsFailure, IsGenuine, is_later}
 use Rattle.auc_transcript.specs.Keys.{EndsAgree, IsOfUnbrokenJob}
 use Rattle.auc_transcript.specs.Presented.{FailsExactlyByPlaceInSessions, IsNotedFailure, IsPresentedInSession}
-use Rattle.auc_transcript.specs.Witnesses.{ContextsAreKept, KeysAreEqual, MacIsRight, PlacesDecide, PlacesDecideInSessions, PlainSessionWins, ResumedSessionWins, accepted_late, accepted_once, accepting, challenge, challenged, context, device, first_net, given_first, given_late, line_of, net_of, one_job, opening, peer_sent, plain_lines, presented_again, presented_first, presenting, resumed_lines, resuming, round_of, setting, subscriber, won, won_again, zeros}
+use Rattle.auc_transcript.specs.Witnesses.{ContextsAreKept, CountersAreNoted, KeysAreEqual, MacIsRight, PlacesDecide, PlacesDecideInSessions, PlainSessionWins, ResumedSessionWins, accepted_late, accepted_once, accepting, accepts, challenge, challenged, context, device, first_net, given_first, given_late, line_of, net_of, one_job, opening, peer_sent, plain_lines, presented_again, presented_first, presenting, resumed_lines, resumes, resuming, round_of, setting, subscriber, transcript_of, won, won_again, zeros}
 
 -- ---- vectors that lines give
 
@@ -260,20 +260,35 @@ keys_are_equal k l = (full_agree k l, fast_agree k l)
 
 -- ---- contexts
 
-servers_apart : (x y : List ℕ) (c d : ℕ) → KeepsContexts (one_job (resuming (context x c) ∷ resuming (context y d) ∷ [])) → (c ≢ d) × (x ≢ y)
+servers_apart : (x y : List ℕ) (c d : ℕ) → KeepsContexts (transcript_of (resumes 1 c ∷ resumes 2 d ∷ [])) (one_job (resuming 1 (context x c) ∷ resuming 2 (context y d) ∷ [])) → (c ≢ d) × (x ≢ y)
 servers_apart x y c d promise = (
   promise.counters.resumed method.Aka 0 0 1 (used_by c (context x c)) (omega arith) (omega arith) refl,
   promise.identities 0 1 (record { sub = 0; context = context x c; nonce = zeros; next = None }) (omega arith) (omega arith) refl,
 )
 
-peers_apart : (text x y : List ℕ) (c d : ℕ) → KeepsContexts (one_job (accepting text (context x c) ∷ accepting text (context y d) ∷ [])) → (c ≢ d) × (username text ≡ x)
+peers_apart : (text x y : List ℕ) (c d : ℕ)
+    → KeepsContexts (transcript_of (accepts 1 c ∷ accepts 2 d ∷ [])) (one_job (accepting 1 text (context x c) ∷ accepting 2 text (context y d) ∷ [])) → (c ≢ d) × (username text ≡ x)
 peers_apart text x y c d promise = (
   promise.counters.accepted method.Aka 0 0 1 (used_by c (context x c)) (omega arith) (omega arith) refl,
-  promise.own (accepting text (context x c)) (0, omega arith, refl) 0 (used_by c (context x c)) (omega arith),
+  promise.own (accepting 1 text (context x c)) (0, omega arith, refl) 0 (used_by c (context x c)) (omega arith),
 )
 
 pub contexts_are_kept : ContextsAreKept
 contexts_are_kept text x y c d = (servers_apart x y c d, peers_apart text x y c d)
+
+same_one : (n c : ℕ) → ◌≡◌ {A = List ℕ} (n ∷ []) (c ∷ []) → n ≡ c
+same_one n c e = cc
+
+not_nothing : (c : ℕ) → ◌≡◌ {A = List ℕ} [] (c ∷ []) → ⊥
+not_nothing c e = cc
+
+pub counters_are_noted : CountersAreNoted
+counters_are_noted text c n = (
+  λ promise. same_one n c (promise.told.0.0 0 (resuming 1 (context [] c)) (omega arith)).resumed,
+  λ promise. same_one n c (promise.told.0.0 0 (accepting 1 text (context [] c)) (omega arith)).accepted,
+  λ promise. not_nothing c (promise.told.0.0 0 (resuming 1 (context [] c)) (omega arith)).resumed,
+  λ promise. not_nothing c (promise.told.0.0 0 (accepting 1 text (context [] c)) (omega arith)).accepted,
+)
 
 -- ---- plain sessions
 

@@ -243,16 +243,23 @@ KeysAreEqual = (k l : KeySet) → (EndsAgree (one_job (won k l ∷ [])) → k �
 
 -- ---- contexts
 
+-- the record that tells that a server took up a context with a counter, and the one that tells that a device accepted a counter
+abbrev pub resumes : ℕ → ℕ → LineRecord
+resumes session n = line_of (event.Deliver session end.Server 2) (server_sent (record silent { resumed = Some n }) None [] 3)
+
+abbrev pub accepts : ℕ → ℕ → LineRecord
+accepts session n = line_of (event.Deliver session end.Peer 3) (peer_sent (record silent { counter = Some (counts.Taken n) }) [] 4)
+
 -- a session whose server took up a context again
-abbrev pub resuming : Context → Session
-resuming c = record (new_session (opening 1) 0) {
-  server = Some (record (started (server_options (opening 1))) { resumed = Some (record { sub = 0; context = c; nonce = zeros; next = None }) });
+abbrev pub resuming : ℕ → Context → Session
+resuming session c = record (new_session (opening session) 0) {
+  server = Some (record (started (server_options (opening session))) { resumed = Some (record { sub = 0; context = c; nonce = zeros; next = None }) });
 }
 
 -- and one whose peer sent a text and accepted the counter of its device's context
-abbrev pub accepting : List ℕ → Context → Session
-accepting text c = record (new_session (opening 1) 0) {
-  peer = record (new_peer (peer_options (opening 1))) {
+abbrev pub accepting : ℕ → List ℕ → Context → Session
+accepting session text c = record (new_session (opening session) 0) {
+  peer = record (new_peer (peer_options (opening session))) {
     identity = Some text;
     inner = decrypted.Attributes (record { pseudonym = None; identity = None; counter = Some c.counter; nonce = Some zeros });
     resumed = Some c;
@@ -264,8 +271,17 @@ accepting text c = record (new_session (opening 1) 0) {
 -- the identity of the context
 abbrev pub ContextsAreKept : Type 0
 ContextsAreKept = (text x y : List ℕ) (c d : ℕ)
-    → (KeepsContexts (one_job (resuming (context x c) ∷ resuming (context y d) ∷ [])) → (c ≢ d) × (x ≢ y))
-    × (KeepsContexts (one_job (accepting text (context x c) ∷ accepting text (context y d) ∷ [])) → (c ≢ d) × (username text ≡ x))
+    → (KeepsContexts (transcript_of (resumes 1 c ∷ resumes 2 d ∷ [])) (one_job (resuming 1 (context x c) ∷ resuming 2 (context y d) ∷ [])) → (c ≢ d) × (x ≢ y))
+    × (KeepsContexts (transcript_of (accepts 1 c ∷ accepts 2 d ∷ [])) (one_job (accepting 1 text (context x c) ∷ accepting 2 text (context y d) ∷ []))
+    → (c ≢ d) × (username text ≡ x))
+
+-- a counter that was used is told, and no other one is
+abbrev pub CountersAreNoted : Type 0
+CountersAreNoted = (text : List ℕ) (c n : ℕ)
+    → (KeepsContexts (transcript_of (resumes 1 n ∷ [])) (one_job (resuming 1 (context [] c) ∷ [])) → n ≡ c)
+    × (KeepsContexts (transcript_of (accepts 1 n ∷ [])) (one_job (accepting 1 text (context [] c) ∷ [])) → n ≡ c)
+    × (KeepsContexts (transcript_of []) (one_job (resuming 1 (context [] c) ∷ [])) → ⊥)
+    × (KeepsContexts (transcript_of []) (one_job (accepting 1 text (context [] c) ∷ [])) → ⊥)
 
 -- ---- plain sessions
 
@@ -297,10 +313,7 @@ first_net = record (net_of []) { homes = record { sub = 0; ordinals = 1; store =
 -- in the next round a session's server takes it up again, and the device accepts its counter
 abbrev pub resumed_lines : List LineRecord
 resumed_lines =
-    beginning 2
-    ++ line_of (event.Deliver 2 end.Server 2) (server_sent (record silent { resumed = Some 1 }) None [] 3)
-    ∷ line_of (event.Deliver 2 end.Peer 3) (peer_sent (record silent { counter = Some (counts.Taken 1) }) [] 4)
-    ∷ winning 2
+    beginning 2 ++ resumes 2 1 ∷ accepts 2 1 ∷ winning 2
 
 -- the network after it, whatever state the server is in and whatever keys the peer has
 abbrev pub second_net : ServerState → Option KeySet → Net

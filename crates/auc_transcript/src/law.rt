@@ -8,7 +8,7 @@ ghost use Rattle.auc_transcript.specs.OneTold.{EachToldTranscriptIsOne};
 ghost use Rattle.auc_transcript.specs.Position.{EachMoveStandsBetween, EachPlaceIsAPosition};
 ghost use Rattle.auc_transcript.specs.Presented.{EachFailureInSessionsIsByPlace, EachFailureInSessionsOfRoundsIsByPlace, EachPresentedVectorHasARightMac};
 ghost use Rattle.auc_transcript.specs.Rounds.{EachFailureInRoundsIsByPlace, EachSqnInRoundsIsGenuine};
-ghost use Rattle.auc_transcript.specs.Witnesses.{ContextsAreKept, KeysAreEqual, MacIsRight, PlacesDecide, PlacesDecideInSessions, PlainSessionWins, ResumedSessionWins};
+ghost use Rattle.auc_transcript.specs.Witnesses.{ContextsAreKept, CountersAreNoted, KeysAreEqual, MacIsRight, PlacesDecide, PlacesDecideInSessions, PlainSessionWins, ResumedSessionWins};
 
 use auc_attr::bytes_have_one_reading_or_one_fault;
 use auc_ident::each_name_is_given_once;
@@ -16,7 +16,7 @@ use auc_packet::{
     equal_bytes_are_received_alike, sealed_messages_are_read, written_packets_are_read,
 };
 use auc_peer::{
-    each_turn_keeps_contexts_of_the_method,
+    each_accepted_counter_is_of_the_context, each_turn_keeps_contexts_of_the_method,
     each_turn_keeps_the_keys_of_its_inputs as each_peer_keeps_its_keys,
     each_turn_keeps_what_keys_are_made_from, each_turn_leaves_the_other_method,
     each_turn_moves_at_most_one_context,
@@ -119,12 +119,14 @@ pub fn each_authentication_agrees()
     each_transcript_keeps_contexts();
 }
 
-/// Whatever was lost, repeated, delivered out of order or to another session: no server resumes a counter twice under the keys of one
+/// Whatever was lost, repeated, delivered out of order or to another session: a session's records tell the counter that its server
+/// resumed and the one that its device accepted, and no other; no server resumes a counter twice under the keys of one
 /// full authentication, and no device accepts one twice (RFC 4187 §5.1); no identity is resumed twice, and a peer accepts a
 /// re-authentication only under the identity of its device's context (RFC 4187 §5.3).
 pub fn each_transcript_keeps_contexts()
     ensures { EachTranscriptKeepsContexts }
 {
+    each_accepted_counter_is_of_the_context();
     no_counter_is_used_twice();
     no_identity_is_resumed_twice();
     each_name_is_given_once();
@@ -183,6 +185,7 @@ pub fn each_promise_has_a_witness()
     ensures macs { MacIsRight }
     ensures keys { KeysAreEqual }
     ensures contexts { ContextsAreKept }
+    ensures counters { CountersAreNoted }
     ensures plain { PlainSessionWins }
     ensures resumed { ResumedSessionWins }
 {

@@ -1,5 +1,5 @@
 -- The laws are lemmas on the witnesses, by the law of written packets.
-use Rattle.auc_transcript.proofs.WitnessLemmas.{contexts_are_kept, keys_are_equal, mac_is_right, places_decide, places_decide_in_sessions, plain_session_wins, resumed_session_wins}
+use Rattle.auc_transcript.proofs.WitnessLemmas.{contexts_are_kept, counters_are_noted, keys_are_equal, mac_is_right, places_decide, places_decide_in_sessions, plain_session_wins, resumed_session_wins}
 use Rattle.auc_transcript.proofs.law.each_promise_has_a_witness.Goals as goal
 
 pub returns-clause-places : goal.returns-clause-places
@@ -16,6 +16,9 @@ returns-clause-keys c = keys_are_equal
 
 pub returns-clause-contexts : goal.returns-clause-contexts
 returns-clause-contexts c = contexts_are_kept
+
+pub returns-clause-counters : goal.returns-clause-counters
+returns-clause-counters c = counters_are_noted
 
 pub returns-clause-plain : goal.returns-clause-plain
 returns-clause-plain c = plain_session_wins
