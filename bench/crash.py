@@ -15,9 +15,16 @@ status 0 draws above the limit that the image reserves, and one of status 7 tell
 
 Two processes. While a run is stopped, a second one in its folder ends with status 6 and prints nothing.
 
+Syncs. strace lists the system calls of a run on the journal's file, on its folder and on the output. As the file is opened, it
+and its folder are synced. Then the calls are those of docs/journal.md, in that order: the opening syncs once, and an append
+twice, each behind its write. A round is written after the last sync of its appends. Without strace this rule isn't tried, and
+the exit status is 3.
+
 The exit status is 0 only if each rule holds.
 """
 import random
+import re
+import shutil
 import signal
 import subprocess
 import sys
@@ -25,14 +32,16 @@ import tempfile
 import time
 from pathlib import Path
 
-from journal import FRAME, NAME, NotJournal, imsi, limits_of, run, subscriber, vectors_in, write_scenario
+from journal import FRAME, HEADER, NAME, NotJournal, imsi, limits_of, run, subscriber, vectors_in, write_scenario
 from measure import TOP, program
 
 sys.path.append(str(TOP / "tools"))
-from ends import run_main
+from ends import Missing, run_main
 
 SUBSCRIBERS, ROUNDS, JOBS, COUNT = 8, 40, 8, 20
 FRESH = 100
+CALLS = "fsync,fdatasync,sync_file_range,ftruncate,write,writev,pwrite64,pwritev"
+CALL = re.compile(r"\d+ +(\w+)\((\d+)<([^>]*)>(?:, .*, (\d+), (\d+))?.*\) += \d+")
 
 
 def long_scenario():
@@ -149,6 +158,51 @@ def two_processes(folder):
     print("two processes: the second one ends with status 6 and prints nothing")
 
 
+def traced(folder):
+    """The calls of a run, in their order: a sync or a write, of the file or of its folder, and `print` for a write of the output."""
+    names = {str(folder / NAME): "file", str(folder): "folder"}
+    command = ["strace", "-f", "-y", "-qq", "-e", f"trace={CALLS}", "-o", "calls", program(), "run", "scenario"]
+    done = subprocess.run(command, cwd=folder, stdout=subprocess.PIPE, stderr=subprocess.PIPE, text=True)
+    assert done.returncode == 0, (done.returncode, done.stderr)
+    for line in (folder / "calls").read_text().splitlines():
+        call = CALL.fullmatch(line)
+        assert call, line
+        kind, descriptor, path, size, place = call.groups()
+        if kind == "pwrite64":
+            yield f"write {names.get(path, path)} {size} {place}"
+        else:
+            yield "print" if (kind, descriptor) == ("write", "1") else f"{kind} {names.get(path, path)}"
+
+
+def append_calls(frame):
+    """The calls of an append behind so many frames: the body and the next gate, and then the gate before them."""
+    gate = 16 + FRAME * frame
+    return [f"write file {FRAME} {gate + 1}", "fsync file", f"write file 1 {gate}", "fsync file"]
+
+
+def syncs_of(folder, opening, rounds):
+    """How often a run syncs the file, which has to make these calls as it opens the journal, and has to append these frames
+    in its rounds."""
+    wanted = ["fsync file", "fsync folder", *opening]
+    for frames in rounds:
+        wanted += [call for frame in frames for call in append_calls(frame)] + ["print"]
+    calls = list(traced(folder))
+    assert calls == wanted, f"the calls {calls} in place of {wanted}"
+    return calls.count("fsync file")
+
+
+def syncs(folder):
+    if not shutil.which("strace"):
+        raise Missing("strace", "strace")
+    # By hand: 70 draws need the limits of their 1st and their 65th number, the next draw needs none, and 60 more need one.
+    write_scenario(folder, [subscriber(0), *[line for count in (70, 1, 60) for line in ("round", "job", f"draw {imsi(0)} {count}")]])
+    made = syncs_of(folder, ["write file 17 0", "fsync file"], [[0, 1], [], [2]])
+    found = syncs_of(folder, ["fsync file"], [[3, 4], [], [5]])
+    (folder / NAME).write_bytes(HEADER)
+    unclear = syncs_of(folder, ["write file 1 16", "fsync file"], [[0, 1], [], [2]])
+    print(f"syncs: {made}, {found} and {unclear} syncs of the file, each where the journal's rule asks for it")
+
+
 def main():
     count = int(sys.argv[2]) if len(sys.argv) > 2 else 2000
     rng = random.Random(int(sys.argv[3]) if len(sys.argv) > 3 else 1)
@@ -157,6 +211,8 @@ def main():
         images(folder, rng)
     with tempfile.TemporaryDirectory() as folder:
         kills(folder, count, rng)
+    with tempfile.TemporaryDirectory() as folder:
+        syncs(Path(folder).resolve())
 
 
 if __name__ == "__main__":
