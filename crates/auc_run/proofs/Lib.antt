@@ -3,6 +3,7 @@ mod EntryLemmas
 mod PrintableLemmas
 mod StandLemmas
 mod OpeningLemmas
+mod RememberLemmas
 mod StepLemmas
 mod OutputLemmas
 mod KnownLemmas
@@ -13,3 +14,4 @@ mod TopLemmas
 mod CauseLemmas
 mod EndLemmas
 mod LoadLemmas
+mod ChainLemmas

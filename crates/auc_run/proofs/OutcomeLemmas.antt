@@ -10,7 +10,7 @@ use Rattle.auc_print.proofs.Facts.{are_identities, lawful_at_ends, one_transcrip
 use Rattle.auc_script.specs.declared.script.Script.{Script}
 use Rattle.auc_subs.specs.Subscriber.{AreSubscribers}
 use Rattle.auc_subs.specs.declared.row.Row.{Row}
-use Rattle.auc_transcript.proofs.Facts.{keeps_numbers_apart, accepts_none_twice, each_failure_is_by_place}
+use Rattle.auc_transcript.proofs.Facts.{above_reserved, keeps_numbers_apart, accepts_none_twice, each_failure_is_by_place}
 use Rattle.auc_transcript.specs.Completeness.{EachPlainSessionAgrees, EachResumedSessionAgrees}
 use Rattle.auc_transcript.specs.Counters.{EachTranscriptKeepsContexts}
 use Rattle.auc_transcript.specs.Keys.{EachAuthenticationAgrees, EachBreachIsTold, EachTranscriptHasItsNets}
@@ -85,6 +85,7 @@ is_output laws rows script reserved stop parts records end fits fit leads =
       leads = leads;
       is_text = refl;
       only = λ other is same. sym (one_of_text laws rows script reserved stop parts records other fits fit (end, leads) is same);
+      above = above_reserved set reserved stop parts records (end, leads);
       differ = keeps_numbers_apart set reserved stop parts records (end, leads);
       accepts_none_twice = accepts_none_twice set reserved stop parts records (end, leads);
       fails_by_place = each_failure_is_by_place set reserved stop parts records (end, leads);

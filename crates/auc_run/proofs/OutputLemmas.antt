@@ -17,13 +17,14 @@ use Rattle.auc_world.specs.Transcript.{Course, Leads, ServesPart, beginning}
 use Rattle.auc_world.specs.declared.record.PartRecord.{PartRecord}
 use Rattle.auc_world.specs.declared.record.PartRecord.TheVariants as record_of
 use Rattle.auc_run.specs.Crash.{IsFull}
-use Rattle.auc_run.specs.Inner.{Begins, Covers, EndsIn, GoesOn, IsPut, RunsParts, ServesLast, StandsOn}
+use Rattle.auc_run.specs.Inner.{Begins, Covers, EndsIn, GoesOn, IsPut, RunsParts, ServesLast, StandsOn, most_at}
 use Rattle.auc_run.specs.Outcome.{IsStopOf, IsWritten}
 use Rattle.auc_run.specs.Refusal.{status_of}
 use Rattle.auc_run.specs.declared.refusal.Refusal.{Refusal}
 use Rattle.auc_run.specs.declared.refusal.Refusal.TheVariants as refused
 use Rattle.auc_run.specs.declared.status.Status.{Status}
 use Rattle.auc_run.specs.declared.status.Status.TheVariants as status
+use Rattle.auc_run.proofs.RememberLemmas.{durable_keeps}
 use Rattle.auc_run.proofs.StandLemmas.{kept_covers, kept_reserves}
 
 -- what holds of each result that is Ok
@@ -237,6 +238,7 @@ Serving-all seen may_leave set full from reserved begin number state journal tex
       (ap (λ (t : List ℕ). transcript_text set full serving.records ++ t) serving.waits_text ∙ sym (flat_map-append (part_text set full) serving.records serving.waits))
       (IsWritten-more ended old mid new (transcript_text set full serving.records) text serving.written writes);
   kept = kept_reserves seen may_leave ended set.rows from disk reserved serving.mid journal serving.on.reserves same;
+  keeps = durable_keeps seen may_leave from disk (most_at reserved serving.mid) journal serving.on.reserves.durable same;
   full_at = λ is told. absurd (not_full is);
 }
 
@@ -262,6 +264,7 @@ stops_served {D} seen may_leave set full from reserved begin number state journa
       ∙ sym (texts_join set full serving.records serving.waits last.made))
       (IsWritten-more ended old mid new (transcript_text set full serving.records) (text ++ part_text set full last.made) serving.written last.written);
   kept = kept_reserves seen may_leave ended set.rows from disk reserved last.next later last.reserves same;
+  keeps = durable_keeps seen may_leave from disk (most_at reserved last.next) later last.reserves.durable same;
   full_at = λ is told. subst (λ (d : D). IsFull (seen d)) (sym same) (last.full_at is told);
 }
 
@@ -284,6 +287,7 @@ stops_unserved {D} seen may_leave set full from reserved begin number state jour
   written = subst (λ (o : Option (List ℕ)). Appends old o (transcript_text set full serving.records)) (sym still) serving.written;
   kept = kept_covers seen may_leave set.rows from disk reserved serving.course later
       (subst (λ early. Covers seen may_leave set.rows from early later) serving.early covers) same;
+  keeps = durable_keeps seen may_leave from disk covers.most later covers.durable same;
   full_at = λ is told. absurd (not_full is);
 }
   where
@@ -335,6 +339,7 @@ Serving-nothing seen may_leave faults set full from journal parts disk old begin
       written = Appends-none old;
       kept = kept_covers seen may_leave set.rows from disk (limits_of journal) begin journal
           (record { subscribers = begins.subscribers; covers = λ sub inside. All-nil (λ n. n ≤ slice_index (limits_of journal) sub); most = λ sub. reserved_at journal sub; durable = begins.durable }) same;
+      keeps = durable_keeps seen may_leave from disk (λ sub. reserved_at journal sub) journal begins.durable same;
       full_at = λ is told. absurd (not_full is);
     }
   where

@@ -1,13 +1,15 @@
 -- What a crash leaves of the journal after a run.
 use Rattle.std.specs.Prelude.{◌≡◌, ◌≢◌, ℕ, ◌+◌, ◌<◌, ◌≤◌, ◌^◌, max, List, length, map, All, slice_index, Option, Some, Ok, Err}
 use Rattle.auc_journal.specs.Durable.{IsTold}
-use Rattle.auc_journal.specs.Image.{Frame, Reading, read_image, reserved_in}
+use Rattle.auc_journal.specs.Image.{Frame, Keeps, Reading, read_image, reserved_in}
+use Rattle.auc_journal.specs.Opening.{IsAsBefore}
+use Rattle.auc_journal.specs.Settled.{IsClosable}
 use Rattle.auc_subs.specs.declared.row.Row.{Row}
 use Rattle.auc_world.specs.Limits.{least_step}
 use Rattle.auc_world.specs.Lines.{numbers_of}
 use Rattle.auc_world.specs.Transcript.{Course}
 use Rattle.auc_run.specs.declared.status.Status.{Status}
-use Rattle.auc_run.specs.declared.status.Status.TheVariants.{NoMemory}
+use Rattle.auc_run.specs.declared.status.Status.TheVariants.{StoreFault, NotJournal, NoMemory}
 
 -- the limits of subscribers by some frames, in the order of their rows; 0 if there is none
 abbrev pub limits_in : List Row → List Frame → List ℕ
@@ -37,3 +39,13 @@ pub record IsKept (status : Status) (rows : List Row) (reserved : List ℕ) (end
   pub covers : (sub : ℕ) → sub < length rows → All (λ n. n ≤ slice_index (limits_in rows reading.frames) sub) (numbers_of sub end.early)
   pub near : status ≢ NoMemory → (sub : ℕ) → sub < length rows
       → slice_index (limits_in rows reading.frames) sub ≤ max (slice_index reserved sub) (slice_index end.highs sub + least_step)
+
+-- how a run that ended so leaves its disk, if the disk told its bytes at first and a crash would have left just these: each image
+-- that a crash may leave now reserves for every identity at least what these bytes did, whether the run named it or not
+pub record Remembers {D : Type 0} (seen : D → Option (List ℕ)) (may_leave : D → List ℕ → Type 0) (status : Status) (old new : D) : Type 0 where
+  -- if a call of the disk failed, the file has to be one that each image of its opening can be read as
+  pub keeps : (told : IsTold seen may_leave old) → (status ≡ StoreFault → IsClosable told.0) → (image : List ℕ) → may_leave new image → Keeps told.0 image
+  -- such are the images that a run leaves of such a file
+  pub closable : (told : IsTold seen may_leave old) → IsClosable told.0 → (image : List ℕ) → may_leave new image → IsClosable image
+  -- a file that is no journal stays as it was
+  pub stays : status ≡ NotJournal → IsAsBefore seen may_leave old new

@@ -10,8 +10,9 @@ use Rattle.auc_forms.specs.Algorithm.{values_named}
 use Rattle.auc_forms.specs.Reserved.{IsReservedText, asks_reserved}
 use Rattle.auc_forms.specs.declared.algorithm.AlgorithmWords.{AlgorithmWords}
 use Rattle.auc_journal.specs.Durable.{IsDurable, IsTold}
-use Rattle.auc_journal.specs.Image.{Frame}
+use Rattle.auc_journal.specs.Image.{Frame, Keeps}
 use Rattle.auc_journal.specs.Journal.{JournalState, limits_of, reserved_at}
+use Rattle.auc_journal.specs.Settled.{IsClosable}
 use Rattle.auc_journal.specs.declared.open_why.OpenWhy.{OpenWhy}
 use Rattle.auc_journal.specs.declared.open_why.OpenWhy.TheVariants as unopened
 use Rattle.auc_load.specs.Words.{load_named}
@@ -322,4 +323,5 @@ pub record RunsParts {D : Type 0} (seen : D → Option (List ℕ)) (may_leave : 
   pub fits : All PartFits records
   pub written : IsWritten status old new (transcript_text set full records)
   pub kept : (image : List ℕ) → MayLeave seen may_leave from disk image → IsKept status set.rows reserved end image
+  pub keeps : (told : IsTold seen may_leave from) → (image : List ℕ) → may_leave disk image → Keeps told.0 image × IsClosable image
   pub full_at : status ≡ StoreFull → IsTold seen may_leave from → IsFull (seen disk)

@@ -3,4 +3,5 @@ pub mod Crash
 pub mod Output
 pub mod Refusal
 pub mod Outcome
+pub mod Chain
 pub mod Inner

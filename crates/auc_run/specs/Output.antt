@@ -9,11 +9,11 @@ use Rattle.auc_subs.specs.declared.row.Row.{Row}
 use Rattle.auc_world.specs.Setting.{Setting}
 use Rattle.auc_transcript.specs.Completeness.{PlainSessionsAgree, ResumedSessionsAgree}
 use Rattle.auc_transcript.specs.Counters.{KeepsContexts}
-use Rattle.auc_transcript.specs.Headline.{VectorsDiffer, AcceptsNoneTwice, FailsExactlyByPlace}
+use Rattle.auc_transcript.specs.Headline.{AreAboveReserved, VectorsDiffer, AcceptsNoneTwice, FailsExactlyByPlace}
 use Rattle.auc_transcript.specs.Keys.{AreNets, BreachesAreTold, EndsAgree}
 use Rattle.auc_transcript.specs.Presented.{FailsExactlyByPlaceInSessions, FindsRightMacs}
 use Rattle.auc_world.specs.Net.{Net}
-use Rattle.auc_world.specs.Transcript.{Course, Leads, IsLawful, beginning}
+use Rattle.auc_world.specs.Transcript.{Course, Leads, IsLawful, beginning, lines_of}
 use Rattle.auc_world.specs.declared.record.PartRecord.{PartRecord}
 
 -- the keys of the random bytes and of the names, the rows and the realm with which the lines of a script are served
@@ -29,8 +29,8 @@ IsTranscript rows script reserved stop parts records = IsLawful (setting_of rows
 abbrev pub text_of : List Row → Script → List PartRecord → List ℕ
 text_of rows script records = transcript_text (setting_of rows script) script.full records
 
--- a text is that of exactly one lawful transcript of some parts of a script, in which no two vectors of a subscriber carry
--- the same SQN, no USIM accepts an SQN twice, and between resynchronisations and restarts a released vector gets a
+-- a text is that of exactly one lawful transcript of some parts of a script, in which each released number is above what was
+-- reserved for its subscriber before, no two vectors of a subscriber carry the same SQN, no USIM accepts an SQN twice, and between resynchronisations and restarts a released vector gets a
 -- synchronisation failure exactly if it, or one drawn a positive multiple of 32 places later, was accepted before, whether a
 -- `give` line or a session presents it; a USIM to which a session presents it finds its MAC right. A server and a peer that
 -- ended in Success over one challenge or in one fast re-authentication have equal keys, if no delivery broke the premise in their
@@ -44,6 +44,7 @@ pub record IsOutput (rows : List Row) (script : Script) (reserved : List ℕ) (s
   pub leads : Leads (setting_of rows script) stop (beginning rows reserved) parts transcript end
   pub is_text : text ≡ text_of rows script transcript
   pub only : (other : List PartRecord) → IsTranscript rows script reserved stop parts other → text ≡ text_of rows script other → other ≡ transcript
+  pub above : AreAboveReserved (length rows) reserved (lines_of transcript)
   pub differ : VectorsDiffer (length rows) transcript
   pub accepts_none_twice : AcceptsNoneTwice (length rows) transcript
   pub fails_by_place : FailsExactlyByPlace rows transcript

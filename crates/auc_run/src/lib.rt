@@ -10,9 +10,10 @@
 //! A session that has its `plain` line alone succeeds at both ends unless a line tells why not, or if its server takes up a
 //! context again that its device has with the same counter.
 //!
-//! With every status a crash leaves a journal that reserves each number that was written as released, so the next run draws
-//! none of them (`specs/Crash`). Each other status except want of memory has its cause, and each cause its status; the
-//! subscribers are judged before the scenario is. All of this holds for every number of workers that serve a round, and
+//! With every status a crash leaves a journal that reserves each number that was written as released, and for every identity
+//! at least what the journal that was found did (`specs/Crash`). So no later run draws one of these numbers again
+//! ([`no_later_run_draws_a_number_again`], `specs/Chain`). Each other status except want of memory has its cause, and each
+//! cause its status; the subscribers are judged before the scenario is. All of this holds for every number of workers that serve a round, and
 //! however their steps interleave. No clause says in which order the jobs of a round are served, or that a worker gets on;
 //! tests of the crate `auc_runs` show that two jobs are served at the same time.
 //!
@@ -23,6 +24,7 @@
 
 mod forms;
 mod input;
+mod law;
 mod load;
 mod opening;
 mod refusal;
@@ -32,5 +34,6 @@ mod status;
 mod top_call;
 
 pub use input::MAX_FILE;
+pub use law::{each_run_is_one_of_a_chain, no_later_run_draws_a_number_again};
 pub use status::{Ended, Status};
 pub use top_call::run;

@@ -5,6 +5,7 @@ ghost use Rattle.auc_edge.specs.Faults.{Rose};
 ghost use Rattle.auc_journal.specs.Durable.{IsDurable};
 ghost use Rattle.auc_journal.specs.Image.{Frame};
 ghost use Rattle.auc_journal.specs.Journal.{limits_of, reserved_at};
+ghost use Rattle.auc_journal.specs.Opening.{LeavesFound};
 ghost use Rattle.auc_journal.specs.declared.open_why.OpenWhy.TheVariants as why;
 ghost use Rattle.auc_sqn.specs.Number.{max_seq};
 ghost use Rattle.auc_subs.specs.Subscriber.{AreSubscribers};
@@ -31,6 +32,7 @@ pub(crate) fn open_journal<D: Disk + Drop>(
         → Rose (D.faults disk) (D.faults refused.disk)) }
     ensures stands { IfErr result (λ refused. refused.why ≢ why.StoreFault
         → D.faults refused.disk ≡ D.faults disk) }
+    ensures refused { IfErr result (λ refused. LeavesFound D.seen D.may_leave refused.why disk refused.disk) }
 {
     match identities(alloc, subs) {
         Ok(imsis) => Journal::open(alloc, disk, imsis.as_slice()),

@@ -16,7 +16,7 @@ ghost use Rattle.auc_script.specs.Reading.{script_of};
 ghost use Rattle.auc_script.specs.declared.script.Script.{Script};
 ghost use Rattle.auc_subs.specs.declared.row.Row.{Row};
 ghost use Rattle.auc_world.specs.Agreement.{IsRealm};
-ghost use Rattle.auc_run.specs.Crash.{IsFound, IsFull, MayLeave};
+ghost use Rattle.auc_run.specs.Crash.{IsFound, IsFull, MayLeave, Remembers};
 ghost use Rattle.auc_run.specs.Inner.{FilesLeave, FilesStop, InputStops, IsBeforeJournal, IsRead, IsSilent, LimitsLeave, OutputStops, ReadingStops, ReservedStops, Stops, WritesLimits, files_seen, status_in};
 ghost use Rattle.auc_run.specs.Outcome.{AreRead, AreUnknown, AreWrong, EndsAlgorithm, EndsBefore, EndsLoad, EndsReserved, EndsUsage, IsCause, IsQuiet, IsReadNext, IsStop, MayPrint, MayRun, MayTell, NeedsNoJournal, PrintsAlgorithm, PrintsReserved, Refuses, RunsFiles, RunsLoad, RunsScenario};
 ghost use Rattle.auc_run.specs.Refusal.{MayRefuse};
@@ -88,6 +88,9 @@ pub fn run<R: Threads + Wait + Sync, H: Shelf, K: Sink, D: Disk + Drop + Send, G
         → RunsScenario words.now (H.files shelf.old) (D.seen disk) (MayLeave D.seen D.may_leave disk result.disk) Status.StoreFull
         (K.written out.old) (K.written out.new)
         × (IsTold D.seen D.may_leave disk → IsFull (D.seen result.disk)) }
+
+    // A journal never forgets: however the run ends, a crash leaves for every identity at least what was reserved before.
+    ensures remembers { Remembers D.seen D.may_leave result.status disk result.disk }
     ensures untouched { NeedsNoJournal words.now result.status → result.disk ≡ disk }
     ensures unopened { (there : List File) (files : Files) (cause : Refusal) → H.files shelf.old ≡ Some there
         → files_named words.now ≡ Some files → AreWrong (Some there) files cause → result.disk ≡ disk }
@@ -141,6 +144,7 @@ pub fn run<R: Threads + Wait + Sync, H: Shelf, K: Sink, D: Disk + Drop + Send, G
 }
 
 /// Does what the words ask for.
+#[tactic(auto, using(crate::proofs::RememberLemmas::remembers_same))]
 fn perform<R: Threads + Wait + Sync, H: Shelf, K: Sink, D: Disk + Drop + Send, G: Gate + Sync>(
     rt: &R,
     alloc: Global,
@@ -161,6 +165,7 @@ fn perform<R: Threads + Wait + Sync, H: Shelf, K: Sink, D: Disk + Drop + Send, G
     ensures silent { IfErr result.result (λ refusal. IsSilent refusal (K.written out.old) (K.written out.new)) }
     ensures store_full { IsErrOf result.result Refusal.StoreFull → IsTold D.seen D.may_leave disk
         → IsFull (D.seen result.disk) }
+    ensures remembers { Remembers D.seen D.may_leave (status_in result.result) disk result.disk }
     ensures untouched { NeedsNoJournal words.now (status_in result.result) → result.disk ≡ disk }
     ensures unopened { (there : List File) (files : Files) (cause : Refusal) → H.files shelf.old ≡ Some there
         → files_named words.now ≡ Some files → AreWrong (Some there) files cause → result.disk ≡ disk }
@@ -197,7 +202,7 @@ fn perform<R: Threads + Wait + Sync, H: Shelf, K: Sink, D: Disk + Drop + Send, G
 }
 
 /// Reads the subscribers, if a file of them is named, and then the scenario, opens the journal, and serves the rounds.
-#[tactic(auto, using(crate::proofs::RefusalLemmas::reading_stops, crate::proofs::RefusalLemmas::input_stops, crate::proofs::RefusalLemmas::right_read, crate::proofs::RefusalLemmas::leave_unread))]
+#[tactic(auto, using(crate::proofs::RefusalLemmas::reading_stops, crate::proofs::RefusalLemmas::input_stops, crate::proofs::RefusalLemmas::right_read, crate::proofs::RefusalLemmas::leave_unread, crate::proofs::RememberLemmas::remembers_same))]
 fn run_files<R: Threads + Wait + Sync, H: Shelf, K: Sink, D: Disk + Drop + Send, G: Gate + Sync>(
     rt: &R,
     alloc: Global,
@@ -213,6 +218,7 @@ fn run_files<R: Threads + Wait + Sync, H: Shelf, K: Sink, D: Disk + Drop + Send,
     ensures silent { IfErr result.result (λ refusal. IsSilent refusal (K.written out.old) (K.written out.new)) }
     ensures store_full { IsErrOf result.result Refusal.StoreFull → IsTold D.seen D.may_leave disk
         → IsFull (D.seen result.disk) }
+    ensures remembers { Remembers D.seen D.may_leave (status_in result.result) disk result.disk }
     ensures untouched { IsBeforeJournal (status_in result.result) → result.disk ≡ disk }
     ensures unopened { (there : List File) (cause : Refusal) → H.files shelf.old ≡ Some there
         → AreWrong (Some there) (files_seen files.now) cause → result.disk ≡ disk }
@@ -252,6 +258,7 @@ fn run_input<R: Threads + Wait + Sync, K: Sink, D: Disk + Drop + Send, G: Gate +
         → FilesLeave told files (D.seen disk) (MayLeave D.seen D.may_leave disk result.disk) (status_in result.result)
         (K.written out.old) (K.written out.new) }
     ensures refused { IfErr result.result (InputStops (D.seen disk)) }
+    ensures remembers { Remembers D.seen D.may_leave (status_in result.result) disk result.disk }
     ensures silent { IfErr result.result (λ refusal. IsSilent refusal (K.written out.old) (K.written out.new)) }
     ensures store_full { IsErrOf result.result Refusal.StoreFull → IsTold D.seen D.may_leave disk
         → IsFull (D.seen result.disk) }
@@ -319,6 +326,7 @@ fn print_reserved<K: Sink, D: Disk + Drop>(alloc: Global, out: &mut K, disk: D) 
         × (text : List ℕ) × IsReservedText found text × Appends (K.written out.old) (K.written out.new) text) }
     ensures ran { LimitsLeave (D.seen disk) (status_in result.result) (K.written out.old) (K.written out.new) }
     ensures refused { IfErr result.result (ReservedStops (D.seen disk)) }
+    ensures remembers { Remembers D.seen D.may_leave (status_in result.result) disk result.disk }
     ensures silent { IfErr result.result (λ refusal. refusal ≢ Refusal.WriteFault
         → K.written out.new ≡ K.written out.old) }
     ensures write_fault { IsErrOf result.result Refusal.WriteFault → Rose (K.faults out.old) (K.faults out.new) }

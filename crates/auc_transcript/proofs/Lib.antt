@@ -10,6 +10,7 @@ mod UsimLemmas
 mod PlaceLemmas
 mod PositionLemmas
 mod VectorLemmas
+mod AboveLemmas
 mod AcceptedLemmas
 mod FailureLemmas
 mod SingleLemmas

@@ -1,5 +1,5 @@
 -- What every lawful transcript promises of a subscriber's vectors and its USIM.
-use Rattle.std.specs.Prelude.{◌≡◌, ◌≢◌, ◌↔◌, ℕ, ◌+◌, ◌*◌, ◌^◌, ◌<◌, ◌≤◌, ◌&&◌, ◌||◌, max, nat_le, nat_lt, not, Bool, true, false, Option, Some, None, List, [], ◌∷◌, ◌++◌, length, filter, fold, map, All, AllPairs, Contains, slice_get, if◌then◌else◌}
+use Rattle.std.specs.Prelude.{◌≡◌, ◌≢◌, ◌↔◌, ℕ, ◌+◌, ◌*◌, ◌^◌, ◌<◌, ◌≤◌, ◌&&◌, ◌||◌, max, nat_le, nat_lt, not, Bool, true, false, Option, Some, None, List, [], ◌∷◌, ◌++◌, length, filter, fold, map, All, AllPairs, Contains, slice_get, slice_index, if◌then◌else◌}
 use Rattle.std.specs.List.{list_any}
 use Rattle.auc_edge.specs.declared.stop.Stop.{Stop}
 use Rattle.auc_history.specs.declared.entry.Entry.{Entry}
@@ -26,6 +26,10 @@ use Rattle.auc_world.specs.Transcript.{IsLawful, lines_of, stretches_of}
 -- no two vectors that a transcript releases for one of so many subscribers have the same SQN
 abbrev pub VectorsDiffer : ℕ → List PartRecord → Type 0
 VectorsDiffer count records = (sub : ℕ) → sub < count → AllPairs ◌≢◌ (map sqn_bytes (numbers_of sub (lines_of records)))
+
+-- each number that lines release for one of so many subscribers is above what was reserved for it at first
+abbrev pub AreAboveReserved : ℕ → List ℕ → List LineRecord → Type 0
+AreAboveReserved count reserved lines = (sub : ℕ) → sub < count → All (λ n. slice_index reserved sub < n) (numbers_of sub lines)
 
 -- ---- the USIM
 
@@ -118,6 +122,10 @@ FailsExactlyByPlace rows records = (before : List LineRecord) (sub n : ℕ) (ans
 abbrev pub EachTranscriptKeepsNumbersApart : Type 0
 EachTranscriptKeepsNumbersApart = (set : Setting) (reserved : List ℕ) (stop : Option Stop) (parts : List Part) (records : List PartRecord)
     → IsLawful set reserved stop parts records → VectorsDiffer (length set.rows) records
+
+abbrev pub EachNumberIsAboveReserved : Type 0
+EachNumberIsAboveReserved = (set : Setting) (reserved : List ℕ) (stop : Option Stop) (parts : List Part) (records : List PartRecord)
+    → IsLawful set reserved stop parts records → AreAboveReserved (length set.rows) reserved (lines_of records)
 
 abbrev pub EachUsimAcceptsNoneTwice : Type 0
 EachUsimAcceptsNoneTwice = (set : Setting) (reserved : List ℕ) (stop : Option Stop) (parts : List Part) (records : List PartRecord)

@@ -2,7 +2,7 @@
 
 ghost use Rattle.auc_transcript.specs.Completeness.{EachPlainSessionAgrees, EachResumedSessionAgrees};
 ghost use Rattle.auc_transcript.specs.Counters.{EachTranscriptKeepsContexts};
-ghost use Rattle.auc_transcript.specs.Headline.{EachTranscriptKeepsNumbersApart, EachTranscriptMayRestart, EachUsimAcceptsNoneTwice, EachFailureIsByPlace, EachSqnOutsideSessionsIsGenuine};
+ghost use Rattle.auc_transcript.specs.Headline.{EachNumberIsAboveReserved, EachTranscriptKeepsNumbersApart, EachTranscriptMayRestart, EachUsimAcceptsNoneTwice, EachFailureIsByPlace, EachSqnOutsideSessionsIsGenuine};
 ghost use Rattle.auc_transcript.specs.Keys.{EachAuthenticationAgrees, EachBreachIsTold, EachTranscriptHasItsNets};
 ghost use Rattle.auc_transcript.specs.OneTold.{EachToldTranscriptIsOne};
 ghost use Rattle.auc_transcript.specs.Position.{EachMoveStandsBetween, EachPlaceIsAPosition};
@@ -38,6 +38,12 @@ use auc_world::{
 /// whatever restarts are between.
 pub fn no_vector_comes_twice()
     ensures { EachTranscriptKeepsNumbersApart }
+{}
+
+/// Each released number is above what was reserved for its subscriber at first, whatever resynchronisations and restarts
+/// are between.
+pub fn each_number_is_above_what_was_reserved()
+    ensures { EachNumberIsAboveReserved }
 {}
 
 /// No USIM accepts an SQN twice.

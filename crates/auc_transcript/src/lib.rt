@@ -4,8 +4,8 @@
 //! are lawful. Restarts cut a subscriber's entries into stretches, and resynchronisations cut a stretch into
 //! periods.
 //!
-//! These laws hold for every lawful transcript. No two vectors of a subscriber have the same SQN. Its USIM
-//! accepts no SQN twice. Within a period a vector gets a synchronisation failure if and only if it, or one
+//! These laws hold for every lawful transcript. No two vectors of a subscriber have the same SQN, and each is above
+//! what was reserved for the subscriber at first. Its USIM accepts no SQN twice. Within a period a vector gets a synchronisation failure if and only if it, or one
 //! drawn a positive multiple of 32 places later, was accepted before (TS 33.102 Annex C; `specs/Headline`).
 //!
 //! The third law holds of transcripts without a restart also with the entries of all rounds taken together
@@ -27,9 +27,9 @@ mod law;
 
 pub use law::{
     each_authentication_agrees, each_breach_is_told, each_failure_in_rounds_is_by_place,
-    each_failure_in_sessions_is_by_place, each_failure_is_by_place, each_plain_session_agrees,
-    each_promise_has_a_witness, each_resumed_session_agrees, each_sqn_outside_sessions_is_genuine,
-    each_told_transcript_is_one, each_transcript_keeps_contexts, each_transcript_may_restart,
-    each_usim_accepts_none_twice, move_between_numbers_stands_between, no_vector_comes_twice,
-    place_is_a_position,
+    each_failure_in_sessions_is_by_place, each_failure_is_by_place,
+    each_number_is_above_what_was_reserved, each_plain_session_agrees, each_promise_has_a_witness,
+    each_resumed_session_agrees, each_sqn_outside_sessions_is_genuine, each_told_transcript_is_one,
+    each_transcript_keeps_contexts, each_transcript_may_restart, each_usim_accepts_none_twice,
+    move_between_numbers_stands_between, no_vector_comes_twice, place_is_a_position,
 };

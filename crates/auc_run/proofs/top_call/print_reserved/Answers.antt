@@ -1,4 +1,6 @@
+use Rattle.auc_journal.specs.Journal.{reserved_at}
 use Rattle.auc_run.proofs.EndLemmas.{limits_found, limits_unopened}
+use Rattle.auc_run.proofs.RememberLemmas.{remembers_limits, remembers_unopened}
 use Rattle.auc_run.proofs.TopLemmas.{reserved_found, unopened_stops}
 use Rattle.auc_run.specs.Inner.{status_in}
 use Rattle.auc_run.proofs.top_call.print_reserved.Goals as goal
@@ -18,3 +20,12 @@ returns-in-Ok-clause-ran g c =
 
 pub returns-in-Err-clause-ran : goal.returns-in-Err-clause-ran
 returns-in-Err-clause-ran g c = rw c.from.ensures (limits_unopened (g.D.Disk.seen c.args.disk) c.in-Err.field-0.why (g.K.Sink.written c.args.out.now))
+
+pub returns-in-Ok-clause-remembers : goal.returns-in-Ok-clause-remembers
+returns-in-Ok-clause-remembers g c =
+    remembers_limits g.D.Disk.seen g.D.Disk.may_leave c.args.disk c.into_disk.result (λ sub. reserved_at c.in-Ok.journal sub) c.in-Ok.journal c.write_limits-result.result
+    c.in-Ok.ensures.durable c.into_disk.ensures c.write_limits-result.ensures.refused
+
+pub returns-in-Err-clause-remembers : goal.returns-in-Err-clause-remembers
+returns-in-Err-clause-remembers g c =
+    rw c.from.ensures (remembers_unopened g.D.Disk.seen g.D.Disk.may_leave c.in-Err.field-0.why c.args.disk c.in-Err.field-0.disk c.in-Err.ensures.refused)

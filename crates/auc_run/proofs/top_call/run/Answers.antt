@@ -5,6 +5,7 @@ use Rattle.auc_run.specs.declared.refusal.Refusal.TheVariants as refused
 use Rattle.auc_run.proofs.CauseLemmas.{comes_at}
 use Rattle.auc_run.specs.Crash.{MayLeave}
 use Rattle.auc_run.proofs.EndLemmas.{algorithm_may, algorithm_told, ran_told, reserved_told, usage_told, write_told}
+use Rattle.auc_run.proofs.RememberLemmas.{remembers_told}
 use Rattle.auc_run.proofs.TopLemmas.{full_runs, full_told, load_told, read_told, refused_told}
 use Rattle.auc_run.proofs.top_call.run.Goals as goal
 
@@ -66,6 +67,14 @@ returns-in-Err-clause-usage_ran g c = λ unknown.
     usage_told c.args.words.now (g.H.Shelf.files c.args.shelf.now) (g.D.Disk.seen c.args.disk) c.in-Err.refusal c.tell.result
     (g.K.Sink.written c.args.out.now) (g.K.Sink.written c.perform-disk.new.out) (g.K.Sink.written c.tell.new.out) unknown (rw c.in-Err.is at c.perform-disk.ensures.refused)
     (rw c.in-Err.is at c.perform-disk.ensures.silent) c.tell.ensures.told c.tell.ensures.front
+
+pub returns-in-Ok-clause-remembers : goal.returns-in-Ok-clause-remembers
+returns-in-Ok-clause-remembers g c = rw c.in-Ok.is at c.perform-disk.ensures.remembers
+
+pub returns-in-Err-clause-remembers : goal.returns-in-Err-clause-remembers
+returns-in-Err-clause-remembers g c =
+    remembers_told g.D.Disk.seen g.D.Disk.may_leave c.in-Err.refusal c.tell.result c.args.disk c.perform-disk.result.disk (g.K.Sink.written c.perform-disk.new.out) (g.K.Sink.written c.tell.new.out)
+    (rw c.in-Err.is at c.perform-disk.ensures.remembers) c.tell.ensures.told
 
 pub returns-in-Err-clause-quiet_shelf : goal.returns-in-Err-clause-quiet_shelf
 returns-in-Err-clause-quiet_shelf g c = λ not_read.

@@ -1,10 +1,14 @@
 use Rattle.std.proofs.Common.{inl, subst}
 use Rattle.auc_world.specs.Agreement.{IsRealm}
 use Rattle.auc_run.specs.Crash.{MayLeave}
+use Rattle.auc_journal.specs.Journal.{limits_of}
+use Rattle.auc_world.specs.Transcript.{beginning}
 use Rattle.auc_run.specs.Inner.{status_in}
+use Rattle.auc_run.specs.Output.{setting_of}
 use Rattle.auc_run.proofs.KnownLemmas.{known}
 use Rattle.auc_run.proofs.OutcomeLemmas.{Laws, files_run}
 use Rattle.auc_run.proofs.RefusalLemmas.{leave_runs}
+use Rattle.auc_run.proofs.RememberLemmas.{remembers_parts, remembers_unopened}
 use Rattle.auc_run.proofs.TopLemmas.{journal_stops}
 use Rattle.auc_run.proofs.top_call.run_input.Goals as goal
 
@@ -39,3 +43,16 @@ serve_parts-requires-clause-known g c = λ κs within.
 pub returns-in-Err-clause-refused : goal.returns-in-Err-clause-refused
 returns-in-Err-clause-refused g c =
     rw c.from.ensures (inl (journal_stops (g.D.Disk.seen c.args.disk) c.in-Err.field-0.why c.in-Err.ensures.not_journal))
+
+pub returns-in-Ok-clause-remembers : goal.returns-in-Ok-clause-remembers
+returns-in-Ok-clause-remembers g c =
+    let rows = c.args.input.now.subs in
+    let script = c.args.input.now.script in
+    let limits = limits_of c.in-Ok.journal in
+    remembers_parts g.D.Disk.seen g.D.Disk.may_leave (setting_of rows script) script.full c.args.disk limits (beginning rows limits) script.parts
+    (status_in c.serve_parts.result.result) c.serve_parts.result.disk (g.K.Sink.written c.args.out.now) (g.K.Sink.written c.serve_parts.new.out)
+    (c.serve_parts.ensures.ran c.args.disk c.in-Ok.ensures.opened)
+
+pub returns-in-Err-clause-remembers : goal.returns-in-Err-clause-remembers
+returns-in-Err-clause-remembers g c =
+    rw c.from.ensures (remembers_unopened g.D.Disk.seen g.D.Disk.may_leave c.in-Err.field-0.why c.args.disk c.in-Err.field-0.disk c.in-Err.ensures.refused)
