@@ -16,6 +16,8 @@ mod journal;
 #[cfg(test)]
 mod keeper;
 #[cfg(test)]
+mod longest;
+#[cfg(test)]
 mod pure_core;
 #[cfg(test)]
 mod released;
