@@ -2,7 +2,7 @@
 //! one in the crate `auc_cli`.
 
 use auc_disk::{DiskCall, FailList, MemDisk};
-use auc_edge::{Gate, Items, MemShelf, MemSink, NoMemory, Octets, OpenGate, TurnGate};
+use auc_edge::{Gate, Items, MemShelf, MemSink, Octets, OpenGate, TurnGate};
 use auc_run::{MAX_FILE, Status, run};
 use std::alloc::Global;
 use std::process::Abort;
@@ -10,14 +10,41 @@ use std::sync::Wait;
 use std::thread::Threads;
 
 // A disk with these bytes, whose calls fail as the list says.
-fn disk_of(alloc: Global, bytes: &[u8], fail: FailList) -> Result<MemDisk, NoMemory> {
-    let mut image = Octets::new(alloc);
-    image.append(bytes)?;
-    MemDisk::new(alloc, image, fail)
+fn disk_of(rt: &impl Abort, alloc: Global, bytes: &[u8], fail: FailList) -> MemDisk {
+    let image = Octets::copied_from(alloc, bytes).expect(rt, "memory");
+    MemDisk::new(alloc, image, fail).expect(rt, "memory")
 }
 
-// A run with these words over a shelf and a disk, with a gate. It answers the status and the disk.
-fn run_words<R: Threads + Wait + Sync, G: Gate + Sync>(
+fn empty_disk(rt: &impl Abort, alloc: Global) -> MemDisk {
+    disk_of(rt, alloc, b"", FailList::new(alloc))
+}
+
+// An empty disk of which one call fails.
+fn failing_disk(rt: &impl Abort, alloc: Global, call: DiskCall, ordinal: u64) -> MemDisk {
+    let mut fail = FailList::new(alloc);
+    fail.push(call, ordinal).expect(rt, "memory");
+    disk_of(rt, alloc, b"", fail)
+}
+
+// A shelf with one file.
+fn shelf_of(rt: &impl Abort, alloc: Global, name: &[u8], text: &[u8]) -> MemShelf {
+    let mut shelf = MemShelf::new(alloc);
+    shelf.add(name, text).expect(rt, "memory");
+    shelf
+}
+
+// A shelf with both files.
+fn shelf_of_both(rt: &impl Abort, alloc: Global, subscribers: &[u8], scenario: &[u8]) -> MemShelf {
+    let mut shelf = MemShelf::new(alloc);
+    let Ok(()) = shelf.add(b"subscribers", subscribers) else {
+        panic!(rt; "no memory")
+    };
+    shelf.add(b"scenario", scenario).expect(rt, "memory");
+    shelf
+}
+
+// Runs these words over a shelf and a disk, with a gate. It answers the status and the disk.
+fn run_words<R: Abort + Threads + Wait + Sync, G: Gate + Sync>(
     rt: &R,
     alloc: Global,
     all: &[&[u8]],
@@ -25,175 +52,166 @@ fn run_words<R: Threads + Wait + Sync, G: Gate + Sync>(
     out: &mut MemSink,
     disk: MemDisk,
     gate: &G,
-) -> Result<(Status, MemDisk), NoMemory> {
+) -> (Status, MemDisk) {
     let mut words = Items::new(alloc);
     for bytes in all {
-        let mut word = Octets::new(alloc);
-        word.append(bytes)?;
-        words.push(word)?;
+        let word = Octets::copied_from(alloc, bytes).expect(rt, "memory");
+        words.push(word).expect(rt, "memory");
     }
     let ended = run(rt, alloc, words.as_slice(), shelf, out, disk, gate);
-    Ok((ended.status, ended.disk))
+    (ended.status, ended.disk)
 }
 
-// Checks the status and the output of `run scenario`, if the file has this text, over a disk. It answers the disk.
+// A run's words, its status and its output.
+type Case<'a> = (&'a [&'a [u8]], Status, &'a [u8]);
+
+// Checks a run with a gate. It answers the disk.
+fn check_at<R: Abort + Threads + Wait + Sync, G: Gate + Sync>(
+    rt: &R,
+    alloc: Global,
+    case: Case,
+    shelf: &mut MemShelf,
+    disk: MemDisk,
+    gate: &G,
+) -> MemDisk {
+    let (words, status, output) = case;
+    let mut out = MemSink::new(alloc);
+    let (ended, left) = run_words(rt, alloc, words, shelf, &mut out, disk, gate);
+    assert!(rt; ended == status && out.as_slice() == output);
+    left
+}
+
+// Checks a run with a gate that holds no job. It answers the disk.
 fn check<R: Abort + Threads + Wait + Sync>(
+    rt: &R,
+    alloc: Global,
+    case: Case,
+    shelf: &mut MemShelf,
+    disk: MemDisk,
+) -> MemDisk {
+    check_at(rt, alloc, case, shelf, disk, &OpenGate::new())
+}
+
+// The words of a run of a scenario, and of one with a file of subscribers.
+const RUN: [&[u8]; 2] = [b"run", b"scenario"];
+
+const RUN_BOTH: [&[u8]; 3] = [b"run", b"scenario", b"subscribers"];
+
+// Checks a run of a scenario with this text, over a disk. It answers the disk.
+fn check_text<R: Abort + Threads + Wait + Sync>(
     rt: &R,
     alloc: Global,
     text: &[u8],
     disk: MemDisk,
     status: Status,
     output: &[u8],
-) -> Result<MemDisk, NoMemory> {
-    let mut shelf = MemShelf::new(alloc);
-    shelf.add(b"scenario", text)?;
-    let mut out = MemSink::new(alloc);
-    let words = [b"run".as_slice(), b"scenario".as_slice()];
-    let gate = OpenGate::new();
-    let (ended, disk) = run_words(
-        rt,
-        alloc,
-        words.as_slice(),
-        &mut shelf,
-        &mut out,
-        disk,
-        &gate,
-    )?;
-    assert_eq!(rt; out.as_slice(), output);
-    assert_eq!(rt; ended, status);
-    Ok(disk)
-}
-
-// Checks the same of `run scenario subscribers`, over an empty disk.
-fn check_both<R: Abort + Threads + Wait + Sync>(
-    rt: &R,
-    alloc: Global,
-    shelf: &mut MemShelf,
-    status: Status,
-    output: &[u8],
-) -> Result<(), NoMemory> {
-    let mut out = MemSink::new(alloc);
-    let words = [
-        b"run".as_slice(),
-        b"scenario".as_slice(),
-        b"subscribers".as_slice(),
-    ];
-    let disk = disk_of(alloc, b"", FailList::new(alloc))?;
-    let gate = OpenGate::new();
-    let (ended, _) = run_words(rt, alloc, words.as_slice(), shelf, &mut out, disk, &gate)?;
-    assert_eq!(rt; out.as_slice(), output);
-    assert_eq!(rt; ended, status);
-    Ok(())
+) -> MemDisk {
+    let mut shelf = shelf_of(rt, alloc, b"scenario", text);
+    check(rt, alloc, (&RUN, status, output), &mut shelf, disk)
 }
 
 // A scenario of one job that draws.
-fn drawing(alloc: Global, count: u64) -> Result<Octets, NoMemory> {
-    let mut text = Octets::new(alloc);
-    text.append(
+fn drawing(rt: &impl Abort, alloc: Global, count: u64) -> Octets {
+    let mut text = Octets::copied_from(
+        alloc,
         b"subscriber 001010000000001 465b5ce8b199b49faa5f0a2ee238a6bc opc cd63cb71954a9f4e48a5994e37a02baf 8000 0 0\nround\njob\ndraw 001010000000001 ",
-    )?;
-    text.append_number(count)?;
-    text.append(b"\n")?;
-    Ok(text)
+    )
+    .expect(rt, "memory");
+    text.append_number(count).expect(rt, "memory");
+    text.append(b"\n").expect(rt, "memory");
+    text
+}
+
+// A text with the lines of these vectors between two others.
+fn with_vectors(
+    rt: &impl Abort,
+    alloc: Global,
+    front: &[u8],
+    first: u64,
+    end: u64,
+    rest: &[u8],
+) -> Octets {
+    let mut text = Octets::copied_from(alloc, front).expect(rt, "memory");
+    for n in first..end {
+        text.append(b"vector 001010000000001 ").expect(rt, "memory");
+        text.append_number(n).expect(rt, "memory");
+        text.append(b"\n").expect(rt, "memory");
+    }
+    text.append(rest).expect(rt, "memory");
+    text
 }
 
 // By hand: the opening writes once and each append twice, so the fifth write would open the gate of limit 128. A crash
 // leaves it closed, and 65 is drawn next, or open, and 129 is.
 #[test]
-fn round_in_which_the_disk_fails_is_written_and_is_the_last(
-    rt: HostRuntime,
-) -> Result<(), NoMemory> {
+fn round_in_which_the_disk_fails_is_written_and_is_the_last(rt: HostRuntime) {
     let alloc = rt.alloc();
-    let mut output = Octets::new(alloc);
-    output.append(b"round 1\njob 1\n")?;
-    for before in 0..64u64 {
-        output.append(b"vector 001010000000001 ")?;
-        output.append_number(before + 1)?;
-        output.append(b"\n")?;
-    }
-    output.append(b"withheld 001010000000001 65 fault\nclosed 001010000000001 0 65 65 0 64 1\n")?;
-    let cases: [(u32, &[u8]); 2] = [
+    let output = with_vectors(
+        &rt,
+        alloc,
+        b"round 1\njob 1\n",
+        1,
+        65,
+        b"withheld 001010000000001 65 fault\nclosed 001010000000001 0 65 65 0 64 1\n",
+    );
+    let many = drawing(&rt, alloc, 70);
+    let one = drawing(&rt, alloc, 1);
+    let (output, many, one) = (output.as_slice(), many.as_slice(), one.as_slice());
+    let cases = [
         (
             0,
             b"round 1\njob 1\nvector 001010000000001 65\nclosed 001010000000001 64 65 1 0 1 0\n".as_slice(),
         ),
         (
             1,
-            b"round 1\njob 1\nvector 001010000000001 129\nclosed 001010000000001 128 129 1 0 1 0\n".as_slice(),
+            b"round 1\njob 1\nvector 001010000000001 129\nclosed 001010000000001 128 129 1 0 1 0\n",
         ),
     ];
     for (choice, after) in cases {
-        let mut fail = FailList::new(alloc);
-        fail.push(DiskCall::WriteAt, 5)?;
-        let disk = disk_of(alloc, b"", fail)?;
-        let text = drawing(alloc, 70)?;
-        let left = check(
-            &rt,
-            alloc,
-            text.as_slice(),
-            disk,
-            Status::StoreFault,
-            output.as_slice(),
-        )?;
-        let image = left.crash(alloc, choice)?;
-        let next = disk_of(alloc, image.as_slice(), FailList::new(alloc))?;
-        let one = drawing(alloc, 1)?;
-        check(&rt, alloc, one.as_slice(), next, Status::Done, after)?;
+        let disk = failing_disk(&rt, alloc, DiskCall::WriteAt, 5);
+        let left = check_text(&rt, alloc, many, disk, Status::StoreFault, output);
+        let image = left.crash(alloc, choice).expect(&rt, "memory");
+        let next = disk_of(&rt, alloc, image.as_slice(), FailList::new(alloc));
+        check_text(&rt, alloc, one, next, Status::Done, after);
     }
-    Ok(())
 }
 
 // By the user's guide: 5 numbers reserve 64, and the one after the restart reserves 128.
 #[test]
-fn reserved_tells_what_a_run_reserved(rt: HostRuntime) -> Result<(), NoMemory> {
+fn reserved_tells_what_a_run_reserved(rt: HostRuntime) {
     let alloc = rt.alloc();
-    let disk = disk_of(alloc, b"", FailList::new(alloc))?;
-    let left = check(
+    let left = check_text(
         &rt,
         alloc,
         b"subscriber 001010000000001 465b5ce8b199b49faa5f0a2ee238a6bc opc cd63cb71954a9f4e48a5994e37a02baf 8000 0 0\nround\njob\ndraw 001010000000001 1\nrestart\nround\njob\ndraw 001010000000001 1\nrestart\n",
-        disk,
+        empty_disk(&rt, alloc),
         Status::Done,
         b"round 1\njob 1\nvector 001010000000001 1\nclosed 001010000000001 0 1 1 0 1 0\nrestart\nround 2\njob 1\nvector 001010000000001 65\nclosed 001010000000001 64 65 1 0 1 0\nrestart\n",
-    )?;
+    );
     let mut shelf = MemShelf::new(alloc);
-    let mut out = MemSink::new(alloc);
-    let words = [b"reserved".as_slice()];
-    let gate = OpenGate::new();
-    let (ended, _) = run_words(
+    let told = b"reserved 001010000000001 128\n";
+    check(
         &rt,
         alloc,
-        words.as_slice(),
+        (&[b"reserved"], Status::Done, told),
         &mut shelf,
-        &mut out,
         left,
-        &gate,
-    )?;
-    assert_eq!(rt;
-        out.as_slice(),
-        b"reserved 001010000000001 128\n".as_slice()
     );
-    assert_eq!(rt; ended, Status::Done);
-    Ok(())
 }
 
 // By hand, from the tables of docs/sessions.md. The SQN of a number N is 32 N + N % 32: 16020, in hexadecimal 3e94, for
 // 500. A session draws from the numbers of its subscriber, and so does the line after it.
 #[test]
-fn sessions_go_by_the_tables_of_their_ends(rt: HostRuntime) -> Result<(), NoMemory> {
+fn sessions_go_by_the_tables_of_their_ends(rt: HostRuntime) {
     let alloc = rt.alloc();
-    let mut stale = Octets::new(alloc);
-    stale.append(
+    let stale = with_vectors(
+        &rt,
+        alloc,
         b"round 1\njob 1\nsession 1 open\nstart 1 sent 1\ndeliver 1 peer 1 sent 2\ndeliver 1 server 2 drew 1 sent 3\ndeliver 1 peer 3 sync 000000003e94 sent 4\ndeliver 1 server 4 moved 1 500 drew 501 sent 5\ndeliver 1 peer 5 accepted 000000003eb5 sent 6\ndeliver 1 server 6 sent 7 ended success\ndeliver 1 peer 7 ended success\n",
-    )?;
-    for n in 502..542u64 {
-        stale.append(b"vector 001010000000001 ")?;
-        stale.append_number(n)?;
-        stale.append(b"\n")?;
-    }
-    stale.append(
+        502,
+        542,
         b"sync 001010000000001 inrange 541 500\nvector 001010000000001 542\nclosed 001010000000001 0 542 43 499 43 0\nsession 1 agree\npremise held\n",
-    )?;
+    );
     let cases: [(&[u8], &[u8]); 3] = [
         // The USIM stands at 500, and the centre at 0.
         (
@@ -212,36 +230,26 @@ fn sessions_go_by_the_tables_of_their_ends(rt: HostRuntime) -> Result<(), NoMemo
         ),
     ];
     for (scenario, output) in cases {
-        let disk = disk_of(alloc, b"", FailList::new(alloc))?;
-        check(&rt, alloc, scenario, disk, Status::Done, output)?;
+        let disk = empty_disk(&rt, alloc);
+        check_text(&rt, alloc, scenario, disk, Status::Done, output);
     }
-    Ok(())
 }
 
 // A journal begins with its header. The opening asks for the length first.
 #[test]
-fn journal_that_cannot_be_opened_ends_the_run(rt: HostRuntime) -> Result<(), NoMemory> {
+fn journal_that_cannot_be_opened_ends_the_run(rt: HostRuntime) {
     let alloc = rt.alloc();
-    let disk = disk_of(alloc, b"AAAAAAAAAAAAAAAA", FailList::new(alloc))?;
-    check(
-        &rt,
-        alloc,
-        b"",
-        disk,
-        Status::NotJournal,
-        b"refused journal 0\n",
-    )?;
-    let mut fail = FailList::new(alloc);
-    fail.push(DiskCall::Len, 1)?;
-    let failing = disk_of(alloc, b"", fail)?;
-    check(&rt, alloc, b"", failing, Status::StoreFault, b"")?;
-    Ok(())
+    let disk = disk_of(&rt, alloc, b"AAAAAAAAAAAAAAAA", FailList::new(alloc));
+    let refusal = b"refused journal 0\n";
+    check_text(&rt, alloc, b"", disk, Status::NotJournal, refusal);
+    let failing = failing_disk(&rt, alloc, DiskCall::Len, 1);
+    check_text(&rt, alloc, b"", failing, Status::StoreFault, b"");
 }
 
 // By the user's guide: the subscribers are read first, so what is wrong with them is told first, also if the
 // scenario is missing.
 #[test]
-fn wrong_subscribers_are_told_before_the_scenario(rt: HostRuntime) -> Result<(), NoMemory> {
+fn wrong_subscribers_are_told_before_the_scenario(rt: HostRuntime) {
     let alloc = rt.alloc();
     let cases: [(&[u8], &[u8]); 2] = [
         (b"".as_slice(), b"refused subscribers 0 header\n".as_slice()),
@@ -251,140 +259,96 @@ fn wrong_subscribers_are_told_before_the_scenario(rt: HostRuntime) -> Result<(),
         ),
     ];
     for (subscribers, output) in cases {
-        let mut one = MemShelf::new(alloc);
-        one.add(b"subscribers", subscribers)?;
-        check_both(&rt, alloc, &mut one, Status::SubscribersRefused, output)?;
-        let mut both = MemShelf::new(alloc);
-        both.add(b"subscribers", subscribers)?;
-        both.add(b"scenario", b"hello\n")?;
-        check_both(&rt, alloc, &mut both, Status::SubscribersRefused, output)?;
+        let mut one = shelf_of(&rt, alloc, b"subscribers", subscribers);
+        let mut both = shelf_of_both(&rt, alloc, subscribers, b"hello\n");
+        let refused: Case = (&RUN_BOTH, Status::SubscribersRefused, output);
+        check(&rt, alloc, refused, &mut one, empty_disk(&rt, alloc));
+        check(&rt, alloc, refused, &mut both, empty_disk(&rt, alloc));
     }
-    Ok(())
 }
 
 // Bytes from Python, as above, and SHA-256 of its `hashlib`: the vectors 1 to 10 of subscriber 0 and 1 to 5 of the
 // subscribers 1 and 2.
 #[test]
-fn load_digests_all_vectors(rt: HostRuntime) -> Result<(), NoMemory> {
+fn load_digests_all_vectors(rt: HostRuntime) {
     let alloc = rt.alloc();
-    let words = [
-        b"load".as_slice(),
-        b"7".as_slice(),
-        b"3".as_slice(),
-        b"4".as_slice(),
-        b"02".as_slice(),
-    ];
+    let words = [b"load".as_slice(), b"7", b"3", b"4", b"02"];
+    let lines =
+        b"subscribers 3\njobs 4\nworkers 2\nvectors 20\nsha256 3536caba342a6eede95980f70df943f059a8a6667310e7df091d1fd69b34680f\n".as_slice();
     let mut shelf = MemShelf::new(alloc);
-    let mut out = MemSink::new(alloc);
-    let disk = disk_of(alloc, b"", FailList::new(alloc))?;
-    let gate = OpenGate::new();
-    let (ended, _) = run_words(
-        &rt,
-        alloc,
-        words.as_slice(),
-        &mut shelf,
-        &mut out,
-        disk,
-        &gate,
-    )?;
-    assert_eq!(rt; ended, Status::Done);
-    assert_eq!(rt;
-        out.as_slice(),
-        b"subscribers 3\njobs 4\nworkers 2\nvectors 20\nsha256 3536caba342a6eede95980f70df943f059a8a6667310e7df091d1fd69b34680f\n".as_slice()
-    );
-    Ok(())
+    let case: Case = (&words, Status::Done, lines);
+    check(&rt, alloc, case, &mut shelf, empty_disk(&rt, alloc));
 }
 
 // Python, as above: ChaCha20, Milenage and SHA-256 of the vectors 1 to 5 of two subscribers. Each of the two jobs waits at
 // the gate until the other one ends, too.
 #[test]
-fn jobs_run_beside_each_other(rt: HostRuntime) -> Result<(), NoMemory> {
+fn jobs_run_beside_each_other(rt: HostRuntime) {
     let alloc = rt.alloc();
-    let mut shelf = MemShelf::new(alloc);
-    shelf.add(
+    let mut shelf = shelf_of(
+        &rt,
+        alloc,
         b"scenario",
         b"workers 2\nsubscriber 001010000000001 465b5ce8b199b49faa5f0a2ee238a6bc opc cd63cb71954a9f4e48a5994e37a02baf 8000 0 0\nsubscriber 001010000000002 465b5ce8b199b49faa5f0a2ee238a6bc opc cd63cb71954a9f4e48a5994e37a02baf 8000 0 0\nround\njob\ndraw 001010000000001 1\njob\ndraw 001010000000002 1\n",
-    )?;
+    );
     let cases: [(&[&[u8]], &[u8]); 2] = [
         (
-            &[b"run".as_slice(), b"scenario".as_slice()],
+            &RUN,
             b"round 1\njob 1\nvector 001010000000001 1\njob 2\nvector 001010000000002 1\nclosed 001010000000001 0 1 1 0 1 0\nclosed 001010000000002 0 1 1 0 1 0\n".as_slice(),
         ),
         (
-            &[
-                b"load".as_slice(),
-                b"7".as_slice(),
-                b"2".as_slice(),
-                b"2".as_slice(),
-                b"2".as_slice(),
-            ],
+            &[b"load", b"7", b"2", b"2", b"2"],
             b"subscribers 2\njobs 2\nworkers 2\nvectors 10\nsha256 c2a8f10291c1e5ebf840e4d1cdf1df3c16b06254abab51dec2a680189ba4154d\n".as_slice(),
         ),
     ];
     for (words, output) in cases {
         let gate = TurnGate::new(1000000);
-        let mut out = MemSink::new(alloc);
-        let disk = disk_of(alloc, b"", FailList::new(alloc))?;
-        let (ended, _) = run_words(&rt, alloc, words, &mut shelf, &mut out, disk, &gate)?;
-        assert_eq!(rt; ended, Status::Done);
-        assert_eq!(rt; out.as_slice(), output);
-        assert_eq!(rt; (gate.left(), gate.expired()), (2, false));
+        let case = (words, Status::Done, output);
+        let disk = empty_disk(&rt, alloc);
+        check_at(&rt, alloc, case, &mut shelf, disk, &gate);
+        assert!(rt; (gate.left(), gate.expired()) == (2, false));
     }
-    Ok(())
 }
 
 // The third read is the first of the scenario.
 #[test]
-fn file_that_cannot_be_read_is_a_read_fault(rt: HostRuntime) -> Result<(), NoMemory> {
+fn file_that_cannot_be_read_is_a_read_fault(rt: HostRuntime) {
     let alloc = rt.alloc();
-    let mut missing = MemShelf::new(alloc);
-    missing.add(b"scenario", b"hello\n")?;
-    check_both(&rt, alloc, &mut missing, Status::ReadFault, b"")?;
-    let mut failing = MemShelf::new(alloc);
-    failing.add(b"subscribers", b"imsi,k,kind,op,amf,seq,usim\n")?;
-    failing.add(b"scenario", b"hello\n")?;
-    failing.fail(3)?;
-    check_both(&rt, alloc, &mut failing, Status::ReadFault, b"")
+    let mut missing = shelf_of(&rt, alloc, b"scenario", b"hello\n");
+    let mut failing = shelf_of_both(&rt, alloc, b"imsi,k,kind,op,amf,seq,usim\n", b"hello\n");
+    failing.fail(3).expect(&rt, "memory");
+    let fault: Case = (&RUN_BOTH, Status::ReadFault, b"");
+    check(&rt, alloc, fault, &mut missing, empty_disk(&rt, alloc));
+    check(&rt, alloc, fault, &mut failing, empty_disk(&rt, alloc));
 }
 
 #[test]
-fn file_of_more_than_64_mib_is_too_long(rt: HostRuntime) -> Result<(), NoMemory> {
+fn file_of_more_than_64_mib_is_too_long(rt: HostRuntime) {
     let alloc = rt.alloc();
-    let mut piece = Octets::new(alloc);
-    for _ in 0..64u32 {
-        piece.append(b"################################################################")?;
-    }
     let mut text = Octets::new(alloc);
     for _ in 0..16384u32 {
-        text.append(piece.as_slice())?;
+        text.append(&[b'#'; 4096]).expect(&rt, "memory");
     }
-    text.append(b"#")?;
-    assert_eq!(rt; text.len(), MAX_FILE + 1);
-    let disk = disk_of(alloc, b"", FailList::new(alloc))?;
-    check(&rt, alloc, text.as_slice(), disk, Status::TooLong, b"")?;
-    Ok(())
+    text.append(b"#").expect(&rt, "memory");
+    assert!(rt; text.len() == MAX_FILE + 1);
+    let disk = empty_disk(&rt, alloc);
+    check_text(&rt, alloc, text.as_slice(), disk, Status::TooLong, b"");
 }
 
 #[test]
-fn round_whose_write_fails_is_the_last(rt: HostRuntime) -> Result<(), NoMemory> {
+fn round_whose_write_fails_is_the_last(rt: HostRuntime) {
     let alloc = rt.alloc();
-    let mut shelf = MemShelf::new(alloc);
-    shelf.add(b"scenario", b"round\nround\nround\n")?;
+    let mut shelf = shelf_of(&rt, alloc, b"scenario", b"round\nround\nround\n");
     let mut out = MemSink::new(alloc);
-    out.fail(2)?;
-    let words = [b"run".as_slice(), b"scenario".as_slice()];
-    let disk = disk_of(alloc, b"", FailList::new(alloc))?;
-    let gate = OpenGate::new();
-    let (ended, _) = run_words(
+    out.fail(2).expect(&rt, "memory");
+    let (status, _) = run_words(
         &rt,
         alloc,
-        words.as_slice(),
+        &RUN,
         &mut shelf,
         &mut out,
-        disk,
-        &gate,
-    )?;
-    assert_eq!(rt; ended, Status::WriteFault);
-    assert_eq!(rt; out.as_slice(), b"round 1\n".as_slice());
-    Ok(())
+        empty_disk(&rt, alloc),
+        &OpenGate::new(),
+    );
+    assert!(rt; (status, out.as_slice()) == (Status::WriteFault, b"round 1\n".as_slice()));
 }
