@@ -47,7 +47,7 @@ def main():
     status, work, wall = measured(given.log.open("w") if given.log else sys.stderr)
     text = (
         f"The first build proves every crate that the program stands on. At version {version_of(TOP)} it took {work:.0f} minutes of\n"
-        f"processor time, and {wall:.0f} minutes on {os.cpu_count()} free processors.\n"
+        f"processor time and, as it was measured, {wall:.0f} minutes on {os.cpu_count()} free processors.\n"
     )
     print(text, end="")
     if given.write and status == 0:

@@ -6,7 +6,7 @@ from typing import NamedTuple
 from .places import TOP
 
 TABLE = re.compile(r"<!-- begin: bench/gate\.py -->\n(.*?)<!-- end: bench/gate\.py -->", re.S)
-MEASURED = re.compile(r"it took (\d+) minutes of\s+processor time, and (\d+) minutes on (\d+) free processors")
+MEASURED = re.compile(r"it took (\d+) minutes of\s+processor time\b[^.]*?(\d+) minutes on (\d+)\s+free processors")
 PROGRAM = "auc_cli"
 # The memory for one prover, in KiB.
 PROVER = 3 * 1024 * 1024
