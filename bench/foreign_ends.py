@@ -1,40 +1,39 @@
 #!/usr/bin/env python3
-"""Runs our peer with hostapd's server, and our server with wpa_supplicant's peer, by each method.
+"""Runs our peer with hostapd's server, and our server with wpa_supplicant's peer, by each method, by the trials of tools/foreign.
 
-    bench/foreign_ends.py [--ends PROGRAM] [--hostapd PROGRAM] [--packets]
+    bench/foreign_ends.py [--sessions N] [--ends PROGRAM] [--hostapd PROGRAM] [--packets]
 
-PROGRAM of our ends is crates/auc_ends_cli/out/auc_ends_cli, and hostapd is the one on the PATH, unless they are given. --packets
-prints the lines that our ends get, and their answers.
+Each pair has N sessions, 5 unless it is given. PROGRAM of our ends is crates/auc_ends_cli/out/auc_ends_cli, and hostapd is the one
+on the PATH, unless they are given. --packets prints the packets of each session.
 
-Our ends are those of the program of crates/auc_ends_cli, which is kept running and gets each foreign packet as a line. This
-script speaks RADIUS with the foreign end. The vectors for hostapd and the answers of wpa_supplicant's USIM are made by the
-Milenage of tools/eap_rows.py, under the key of the program's subscriber. The USIM is ahead at first, so the first challenge
-ends in a resynchronisation. Pseudonyms and re-authentication identities are given. There are five sessions of each pair.
+Our ends are those of the program of crates/auc_ends_cli, which is kept running. The vectors for hostapd and the answers of
+wpa_supplicant's USIM are made by the Milenage of tools/eap_rows.py, under the key of the program's subscriber. The USIM is ahead
+at first, so the first challenge ends in a resynchronisation. Pseudonyms and re-authentication identities are given.
 
-Our peer with hostapd: a full authentication; a re-authentication by the identity of EAP; one by that of an AKA-Identity round,
-after the permanent one. Then hostapd is started anew and knows no name: it asks for the others, and a full authentication
-follows; and a re-authentication. A device of ours keeps names of 33 bytes alone, and those of hostapd have 21, so with
-hostapd as it is each session has to be a full authentication. A hostapd with names of 33 bytes is built from Debian's source
+Our peer with hostapd, of each five sessions: a full authentication; a re-authentication by the identity of EAP; one by that of
+an AKA-Identity round, after the permanent one. Then hostapd is started anew and knows no name: it asks for the others, and a full
+authentication follows; and a re-authentication. A device of ours keeps names of 33 bytes alone, and those of hostapd have 21, so
+with hostapd as it is each session has to be a full authentication. A hostapd with names of 33 bytes is built from Debian's source
 package: `apt-get source wpa`; in src/eap_server/eap_sim_db.c, function eap_sim_db_get_next, `u8 buf[16]` in place of
 `u8 buf[10]`; in the folder hostapd a .config with CONFIG_DRIVER_NONE, CONFIG_EAP, CONFIG_EAP_SIM, CONFIG_EAP_AKA,
 CONFIG_EAP_AKA_PRIME and CONFIG_RADIUS_SERVER, each `=y`; there `make hostapd`. --hostapd takes it.
 
-Our server with wpa_supplicant: a full authentication; a re-authentication; one by an AKA-Identity round, which gives no further
-identity; so a full authentication by the pseudonym; and a re-authentication.
+Our server with wpa_supplicant, of each five sessions: a full authentication; a re-authentication; one by an AKA-Identity round,
+which gives no further identity; so a full authentication by the pseudonym; and a re-authentication.
 
-Each session has to be what is told above and to succeed at both ends, with equal MSK and EMSK, and RADIUS has to tell that
-MSK. It needs Debian's packages hostapd and eapoltest, and Python's `cryptography`. The exit status is 0 only if all is so.
+From the sixth session on the first of five is a re-authentication, too. Each session has to be what is told above and to succeed at
+both ends, with equal MSK and EMSK, and RADIUS has to tell that MSK. It needs Debian's packages hostapd and eapoltest, and Python's
+`cryptography`. The exit status is 0 only if all is so.
 """
 import argparse
 import re
-import socket
-import subprocess
 import sys
 import tempfile
+import time
+from contextlib import ExitStack
 from pathlib import Path
 
 import hostapd
-import radius
 from measure import TOP
 
 sys.path.append(str(TOP / "tools"))
@@ -43,66 +42,42 @@ from ends import needs, run_main
 if __name__ == "__main__":
     needs("cryptography", __doc__)
 
-from eap_rows import Functions, Usim, auts_of, autn_of, packet, rand_of, xor
+import foreign_trial
+import foreign_verdict
+from eap_rows import Functions, Usim, auts_of, autn_of, rand_of, xor
+from foreign_ours import PROGRAM, Proved, Subscriber
+from foreign_radius import Radius
+from foreign_verdict import AFTER_SYNC, AGAIN, FULL
 
-# hostapd's name of a method, and what our ends are told of it: the name of hostapd's network is fixed.
-METHODS = {"aka": ("AKA", ""), "prime": ("AKA'", " prime WLAN")}
-AHEAD, COUNT, BEFORE_RESTART, NAME_SIZE = 100, 5, 3, 33
-PEER_OPTIONS = ("", "", " permanent", "", "")
-SERVER_OPTIONS = (" pseudonym reauth", " pseudonym reauth", " any pseudonym", " any pseudonym reauth", " pseudonym reauth")
-FULL, AFTER_SYNC, AGAIN = "full authentication", "full authentication after a resynchronisation", "re-authentication"
-KINDS = (AFTER_SYNC, f"{AGAIN} 1", f"{AGAIN} 2", FULL, f"{AGAIN} 1")
-WITHOUT_NAMES = (AFTER_SYNC, FULL, FULL, FULL, FULL)
-IDENTITY_REQUEST = packet(1, 0, b"\1")
+# hostapd's name of a method; the name of its network is fixed.
+METHODS = {"aka": "AKA", "prime": "AKA'"}
+AHEAD, TURN, BEFORE_RESTART, NAME_SIZE = 100, 5, 3, 33
+PEER_OPTIONS = ((), (), ("permanent",), (), ())
+SERVER_OPTIONS = (("pseudonym", "reauth"), ("pseudonym", "reauth"), ("any", "pseudonym"), ("any", "pseudonym", "reauth"),
+                  ("pseudonym", "reauth"))
+FIRST_KINDS = (AFTER_SYNC, f"{AGAIN} 1", f"{AGAIN} 2", FULL, f"{AGAIN} 1")
+LATER_KINDS = (f"{AGAIN} 2", f"{AGAIN} 3", f"{AGAIN} 4", FULL, f"{AGAIN} 1")
 SERVER_WON, PEER_WON = "EAP: EAP entering state SUCCESS", "CTRL-EVENT-EAP-SUCCESS"
 
 
 def options():
     parser = argparse.ArgumentParser(description=__doc__, formatter_class=argparse.RawDescriptionHelpFormatter)
-    parser.add_argument("--ends", type=Path, default=TOP / "crates/auc_ends_cli/out/auc_ends_cli", help="the program of our ends")
+    parser.add_argument("--sessions", type=int, default=TURN, help="how many sessions each pair has")
+    parser.add_argument("--ends", type=Path, default=PROGRAM, help="the program of our ends")
     parser.add_argument("--hostapd", default="hostapd", help="another program of hostapd, see above")
-    parser.add_argument("--packets", action="store_true", help="print the lines that our ends get, and their answers")
+    parser.add_argument("--packets", action="store_true", help="print the packets of each session")
     return parser.parse_args()
 
 
-# ---- our ends
+def in_turn(of_five, count):
+    return tuple(of_five[number % TURN] for number in range(count))
 
-class End:
-    """An end of ours, and what it answered in the session that goes on."""
 
-    def __init__(self, chosen):
-        self.child = subprocess.Popen([chosen.ends], stdin=subprocess.PIPE, stdout=subprocess.PIPE, text=True)
-        self.shows, self.answers = chosen.packets, []
-
-    def tell(self, line):
-        """Tells the end a line: the packet that it sends, if it sends one."""
-        print(line, file=self.child.stdin, flush=True)
-        self.answers.append(self.child.stdout.readline().rstrip("\n"))
-        if self.shows:
-            print(f"    {line}\n    > {self.answers[-1]}", flush=True)
-        found = re.search(r"(?:sent|ended success|ended failure .*) ([0-9a-f]{8,})(?: keys|$)", self.answers[-1])
-        return bytes.fromhex(found[1]) if found else b""
-
-    def hear(self, eap):
-        return self.tell(f"bytes {eap.hex()}")
-
-    def begin(self, line):
-        self.answers = []
-        return self.tell(line)
-
-    def has_ended(self):
-        return " ended " in f" {self.answers[-1]}"
-
-    def keys(self):
-        """MSK and EMSK, if the session succeeded."""
-        found = re.search("ended success.* keys (.*)", self.answers[-1])
-        return tuple(bytes.fromhex(it) for it in found[1].split()[3:]) if found else None
-
-    def kind(self):
-        notes = " ".join(self.answers)
-        if found := re.search(r"(?:resumed|counter) (\d+)", notes):
-            return f"{AGAIN} {found[1]}"
-        return AFTER_SYNC if re.search("moved|sync", notes) else FULL
+def kinds(count, has_names):
+    """What the sessions of a pair have to be."""
+    if not has_names:
+        return (AFTER_SYNC, *[FULL] * (count - 1))
+    return FIRST_KINDS[:count] + in_turn(LATER_KINDS, max(0, count - TURN))
 
 
 # ---- what the foreign ends are served with, and what they tell
@@ -158,98 +133,92 @@ def keys_in(log, won):
     return found
 
 
-# ---- our peer with hostapd's server
+# ---- the pairs
 
-def asked_server(end, eap, port):
-    """Runs a session of our peer, which answered this to the first request: the MSK that RADIUS tells."""
-    state, name = [], eap[5:]
-    with socket.socket(socket.AF_INET, socket.SOCK_DGRAM) as server:
-        server.connect(("127.0.0.1", port))
-        server.settimeout(10)
-        for identifier in range(256):
-            asked = radius.request(identifier, name, eap, state)
-            server.send(asked)
-            answered = server.recv(4096)
-            eap, state = end.hear(radius.eap_in(answered)), radius.values(answered, radius.STATE)
-            if answered[0] != radius.CHALLENGE or not eap:
-                return radius.msk_in(answered, asked)
+class Servers:
+    """hostapd, started anew at the times that the sessions name, and its logs."""
+
+    def __init__(self, folder, program):
+        self.folder, self.program, self.logs, self.stack = folder, program, "", ExitStack()
+
+    def before(self, number):
+        if number == 0 or number % TURN == BEFORE_RESTART:
+            self.end()
+            self.stack.enter_context(hostapd.serving(self.folder, self.program, "-dd", "-K"))
+
+    def end(self):
+        self.stack.close()
+        log = self.folder / "server.log"
+        self.logs += log.read_text(errors="replace") if log.exists() else ""
 
 
-def with_hostapd(chosen, method):
-    """What our peer tells of each session, hostapd's keys of them, and what the sessions have to be."""
-    name, network = METHODS[method]
-    ours, told, logs, end = [], [], "", End(chosen)
+def with_hostapd(given, method):
+    """The sessions of our peer, hostapd's keys of them, and what the sessions have to be."""
+    end = Proved(given.ends)
     with tempfile.TemporaryDirectory(dir="/tmp") as text:
         folder, port = Path(text), hostapd.free_port()
-        hostapd.write_files(folder, port, name, renews=True)
+        hostapd.write_files(folder, port, METHODS[method], renews=True)
         hostapd.begin(Centre().play, hostapd.bound(folder / "centre"))
-        for numbers in (range(BEFORE_RESTART), range(BEFORE_RESTART, COUNT)):
-            with hostapd.serving(folder, chosen.hostapd, "-dd", "-K"):
-                for number in numbers:
-                    end.begin(("next" if number else f"peer {AHEAD}") + PEER_OPTIONS[number] + network)
-                    msk = asked_server(end, end.hear(IDENTITY_REQUEST), port)
-                    ours.append((end.kind(), end.keys(), msk))
-            log = (folder / "server.log").read_text(errors="replace")
-            told, logs = told + keys_in(log, SERVER_WON), logs + log
-    names = re.findall(r"AT_NEXT_REAUTH_ID \((.*)\)", logs)
-    return ours, told, KINDS if all(len(it) == NAME_SIZE for it in names) else WITHOUT_NAMES
+        servers = Servers(folder, given.hostapd)
+        server = foreign_trial.Server(Radius(hostapd.SECRET), ("127.0.0.1", port), 10)
+        chosen = foreign_trial.Chosen(method, "WLAN", AHEAD, given.sessions, in_turn(PEER_OPTIONS, given.sessions))
+        sessions = list(foreign_trial.with_server(end, server, chosen, servers.before))
+        servers.end()
+    end.close()
+    names = re.findall(r"AT_NEXT_REAUTH_ID \((.*)\)", servers.logs)
+    return sessions, keys_in(servers.logs, SERVER_WON), kinds(given.sessions, all(len(it) == NAME_SIZE for it in names))
 
 
-# ---- our server with wpa_supplicant's peer
-
-def serve(server, end, network, ours):
-    """Answers wpa_supplicant's side by our server, and adds what it tells of each session that ends."""
-    last, answered, runs, number = b"", b"", False, 0
-    while True:
-        asked, sender = server.recvfrom(4096)
-        if asked != last:
-            # The identity isn't taken from the answer to a request that our server hasn't sent: it sends its own first.
-            if runs:
-                eap = end.hear(radius.eap_in(asked))
-            else:
-                eap, number = end.begin(("next" if number else "server 0 held") + SERVER_OPTIONS[number] + network), number + 1
-            runs, keys = not end.has_ended(), end.keys()
-            code = radius.CHALLENGE if runs else radius.ACCEPT if keys else radius.REJECT
-            last, answered = asked, radius.answer(code, asked, eap, keys and keys[0])
-            if not runs:
-                ours.append((end.kind(), keys, keys and keys[0]))
-        server.sendto(answered, sender)
-
-
-def with_wpa_supplicant(chosen, method):
-    """What our server tells of each session, wpa_supplicant's keys of them, and what the sessions have to be."""
-    name, network = METHODS[method]
-    ours, end = [], End(chosen)
-    with tempfile.TemporaryDirectory(dir="/tmp") as text, socket.socket(socket.AF_INET, socket.SOCK_DGRAM) as server:
+def with_wpa_supplicant(given, method):
+    """The sessions of our server, wpa_supplicant's keys of them, and what the sessions have to be."""
+    end, sessions = Proved(given.ends), []
+    door = foreign_trial.Door(Radius(hostapd.SECRET), ("127.0.0.1", 0))
+    chosen = foreign_trial.Chosen(method, "WLAN", 0, given.sessions, in_turn(SERVER_OPTIONS, given.sessions))
+    with tempfile.TemporaryDirectory(dir="/tmp") as text:
         folder = Path(text)
-        server.bind(("127.0.0.1", 0))
-        port = server.getsockname()[1]
-        hostapd.write_files(folder, port, name, renews=True)
-        hostapd.begin(serve, server, end, network, ours)
+        hostapd.write_files(folder, door.address[1], METHODS[method], renews=True)
+        hostapd.begin(lambda: sessions.extend(foreign_trial.with_peer(end, door, chosen)))
         # It ends this script if a session fails, or if the keys of RADIUS aren't those of wpa_supplicant.
-        hostapd.ran_peer(folder, port, COUNT, usim())
+        hostapd.ran_peer(folder, door.address[1], given.sessions, usim())
         log = (folder / "peer.log").read_text(errors="replace")
-    return ours, keys_in(log, PEER_WON), KINDS
+    hostapd.wait_until(lambda: len(sessions) == given.sessions, "the last session")
+    foreign_trial.give_keys(sessions, [msk for msk, _ in keys_in(log, PEER_WON)])
+    end.close()
+    return sessions, keys_in(log, PEER_WON), kinds(given.sessions, True)
 
 
-def is_as_it_has_to_be(pair, ours, told, kinds):
-    """Prints what each session of a pair was, and tells whether all were as they have to be."""
-    are_right = len(ours) == len(told) == len(kinds)
-    for number, ((kind, keys, msk), theirs, wanted) in enumerate(zip(ours, told, kinds), 1):
-        are_equal, other = keys == (msk, theirs[1]) == theirs, f", and no {wanted}" if kind != wanted else ""
-        are_right = are_right and are_equal and not other
-        print(f"{pair}, session {number}: {kind}{other}; the keys are {'equal' if are_equal else 'DIFFERENT'}", flush=True)
-    return are_right
+def is_as_it_has_to_be(given, pair, sessions, told, wanted):
+    """Prints the verdict on each session of a pair, and tells whether all were as they have to be."""
+    judge, right = foreign_verdict.Judge(Subscriber(), "WLAN"), 0
+    for session, keys, kind in zip(sessions, told, wanted):
+        verdict = foreign_verdict.verdict_of(judge, session, kind)
+        are_equal = verdict.is_expected and tuple(session.end.keys[3:]) == keys
+        right += are_equal
+        print(f"{pair}, session {session.number}: {verdict}{'' if are_equal else '; NOT AS IT HAS TO BE'}", flush=True)
+        if given.packets or not are_equal:
+            print("\n".join(foreign_verdict.lines_of(session)))
+    return right == given.sessions == len(sessions) == len(told)
+
+
+def tried(given, method, pair, run):
+    begin = time.monotonic()
+    sessions, told, wanted = run(given, method)
+    seconds = time.monotonic() - begin
+    right = is_as_it_has_to_be(given, f"{method}: {pair}", sessions, told, wanted)
+    again = sum(it.kind.startswith(AGAIN) for it in sessions)
+    print(f"{method}: {pair}: {len(sessions)} sessions, {again} of them re-authentications, "
+          f"{'all' if right else 'NOT ALL'} as they have to be, {seconds:.0f} s")
+    return right
 
 
 def main():
-    chosen = options()
+    given = options()
     if not hostapd.are_there():
         raise SystemExit("hostapd and eapol_test are not there: apt-get install hostapd eapoltest")
-    if not chosen.ends.exists():
-        raise SystemExit(f"{chosen.ends} is not there: `rt run` in crates/auc_ends_cli builds it")
+    if not given.ends.exists():
+        raise SystemExit(f"{given.ends} is not there: `rt run` in crates/auc_ends_cli builds it")
     pairs = {"our peer with hostapd": with_hostapd, "our server with wpa_supplicant": with_wpa_supplicant}
-    right = [is_as_it_has_to_be(f"{method}: {pair}", *run(chosen, method)) for method in METHODS for pair, run in pairs.items()]
+    right = [tried(given, method, pair, run) for method in METHODS for pair, run in pairs.items()]
     raise SystemExit(not all(right))
 
 

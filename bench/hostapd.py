@@ -18,6 +18,7 @@ from contextlib import contextmanager
 from pathlib import Path
 
 IMSI = "001010000000001"
+SECRET = b"radius"
 TOOLS = ("hostapd", "eapol_test")
 # The leading digits of permanent identities, and those of names that a server gives.
 PERMANENT, NAMES = {"AKA": "0", "AKA'": "6"}, "2478"
@@ -37,7 +38,7 @@ def free_port():
 
 def write_files(folder, port, method="AKA", renews=False):
     digit = PERMANENT[method]
-    (folder / "clients").write_text("127.0.0.1 radius\n")
+    (folder / "clients").write_text(f"127.0.0.1 {SECRET.decode()}\n")
     (folder / "users").write_text("".join(f'"{first}"* {method}\n' for first in (digit, *NAMES)))
     (folder / "hostapd.conf").write_text(f"""driver=none
 interface=lo

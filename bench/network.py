@@ -17,8 +17,9 @@ from measure import TOP
 
 sys.path.append(str(TOP / "tools"))
 import aka_functions
-from eap_rows import KDF, MAX_SEQ, REACH, REQUEST, RESPONSE, Head, Keys
-from eap_rows import Fault, aes, attr, checkcode, g, hidden, is_sealed, mac, message, packet, read_message, res_attr, sealed
+from aka_keys import Keys, g
+from eap_rows import KDF, MAX_SEQ, REACH, REQUEST, RESPONSE, Head
+from eap_rows import Fault, aes, attr, checkcode, hidden, is_sealed, mac, message, packet, read_message, res_attr, sealed
 from eap_rows import shown, sixteen, sqn_of, text_attr, xor
 
 TYPES = {"aka": 23, "prime": 50}

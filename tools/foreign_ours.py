@@ -1,0 +1,171 @@
+"""Our ends in a trial with a foreign one, for tools/foreign: the program of crates/auc_ends_cli, whose server and peer are the
+proved crates auc_server and auc_peer, or the ends of tools/eap_rows.py, which are Python.
+
+Either gets a line of text for each packet and answers by one, as crates/auc_ends_cli/src/main.rt has them.
+"""
+import re
+import subprocess
+from dataclasses import dataclass, field
+from pathlib import Path
+
+from aka_functions import Aes, Functions
+from ends import missing
+from transcript import NOTES
+
+PROGRAM = Path(__file__).resolve().parent.parent / "crates/auc_ends_cli/out/auc_ends_cli"
+KEY_WORDS = 5
+
+
+@dataclass(frozen=True)
+class Subscriber:
+    """Whose session it is. That of auc_ends_cli is fixed: K and OPc of TS 35.208 §4.3, test set 1."""
+    imsi: str = "001010000000001"
+    k: bytes = bytes.fromhex("465b5ce8b199b49faa5f0a2ee238a6bc")
+    opc: bytes = bytes.fromhex("cd63cb71954a9f4e48a5994e37a02baf")
+
+    def functions(self, rand):
+        return Functions(Aes(self.k).encrypt, self.opc, rand)
+
+
+@dataclass
+class Answer:
+    """What an end answered to a line: its notes, and what it did."""
+    text: str
+    notes: list = field(default_factory=list)
+    # `sent`, `success`, `failure`, `ignored`, or the line's only word.
+    step: str = ""
+    # Why it failed, or ignored a packet.
+    cause: str = ""
+    packet: bytes = b""
+    # K_encr, K_aut, K_re, MSK and EMSK.
+    keys: list | None = None
+
+    @property
+    def has_ended(self):
+        return self.step in ("success", "failure")
+
+    @property
+    def msk(self):
+        return self.keys[3] if self.keys else None
+
+
+class NotThere(Exception):
+    """The program of our ends isn't there."""
+
+
+class Unreadable(Exception):
+    """A line that is no answer of an end."""
+
+
+def notes_in(words):
+    """Takes the notes off the front of an answer's words."""
+    found = []
+    while words and words[0] in NOTES:
+        size = 1 + NOTES[words[0]]
+        found.append(" ".join(words[:size]))
+        del words[:size]
+    return found
+
+
+def answer_in(line):
+    """An answer, of its line."""
+    words = line.split()
+    answer = Answer(line, notes_in(words))
+    match words:
+        case ["sent", data]:
+            answer.step, answer.packet = "sent", bytes.fromhex(data)
+        case ["ignored", why]:
+            answer.step, answer.cause = "ignored", why
+        case ["ended", "success", *rest] if rest[-KEY_WORDS - 1:-KEY_WORDS] == ["keys"]:
+            answer.step, answer.keys = "success", [bytes.fromhex(it) for it in rest[-KEY_WORDS:]]
+            answer.packet = bytes.fromhex("".join(rest[:-KEY_WORDS - 1]))
+        case ["ended", "failure", *rest] if rest:
+            # A server's Failure stands behind the cause.
+            if re.fullmatch("04[0-9a-f]{2}0004", rest[-1]):
+                answer.packet = bytes.fromhex(rest.pop())
+            answer.step, answer.cause = "failure", " ".join(rest)
+        case ["peer"]:
+            answer.step = "peer"
+        case _:
+            raise Unreadable(f"our end answered: {line or 'nothing'}")
+    return answer
+
+
+# ---- the lines of an end
+
+def network_of(method, network):
+    return f" prime {network}" if method == "prime" else ""
+
+
+def server_line(number, chosen, options):
+    """Begins a session of our server. The subscriber's last number counts for the first one alone."""
+    first = f"server {chosen.number} held" if number == 0 else "next"
+    return first + "".join(f" {it}" for it in options) + network_of(chosen.method, chosen.network)
+
+
+def peer_line(number, chosen, options):
+    """Begins a session of our peer. The USIM's number counts for the first one alone."""
+    first = f"peer {chosen.number}" if number == 0 else "next"
+    return first + "".join(f" {it}" for it in options) + network_of(chosen.method, chosen.network)
+
+
+# ---- the ends
+
+class Proved:
+    """The program of crates/auc_ends_cli, which is kept running."""
+    title = "the proved end of auc_ends_cli"
+
+    def __init__(self, program=PROGRAM):
+        if not Path(program).is_file():
+            raise NotThere(f"{program} isn't there: `rt run` in crates/auc_ends_cli proves and builds it; or take --ends python")
+        self.child = subprocess.Popen([program], stdin=subprocess.PIPE, stdout=subprocess.PIPE, text=True)
+
+    def tell(self, line):
+        print(line, file=self.child.stdin, flush=True)
+        return answer_in(self.child.stdout.readline().rstrip("\n"))
+
+    def close(self):
+        self.child.stdin.close()
+        self.child.wait(10)
+
+
+class Python:
+    """The ends of tools/eap_rows.py, for any subscriber."""
+    title = "the Python end of tools/eap_rows.py"
+
+    def __init__(self, subscriber):
+        try:
+            import eap_rows
+        except ImportError:
+            raise missing("cryptography") from None
+        self.rows, self.end, self.shared = eap_rows, None, None
+        eap_rows.use(subscriber.imsi.encode(), subscriber.k, subscriber.opc)
+
+    def tell(self, line):
+        word, _, rest = line.partition(" ")
+        if word == "bytes":
+            return answer_in(self.end.deliver(bytes.fromhex(rest)))
+        if word == "giveup":
+            return answer_in(self.end.give_up())
+        if word == "repeat":
+            return answer_in(self.end.repeat())
+        return self.begin(word, rest)
+
+    def begin(self, word, rest):
+        options, _, name = rest.partition("prime ")
+        options, method = options.split(), {"kind": 50, "name": name.encode()} if name else {}
+        if word != "next":
+            number = int(options[0])
+            self.shared = self.rows.Home(number, True) if word == "server" else self.rows.Device(number)
+        if isinstance(self.shared, self.rows.Home):
+            made = {"gives": "pseudonym" in options, "renews": "reauth" in options, "asks_any": "any" in options}
+            self.end = self.rows.Server(self.shared, bidding="bidding" in options, **made, **method)
+            return answer_in(self.end.answer)
+        if name == "*":
+            method["name"] = None
+        first = b"permanent" if "permanent" in options else None
+        self.end = self.rows.Peer(self.shared, has_prime="hasprime" in options, first=first, **method)
+        return Answer("peer", step="peer")
+
+    def close(self):
+        pass
