@@ -3,18 +3,19 @@
 A verdict rests on what our end answered. Where it names a wrong field, a second implementation, tools/aka_functions.py and
 tools/aka_keys.py, computes what the field has to be, and tries which other input the foreign end may have used.
 """
+import hashlib
 import hmac
 from dataclasses import dataclass, field
 
 from aka_keys import Keys
 from foreign_ours import Answer
-from report_packets import ATTRIBUTES, MEANINGS, parts_of
-from transcript import AT_IDENTITY, attributes_in, name_of, other, text_in
+from report_packets import ATTRIBUTES, parts_of
+from transcript import AT_IDENTITY, SUBTYPES, attributes_in, name_of, other, text_in
 
 AKA, PRIME, IDENTITY, NAK = 23, 50, 1, 3
 TITLES = {"aka": "EAP-AKA", "prime": "EAP-AKA'"}
 AT_RAND, AT_AUTN, AT_RES, AT_AUTS, AT_MAC, AT_KDF_INPUT, AT_KDF = 1, 2, 3, 4, 11, 23, 24
-CHALLENGE, REJECT, SYNC, NOTIFICATION, REAUTHENTICATION, CLIENT_ERROR = 1, 2, 4, 12, 13, 14
+CHALLENGE, REJECT, SYNC, AKA_IDENTITY, NOTIFICATION, REAUTHENTICATION, CLIENT_ERROR = 1, 2, 4, 5, 12, 13, 14
 FULL, AFTER_SYNC, AGAIN = "full authentication", "full authentication after a resynchronisation", "re-authentication"
 KINDS = {"full": FULL, "sync": AFTER_SYNC, "reauth": AGAIN, "any": ""}
 EQUAL, DIFFERENT, UNSEEN, FAILED = "equal keys", "keys differ", "keys unseen", "fails"
@@ -24,21 +25,34 @@ FIELDS = {"wrongautn": "AT_AUTN", "wrongmac": "AT_MAC", "wrongcheckcode": "AT_CH
           "wrongres": "AT_RES", "wrongcounter": "AT_COUNTER", "badauts": "AT_AUTS", "secondsync": "AT_AUTS",
           "beyond": "AT_AUTS", "unknownidentity": "identity", "notforme": "Code or Identifier", "othertype": "Type",
           "unexpected": "Subtype", "nocontext": "identity"}
+# The fields that stand in the line of a packet's name.
+HEAD = ("Code", "Identifier", "Length", "Type", "Subtype", "Reserved")
 # What a message needs, by its subtype and whether it is a request.
 NEEDED = {(CHALLENGE, True): (AT_RAND, AT_AUTN, AT_MAC), (CHALLENGE, False): (AT_RES, AT_MAC), (SYNC, False): (AT_AUTS,),
-          (5, False): (AT_IDENTITY,), (NOTIFICATION, True): (12,), (CLIENT_ERROR, False): (22,),
+          (AKA_IDENTITY, False): (AT_IDENTITY,), (NOTIFICATION, True): (12,), (CLIENT_ERROR, False): (22,),
           (REAUTHENTICATION, True): (129, 130, AT_MAC), (REAUTHENTICATION, False): (129, 130, AT_MAC)}
 REASONS = {
     "secondsync": "a second AUTS came in one session",
     "beyond": "its SEQ_MS is further below our number than a USIM accepts",
     "unknownidentity": "it names no subscriber of ours",
-    "wrongcounter": "it isn't the counter of the request",
+    "wrongcounter": "it isn't the counter of the request, or can't be read",
     "noseparation": "the separation bit, the top bit of AMF, is clear",
     "downgrade": "the server tells that it has EAP-AKA', and so does our device",
     "undecryptable": "its plaintext can't be read under K_encr",
     "unexpected": "our end doesn't wait for this message",
     "nocontext": "our device has told another identity than that of its context, or has none",
 }
+
+
+def within(data):
+    """The bytes of a packet up to its length; those behind it are padding (RFC 3748 §4.1)."""
+    return data[:int.from_bytes(data[2:4], "big")]
+
+
+def fields_of(data):
+    """The fields of a packet, as `parts_of` has them, also of bytes that are no packet."""
+    data = within(data)
+    return parts_of(data) if len(data) >= 4 else [["not a packet", 0, len(data), ""]]
 
 
 @dataclass
@@ -61,7 +75,7 @@ class Packet:
 
     @property
     def attributes(self):
-        return attributes_in(self.data[8:]) if self.subtype else {}
+        return attributes_in(within(self.data)[8:]) if self.subtype else {}
 
     def text(self):
         return f"packet {self.number}, {name_of(self.data) or 'no EAP'} of the {self.sender}"
@@ -153,12 +167,13 @@ class Difference:
 def sum_of(kind, key, data):
     """AT_MAC that a message has to have."""
     at = place_of_mac(data)
+    data = within(data)
     zeroed = data[:at] + bytes(16) + data[at + 16:]
     return hmac.digest(key, zeroed, "sha1" if kind == AKA else "sha256")[:16]
 
 
 def place_of_mac(data):
-    return next(start for name, start, _, _ in parts_of(data) if name == "AT_MAC") + 2
+    return next(start for name, start, _, _ in fields_of(data) if name == "AT_MAC") + 2
 
 
 def identity_of(packet):
@@ -221,6 +236,12 @@ class Judge:
             return None
         return sum_of(packet.kind, keys.aut, packet.data) == packet.attributes[AT_MAC][2:]
 
+    def is_autn_right(self, challenge):
+        """Whether MAC-A of a challenge is right."""
+        found = challenge.attributes
+        f, autn = self.subscriber.functions(found[AT_RAND][2:]), found[AT_AUTN][2:]
+        return f.f1(bytes(a ^ b for a, b in zip(autn[:6], f.ak)), autn[6:8])[0] == autn[8:]
+
     # ---- what a field has to be
 
     def of_mac(self, session, packet):
@@ -257,6 +278,17 @@ class Judge:
         return (f"MAC-S is {auts[6:].hex()}, and by our K and OPc, with the AMF 0000 and the SQN_MS {sqn.hex()} that AUTS then has, it "
                 f"has to be {f.f1(sqn, bytes(2))[1].hex()}")
 
+    def of_checkcode(self, session, packet):
+        """The hash over the packets of AKA-Identity rounds that both ends took (RFC 4187 §10.13)."""
+        taken = [it for it in session.packets[:packet.number] if it.subtype == AKA_IDENTITY and not (it.answer and it.answer.step == "ignored")]
+        data = b"".join(dict.fromkeys(within(it.data) for it in taken))
+        wanted = hashlib.new("sha1" if packet.kind == AKA else "sha256", data).hexdigest() if data else "empty"
+        return f"it is {packet.attributes[134][2:].hex() or 'empty'}, and has to be {wanted}"
+
+    def of_functions(self, session, packet):
+        told = [meaning for name, _, _, meaning in fields_of(packet.data) if name == "AT_KDF"]
+        return f"it says {' and '.join(told)}, and our peer takes 1 alone" if told else "it isn't there"
+
     def of_name(self, session, packet):
         value = packet.attributes.get(AT_KDF_INPUT)
         return f"it is {shown(text_in(value))}, and ours is {shown(self.network)}" if value is not None else "it isn't there"
@@ -266,18 +298,15 @@ def shown(text):
     return f"'{text.decode(errors='replace')}'"
 
 
-def meaning_of(packet, name):
-    """What an attribute of a packet says."""
-    kind = next((it for it, word in ATTRIBUTES.items() if word == name), None)
-    value = packet.attributes.get(kind)
-    return "it isn't there" if value is None else MEANINGS.get(kind, lambda it: it.hex())(value) or value.hex()
-
-
 # ---- which end differs
 
 def form_of(packet):
     """Where the form of a packet breaks, as far as that can be seen."""
-    for name, start, _, _ in parts_of(packet.data):
+    if packet.subtype not in SUBTYPES:
+        return f"the subtype {packet.subtype} isn't known"
+    if packet.data[0] == 1 and packet.subtype in (REJECT, SYNC, CLIENT_ERROR):
+        return "a server doesn't send this message"
+    for name, start, _, _ in fields_of(packet.data):
         if name == "not an attribute":
             return f"from byte {start} on there is no attribute: a length is 0, or goes beyond the packet"
         if name.startswith("attribute ") and int(name.split()[1]) < 128:
@@ -286,6 +315,8 @@ def form_of(packet):
 
 
 def lacking(packet):
+    if packet.subtype == AKA_IDENTITY and packet.data[0] == 1:
+        return "exactly one of AT_PERMANENT_ID_REQ, AT_ANY_ID_REQ and AT_FULLAUTH_ID_REQ"
     names = [ATTRIBUTES[it] for it in NEEDED.get((packet.subtype, packet.data[0] == 1), ()) if it not in packet.attributes]
     return " and ".join(names) or "what the message needs"
 
@@ -293,11 +324,9 @@ def lacking(packet):
 def why(judge, session, packet, cause):
     """What is wrong with a packet of the foreign end, by the cause of our end."""
     computed = {"wrongmac": judge.of_mac, "wrongautn": judge.of_autn, "wrongres": judge.of_res, "badauts": judge.of_auts,
-                "badname": judge.of_name}
+                "badname": judge.of_name, "badkdf": judge.of_functions, "wrongcheckcode": judge.of_checkcode}
     if cause in computed:
         return computed[cause](session, packet)
-    if cause in ("badkdf", "wrongcheckcode"):
-        return f"it says: {meaning_of(packet, FIELDS[cause])}"
     if cause == "unknownidentity":
         return f"{shown(identity_of(packet) or b'')} names no subscriber of ours"
     if cause == "notforme":
@@ -305,7 +334,7 @@ def why(judge, session, packet, cause):
         return f"they are {packet.data[:2].hex()}, and our last packet has the Identifier {asked.data[1]:02x}" if asked else ""
     if cause == "othertype" and packet.kind == NAK:
         return f"the peer refuses the method by a Nak, and wants type {' or '.join(map(str, packet.data[5:])) or 'none'}"
-    return REASONS.get(cause, f"it is {packet.kind}" if cause == "othertype" else cause)
+    return REASONS.get(cause, f"it is {packet.kind}, and our end waits for another one" if cause == "othertype" else cause)
 
 
 def opinion(judge, session, packet):
@@ -313,8 +342,11 @@ def opinion(judge, session, packet):
     right = judge.is_mac_right(session, packet) if packet else None
     if right is None:
         return ""
-    return ("; the second implementation finds the AT_MAC of this packet right, so the other end has other inputs, or errs"
-            if right else "; the second implementation finds another AT_MAC than our end: our end may err")
+    has_autn = packet.data[0] == 1
+    if not right or has_autn and not judge.is_autn_right(packet):
+        return "; the second implementation finds other codes in this packet than our end: our end may err"
+    codes = "AT_AUTN and AT_MAC" if has_autn else "AT_MAC"
+    return f"; by our K, OPc and names the second implementation finds its {codes} right, so the other end has other ones, or errs"
 
 
 def refused_by_foreign(judge, session, packet, text):
@@ -326,16 +358,18 @@ def refused_by_foreign(judge, session, packet, text):
 
 def told_by_foreign(judge, session, cause, number):
     """The difference if the foreign end refused, by the cause that our end names; else nothing."""
-    last = session.last(session.foreign)
+    ending = (it for it in session.packets if it.answer and it.answer.has_ended and not it.made)
+    last = next(ending, session.last(session.foreign))
     if cause == "rejected":
         fields = "AT_AUTN" if session.method == "aka" else "AT_AUTN, AT_KDF or AT_KDF_INPUT"
         return refused_by_foreign(judge, session, last, f"the peer refuses {fields}")
     if cause == "clienterror":
         return refused_by_foreign(judge, session, last, f"the peer can't take the packet, Client-Error {number}")
     if cause == "notified":
-        return refused_by_foreign(judge, session, last, f"the server tells a failure, notification {number},")
-    if cause == "failurereceived":
-        return refused_by_foreign(judge, session, last, "the server ends the session by Failure")
+        told = next((it for it in session.packets if it.sender == "server" and it.subtype == NOTIFICATION), last)
+        return refused_by_foreign(judge, session, told, f"the server tells the failure {number}")
+    if cause == "failurereceived" and last and last.data[:1] == b"\4":
+        return refused_by_foreign(judge, session, last, "the server ends the session")
     return None
 
 
@@ -364,7 +398,7 @@ def difference(judge, session):
     if cause in ("exhausted", "stopped"):
         return Difference(session.role, None, "", f"our centre has no number: {cause} {' '.join(numbers)}")
     packet = refused_packet(session)
-    if cause in ("", "givenup") or packet is None:
+    if cause in ("", "givenup", "failurereceived") or packet is None:
         return silent(session)
     if cause == "malformed":
         return Difference(session.foreign, packet, "", form_of(packet))
@@ -375,7 +409,7 @@ def difference(judge, session):
 
 def silent(session):
     last = session.packets[-1] if session.packets else None
-    about = f" after {last.text()}" if last else ""
+    about = f"; the last packet is {last.text()}" if last else ""
     return Difference(session.foreign, None, "", f"{session.silence or 'it sends nothing more'}{about}")
 
 
@@ -442,8 +476,8 @@ def lines_of(session):
         made = " (made by this tool)" if packet.made else ""
         yield f"  {packet.number:>2} {arrow(packet)}  {name_of(packet.data) or 'no EAP'}{made}"
         yield f"       {packet.data.hex()}"
-        for name, start, end, meaning in parts_of(packet.data)[3 if packet.kind == 0 else 4:]:
-            if name not in ("Subtype", "Reserved"):
+        for name, start, end, meaning in fields_of(packet.data):
+            if name not in HEAD:
                 yield f"       {name}  {meaning or packet.data[start:end].hex()}"
         if packet.answer:
             yield f"       our {session.role}: {spoken(packet.answer)}"
