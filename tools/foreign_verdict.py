@@ -77,6 +77,10 @@ class Packet:
     def attributes(self):
         return attributes_in(within(self.data)[8:]) if self.subtype else {}
 
+    @property
+    def is_ignored(self):
+        return self.answer is not None and self.answer.step == "ignored"
+
     def text(self):
         return f"packet {self.number}, {name_of(self.data) or 'no EAP'} of the {self.sender}"
 
@@ -259,8 +263,9 @@ class Judge:
         rand, autn = found[AT_RAND][2:], found[AT_AUTN][2:]
         f = self.subscriber.functions(rand)
         sqn = bytes(a ^ b for a, b in zip(autn[:6], f.ak))
-        return (f"MAC-A is {autn[8:].hex()}, and by our K and OPc, with the SQN {sqn.hex()} and the AMF {autn[6:8].hex()} that AUTN "
-                f"then has, it has to be {f.f1(sqn, autn[6:8])[0].hex()}: compare K and OPc")
+        told = f"with the SQN {sqn.hex()} and the AMF {autn[6:8].hex()} that AUTN then has"
+        wanted = f.f1(sqn, autn[6:8])[0].hex()
+        return f"MAC-A is {autn[8:].hex()}, and by our K and OPc, {told}, it has to be {wanted}: compare K and OPc"
 
     def of_res(self, session, packet):
         challenge = self.challenge_before(session, packet)
@@ -269,18 +274,19 @@ class Judge:
         found = value[2:2 + size // 8].hex()
         if not challenge:
             return f"it is {found}"
-        return f"it is {found} ({size} bits), and has to be {self.subscriber.functions(challenge.attributes[AT_RAND][2:]).res.hex()}"
+        wanted = self.subscriber.functions(challenge.attributes[AT_RAND][2:]).res.hex()
+        return f"it is {found} ({size} bits), and has to be {wanted}"
 
     def of_auts(self, session, packet):
         challenge, auts = self.challenge_before(session, packet), packet.attributes[AT_AUTS]
         f = self.subscriber.functions(challenge.attributes[AT_RAND][2:])
         sqn = bytes(a ^ b for a, b in zip(auts[:6], f.ak_star))
-        return (f"MAC-S is {auts[6:].hex()}, and by our K and OPc, with the AMF 0000 and the SQN_MS {sqn.hex()} that AUTS then has, it "
-                f"has to be {f.f1(sqn, bytes(2))[1].hex()}")
+        told, wanted = f"with the AMF 0000 and the SQN_MS {sqn.hex()} that AUTS then has", f.f1(sqn, bytes(2))[1].hex()
+        return f"MAC-S is {auts[6:].hex()}, and by our K and OPc, {told}, it has to be {wanted}"
 
     def of_checkcode(self, session, packet):
         """The hash over the packets of AKA-Identity rounds that both ends took (RFC 4187 §10.13)."""
-        taken = [it for it in session.packets[:packet.number] if it.subtype == AKA_IDENTITY and not (it.answer and it.answer.step == "ignored")]
+        taken = [it for it in session.packets[:packet.number] if it.subtype == AKA_IDENTITY and not it.is_ignored]
         data = b"".join(dict.fromkeys(within(it.data) for it in taken))
         wanted = hashlib.new("sha1" if packet.kind == AKA else "sha256", data).hexdigest() if data else "empty"
         return f"it is {packet.attributes[134][2:].hex() or 'empty'}, and has to be {wanted}"
@@ -379,7 +385,7 @@ def refused_packet(session):
         answer = it.answer
         if answer and not it.made and (refuses(answer.packet) or answer.step == "failure"):
             return it
-    return next((it for it in reversed(session.packets) if it.answer and it.answer.step == "ignored"), session.last(session.foreign))
+    return next((it for it in reversed(session.packets) if it.is_ignored), session.last(session.foreign))
 
 
 def refuses(data):
@@ -390,7 +396,7 @@ def refuses(data):
 def difference(judge, session):
     """Which end differs, where a session failed."""
     cause, *numbers = (session.end.cause if session.end else "").split() or [""]
-    ignored = next((it for it in reversed(session.packets) if it.answer and it.answer.step == "ignored"), None)
+    ignored = next((it for it in reversed(session.packets) if it.is_ignored), None)
     if found := told_by_foreign(judge, session, cause, " ".join(numbers)):
         return found
     if cause in ("", "givenup") and ignored and not ignored.made:
@@ -491,5 +497,5 @@ def lines_of(session):
 
 def spoken(answer):
     """An answer in the words of auc_ends_cli, without the bytes."""
-    return " ".join([*answer.notes, *{"sent": ["sent"], "success": ["ended success"], "failure": ["ended failure", answer.cause],
-                                      "ignored": ["ignored", answer.cause]}.get(answer.step, [answer.step])])
+    steps = {"success": ["ended success"], "failure": ["ended failure", answer.cause], "ignored": ["ignored", answer.cause]}
+    return " ".join([*answer.notes, *steps.get(answer.step, [answer.step])])

@@ -121,8 +121,8 @@ class Answers(unittest.TestCase):
                 steps.add(answer.step)
                 words = [*answer.notes, answer.packet.hex(), answer.cause, *(it.hex() for it in answer.keys or [])]
                 # Each word of the line is in the answer, except those that its step stands for.
-                left = set(line.split()) - set(" ".join(words).split()) - {"sent", "ended", "success", "failure", "ignored", "keys", "peer"}
-                self.assertEqual(left, set(), line)
+                left = set(line.split()) - set(" ".join(words).split())
+                self.assertLessEqual(left, {"sent", "ended", "success", "failure", "ignored", "keys", "peer"}, line)
         self.assertEqual(steps, {"sent", "success", "failure", "ignored", "peer"})
 
     def test_other_lines_are_no_answers(self):
@@ -192,10 +192,10 @@ class Verdicts(unittest.TestCase):
                 self.assertIn(f"       {packet.data.hex()}", lines)
 
     def test_refused_packet_and_field_are_named(self):
-        causes = {"peer": ["wrongautn", "wrongmac", "wrongcheckcode", "badname", "badkdf", "noseparation", "downgrade", "undecryptable"],
-                  "server": ["wrongmac", "wrongres", "wrongcheckcode", "wrongcounter", "badauts", "secondsync", "beyond", "unknownidentity"]}
+        causes = {"peer": "wrongautn wrongmac wrongcheckcode badname badkdf noseparation downgrade undecryptable",
+                  "server": "wrongmac wrongres wrongcheckcode wrongcounter badauts secondsync beyond unknownidentity"}
         for role in causes:
-            for cause in causes[role]:
+            for cause in causes[role].split():
                 for title, session, text in self.each(role, cause):
                     packet = foreign_verdict.refused_packet(session)
                     self.assertEqual(packet.sender, session.foreign)
@@ -215,7 +215,8 @@ class Verdicts(unittest.TestCase):
 
     def test_code_of_another_identity_is_found(self):
         # The challenge of another session: its AT_MAC is that of the permanent identity, and the peer told a text.
-        title, name, session = next(it for it in SESSIONS if "a challenge under another identity" in it[0] and cause_of(it[2]) == "wrongmac")
+        found = (it for it in SESSIONS if "a challenge under another identity" in it[0] and cause_of(it[2]) == "wrongmac")
+        title, name, session = next(found)
         packet, judge = foreign_verdict.refused_packet(session), Judge(Subscriber(), name)
         challenge = judge.challenge_before(session, packet)
         keys = [it for what, it in judge.guesses(session, challenge) if what.startswith("the identity 001010000000001")][0]
@@ -396,10 +397,9 @@ class Words(unittest.TestCase):
         return done.returncode, done.stderr
 
     def test_wrong_words_have_status_2(self):
-        for words in (["server", "127.0.0.1:0x1", "--secret-file", "s"], ["server", "127.0.0.1:1", "--secret-file", "s", "--options", "reauth"],
-                      ["peer", "127.0.0.1:1", "--secret-file", "s", "--expect", "half"],
-                      ["peer", "127.0.0.1:1", "--secret-file", "s", "--k", "00" * 16]):
-            self.assertEqual(self.ran(*words)[0], 2, words)
+        for role, *words in (["server", "--network", ""], ["server", "--options", "reauth"], ["peer", "--expect", "half"],
+                             ["peer", "--k", "00" * 16]):
+            self.assertEqual(self.ran(role, "127.0.0.1:1", "--secret-file", "s", *words)[0], 2, words)
 
     def test_what_is_missing_has_status_3(self):
         with tempfile.TemporaryDirectory() as folder:
