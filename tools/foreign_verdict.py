@@ -14,7 +14,7 @@ from transcript import AT_IDENTITY, SUBTYPES, attributes_in, name_of, other, tex
 
 AKA, PRIME, IDENTITY, NAK = 23, 50, 1, 3
 TITLES = {"aka": "EAP-AKA", "prime": "EAP-AKA'"}
-AT_RAND, AT_AUTN, AT_RES, AT_AUTS, AT_MAC, AT_KDF_INPUT, AT_KDF = 1, 2, 3, 4, 11, 23, 24
+AT_RAND, AT_AUTN, AT_RES, AT_AUTS, AT_MAC, AT_KDF_INPUT, AT_CHECKCODE = 1, 2, 3, 4, 11, 23, 134
 CHALLENGE, REJECT, SYNC, AKA_IDENTITY, NOTIFICATION, REAUTHENTICATION, CLIENT_ERROR = 1, 2, 4, 5, 12, 13, 14
 FULL, AFTER_SYNC, AGAIN = "full authentication", "full authentication after a resynchronisation", "re-authentication"
 KINDS = {"full": FULL, "sync": AFTER_SYNC, "reauth": AGAIN, "any": ""}
@@ -207,7 +207,7 @@ class Judge:
         found, kind = challenge.attributes, challenge.kind
         rand, autn = found[AT_RAND][2:], found[AT_AUTN][2:]
         told = [identity_of(it) for it in reversed(session.packets[:challenge.number])]
-        identities = list(dict.fromkeys(it for it in told if it))
+        identities = [it for it in told if it is not None] or [b""]
         digits = {AKA: b"0", PRIME: b"6"}
         permanent = digits[kind] + self.subscriber.imsi.encode()
         others = [permanent, self.subscriber.imsi.encode(), digits[AKA + PRIME - kind] + self.subscriber.imsi.encode()]
@@ -289,7 +289,7 @@ class Judge:
         taken = [it for it in session.packets[:packet.number] if it.subtype == AKA_IDENTITY and not it.is_ignored]
         data = b"".join(dict.fromkeys(within(it.data) for it in taken))
         wanted = hashlib.new("sha1" if packet.kind == AKA else "sha256", data).hexdigest() if data else "empty"
-        return f"it is {packet.attributes[134][2:].hex() or 'empty'}, and has to be {wanted}"
+        return f"it is {packet.attributes[AT_CHECKCODE][2:].hex() or 'empty'}, and has to be {wanted}"
 
     def of_functions(self, session, packet):
         told = [meaning for name, _, _, meaning in fields_of(packet.data) if name == "AT_KDF"]

@@ -20,8 +20,8 @@ from aka_functions import xor
 from aka_keys import Keys
 from ends import run_main
 from foreign_ours import Subscriber, Unreadable, answer_in
-from foreign_radius import ACCEPT, CHALLENGE, Fault, Radius
-from foreign_verdict import AKA, DIFFERENT, EQUAL, FAILED, FIELDS, UNSEEN, Judge, Session, verdict_of
+from foreign_radius import ACCEPT, Fault, Radius
+from foreign_verdict import AKA, DIFFERENT, EQUAL, FAILED, UNSEEN, Judge, Session, verdict_of
 
 TOOLS = Path(__file__).resolve().parent
 ROWS = TOOLS.parent / "crates/auc_ends_cli"
@@ -65,7 +65,8 @@ class RadiusPackets(unittest.TestCase):
     def test_answer_of_rfc_2865_has_its_authenticator(self):
         self.assertEqual(Radius(b"xyzzy5461").read_answer(NEMO_ACCEPTED, NEMO), NEMO_ACCEPTED)
         for at in (5, 22, 37):
-            self.assertIn("Response Authenticator", self.refused(Radius(b"xyzzy5461").read_answer, changed(NEMO_ACCEPTED, at), NEMO))
+            wrong = changed(NEMO_ACCEPTED, at)
+            self.assertIn("Response Authenticator", self.refused(Radius(b"xyzzy5461").read_answer, wrong, NEMO))
         self.assertIn("compare the secrets", self.refused(Radius(b"xyzzy5462").read_answer, NEMO_ACCEPTED, NEMO))
         self.assertEqual(foreign_radius.values(NEMO, foreign_radius.USER_NAME), [b"nemo"])
 
@@ -83,7 +84,8 @@ class RadiusPackets(unittest.TestCase):
         self.assertEqual(foreign_radius.eap_in(CHALLENGED).hex(), "0101000c170500000d010000")
         self.assertEqual(self.radius.read_answer(ACCEPTED, ASKED), ACCEPTED)
         self.assertEqual(self.radius.msk_in(ACCEPTED, ASKED), MSK)
-        self.assertEqual(foreign_radius.values(CHALLENGED, foreign_radius.STATE), foreign_radius.values(ASKED, foreign_radius.STATE))
+        states = [foreign_radius.values(it, foreign_radius.STATE) for it in (CHALLENGED, ASKED)]
+        self.assertEqual((len(states[0]), states[0]), (1, states[1]))
 
     def test_changed_answer_of_hostapd_is_refused(self):
         for at in range(len(ACCEPTED)):
@@ -192,14 +194,18 @@ class Verdicts(unittest.TestCase):
                 self.assertIn(f"       {packet.data.hex()}", lines)
 
     def test_refused_packet_and_field_are_named(self):
-        causes = {"peer": "wrongautn wrongmac wrongcheckcode badname badkdf noseparation downgrade undecryptable",
-                  "server": "wrongmac wrongres wrongcheckcode wrongcounter badauts secondsync beyond unknownidentity"}
-        for role in causes:
-            for cause in causes[role].split():
+        fields = {
+            "peer": {"wrongautn": "AT_AUTN", "wrongmac": "AT_MAC", "wrongcheckcode": "AT_CHECKCODE", "badname": "AT_KDF_INPUT",
+                     "badkdf": "AT_KDF", "noseparation": "AT_AUTN", "downgrade": "AT_BIDDING", "undecryptable": "AT_ENCR_DATA"},
+            "server": {"wrongmac": "AT_MAC", "wrongres": "AT_RES", "wrongcheckcode": "AT_CHECKCODE", "wrongcounter": "AT_COUNTER",
+                       "badauts": "AT_AUTS", "secondsync": "AT_AUTS", "beyond": "AT_AUTS", "unknownidentity": "identity"},
+        }
+        for role in fields:
+            for cause in fields[role]:
                 for title, session, text in self.each(role, cause):
                     packet = foreign_verdict.refused_packet(session)
                     self.assertEqual(packet.sender, session.foreign)
-                    self.assertTrue(text.startswith(f"{packet.text()}, {FIELDS[cause]}: "), text)
+                    self.assertTrue(text.startswith(f"{packet.text()}, {fields[role][cause]}: "), text)
 
     def test_field_has_to_be_what_the_second_implementation_computes(self):
         for role, cause in (("peer", "wrongautn"), ("peer", "wrongmac"), ("peer", "wrongcheckcode"), ("server", "wrongmac"),
@@ -212,6 +218,23 @@ class Verdicts(unittest.TestCase):
                     self.assertNotIn(f"is {wanted} (", found)
                     count += 1
             self.assertGreater(count, 1, cause)
+
+    def test_second_implementation_has_the_codes_of_our_own_packets(self):
+        counts = {"AT_CHECKCODE": 0, "AT_MAC": 0, "AT_RES": 0}
+        for title, name, session in SESSIONS:
+            judge = Judge(Subscriber(), name)
+            for packet in (it for it in session.packets if it.sender == session.role):
+                if len(packet.attributes.get(134, b"")) > 2:
+                    found, wanted = judge.of_checkcode(session, packet).split(", and has to be ")
+                    self.assertEqual(found, f"it is {wanted}", title)
+                    counts["AT_CHECKCODE"] += 1
+                if session.role == "peer" and packet.subtype == 1:
+                    self.assertTrue(judge.is_mac_right(session, packet), title)
+                    found, wanted = judge.of_res(session, packet).split(" (64 bits), and has to be ")
+                    self.assertEqual(found, f"it is {wanted}", title)
+                    counts["AT_MAC"] += 1
+                    counts["AT_RES"] += 1
+        self.assertGreater(min(counts.values()), 50)
 
     def test_code_of_another_identity_is_found(self):
         # The challenge of another session: its AT_MAC is that of the permanent identity, and the peer told a text.
