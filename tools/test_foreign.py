@@ -281,6 +281,8 @@ class Verdicts(unittest.TestCase):
         self.assertEqual((other.word, other.is_expected), (EQUAL, False))
         session.msk = None
         self.assertTrue(verdict_of(judge, session, needs_keys=False).is_expected)
+        session.accepted = False
+        self.assertEqual(verdict_of(judge, session, needs_keys=False).word, FAILED)
 
 
 # ---- both trials on the loopback

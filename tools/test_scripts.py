@@ -186,7 +186,8 @@ class Outputs(unittest.TestCase):
 class WithoutCryptography(unittest.TestCase):
     def test_script_that_needs_it_says_how_to_install_it(self):
         need = ["tools/eap_rows.py", "bench/random_sessions.py", "bench/foreign_keys.py", "bench/foreign_ends.py"]
-        for words in [[TOP / it] for it in need] + [[TOOLS / "pcap", NAMED, "-"], [TOOLS / "report", NAMED]]:
+        foreign = [TOOLS / "foreign", "server", "127.0.0.1:1", "--secret-file", "/dev/null", "--ends", "python"]
+        for words in [[TOP / it] for it in need] + [[TOOLS / "pcap", NAMED, "-"], [TOOLS / "report", NAMED], foreign]:
             reason = f"{words[0].name}: Python's module cryptography is missing: apt-get install python3-cryptography\n"
             with self.subTest(words=words):
                 done = subprocess.run([sys.executable, "-S", *words], capture_output=True, text=True)
