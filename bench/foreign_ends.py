@@ -45,7 +45,7 @@ if __name__ == "__main__":
 import foreign_trial
 import foreign_verdict
 from eap_rows import Functions, Usim, auts_of, autn_of, rand_of, xor
-from foreign_ours import PROGRAM, Proved, Subscriber
+from foreign_ours import PROGRAM, Program, Subscriber
 from foreign_radius import Radius
 from foreign_verdict import AFTER_SYNC, AGAIN, FULL
 
@@ -154,7 +154,7 @@ class Servers:
 
 def with_hostapd(given, method):
     """The sessions of our peer, hostapd's keys of them, and what the sessions have to be."""
-    end = Proved(given.ends)
+    end = Program(given.ends)
     with tempfile.TemporaryDirectory(dir="/tmp") as text:
         folder, port = Path(text), hostapd.free_port()
         hostapd.write_files(folder, port, METHODS[method], renews=True)
@@ -171,7 +171,7 @@ def with_hostapd(given, method):
 
 def with_wpa_supplicant(given, method):
     """The sessions of our server, wpa_supplicant's keys of them, and what the sessions have to be."""
-    end, sessions = Proved(given.ends), []
+    end, sessions = Program(given.ends), []
     door = foreign_trial.Door(Radius(hostapd.SECRET), ("127.0.0.1", 0))
     chosen = foreign_trial.Chosen(method, "WLAN", 0, given.sessions, in_turn(SERVER_OPTIONS, given.sessions))
     with tempfile.TemporaryDirectory(dir="/tmp") as text:

@@ -111,11 +111,11 @@ def peer_line(number, chosen, options):
 
 # ---- the ends
 
-class Proved:
+class Program:
     """The program of crates/auc_ends_cli, which is kept running."""
-    title = "the proved end of auc_ends_cli"
 
     def __init__(self, program=PROGRAM):
+        self.title = f"that of the program {Path(program).name}"
         if not Path(program).is_file():
             raise NotThere(f"{program} isn't there: `rt run` in crates/auc_ends_cli proves and builds it; or take --ends python")
         self.child = subprocess.Popen([program], stdin=subprocess.PIPE, stdout=subprocess.PIPE, text=True)
@@ -131,7 +131,7 @@ class Proved:
 
 class Python:
     """The ends of tools/eap_rows.py, for any subscriber."""
-    title = "the Python end of tools/eap_rows.py"
+    title = "that of tools/eap_rows.py, in Python"
 
     def __init__(self, subscriber):
         try:
