@@ -342,11 +342,11 @@ class PlayedPeer(Played):
 
 
 class Trials(unittest.TestCase):
-    def both(self, server_end, peer_end, secret=b"secret", sessions=3):
+    def both(self, server_end, peer_end, secret=b"secret", sessions=3, patience=15, wait=15):
         """The sessions of both trials, run with each other, and what the server's one said."""
         said, served = [], []
         door = foreign_trial.Door(Radius(b"secret"), ("127.0.0.1", 0), said.append)
-        chosen = foreign_trial.Chosen("aka", sessions=sessions, patience=0.3, wait=0.8)
+        chosen = foreign_trial.Chosen("aka", sessions=sessions, patience=patience, wait=wait)
 
         def serve():
             try:
@@ -355,7 +355,7 @@ class Trials(unittest.TestCase):
                 said.append(str(reason))
         thread = threading.Thread(target=serve)
         thread.start()
-        server = foreign_trial.Server(Radius(secret), door.address, 0.6)
+        server = foreign_trial.Server(Radius(secret), door.address, patience)
         asked = list(foreign_trial.with_server(peer_end, server, chosen))
         thread.join()
         self.addCleanup(door.door.close)
@@ -385,10 +385,10 @@ class Trials(unittest.TestCase):
         self.assertIn("the second implementation has the server's: our end may err", self.verdicts(asked)[0].text)
 
     def test_other_secret_is_told_at_both(self):
-        served, asked, said = self.both(PlayedServer(), PlayedPeer(), secret=b"secreT", sessions=1)
+        served, asked, said = self.both(PlayedServer(), PlayedPeer(), b"secreT", sessions=1, patience=0.6, wait=1)
         self.assertIn("it doesn't answer in 0.6 seconds: compare address and secret", self.verdicts(asked)[0].text)
         self.assertIn("its Message-Authenticator is wrong: compare the secrets", said[0])
-        self.assertEqual((served, said[-1]), ([], "no session began in 0.8 seconds"))
+        self.assertEqual((served, said[-1]), ([], "no session began in 1 seconds"))
 
     def test_peer_that_falls_silent_is_told(self):
         door = foreign_trial.Door(Radius(b"secret"), ("127.0.0.1", 0))
