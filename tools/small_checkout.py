@@ -33,7 +33,8 @@ while [ -n "$RT_GATE" ] && [ ! -e "$RT_GATE" ]; do sleep 0.05; done
 case $1 in
     ci) printf 'jobs=%s\\n' "$RT_JOBS" >>"$CALLS"; find . -type f | LC_ALL=C sort >"$RT_FILES"
         printf 'rt: auc_low is kept: earlier\\n'; sleep 0.6; printf '== auc_cli\\n'
-        mkdir -p crates/auc_cli/out; cp "$RT_PROGRAM" crates/auc_cli/out/auc_cli ;;
+        [ -n "$RT_LEAVES_NONE" ] || { mkdir -p crates/auc_cli/out; cp "$RT_PROGRAM" crates/auc_cli/out/auc_cli; } ;;
+    run) mkdir -p out; cp "$RT_PROGRAM" out/auc_cli; shift 2; exec out/auc_cli "$@" ;;
     try) printf '%s\\n' "$SAYS"; echo run=ended >&2; exit "${STATUS:-0}" ;;
 esac
 """

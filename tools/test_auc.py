@@ -317,6 +317,11 @@ class Builds(Checkout):
         self.assertEqual(self.auc("prove", "--anew").returncode, 0)
         self.assertEqual(self.noted()[3:5], ["ci --anew", "jobs="])
 
+    def test_a_kit_whose_gate_leaves_no_program_builds_it_after_that(self):
+        self.assertEqual(self.auc("run", "x", SAYS="hello", RT_LEAVES_NONE=1).stdout, "hello\n")
+        self.assertEqual([it.split()[0] for it in self.noted()[:3:2]], ["ci", "run"])
+        self.assertEqual(self.auc("prove", "--anew", RT_LEAVES_NONE=1, RT_FAILS=1).returncode, 70)
+
     def test_the_builder_gets_the_programs_crates_alone(self):
         others = ["auc_low/out/x.rt", "auc_low/must-fail/x.edit", "auc_tests/src/lib.rt"]
         for name in (*others, "auc_low/proofs/out/Answers.antt"):
