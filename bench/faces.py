@@ -6,7 +6,7 @@ of functions, and without private functions. It reads sources that `rt fmt` laid
 import hashlib
 import re
 
-from clauses import blanked, end_of, function_at, functions_in, plain
+from clauses import blanked, function_at, functions_in, plain
 from repository import files_of
 
 FUNCTION = re.compile(r"(?m)^[ \t]*(?:pub(?:\([^)]*\))?\s+)?(?:(?:const|unsafe|extern)\s+)*\bfn\s+\w")

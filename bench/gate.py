@@ -20,7 +20,6 @@ and DEAR has no reason for it, or if a crate was not proved once more. It works 
 """
 import argparse
 import os
-import re
 import subprocess
 import sys
 import time

@@ -82,18 +82,20 @@ class Runs(Checkout):
     def test_progress_is_told_and_output_and_status_are_the_programs(self):
         ran = self.auc("--progress", "run", "x", SAYS="round 1\nvector\nround 2", STATUS=6)
         self.assertEqual((ran.returncode, ran.stdout), (6, "round 1\nvector\nround 2\n"))
-        self.assertEqual(ran.stderr.splitlines()[0], "auc: 2 rounds are written, 3 lines")
+        self.assertEqual(ran.stderr.splitlines()[0], "auc: rounds written: 2, lines: 3")
         slow = "#!/bin/sh\nfor it in 1 2 3; do echo round $it; sleep 0.6; done\n"
         self.executable("top/crates/auc_cli/out/proved/auc", slow)
         told = self.auc("--progress", "run", "x").stderr.splitlines()
-        self.assertEqual((len(told), told[-1]), (2, "auc: 3 rounds are written, 3 lines"))
+        self.assertEqual((len(told), told[-1]), (2, "auc: rounds written: 3, lines: 3"))
 
     def test_with_progress_an_output_that_fails_is_the_programs_write_fault(self):
         many = "#!/bin/sh\ntrap '' PIPE\nfor it in 1 2 3; do echo round $it || exit 5; sleep 0.2; done\n"
         for program in (many, "#!/bin/sh\necho round 1\n"):
             self.executable("top/crates/auc_cli/out/proved/auc", program)
             with open("/dev/full", "wb") as full:
-                self.assertEqual(self.auc("--progress", "run", "x", stdout=full).returncode, 5)
+                ran = self.auc("--progress", "run", "x", stdout=full)
+                self.assertEqual(ran.returncode, 5)
+                self.assertIn("auc: rounds written: 0, lines: 0\n", ran.stderr, "what wasn't written isn't counted")
         self.executable("top/crates/auc_cli/out/proved/auc", OPEN.format(self.room / "fds"))
         self.auc("--progress", "run", "x", preexec_fn=lambda: os.close(1))
         self.assertEqual((self.room / "fds").read_text().split(), ["0", "2"], "a closed output stays closed")

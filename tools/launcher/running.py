@@ -61,7 +61,7 @@ class Progress:
 
     def tell(self):
         self.told_at = time.monotonic()
-        say(f"{self.rounds} rounds are written, {self.lines} lines")
+        say(f"rounds written: {self.rounds}, lines: {self.lines}")
 
 
 def write_whole(chunk):
@@ -91,7 +91,8 @@ def run_telling(program, words):
     process, progress, is_written = started(program, words, stdout=subprocess.PIPE), Progress(), True
     while is_written and (chunk := os.read(process.stdout.fileno(), CHUNK)):
         is_written = write_whole(chunk)
-        progress.add(chunk)
+        if is_written:
+            progress.add(chunk)
     process.stdout.close()
     status = as_a_shell_has_it(process.wait())
     progress.tell()
