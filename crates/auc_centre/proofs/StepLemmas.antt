@@ -9,7 +9,7 @@ use Rattle.auc_history.specs.declared.entry.Entry.{Entry}
 use Rattle.auc_history.specs.History.{IsInOrder, drawn}
 use Rattle.auc_draw.specs.declared.rule.Deed.{Deed}
 use Rattle.auc_draw.specs.declared.rule.Deed.TheVariants.{Released, Withheld}
-use Rattle.auc_draw.specs.Deeds.{entries_by, entries_of, claims_by, claims_of, held_by, held_of, released_by, released_of, kept_stop, stop_read, withholding, made, AreInOrder}
+use Rattle.auc_draw.specs.Deeds.{entries_by, entries_of, claims_by, claims_of, held_by, held_of, released_in, released_of, kept_stop, stop_read, withholding, made, AreInOrder}
 use Rattle.auc_draw.specs.Values.{PassValue}
 use Rattle.auc_draw.proofs.Facts.{in_order_last, after_last}
 use Rattle.auc_centre.specs.Adds.{Adds, IsTold}
@@ -103,7 +103,7 @@ release_steps sub n old new grows ended ordered = record {
 -- after it the number is released
 pub is_released : (sub n : ℕ) (old new : PassValue) → new.deeds ≡ old.deeds ++ Released sub n ∷ [] → Contains (released_of sub new.deeds) n
 is_released sub n old new grows =
-    let last = flat_map-append (released_by sub) old.deeds (Released sub n ∷ []) ∙ ap (λ (ns : List ℕ). released_of sub old.deeds ++ (ns ++ [])) (when_same sub n) in
+    let last = flat_map-append (released_in sub) old.deeds (Released sub n ∷ []) ∙ ap (λ (ns : List ℕ). released_of sub old.deeds ++ (ns ++ [])) (when_same sub n) in
     subst (λ (ns : List ℕ). Contains ns n) (sym (ap (released_of sub) grows ∙ last)) (Contains-append_right (released_of sub old.deeds) (n ∷ []) n (0, omega arith, refl))
 
 -- a number that isn't released, and isn't withheld yet

@@ -8,7 +8,7 @@ use Rattle.auc_edge.specs.declared.stop.Stop.{Stop}
 use Rattle.auc_history.specs.declared.entry.Entry.{Entry}
 use Rattle.auc_history.specs.History.{drawn, drawn_by}
 use Rattle.auc_draw.specs.declared.rule.Deed.{Deed}
-use Rattle.auc_draw.specs.Deeds.{entries_of, held_of, released_by, released_of}
+use Rattle.auc_draw.specs.Deeds.{entries_of, held_of, released_in, released_of}
 use Rattle.auc_draw.specs.Values.{PassValue}
 use Rattle.auc_draw.proofs.Facts.{in_order_none, in_order_both, after_none, after_both}
 use Rattle.auc_centre.specs.Adds.{Adds, IsTold, numbers_of}
@@ -39,7 +39,7 @@ told_later ws vs released n (inr (inr told)) = inr (inr told)
 
 -- what a pass had released stays released
 released_more : (old new : PassValue) (i : ℕ) (rest : List Deed) → new.deeds ≡ old.deeds ++ rest → released_of i old.deeds ++ released_of i rest ≡ released_of i new.deeds
-released_more old new i rest grows = sym (ap (released_of i) grows ∙ flat_map-append (released_by i) old.deeds rest)
+released_more old new i rest grows = sym (ap (released_of i) grows ∙ flat_map-append (released_in i) old.deeds rest)
 
 -- two stretches, one after the other, are one
 pub adds_both : (a b c : PassValue) (i : ℕ) (es fs : List Entry) (ws vs : List (ℕ × Stop)) → Adds a i es ws b → Adds b i fs vs c → Adds a i (es ++ fs) (ws ++ vs) c

@@ -7,7 +7,7 @@ use Rattle.auc_history.specs.declared.entry.Entry.TheVariants.{Drawn}
 use Rattle.auc_draw.specs.declared.rule.Deed.{Deed}
 use Rattle.auc_draw.specs.declared.rule.Deed.TheVariants.{Made, Claimed, Released, Withheld, ReadStop}
 use Rattle.auc_draw.specs.declared.rule.Note.{Note}
-use Rattle.auc_draw.specs.Deeds.{entries_of, released_by, released_of, held_by, held_of, withheld_of, stops_by, stops_of}
+use Rattle.auc_draw.specs.Deeds.{entries_of, released_in, released_of, held_by, held_of, withheld_of, stops_by, stops_of}
 use Rattle.auc_draw.specs.InnerLimits.{Tells, WasDrawn, AreTold}
 use Rattle.auc_draw.proofs.ViewLemmas.{all_cons, all_nil, all_head, all_tail}
 
@@ -24,12 +24,12 @@ all_if Q x false holds = all_nil Q
 
 -- released numbers
 pub released_told : (note : Note) (sub : ℕ) (deeds : List Deed) → AreTold note deeds → All (λ n. n ≤ slice_index note.limits sub) (released_of sub deeds)
-released_told note sub deeds told = all_flat (released_by sub) (Tells note) Q by deeds told.tells
+released_told note sub deeds told = all_flat (released_in sub) (Tells note) Q by deeds told.tells
   where
     Q : ℕ → Type 0
     Q n = n ≤ slice_index note.limits sub
 
-    by : (d : Deed) → Tells note d → All Q (released_by sub d)
+    by : (d : Deed) → Tells note d → All Q (released_in sub d)
     by (Made s e) tells = all_nil Q
     by (Claimed n) tells = all_nil Q
     by (Released s n) tells = all_if Q n (s == sub) (λ same. subst (λ k. n ≤ slice_index note.limits k) (eqb-true s sub same) tells)
@@ -66,13 +66,13 @@ stops_told note deeds told = all_flat stops_by (Tells note) Q by deeds told.tell
 
 -- both kinds of number were drawn
 pub drawn_told : (note : Note) (sub : ℕ) (deeds : List Deed) → AreTold note deeds → All (λ n. Contains (entries_of sub deeds) (Drawn n)) (released_of sub deeds ++ withheld_of sub deeds)
-drawn_told note sub deeds told = All-append Q (released_of sub deeds) (withheld_of sub deeds) (all_flat (released_by sub) (WasDrawn deeds) Q by deeds told.drawn)
+drawn_told note sub deeds told = All-append Q (released_of sub deeds) (withheld_of sub deeds) (all_flat (released_in sub) (WasDrawn deeds) Q by deeds told.drawn)
     (All-map Q (λ (held : ℕ × Stop). held.0) (held_of sub deeds) (all_flat (held_by sub) (WasDrawn deeds) (λ held. Q held.0) held_by_one deeds told.drawn))
   where
     Q : ℕ → Type 0
     Q n = Contains (entries_of sub deeds) (Drawn n)
 
-    by : (d : Deed) → WasDrawn deeds d → All Q (released_by sub d)
+    by : (d : Deed) → WasDrawn deeds d → All Q (released_in sub d)
     by (Made s e) drawn = all_nil Q
     by (Claimed n) drawn = all_nil Q
     by (Released s n) drawn = all_if Q n (s == sub) (λ same. subst (λ k. Contains (entries_of k deeds) (Drawn n)) (eqb-true s sub same) drawn)

@@ -34,16 +34,16 @@ abbrev pub claims_of : List Deed → List ℕ
 claims_of deeds = flat_map claims_by deeds
 
 -- the number of a subscriber that a deed released, if it released one
-abbrev pub released_by : ℕ → Deed → List ℕ
-released_by sub (Made s e) = []
-released_by sub (Claimed n) = []
-released_by sub (Released s n) = if s == sub then n ∷ [] else []
-released_by sub (Withheld s n stop) = []
-released_by sub (ReadStop stop) = []
+abbrev pub released_in : ℕ → Deed → List ℕ
+released_in sub (Made s e) = []
+released_in sub (Claimed n) = []
+released_in sub (Released s n) = if s == sub then n ∷ [] else []
+released_in sub (Withheld s n stop) = []
+released_in sub (ReadStop stop) = []
 
 -- the released numbers of a subscriber, in the order of the steps
 abbrev pub released_of : ℕ → List Deed → List ℕ
-released_of sub deeds = flat_map (released_by sub) deeds
+released_of sub deeds = flat_map (released_in sub) deeds
 
 -- the number of a subscriber that a deed withheld and why, if it withheld one
 abbrev pub held_by : ℕ → Deed → List (ℕ × Stop)

@@ -8,7 +8,7 @@ use Rattle.std.proofs.lemmas.Option.{get_or_from_slice_get}
 use Rattle.auc_centre.specs.Adds.{Adds}
 use Rattle.auc_draw.specs.declared.rule.Deed.{Deed}
 use Rattle.auc_draw.specs.declared.rule.Deed.TheVariants.{Claimed}
-use Rattle.auc_draw.specs.Deeds.{entries_of, claims_of, kept_word, kept_of, released_by, released_of, held_by as pass_held_by, held_of as pass_held}
+use Rattle.auc_draw.specs.Deeds.{entries_of, claims_of, kept_word, kept_of, released_in, released_of, held_by as pass_held_by, held_of as pass_held}
 use Rattle.auc_draw.specs.Pass.{ClaimsJob, EndsClaims}
 use Rattle.auc_draw.specs.Values.{PassValue}
 use Rattle.auc_draw.proofs.Facts.{claims_more, entries_claimed}
@@ -180,7 +180,7 @@ between_more shared early old mid new done c s between = record {
     given = subst (λ (ts : List Turn). All (IsGiven shared early) ts) (sym pushed)
         (All-push (IsGiven shared early) (turns [] done) turn was.given (record { asked = s.serves.asked; there = s.serves.there; net = served.net; given = served.given; ends = served.ends; left = served.left }));
     released = λ sub. All-push (λ (b : ClaimedJob). All (Contains (released_of sub new.deeds)) (numbers_of sub b.served.lines)) done c
-        (jobs_grown (released_by sub) (λ (b : ClaimedJob). numbers_of sub b.served.lines) old.deeds more new.deeds done grows (was.released sub))
+        (jobs_grown (released_in sub) (λ (b : ClaimedJob). numbers_of sub b.served.lines) old.deeds more new.deeds done grows (was.released sub))
         (job_released (length shared.set.rows) sub (lines_done done) c.served.lines (released_of sub new.deeds)
         (job_own shared.set (before_at early (lines_done done) []) (start_of shared.set shared.stores s.serves.asked) served.net s.serves.asked c.served.lines (all_at (AreKnown (length shared.set.rows)) shared.jobs c.job s.serves.asked s.known s.serves.there) served.given)
         (served.made sub).ordered (served.made sub).told);
@@ -237,7 +237,7 @@ between_out shared early old new done unended claim between = record {
     made = λ sub. ap (entries_of sub) step ∙ entries_claimed sub claim.0 old.deeds ∙ was.made sub;
     ordered = was.ordered;
     given = was.given;
-    released = λ sub. jobs_grown (released_by sub) (λ (c : ClaimedJob). numbers_of sub c.served.lines) old.deeds (Claimed claim.0 ∷ []) new.deeds done step (was.released sub);
+    released = λ sub. jobs_grown (released_in sub) (λ (c : ClaimedJob). numbers_of sub c.served.lines) old.deeds (Claimed claim.0 ∷ []) new.deeds done step (was.released sub);
     withheld = λ sub. jobs_grown (pass_held_by sub) (λ (c : ClaimedJob). held_of sub c.served.lines) old.deeds (Claimed claim.0 ∷ []) new.deeds done step (was.withheld sub);
     settled = was.settled;
     printed = was.printed;

@@ -5,7 +5,7 @@ use Rattle.auc_peer.specs.Identities.{asked_text}
 use Rattle.auc_peer.specs.Rows.{peer_row}
 use Rattle.auc_peer.specs.Subscription.{Subscription}
 use Rattle.auc_peer.specs.Table.{context_of, counted_up, identified, kept_by, peer_does, peer_step, reauthenticated}
-use Rattle.auc_peer.specs.Turn.{Asked, Decrypts, Steps, asked, decryption_made, decryption_resumed, told}
+use Rattle.auc_peer.specs.Turn.{Asked, Decrypts, Steps, asked, decryption_made, decryption_resumed, inner_of}
 use Rattle.auc_peer.specs.declared.peer.Peer.{Peer}
 use Rattle.auc_peer.specs.declared.rows.Row.{Row}
 use Rattle.auc_peer.specs.declared.rows.Row.TheVariants as row
@@ -25,9 +25,9 @@ identity_steps key s keeps p seen request bytes before new turn is of e step = r
   seen = seen;
   received = is;
   of = of;
-  same = λ past remembers. subst (λ (r : Row). ◌≡◌ {A = Peer × Turn PeerWhy} (new, turn) (peer_does key s keeps p seen r turn.notes.usim (told new))) e step;
+  same = λ past remembers. subst (λ (r : Row). ◌≡◌ {A = Peer × Turn PeerWhy} (new, turn) (peer_does key s keeps p seen r turn.notes.usim (inner_of new))) e step;
   usim = subst (λ (r : Row). Asked s (asked r) turn.notes.usim before before) e (ap (λ (t : Peer × Turn PeerWhy). t.1.notes.usim) step, refl);
-  decrypts = λ past remembers. subst (λ (r : Row). Decrypts (decryption_made s keeps p seen r turn.notes.usim) (told new)) e tt;
+  decrypts = λ past remembers. subst (λ (r : Row). Decrypts (decryption_made s keeps p seen r turn.notes.usim) (inner_of new)) e tt;
   stored = subst (λ (r : Row). keeps ≡ kept_by r p turn.notes.counter keeps) e refl;
 }
 
@@ -43,9 +43,9 @@ reauth_steps key s keeps p seen bytes before new turn kept is of e step decrypts
       seen = seen;
       received = is;
       of = of;
-      same = λ past remembers. subst (λ (r : Row). ◌≡◌ {A = Peer × Turn PeerWhy} (new, turn) (peer_does key s keeps p seen r turn.notes.usim (told new))) e step;
+      same = λ past remembers. subst (λ (r : Row). ◌≡◌ {A = Peer × Turn PeerWhy} (new, turn) (peer_does key s keeps p seen r turn.notes.usim (inner_of new))) e step;
       usim = subst (λ (r : Row). Asked s (asked r) turn.notes.usim before before) e (silent, refl);
-      decrypts = λ past remembers. subst (λ (r : Row). Decrypts (decryption_made s keeps p seen r turn.notes.usim) (told new)) e decrypts;
+      decrypts = λ past remembers. subst (λ (r : Row). Decrypts (decryption_made s keeps p seen r turn.notes.usim) (inner_of new)) e decrypts;
       stored = subst (λ (r : Row). kept ≡ kept_by r p turn.notes.counter keeps) e stored;
     }
 
@@ -63,9 +63,9 @@ reauth_returns key s keeps p seen bytes before after new kept (Err other) is of 
 -- another row
 pub row_steps : (key : List ℕ) (s : Subscription) (keeps : Keeps) (p : Peer) (seen : Seen) (r : Row) (bytes before : List ℕ) (new : Peer) (turn : Turn PeerWhy) (kept : Keeps) (after : List ℕ)
     → IsReceived seen → seen.bytes ≡ bytes → r ≡ peer_row p seen
-    → ((past : Past) → Remembers before past → ◌≡◌ {A = Peer × Turn PeerWhy} (new, turn) (peer_step key s keeps p seen turn.notes.usim (told new)))
+    → ((past : Past) → Remembers before past → ◌≡◌ {A = Peer × Turn PeerWhy} (new, turn) (peer_step key s keeps p seen turn.notes.usim (inner_of new)))
     → Asked s (asked r) turn.notes.usim before after
-    → ((past : Past) → Remembers before past → Decrypts (decryption_made s keeps p seen r turn.notes.usim) (told new))
+    → ((past : Past) → Remembers before past → Decrypts (decryption_made s keeps p seen r turn.notes.usim) (inner_of new))
     → kept ≡ kept_by r p turn.notes.counter keeps
     → Steps key s keeps p bytes before new turn kept after
 row_steps key s keeps p seen r bytes before new turn kept after is of e step usim decrypts stored = record {
@@ -74,6 +74,6 @@ row_steps key s keeps p seen r bytes before new turn kept after is of e step usi
   of = of;
   same = step;
   usim = subst (λ (x : Row). Asked s (asked x) turn.notes.usim before after) e usim;
-  decrypts = λ past remembers. subst (λ (x : Row). Decrypts (decryption_made s keeps p seen x turn.notes.usim) (told new)) e (decrypts past remembers);
+  decrypts = λ past remembers. subst (λ (x : Row). Decrypts (decryption_made s keeps p seen x turn.notes.usim) (inner_of new)) e (decrypts past remembers);
   stored = subst (λ (x : Row). kept ≡ kept_by x p turn.notes.counter keeps) e stored;
 }

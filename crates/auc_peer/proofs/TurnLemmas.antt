@@ -20,7 +20,7 @@ use Rattle.auc_reauth.specs.declared.context.Context.{Context}
 use Rattle.auc_peer.specs.Rows.{peer_row}
 use Rattle.auc_peer.specs.Subscription.{Subscription}
 use Rattle.auc_peer.specs.Table.{accepting, by_answer, client, context_of, disclosed, kept_by, keys_at, master_at, opened, own_code, peer_does, peer_step, resumed_by, resuming, with_inner}
-use Rattle.auc_peer.specs.Turn.{Decryption, Decrypts, IsInner, decryption_by, decryption_made, decryption_resumed, told}
+use Rattle.auc_peer.specs.Turn.{Decryption, Decrypts, IsInner, decryption_by, decryption_made, decryption_resumed, inner_of}
 use Rattle.auc_peer.specs.declared.peer.Challenge.{Challenge}
 use Rattle.auc_peer.specs.declared.peer.Peer.{Peer}
 use Rattle.auc_peer.specs.declared.rows.Row.{Row}
@@ -134,7 +134,7 @@ equal_turns received walk one key s keeps kept stored old new other bytes before
     let seen : x.seen ≡ y.seen = received x.seen y.seen (x.of ∙ sym y.of) x.received y.received in
     let same : ◌≡◌ {A = Peer × Turn PeerWhy} (new, turn) (other, another) =
     x.same past remembers
-    ∙ step_once walk one key s keeps old x.seen y.seen turn.notes.usim another.notes.usim (told new) (told other) seen alike (x.decrypts past remembers) (y.decrypts past remembers)
+    ∙ step_once walk one key s keeps old x.seen y.seen turn.notes.usim another.notes.usim (inner_of new) (inner_of other) seen alike (x.decrypts past remembers) (y.decrypts past remembers)
     ∙ sym (y.same past remembers) in (
       ap (λ (t : Peer × Turn PeerWhy). t.0) same,
       ap (λ (t : Peer × Turn PeerWhy). t.1) same,

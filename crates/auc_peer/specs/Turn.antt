@@ -93,8 +93,8 @@ Decrypts None inner = Unit {0}
 Decrypts (Some d) inner = IsInner d.k_encr d.list inner
 
 -- what was decrypted: the peer keeps it
-abbrev pub told : Peer → Decrypted
-told new = new.inner
+abbrev pub inner_of : Peer → Decrypted
+inner_of new = new.inner
 
 -- ---- the turn
 
@@ -105,8 +105,8 @@ pub record Steps (key : List ℕ) (s : Subscription) (keeps : Keeps) (old : Peer
   pub seen : Seen
   pub received : IsReceived seen
   pub of : seen.bytes ≡ bytes
-  pub same : (past : Past) → Remembers before past → (new, turn) ≡ peer_step key s keeps old seen turn.notes.usim (told new)
+  pub same : (past : Past) → Remembers before past → (new, turn) ≡ peer_step key s keeps old seen turn.notes.usim (inner_of new)
   pub usim : Asked s (asked (peer_row old seen)) turn.notes.usim before after
   pub decrypts : (past : Past) → Remembers before past
-      → Decrypts (decryption_made s keeps old seen (peer_row old seen) turn.notes.usim) (told new)
+      → Decrypts (decryption_made s keeps old seen (peer_row old seen) turn.notes.usim) (inner_of new)
   pub stored : kept ≡ kept_by (peer_row old seen) old turn.notes.counter keeps

@@ -12,7 +12,7 @@ ghost use Rattle.auc_peer.specs.Messages.{sync_failure};
 ghost use Rattle.auc_peer.specs.Subscription.{subscription_of};
 ghost use Rattle.auc_peer.specs.Table.{accepted, answered, by_answer, challenged, context_from, keys_for, network_in, opened, origin_of, own_code, text_or_none};
 ghost use Rattle.auc_vector.specs.Keys.{ck_by, ik_by, master_of as master_by_method};
-ghost use Rattle.auc_peer.specs.Turn.{Asked, Decrypts, IsInner, decryption_by, decryption_noted, decryption_under, told};
+ghost use Rattle.auc_peer.specs.Turn.{Asked, Decrypts, IsInner, decryption_by, decryption_noted, decryption_under, inner_of};
 
 use crate::asking::ask;
 use crate::decrypted::Decrypted;
@@ -115,12 +115,12 @@ impl Peer {
 
         ensures step { (past : Past) → Remembers device.old.usim.array past
             → (self.new, result) ≡ challenged (subscription_of device.old) self.old (seen_of received.now)
-            challenge result.notes.usim (told self.new) }
+            challenge result.notes.usim (inner_of self.new) }
         ensures usim { Asked (subscription_of device.old) (Some challenge) result.notes.usim
             device.old.usim.array device.new.usim.array }
         ensures decrypts { (past : Past) → Remembers device.old.usim.array past
             → Decrypts (decryption_noted (subscription_of device.old) self.old (seen_of received.now) (Some challenge)
-            result.notes.usim) (told self.new) }
+            result.notes.usim) (inner_of self.new) }
         ensures store { device.new.store ≡ device.old.store }
         ensures subscription { subscription_of device.new ≡ subscription_of device.old }
     {
@@ -154,9 +154,9 @@ impl Peer {
         requires room { length (ciphertext_of (attrs_in received.now.reading)) ≤ inner.left }
 
         ensures step { (self.new, result) ≡ by_answer self.old (seen_of received.now) challenge answer
-            (told self.new) }
+            (inner_of self.new) }
         ensures note { result.notes.usim ≡ Some (note_by answer) }
-        ensures decrypts { Decrypts (decryption_by self.old (seen_of received.now) challenge answer) (told self.new) }
+        ensures decrypts { Decrypts (decryption_by self.old (seen_of received.now) challenge answer) (inner_of self.new) }
     {
         match answer {
             Answer::WrongMac => {
@@ -232,9 +232,9 @@ impl Peer {
         requires room { length (ciphertext_of (attrs_in received.now.reading)) ≤ inner.left }
 
         ensures step { (self.new, result) ≡ accepted self.old (seen_of received.now) challenge res sqn keys
-            master (told self.new) }
+            master (inner_of self.new) }
         ensures note { result.notes.usim ≡ Some (UsimNote.Accepted sqn) }
-        ensures decrypts { Decrypts (decryption_under self.old (seen_of received.now) keys) (told self.new) }
+        ensures decrypts { Decrypts (decryption_under self.old (seen_of received.now) keys) (inner_of self.new) }
     {
         let note = Some(UsimNote::Accepted(sqn));
         if !is_sealed(received, self.options.method, &keys.k_aut, &[]) {
@@ -274,9 +274,9 @@ impl Peer {
         requires room { length (ciphertext_of (attrs_in received.now.reading)) ≤ inner.left }
 
         ensures step { (self.new, result) ≡ opened self.old (seen_of received.now) res sqn keys
-            master (told self.new) }
+            master (inner_of self.new) }
         ensures note { result.notes.usim ≡ Some (UsimNote.Accepted sqn) }
-        ensures decrypts { IsInner keys.k_encr (attrs_in received.now.reading) (told self.new) }
+        ensures decrypts { IsInner keys.k_encr (attrs_in received.now.reading) (inner_of self.new) }
     {
         let note = Some(UsimNote::Accepted(sqn));
         let decrypted = inner_in(keys.k_encr, &received.reading, &rooms.no_attrs, inner);

@@ -11,7 +11,7 @@ ghost use Rattle.auc_request.specs.declared.identities.IdentityRequest.{Identity
 ghost use Rattle.auc_peer.specs.Identities.{first_text};
 ghost use Rattle.auc_peer.specs.Subscription.{subscription_of};
 ghost use Rattle.auc_peer.specs.Table.{again, answer_or_none, answered_noting, client, ended, first, ignored, kept_by, network_in, noted, notify, peer_step, pseudonym_given, rejected, succeeded, taken_up};
-ghost use Rattle.auc_peer.specs.Turn.{Asked, Decrypts, asked, decryption_made, told};
+ghost use Rattle.auc_peer.specs.Turn.{Asked, Decrypts, asked, decryption_made, inner_of};
 
 use crate::decrypted::Decrypted;
 use crate::device::Device;
@@ -75,12 +75,12 @@ impl Peer {
 
         ensures step { (key : List ℕ) (past : Past) → Remembers device.old.usim.array past
             → (self.new, result) ≡ peer_step key (subscription_of device.old) device.old.store self.old (seen_of received.now)
-            result.notes.usim (told self.new) }
+            result.notes.usim (inner_of self.new) }
         ensures usim { Asked (subscription_of device.old) (asked row) result.notes.usim
             device.old.usim.array device.new.usim.array }
         ensures decrypts { (past : Past) → Remembers device.old.usim.array past
             → Decrypts (decryption_made (subscription_of device.old) device.old.store self.old (seen_of received.now) row
-            result.notes.usim) (told self.new) }
+            result.notes.usim) (inner_of self.new) }
         ensures stored { device.new.store ≡ kept_by row self.old result.notes.counter device.old.store }
         ensures subscription { subscription_of device.new ≡ subscription_of device.old }
     {

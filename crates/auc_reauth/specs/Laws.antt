@@ -4,7 +4,7 @@ use Rattle.std.specs.Option.{option_to_list}
 use Rattle.auc_hmac.specs.declared.method.Method.{Method}
 use Rattle.auc_hmac.specs.declared.method.Method.TheVariants as methods
 use Rattle.auc_reauth.specs.Store.{entry, with_entry}
-use Rattle.auc_reauth.specs.Server.{Contexts, found, left}
+use Rattle.auc_reauth.specs.Server.{Contexts, entry_named, left}
 use Rattle.auc_reauth.specs.Device.{Keeps, is_open, with_accepted, with_context, with_pseudonym}
 use Rattle.auc_reauth.specs.declared.context.Context.{Context}
 
@@ -22,7 +22,7 @@ contexts_after (Put method c) contexts = with_entry method (Some c) contexts
 
 -- the context that a call takes
 abbrev pub taken_by : ServerCall → Contexts → List Context
-taken_by (Take method identity) contexts = option_to_list (found method identity contexts)
+taken_by (Take method identity) contexts = option_to_list (entry_named method identity contexts)
 taken_by (Put method c) contexts = []
 
 -- the context that a call puts

@@ -24,8 +24,8 @@ unless_named name None = None
 unless_named name (Some c) = if bytes_eq c.identity name then None else Some c
 
 -- the method's context with an identity, which is compared without its realm
-abbrev pub found : Method → List ℕ → Contexts → Option Context
-found method identity contexts = if_named (username identity) (entry method contexts)
+abbrev pub entry_named : Method → List ℕ → Contexts → Option Context
+entry_named method identity contexts = if_named (username identity) (entry method contexts)
 
 -- the contexts without the one that was found
 abbrev pub left : Method → List ℕ → Contexts → Contexts

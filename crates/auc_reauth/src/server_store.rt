@@ -2,7 +2,7 @@
 
 ghost use Rattle.std.specs.Prelude.{◌≡◌};
 ghost use Rattle.auc_reauth.specs.Store.{IsOf, method_of, with_entry};
-ghost use Rattle.auc_reauth.specs.Server.{found, if_named, left, no_contexts, unless_named};
+ghost use Rattle.auc_reauth.specs.Server.{entry_named, if_named, left, no_contexts, unless_named};
 
 use crate::context::Context;
 use auc_hmac::Method;
@@ -43,7 +43,7 @@ impl ServerStore {
     /// Takes the context of the method out, if it has this identity; else nothing changes. An identity is compared
     /// without its realm, up to the first `@`.
     pub fn take(&mut self, method: Method, identity: &[u8]) -> Option<Context>
-        ensures found { result ≡ found method identity.now self.old }
+        ensures found { result ≡ entry_named method identity.now self.old }
         ensures left { self.new ≡ left method identity.now self.old }
 
         // Its master key is of the method.

@@ -51,7 +51,7 @@ served_within : (file : List ℕ) (run : ChainRun) → ServedOn file run → (im
 served_within file run served imsi n (sub, inside, is, there) =
     let kept = served.kept in
     let frames = kept.reading.frames in
-    let within : n ≤ slice_index (limits_in run.rows frames) sub = of_contained (λ (m : ℕ). m ≤ slice_index (limits_in run.rows frames) sub) (numbers_of sub served.end.early) n (kept.covers sub inside)
+    let within : n ≤ slice_index (limits_in run.rows frames) sub = of_contained (λ (m : ℕ). m ≤ slice_index (limits_in run.rows frames) sub) (numbers_of sub served.end.early) n (kept.released sub inside)
     (subst (λ (ls : List LineRecord). Contains (numbers_of sub ls) n) served.lines_are there) in
     let limit = limit_by run.rows run.image frames kept.reading.end sub kept.is_read inside in
     subst (λ (i : Identity). n ≤ reserved_by run.image i) is (omega (arith, within, limit))

@@ -338,7 +338,7 @@ Serving-nothing seen may_leave faults set full from journal parts disk old begin
       fits = All-nil PartFits;
       written = Appends-none old;
       kept = kept_covers seen may_leave set.rows from disk (limits_of journal) begin journal
-          (record { subscribers = begins.subscribers; covers = λ sub inside. All-nil (λ n. n ≤ slice_index (limits_of journal) sub); most = λ sub. reserved_at journal sub; durable = begins.durable }) same;
+          (record { subscribers = begins.subscribers; released = λ sub inside. All-nil (λ n. n ≤ slice_index (limits_of journal) sub); most = λ sub. reserved_at journal sub; durable = begins.durable }) same;
       keeps = durable_keeps seen may_leave from disk (λ sub. reserved_at journal sub) journal begins.durable same;
       full_at = λ is told. absurd (not_full is);
     }

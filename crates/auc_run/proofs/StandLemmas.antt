@@ -62,7 +62,7 @@ kept_between {D} seen may_leave status rows from disk reserved end most journal 
     record {
       reading = between.0;
       is_read = between.1;
-      covers = λ sub inside.
+      released = λ sub inside.
           let within : sub < length journal.imsis = omega (arith, count, inside) in
           let at = limit_in rows journal between.0.frames sub subscribers inside in
           let here = limits_at journal sub within in
@@ -81,29 +81,29 @@ kept_between {D} seen may_leave status rows from disk reserved end most journal 
 pub kept_reserves : {D : Type 0} (seen : D → Option (List ℕ)) (may_leave : D → List ℕ → Type 0) (status : Status) (rows : List Row) (from disk : D) (reserved : List ℕ) (end : Course) (journal : JournalState D)
     → Reserves seen may_leave rows from reserved end journal → disk ≡ journal.disk → (image : List ℕ) → MayLeave seen may_leave from disk image → IsKept status rows reserved end image
 kept_reserves seen may_leave status rows from disk reserved end journal reserves same =
-    kept_between seen may_leave status rows from disk reserved end (most_at reserved end) journal reserves.subscribers reserves.raises.covers reserves.durable
+    kept_between seen may_leave status rows from disk reserved end (most_at reserved end) journal reserves.subscribers reserves.raises.released reserves.durable
     (λ whole sub inside. omega arith) same
 
 -- if memory ran out
 pub kept_covers : {D : Type 0} (seen : D → Option (List ℕ)) (may_leave : D → List ℕ → Type 0) (rows : List Row) (from disk : D) (reserved : List ℕ) (end : Course) (journal : JournalState D)
     → Covers seen may_leave rows from end.early journal → disk ≡ journal.disk → (image : List ℕ) → MayLeave seen may_leave from disk image → IsKept NoMemory rows reserved end image
 kept_covers seen may_leave rows from disk reserved end journal covers same =
-    kept_between seen may_leave NoMemory rows from disk reserved end covers.most journal covers.subscribers covers.covers covers.durable
+    kept_between seen may_leave NoMemory rows from disk reserved end covers.most journal covers.subscribers covers.released covers.durable
     (λ whole sub inside. absurd (whole refl)) same
 
 -- limits that a restart may have cover what was released, and what was released before its last lines
 pub covers_of : {D : Type 0} (seen : D → Option (List ℕ)) (may_leave : D → List ℕ → Type 0) (rows : List Row) (from : D) (reserved : List ℕ) (at : Course) (journal : JournalState D)
     → Reserves seen may_leave rows from reserved at journal → Covers seen may_leave rows from at.early journal
 covers_of seen may_leave rows from reserved at journal reserves =
-    record { subscribers = reserves.subscribers; covers = reserves.raises.covers; most = most_at reserved at; durable = reserves.durable }
+    record { subscribers = reserves.subscribers; released = reserves.raises.released; most = most_at reserved at; durable = reserves.durable }
 
 pub covers_before : {D : Type 0} (seen : D → Option (List ℕ)) (may_leave : D → List ℕ → Type 0) (rows : List Row) (from : D) (reserved : List ℕ) (early lines : List LineRecord) (at : Course) (journal : JournalState D)
     → at.early ≡ early ++ lines → Reserves seen may_leave rows from reserved at journal → Covers seen may_leave rows from early journal
 covers_before seen may_leave rows from reserved early lines at journal is reserves = record {
   subscribers = reserves.subscribers;
-  covers = λ sub inside.
+  released = λ sub inside.
       front_numbers sub (λ n. n ≤ slice_index (limits_of journal) sub) early lines
-      (subst (λ (ls : List LineRecord). All (λ n. n ≤ slice_index (limits_of journal) sub) (numbers_of sub ls)) is (reserves.raises.covers sub inside));
+      (subst (λ (ls : List LineRecord). All (λ n. n ≤ slice_index (limits_of journal) sub) (numbers_of sub ls)) is (reserves.raises.released sub inside));
   most = most_at reserved at;
   durable = reserves.durable;
 }
@@ -117,13 +117,13 @@ covers_more seen may_leave rows from reserved at journal after reserves same mor
     let counts = ap length same in
     record {
       subscribers = same ∙ reserves.subscribers;
-      covers = λ sub inside.
+      released = λ sub inside.
           let within : sub < length journal.imsis = omega (arith, count, inside) in
           let here = limits_at journal sub within in
           let there = limits_at after sub (omega (arith, counts, within)) in
           let up = more.rises sub within in
           All-weaker (λ n. n ≤ slice_index (limits_of journal) sub) (λ n. n ≤ slice_index (limits_of after) sub)
-          (λ n under. omega (arith, here, there, up, under)) (numbers_of sub at.early) (reserves.raises.covers sub inside);
+          (λ n under. omega (arith, here, there, up, under)) (numbers_of sub at.early) (reserves.raises.released sub inside);
       most = leaves.0;
       durable = leaves.1;
     }

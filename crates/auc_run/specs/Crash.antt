@@ -36,7 +36,7 @@ MayLeave seen may_leave old new image = IsTold seen may_leave old × may_leave n
 pub record IsKept (status : Status) (rows : List Row) (reserved : List ℕ) (end : Course) (image : List ℕ) : Type 0 where
   pub reading : Reading
   pub is_read : read_image image ≡ Ok reading
-  pub covers : (sub : ℕ) → sub < length rows → All (λ n. n ≤ slice_index (limits_in rows reading.frames) sub) (numbers_of sub end.early)
+  pub released : (sub : ℕ) → sub < length rows → All (λ n. n ≤ slice_index (limits_in rows reading.frames) sub) (numbers_of sub end.early)
   pub near : status ≢ NoMemory → (sub : ℕ) → sub < length rows
       → slice_index (limits_in rows reading.frames) sub ≤ max (slice_index reserved sub) (slice_index end.highs sub + least_step)
 

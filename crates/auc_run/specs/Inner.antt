@@ -242,7 +242,7 @@ pub record Reserves {D : Type 0} (seen : D → Option (List ℕ)) (may_leave : D
 -- a journal of these subscribers reserves each number that was released, and a crash leaves no lower limits
 pub record Covers {D : Type 0} (seen : D → Option (List ℕ)) (may_leave : D → List ℕ → Type 0) (rows : List Row) (from : D) (early : List LineRecord) (journal : JournalState D) : Type 0 where
   pub subscribers : journal.imsis ≡ map (λ row. row.imsi) rows
-  pub covers : (sub : ℕ) → sub < length rows → All (λ n. n ≤ slice_index (limits_of journal) sub) (numbers_of sub early)
+  pub released : (sub : ℕ) → sub < length rows → All (λ n. n ≤ slice_index (limits_of journal) sub) (numbers_of sub early)
   pub most : ℕ → ℕ
   pub durable : IsDurable seen may_leave from most journal
 

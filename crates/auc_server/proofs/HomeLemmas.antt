@@ -16,7 +16,7 @@ use Rattle.auc_server.specs.InnerRows.{IsHeldRow, IsRowOf}
 use Rattle.auc_hmac.specs.declared.method.Method.{Method}
 use Rattle.auc_reauth.specs.declared.context.Context.{Context}
 use Rattle.auc_reauth.specs.Server.{no_contexts}
-use Rattle.auc_server.specs.Contexts.{context_after, context_in, context_of, gives_next, homes_kept, homes_left, homes_resumed, homes_rewon, homes_won, with_context, with_context_at, without, without_at}
+use Rattle.auc_server.specs.Contexts.{context_after, context_in, won_context, gives_next, homes_kept, homes_left, homes_resumed, homes_rewon, homes_won, with_context, with_context_at, without, without_at}
 use Rattle.auc_server.specs.Ordinals.{home_at, home_place, homes_given, homes_with, ordinal_after, with_next}
 use Rattle.auc_server.specs.Rows.{is_held}
 use Rattle.auc_server.specs.Server.{ServerEnd}
@@ -130,7 +130,7 @@ kept_subs by homes sub (Some c) = put_subs by c homes (home_place homes sub)
 
 pub won_subs : (by : Method) (homes : List HomeRow) (c : Option Challenged) → map (λ (home : HomeRow). home.sub) (homes_won by homes c) ≡ map (λ (home : HomeRow). home.sub) homes
 won_subs by homes None = refl
-won_subs by homes (Some sent) = kept_subs by homes sent.sub (context_of sent)
+won_subs by homes (Some sent) = kept_subs by homes sent.sub (won_context sent)
 
 pub rewon_subs : (by : Method) (homes : List HomeRow) (c : Option Resumed) → map (λ (home : HomeRow). home.sub) (homes_rewon by homes c) ≡ map (λ (home : HomeRow). home.sub) homes
 rewon_subs by homes None = refl

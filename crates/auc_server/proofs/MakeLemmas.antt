@@ -13,7 +13,7 @@ use Rattle.auc_hmac.specs.declared.method.Method.{Method}
 use Rattle.auc_hmac.specs.declared.method.Method.TheVariants as method
 use Rattle.auc_packet.specs.Received.{Seen}
 use Rattle.auc_reauth.specs.Machine.{Challenge, Home, Lose, Resume, Win, next_in}
-use Rattle.auc_reauth.specs.Server.{Contexts, found, if_named, no_contexts}
+use Rattle.auc_reauth.specs.Server.{Contexts, entry_named, if_named, no_contexts}
 use Rattle.auc_reauth.specs.Store.{entry, with_entry}
 use Rattle.auc_reauth.specs.declared.context.Context.{Context}
 use Rattle.auc_vector.specs.declared.notes.Notes.{Notes}
@@ -22,7 +22,7 @@ use Rattle.auc_vector.specs.declared.notes.NumberNote.TheVariants as number
 use Rattle.auc_vector.specs.declared.notes.ResyncNote.{ResyncNote}
 use Rattle.auc_vector.specs.declared.notes.ResyncNote.TheVariants as resync
 use Rattle.auc_vector.specs.declared.parts.Vector.{Vector}
-use Rattle.auc_server.specs.Contexts.{context_after, context_in, context_of, first_context, found_at, gives_next, homes_kept, homes_left, homes_resumed, homes_rewon, homes_won, later_context, with_context, with_context_at, without, without_at}
+use Rattle.auc_server.specs.Contexts.{context_after, context_in, won_context, first_context, found_at, gives_next, homes_kept, homes_left, homes_resumed, homes_rewon, homes_won, later_context, with_context, with_context_at, without, without_at}
 use Rattle.auc_server.specs.Moves.{EachTurnMakesOneMove, IsNewName, IsNewOrNone, Makes, Stands, is_at, left_first, left_later, of_sub, waiting, waiting_at}
 use Rattle.auc_server.specs.Ordinals.{home_at, home_place, homes_given, homes_with, ordinal_after, ordinal_at, ordinal_given, with_next}
 use Rattle.auc_server.specs.Rows.{server_row, subscriber_in, text_in}
@@ -258,7 +258,7 @@ challenge_name set homes s old sub place identity options e f =
 
 sent_makes : (t place : ℕ) (set : Setting) (homes later : List HomeRow) (s old : ServerEnd) (realm : List ℕ) (sub n : ℕ) (v : Vector) (given : Option GivenNames) (resynced : Option ResyncNote) (checked : Bool) (w : Home)
     → s.options ≡ old.options → (home_at later place).store ≡ (home_at homes place).store → (left : Option Context)
-    → waiting_at place later (of_sub sub (context_of (challenge_of s sub n v (next_given given)))) ≡ left
+    → waiting_at place later (of_sub sub (won_context (challenge_of s sub n v (next_given given)))) ≡ left
     → ((identity : List ℕ) → next_given given ≡ Some identity → home_place later sub ≡ Some place → IsNewName set.names s.options.method (home_at homes place) (home_at later place) identity)
     → Stands t place homes old w
     → Makes t place set homes later (challenged_with realm s sub n (Some v) given (noted resynced (Some (number.Drew n))) checked).0 (noted resynced (Some (number.Drew n))) w
@@ -281,7 +281,7 @@ with_makes t place set homes later s old realm sub n None given resynced checked
     stay t place set homes later old s (challenged_with realm s sub n None given (noted resynced (Some (number.Drew n))) checked).1.notes w options store subs left at
 with_makes t place set homes later s old realm sub n (Some v) given resynced checked w options left store subs names at =
     sent_makes t place set homes later s old realm sub n v given resynced checked w options store
-    (waiting_at place later (of_sub sub (context_of (challenge_of s sub n v (next_given given))))) refl names at
+    (waiting_at place later (of_sub sub (won_context (challenge_of s sub n v (next_given given))))) refl names at
 
 challenged_makes : (t place : ℕ) (set : Setting) (homes : List HomeRow) (s old : ServerEnd) (sub : ℕ) (checked : Bool) (resynced : Option ResyncNote) (drawn : Option NumberNote) (w : Home)
     → s.options ≡ old.options → waiting s s.state ≡ waiting old old.state → Stands t place homes old w
@@ -380,7 +380,7 @@ succeeded_makes : (t place : ℕ) (set : Setting) (homes : List HomeRow) (s : Se
     → Makes t place set homes (homes_won s.options.method homes c) (succeeded s c).0 (succeeded s c).1.notes w
 succeeded_makes t place set homes s None w e at = stay t place set homes homes s s (succeeded s None).1.notes w refl refl refl refl at
 succeeded_makes t place set homes s (Some sent) w e at =
-    wins t place set homes s (succeeded s (Some sent)).0 (succeeded s (Some sent)).1.notes w sent.sub (context_of sent) refl e refl at
+    wins t place set homes s (succeeded s (Some sent)).0 (succeeded s (Some sent)).1.notes w sent.sub (won_context sent) refl e refl at
 
 renewed_makes : (t place : ℕ) (set : Setting) (homes : List HomeRow) (s : ServerEnd) (c : Option Resumed) (w : Home) → waiting s s.state ≡ left_later c → Stands t place homes s w
     → Makes t place set homes (homes_rewon s.options.method homes c) (reauthenticated s c).0 (reauthenticated s c).1.notes w
@@ -399,7 +399,7 @@ if_named_is name None c e = absurd cc
 if_named_is name (Some k) c e = found_by (bytes_eq k.identity name) k c e
 
 -- what is found is there
-found_is : (by : Method) (text : List ℕ) (contexts : Contexts) (c : Context) → found by text contexts ≡ Some c → entry by contexts ≡ Some c
+found_is : (by : Method) (text : List ℕ) (contexts : Contexts) (c : Context) → entry_named by text contexts ≡ Some c → entry by contexts ≡ Some c
 found_is by text contexts c e = if_named_is (username text) (entry by contexts) c e
 
 left_there : (by : Method) (text : List ℕ) (homes : List HomeRow) (at' place : ℕ) → (at' == place) ≡ false → (home_at (without_at by text homes (Some at')) place).store ≡ (home_at homes place).store
@@ -422,7 +422,7 @@ new_or_none names by home later None each = tt
 new_or_none names by home later (Some identity) each = each identity refl
 
 resumes_by : (t place : ℕ) (set : Setting) (homes : List HomeRow) (s : ServerEnd) (text : List ℕ) (packets : List (List ℕ)) (sub at' : ℕ) (c : Context) (w : Home) (b : Bool) → (at' == place) ≡ b
-    → home_place homes sub ≡ Some at' → found s.options.method text (home_at homes at').store ≡ Some c → Stands t place homes s w
+    → home_place homes sub ≡ Some at' → entry_named s.options.method text (home_at homes at').store ≡ Some c → Stands t place homes s w
     → Makes t place set homes (homes_resumed s.options text homes sub (Some c)) (resumed_with set (homes_left s.options.method text homes sub) s text packets sub (Some c)).0
     (resumed_with set (homes_left s.options.method text homes sub) s text packets sub (Some c)).1.notes w
 resumes_by t place set homes s text packets sub at' c w true here e f at =
@@ -431,7 +431,7 @@ resumes_by t place set homes s text packets sub at' c w true here e f at =
     let own : home_place homes sub ≡ Some place = e ∙ ap (λ (n : ℕ). Some n) same in
     let later = homes_resumed s.options text homes sub (Some c) in
     let r = resumption set (homes_left s.options.method text homes sub) s sub c in
-    let there : w.place zero ≡ Some c = at.store ∙ found_is s.options.method text (home_at homes place).store c (subst (λ (p : ℕ). found s.options.method text (home_at homes p).store ≡ Some c) same f) in
+    let there : w.place zero ≡ Some c = at.store ∙ found_is s.options.method text (home_at homes place).store c (subst (λ (p : ℕ). entry_named s.options.method text (home_at homes p).store ≡ Some c) same f) in
     let placed : is_at place (home_place later sub) ≡ true = ap (is_at place) (place_stays homes later sub (resumed_subs s.options text homes sub (Some c)) ∙ e) ∙ here in record {
       move = Some (Resume t r.next);
       of = (

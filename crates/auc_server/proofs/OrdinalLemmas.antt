@@ -6,7 +6,7 @@ use Rattle.auc_vector.specs.declared.notes.NumberNote.{NumberNote}
 use Rattle.auc_vector.specs.declared.notes.NumberNote.TheVariants as number
 use Rattle.auc_hmac.specs.declared.method.Method.{Method}
 use Rattle.auc_reauth.specs.declared.context.Context.{Context}
-use Rattle.auc_server.specs.Contexts.{context_after, context_in, context_of, gives_next, homes_kept, homes_left, homes_resumed, homes_rewon, homes_won, with_context, with_context_at, without, without_at}
+use Rattle.auc_server.specs.Contexts.{context_after, context_in, won_context, gives_next, homes_kept, homes_left, homes_resumed, homes_rewon, homes_won, with_context, with_context_at, without, without_at}
 use Rattle.auc_server.specs.Laws.{IsAfter, OrdinalsRise}
 use Rattle.auc_server.specs.Ordinals.{home_at, home_place, homes_given, homes_with, ordinal_after, with_next}
 use Rattle.auc_server.specs.Rows.{server_row, text_in}
@@ -95,7 +95,7 @@ kept_near by homes sub (Some c) other = at (home_place homes sub)
 won_rises : (by : Method) (homes : List HomeRow) (c : Option Challenged) (other : ℕ) → IsAfter (home_at homes other) (home_at (homes_won by homes c) other)
 won_rises by homes None other = same (home_at homes other)
 won_rises by homes (Some sent) other =
-    one_near (home_at homes other) (home_at (homes_kept by homes sent.sub (context_of sent)) other) (kept_near by homes sent.sub (context_of sent) other)
+    one_near (home_at homes other) (home_at (homes_kept by homes sent.sub (won_context sent)) other) (kept_near by homes sent.sub (won_context sent) other)
 
 rewon_rises : (by : Method) (homes : List HomeRow) (c : Option Resumed) (other : ℕ) → IsAfter (home_at homes other) (home_at (homes_rewon by homes c) other)
 rewon_rises by homes None other = same (home_at homes other)

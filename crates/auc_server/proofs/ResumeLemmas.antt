@@ -5,7 +5,7 @@ use Rattle.auc_hmac.specs.declared.method.Method.{Method}
 use Rattle.auc_hmac.specs.declared.method.Method.TheVariants as method
 use Rattle.auc_ident.specs.Permanent.{username}
 use Rattle.auc_packet.specs.Received.{Seen}
-use Rattle.auc_reauth.specs.Server.{Contexts, found, if_named, left, no_contexts, unless_named}
+use Rattle.auc_reauth.specs.Server.{Contexts, entry_named, if_named, left, no_contexts, unless_named}
 use Rattle.auc_reauth.specs.Store.{entry}
 use Rattle.auc_reauth.specs.declared.context.Context.{Context}
 use Rattle.auc_vector.specs.declared.notes.Notes.{Notes}
@@ -39,7 +39,7 @@ left_by : (b : Bool) (k c : Context) → cond b (Some k) None ≡ Some c → con
 left_by true k c e = refl
 left_by false k c e = absurd cc
 
-left_gone : (by : Method) (text : List ℕ) (contexts : Contexts) (c : Context) → found by text contexts ≡ Some c → entry by (left by text contexts) ≡ None
+left_gone : (by : Method) (text : List ℕ) (contexts : Contexts) (c : Context) → entry_named by text contexts ≡ Some c → entry by (left by text contexts) ≡ None
 left_gone method.Aka text contexts c e = of contexts.aka e
   where
     of : (kept : Option Context) → if_named (username text) kept ≡ Some c → unless_named (username text) kept ≡ None
@@ -51,11 +51,11 @@ left_gone method.Prime text contexts c e = of contexts.prime e
     of None f = absurd cc
     of (Some k) f = left_by (bytes_eq k.identity (username text)) k c f
 
-no_home : (by : Method) (text : List ℕ) (c : Context) → found by text no_contexts ≡ Some c → ⊥
+no_home : (by : Method) (text : List ℕ) (c : Context) → entry_named by text no_contexts ≡ Some c → ⊥
 no_home method.Aka text c e = cc
 no_home method.Prime text c e = cc
 
-gone_at : (by : Method) (text : List ℕ) (homes : List HomeRow) (place : ℕ) (c : Context) → found by text (home_at homes place).store ≡ Some c
+gone_at : (by : Method) (text : List ℕ) (homes : List HomeRow) (place : ℕ) (c : Context) → entry_named by text (home_at homes place).store ≡ Some c
     → entry by (home_at (slice_set homes place (without by text (home_at homes place))) place).store ≡ None
 gone_at by text [] zero c e = absurd (no_home by text c e)
 gone_at by text [] (suc place) c e = absurd (no_home by text c e)
@@ -84,7 +84,7 @@ given_store false homes sub other = refl
 given_store true homes sub other = with_store homes (home_place homes sub) other
 
 pub gone : (options : ServerOptions) (text : List ℕ) (homes : List HomeRow) (sub place : ℕ) (c : Context) → home_place homes sub ≡ Some place
-    → found options.method text (home_at homes place).store ≡ Some c → entry options.method (home_at (homes_resumed options text homes sub (Some c)) place).store ≡ None
+    → entry_named options.method text (home_at homes place).store ≡ Some c → entry options.method (home_at (homes_resumed options text homes sub (Some c)) place).store ≡ None
 gone options text homes sub place c e f =
     ap (entry options.method) (given_store (gives_next options c) (homes_left options.method text homes sub) sub place)
     ∙ ap (λ (p : Option ℕ). entry options.method (home_at (without_at options.method text homes p) place).store) e

@@ -1,7 +1,7 @@
 -- The contexts of fast re-authentication in the homes (RFC 4187 §5): which one an identity names, and what sessions leave.
 use Rattle.std.specs.Prelude.{ℕ, ◌+◌, ◌==◌, ◌&&◌, not, Bool, List, slice_set, Option, Some, None}
 use Rattle.auc_hmac.specs.declared.method.Method.{Method}
-use Rattle.auc_reauth.specs.Server.{found, left}
+use Rattle.auc_reauth.specs.Server.{entry_named, left}
 use Rattle.auc_reauth.specs.Store.{with_entry}
 use Rattle.auc_reauth.specs.declared.context.Context.{Context}
 use Rattle.auc_server.specs.Ordinals.{home_at, home_place, homes_given}
@@ -14,7 +14,7 @@ use Rattle.auc_server.specs.declared.setting.HomeRow.{HomeRow}
 
 abbrev pub found_at : Method → List ℕ → List HomeRow → Option ℕ → Option Context
 found_at by text homes None = None
-found_at by text homes (Some place) = found by text (home_at homes place).store
+found_at by text homes (Some place) = entry_named by text (home_at homes place).store
 
 -- the subscriber's context of a method, if a text is its identity
 abbrev pub context_in : Method → List ℕ → List HomeRow → ℕ → Option Context
@@ -59,8 +59,8 @@ first_context sent (Some identity) = Some (record {
 })
 
 -- the context of a full authentication, if its Challenge gave an identity
-abbrev pub context_of : Challenged → Option Context
-context_of sent = first_context sent sent.next
+abbrev pub won_context : Challenged → Option Context
+won_context sent = first_context sent sent.next
 
 abbrev pub later_context : Context → Option (List ℕ) → Option Context
 later_context c None = None
@@ -79,7 +79,7 @@ gives_next options c = options.reauth && not (c.counter == 65535)
 -- after the last challenge succeeded
 abbrev pub homes_won : Method → List HomeRow → Option Challenged → List HomeRow
 homes_won by homes None = homes
-homes_won by homes (Some sent) = homes_kept by homes sent.sub (context_of sent)
+homes_won by homes (Some sent) = homes_kept by homes sent.sub (won_context sent)
 
 -- after the re-authentication succeeded
 abbrev pub homes_rewon : Method → List HomeRow → Option Resumed → List HomeRow

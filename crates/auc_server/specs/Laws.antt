@@ -2,7 +2,7 @@
 use Rattle.std.specs.Prelude.{◌≡◌, ◌⊎◌, ℕ, ◌+◌, ◌≤◌, Bool, true, false, List, [], Option, Some, None}
 use Rattle.auc_hmac.specs.declared.keys.KeySet.{KeySet}
 use Rattle.auc_packet.specs.Received.{Seen, is_sealed}
-use Rattle.auc_reauth.specs.Server.{found}
+use Rattle.auc_reauth.specs.Server.{entry_named}
 use Rattle.auc_reauth.specs.Store.{entry}
 use Rattle.auc_reauth.specs.declared.context.Context.{Context}
 use Rattle.auc_vector.specs.Keys.{keys_of, master_of}
@@ -117,7 +117,7 @@ pub record Resumes (set : Setting) (homes : List HomeRow) (s : ServerEnd) (seen 
   pub context : Context
   pub place : ℕ
   pub home : home_place homes sub ≡ Some place
-  pub named : found s.options.method (text_in seen.reading) (home_at homes place).store ≡ Some context
+  pub named : entry_named s.options.method (text_in seen.reading) (home_at homes place).store ≡ Some context
   pub resumption_is : new.resumed ≡ Some (resumption set (homes_left s.options.method (text_in seen.reading) homes sub) s sub context)
   pub noted : turn.notes.resumed ≡ Some context.counter
   pub sent : turn.step ≡ step.Sent new.last

@@ -9,7 +9,7 @@ use Rattle.auc_reauth.specs.Store.{entry}
 use Rattle.auc_reauth.specs.declared.context.Context.{Context}
 use Rattle.auc_vector.specs.declared.notes.Notes.{Notes}
 use Rattle.auc_vector.specs.declared.notes.NumberNote.TheVariants as number
-use Rattle.auc_server.specs.Contexts.{context_after, context_of}
+use Rattle.auc_server.specs.Contexts.{context_after, won_context}
 use Rattle.auc_server.specs.Ordinals.{home_at, home_place}
 use Rattle.auc_server.specs.Server.{ServerEnd}
 use Rattle.auc_server.specs.Setting.{Setting}
@@ -30,7 +30,7 @@ of_sub sub (Some c) = Some (sub, c)
 
 abbrev pub left_first : Option Challenged → Option (ℕ × Context)
 left_first None = None
-left_first (Some sent) = of_sub sent.sub (context_of sent)
+left_first (Some sent) = of_sub sent.sub (won_context sent)
 
 abbrev pub left_later : Option Resumed → Option (ℕ × Context)
 left_later None = None

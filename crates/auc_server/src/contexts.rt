@@ -2,9 +2,9 @@
 
 ghost use Rattle.std.specs.Prelude.{◌≡◌};
 ghost use Rattle.std.specs.Option.{is_some};
-ghost use Rattle.auc_reauth.specs.Server.{found};
+ghost use Rattle.auc_reauth.specs.Server.{entry_named};
 ghost use Rattle.auc_reauth.specs.Store.{IsOf, method_of};
-ghost use Rattle.auc_server.specs.Contexts.{context_after, context_in, context_of, gives_next, homes_kept, homes_taken, with_context, without};
+ghost use Rattle.auc_server.specs.Contexts.{context_after, context_in, won_context, gives_next, homes_kept, homes_taken, with_context, without};
 ghost use Rattle.auc_server.specs.InnerServer.{HasNext};
 
 use crate::naming::home_place;
@@ -26,7 +26,7 @@ pub(crate) fn has_context(method: Method, text: &[u8], homes: &[HomeRow], sub: u
 
 /// Whether a home has a context of a method whose identity a text is.
 fn is_in(method: Method, text: &[u8], home: &HomeRow) -> bool
-    ensures { result ≡ is_some (found method text.now home.now.store) }
+    ensures { result ≡ is_some (entry_named method text.now home.now.store) }
 {
     let mut store = home.store;
     store.take(method, text).is_some()
@@ -34,7 +34,7 @@ fn is_in(method: Method, text: &[u8], home: &HomeRow) -> bool
 
 /// Takes the context of a home whose identity a text is out of it.
 fn take_from(method: Method, text: &[u8], home: &mut HomeRow) -> Option<Context>
-    ensures found { result ≡ found method text.now home.old.store }
+    ensures found { result ≡ entry_named method text.now home.old.store }
     ensures left { home.new ≡ without method text.now home.old }
     ensures method { IsOf method result }
 {
@@ -86,8 +86,8 @@ pub(crate) fn keep_context(method: Method, homes: &mut [HomeRow], sub: u32, c: O
 }
 
 /// The context of a full authentication, if its Challenge gave an identity.
-pub(crate) fn context_of(sent: &Challenged) -> Option<Context>
-    ensures context { result ≡ context_of sent.now }
+pub(crate) fn won_context(sent: &Challenged) -> Option<Context>
+    ensures context { result ≡ won_context sent.now }
     ensures own { IsOf (method_of sent.now.master) result }
 {
     match sent.next {

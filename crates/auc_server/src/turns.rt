@@ -8,7 +8,7 @@ ghost use Rattle.auc_server.specs.Server.{started};
 ghost use Rattle.auc_server.specs.Steps.{bytes_of};
 ghost use Rattle.auc_server.specs.Table.{asked, awaiting, ended, failed, gave_up, identified, ignored, noted, notified, repeated, requested, silent, succeeded, unknown};
 
-use crate::contexts::{context_of, keep_context};
+use crate::contexts::{won_context, keep_context};
 use crate::messages::{aka_identity, message, notification};
 use crate::options::ServerOptions;
 use crate::rooms::{RequestRooms, Rooms, message_room};
@@ -151,7 +151,7 @@ impl Server {
             None => self.ignore(Reason::Unexpected),
             Some(sent) => {
                 let bytes = message(&Packet::Success(self.id), room);
-                keep_context(self.options.method, homes, sent.sub, context_of(&sent));
+                keep_context(self.options.method, homes, sent.sub, won_context(&sent));
                 self.end(Outcome::Success(sent.keys), bytes, true)
             }
         }

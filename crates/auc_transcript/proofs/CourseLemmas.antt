@@ -64,7 +64,7 @@ early_of_end set stop at (Restart ∷ parts) (record_of.Restart ∷ records) end
 pub raises_stays : (rows : List Row) (early : List LineRecord) (limits highs : List ℕ) → ((sub : ℕ) → sub < length rows → get_or limits sub 0 ≤ max_seq)
     → ((sub : ℕ) → sub < length rows → All (λ n. n ≤ get_or limits sub 0) (numbers_of sub early)) → Raises rows early limits highs limits
 raises_stays rows early limits highs within covers =
-    record { step = λ sub inside. inl refl; covers = covers; near = λ sub inside. omega arith; within = within }
+    record { step = λ sub inside. inl refl; released = covers; near = λ sub inside. omega arith; within = within }
 
 -- the limits at the beginning are such as a restart may have
 pub raises_first : (rows : List Row) (reserved highs : List ℕ) → ((sub : ℕ) → sub < length rows → get_or reserved sub 0 ≤ max_seq) → Raises rows [] reserved highs reserved
@@ -72,7 +72,7 @@ raises_first rows reserved highs within = raises_stays rows [] reserved highs wi
 
 -- so are the limits of a restart right after it
 pub raises_again : (rows : List Row) (early : List LineRecord) (limits highs next : List ℕ) → Raises rows early limits highs next → Raises rows early next highs next
-raises_again rows early limits highs next raises = raises_stays rows early next highs raises.within raises.covers
+raises_again rows early limits highs next raises = raises_stays rows early next highs raises.within raises.released
 
 -- two steps of a limit are one
 steps_join : (limit mid next : ℕ) → (mid ≡ limit) ⊎ ((mid ≡ max_seq) ⊎ (limit + 64 ≤ mid)) → (next ≡ mid) ⊎ ((next ≡ max_seq) ⊎ (mid + 64 ≤ next)) → next ≤ max_seq
@@ -91,12 +91,12 @@ pub raises_round : (rows : List Row) (early lines : List LineRecord) (limits hig
 raises_round rows early lines limits highs mid words next sizes before here = record {
   step = λ sub inside.
       steps_join (get_or limits sub 0) (get_or mid sub 0) (get_or next sub 0) (before.step sub inside) (here.step sub inside) (here.within sub inside);
-  covers = λ sub inside.
+  released = λ sub inside.
       subst (λ (numbers : List ℕ). All (λ n. n ≤ get_or next sub 0) numbers) (sym (flat_map-append (released_by sub) early lines))
       (All-append (λ n. n ≤ get_or next sub 0) (numbers_of sub early) (numbers_of sub lines)
       (All-weaker (λ n. n ≤ get_or mid sub 0) (λ n. n ≤ get_or next sub 0)
-      (λ n low. let up = rises sub inside in omega (arith, low, up)) (numbers_of sub early) (before.covers sub inside))
-      (here.covers sub inside));
+      (λ n low. let up = rises sub inside in omega (arith, low, up)) (numbers_of sub early) (before.released sub inside))
+      (here.released sub inside));
   near = λ sub inside.
       let first = before.near sub inside in
       let second = here.near sub inside in
@@ -167,4 +167,4 @@ raises_whole set stop reserved parts records end next leads raises =
     let first : HaveRisen set.rows reserved [] reserved = record { step = λ sub inside. inl refl; near = λ sub inside. omega arith } in
     let risen = parts_risen set stop reserved (beginning set.rows reserved) parts records end (length-opened set.rows reserved) first leads in
     let further = risen_further set.rows end.early reserved end.highs end.limits next risen raises in
-    record { step = further.step; covers = raises.covers; near = further.near; within = raises.within }
+    record { step = further.step; released = raises.released; near = further.near; within = raises.within }

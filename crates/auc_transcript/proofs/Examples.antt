@@ -252,7 +252,7 @@ restart_may : (row : Row) (early : List LineRecord) (limit high next : ℕ) → 
     → next ≤ max limit (high + 64) → next ≤ max_seq → Raises (row ∷ []) early (limit ∷ []) (high ∷ []) (next ∷ [])
 restart_may row early limit high next step covers near within = record {
   step = λ sub inside. first (λ (s : ℕ). (get_or (next ∷ []) s 0 ≡ get_or (limit ∷ []) s 0) ⊎ ((get_or (next ∷ []) s 0 ≡ max_seq) ⊎ (get_or (limit ∷ []) s 0 + 64 ≤ get_or (next ∷ []) s 0))) step sub inside;
-  covers = λ sub inside. first (λ (s : ℕ). All (λ n. n ≤ get_or (next ∷ []) s 0) (numbers_of s early)) covers sub inside;
+  released = λ sub inside. first (λ (s : ℕ). All (λ n. n ≤ get_or (next ∷ []) s 0) (numbers_of s early)) covers sub inside;
   near = λ sub inside. first (λ (s : ℕ). get_or (next ∷ []) s 0 ≤ max (get_or (limit ∷ []) s 0) (get_or (high ∷ []) s 0 + 64)) near sub inside;
   within = λ sub inside. first (λ (s : ℕ). get_or (next ∷ []) s 0 ≤ max_seq) within sub inside;
 }
@@ -315,7 +315,7 @@ no_two_steps row mid raises again = elim (raises.step 0 (omega arith)) [
 
 -- a released number is covered: the limit can't stay at 0 after a vector
 not_after_a_vector : (row : Row) (n : ℕ) → 1 ≤ n → Raises (row ∷ []) (Vector 0 n ∷ []) (0 ∷ []) (5 ∷ []) (0 ∷ []) → ⊥
-not_after_a_vector row n first raises = let low = raises.covers 0 (omega arith) 0 0 (omega arith) in omega (arith, first, low)
+not_after_a_vector row n first raises = let low = raises.released 0 (omega arith) 0 0 (omega arith) in omega (arith, first, low)
 
 -- near the top the limit may be the greatest number, also by a lesser step
 up_to_the_top : (row : Row) → Raises (row ∷ []) [] ((max_seq - 10) ∷ []) (max_seq ∷ []) (max_seq ∷ [])

@@ -12,7 +12,7 @@ use Rattle.auc_reauth.specs.Server.{no_contexts}
 use Rattle.auc_reauth.specs.declared.context.Context.{Context}
 use Rattle.auc_request.specs.declared.identities.IdentityRequest.{IdentityRequest}
 use Rattle.auc_request.specs.declared.identities.IdentityRequest.TheVariants as asks
-use Rattle.auc_server.specs.Contexts.{context_after, context_in, context_of, found_at, gives_next, homes_kept, homes_left, homes_resumed, homes_rewon, homes_won, with_context, with_context_at, without, without_at}
+use Rattle.auc_server.specs.Contexts.{context_after, context_in, won_context, found_at, gives_next, homes_kept, homes_left, homes_resumed, homes_rewon, homes_won, with_context, with_context_at, without, without_at}
 use Rattle.auc_server.specs.Moves.{of_sub, waiting}
 use Rattle.auc_server.specs.Ordinals.{home_at, home_place, homes_given, homes_with, ordinal_after, with_next}
 use Rattle.auc_server.specs.Rows.{server_row, text_in}
@@ -95,7 +95,7 @@ module _ (place : ℕ) where
 
   won_within : (by : Method) (homes : List HomeRow) (c : Option Challenged) → IsWithin place homes → IsWithin place (homes_won by homes c)
   won_within by homes None within = within
-  won_within by homes (Some sent) within = kept_within by homes sent.sub (context_of sent) within
+  won_within by homes (Some sent) within = kept_within by homes sent.sub (won_context sent) within
 
   rewon_within : (by : Method) (homes : List HomeRow) (c : Option Resumed) → IsWithin place homes → IsWithin place (homes_rewon by homes c)
   rewon_within by homes None within = within
@@ -163,7 +163,7 @@ module _ (sub : ℕ) (c : Context) (n : ℕ) where
   with_leaves : (realm : List ℕ) (s : ServerEnd) (other m : ℕ) (o : Option Vector) (given : Option GivenNames) (notes : Notes) (checked : Bool)
       → Waits (challenged_with realm s other m o given notes checked).0 → Waits s ⊎ (other ≡ sub)
   with_leaves realm s other m None given notes checked waits = inl waits
-  with_leaves realm s other m (Some v) given notes checked waits = inr (of_is other (context_of (challenge_of s other m v (next_given given))) waits)
+  with_leaves realm s other m (Some v) given notes checked waits = inr (of_is other (won_context (challenge_of s other m v (next_given given))) waits)
 
   challenge_leaves : (set : Setting) (homes : List HomeRow) (s : ServerEnd) (other : ℕ) (checked : Bool) (resynced : Option ResyncNote) (drawn : Option NumberNote)
       → Waits (challenged set homes s other checked resynced drawn).0 → Waits s ⊎ (other ≡ sub)

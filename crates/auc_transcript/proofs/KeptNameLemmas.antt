@@ -30,7 +30,7 @@ use Rattle.auc_vector.specs.declared.turn.Step.{Step}
 use Rattle.auc_vector.specs.declared.turn.Step.TheVariants as step
 use Rattle.auc_world.specs.Came.{presented_at, presented_by, presented_in}
 use Rattle.auc_world.specs.Given.{Before, EventGives, IsUsimAsked, JobGives, JobsGive, LineGives, PlainGives, RelayGives, behind, packet_of}
-use Rattle.auc_world.specs.Happened.{Delivery, Told, at_place, delivered, delivery_at, delivery_of, give_up, happened, in_session, kept_after, keys_won, moved, new_session, opened, peer_turn, released_by, repeat, server_gives_up, server_turn, start, to_peer, to_server, with_peer, with_server}
+use Rattle.auc_world.specs.Happened.{Delivery, Told, at_place, delivered, delivery_at, delivery_of, give_up, happened, in_session, kept_after, keys_won, moved, new_session, opened, peer_turn, drawn_in_turn, repeat, server_gives_up, server_turn, start, to_peer, to_server, with_peer, with_server}
 use Rattle.auc_world.specs.Net.{Net, device_place, keeps_at, keeps_or, other, packet_at, session_place}
 use Rattle.auc_world.specs.Start.{Kept, fresh_kept, keeps_by, keeps_of, kept_by_jobs, kept_now, kept_of, kept_or, kept_with, put_back, start_of, subscription_at, subscription_by}
 use Rattle.auc_world.specs.declared.event.Event.{Event}
@@ -114,7 +114,7 @@ to_server_has : (set : Setting) (w : Net) (d : Delivery) (told : Told) (o : Opti
 to_server_has set w d told None all own = all
 to_server_has set w d told (Some q) all own =
     let turn = server_turn set w q told in
-    let is = server_has w d.place d.session (released_by (asking (server_row set w.homes q told.seen told.reply)) turn.1.notes.number) turn.0 turn.1.step all own in
+    let is = server_has w d.place d.session (drawn_in_turn (asking (server_row set w.homes q told.seen told.reply)) turn.1.notes.number) turn.0 turn.1.step all own in
     record { stores = is.stores; peers = is.peers; sizes = is.sizes }
 
 -- what the device of a place keeps

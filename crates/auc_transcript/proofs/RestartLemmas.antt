@@ -117,7 +117,7 @@ limits_meet rows at is = record {
   step = λ sub inside.
       subst (λ (n : ℕ). (n ≡ get_or at.limits sub 0) ⊎ ((n ≡ max_seq) ⊎ (get_or at.limits sub 0 + 64 ≤ n))) (sym (here sub inside))
       (new_step (get_or at.limits sub 0) (get_or at.highs sub 0));
-  covers = λ sub inside k d k<n.
+  released = λ sub inside k d k<n.
       let (low, few) = is.below sub (get_or (numbers_of sub at.early) k d) inside (times_at (numbers_of sub at.early) k d k<n) in
       let same = here sub inside in
       let enough = new_covers (get_or at.limits sub 0) (get_or at.highs sub 0) (get_or (numbers_of sub at.early) k d) low few in

@@ -26,7 +26,7 @@ use Rattle.auc_vector.specs.declared.turn.Step.{Step}
 use Rattle.auc_vector.specs.declared.turn.Step.TheVariants as step
 use Rattle.auc_world.specs.Came.{session_at, session_of}
 use Rattle.auc_world.specs.Given.{Before, EventGives, LineGives, PlainGives, RelayGives, behind, packet_of}
-use Rattle.auc_world.specs.Happened.{Delivery, Told, at_place, delivered, delivery_at, delivery_of, give_up, happened, in_session, keys_won, moved, new_session, opened, peer_turn, released_by, repeat, server_gives_up, server_turn, start, to_peer, to_server, with_peer, with_server}
+use Rattle.auc_world.specs.Happened.{Delivery, Told, at_place, delivered, delivery_at, delivery_of, give_up, happened, in_session, keys_won, moved, new_session, opened, peer_turn, drawn_in_turn, repeat, server_gives_up, server_turn, start, to_peer, to_server, with_peer, with_server}
 use Rattle.auc_world.specs.Net.{Net, device_place, keeps_at, other as other_end, packet_at, session_place}
 use Rattle.auc_world.specs.World.{AreOfSame}
 use Rattle.auc_world.specs.declared.event.Event.{Event}
@@ -146,7 +146,7 @@ delivery_moves set w number at' told packet = by (session_place w.sessions numbe
     to_server_moves d None st = nothing_moves w number
     to_server_moves d (Some q) st =
         let turn = server_turn set w q told in
-        let m = server_moves w number d.place d.session (released_by (asking (server_row set w.homes q told.seen told.reply)) turn.1.notes.number) turn.0 turn.1.step st in
+        let m = server_moves w number d.place d.session (drawn_in_turn (asking (server_row set w.homes q told.seen told.reply)) turn.1.notes.number) turn.0 turn.1.step st in
         record { sessions = m.sessions; devices = m.devices; homes = turn_subs set w.homes q told.seen told.reply told.notes }
 
     to_peer_moves : (d : Delivery) (o : Option Subscription) → Stands w number d.place d.session → IsMove w (to_peer set w d told o) number

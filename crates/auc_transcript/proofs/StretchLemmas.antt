@@ -163,7 +163,7 @@ parts_go_on set stop sub at (Restart ∷ parts) (record_of.Restart ∷ records) 
     let go = parts_go_on set stop sub (after_restart set.rows at limits) parts records end inside (length-opened set.rows limits) more in
     restart_goes_on (get_or at.openings sub 0) (get_or (opened set.rows limits) sub 0) (numbers_of sub at.early) (stretches_of sub records)
     (λ m some.
-    let low = All-times (λ (n : ℕ). n ≤ get_or limits sub 0) m (numbers_of sub at.early) (restarts.raises.covers sub inside) some in
+    let low = All-times (λ (n : ℕ). n ≤ get_or limits sub 0) m (numbers_of sub at.early) (restarts.raises.released sub inside) some in
     let high = opened_above set.rows limits sub inside in omega (arith, low, high))
     go
 

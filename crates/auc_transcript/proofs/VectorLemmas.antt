@@ -161,7 +161,7 @@ parts_apart set stop sub at (Restart ∷ parts) (record_of.Restart ∷ records) 
     let more = subst (λ (c : Course). Leads set stop c parts records end) restarts.leads rest in
     let here = apart_restart sub (get_or at.openings sub 0) (get_or (opened set.rows limits) sub 0) at.early
     (λ m some.
-    let low = All-times (λ (k : ℕ). k ≤ get_or limits sub 0) m (numbers_of sub at.early) (restarts.raises.covers sub inside) some in
+    let low = All-times (λ (k : ℕ). k ≤ get_or limits sub 0) m (numbers_of sub at.early) (restarts.raises.released sub inside) some in
     let high = opened_above set.rows limits sub inside in omega (arith, low, high))
     are in
     parts_apart set stop sub (after_restart set.rows at limits) parts records end inside (length-opened set.rows limits) here more n

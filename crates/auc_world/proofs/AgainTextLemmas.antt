@@ -14,12 +14,12 @@ use Rattle.auc_packet.specs.Received.{Seen}
 use Rattle.auc_packet.specs.Spelling.{packet_text}
 use Rattle.auc_packet.specs.declared.packet.Packet.TheVariants as packet
 use Rattle.auc_packet.specs.declared.subtype.Subtype.TheVariants as subtype
-use Rattle.auc_reauth.specs.Server.{Contexts, found, if_named, unless_named}
+use Rattle.auc_reauth.specs.Server.{Contexts, entry_named, if_named, unless_named}
 use Rattle.auc_reauth.specs.Store.{entry, with_entry}
 use Rattle.auc_reauth.specs.declared.context.Context.{Context}
 use Rattle.auc_request.specs.declared.identities.IdentityRequest.{IdentityRequest}
 use Rattle.auc_server.proofs.Facts.{Says, given_store, notification_may, says_row}
-use Rattle.auc_server.specs.Contexts.{context_after, context_in, context_of, first_context, found_at, gives_next, homes_kept, homes_left, homes_resumed, homes_rewon, homes_won, later_context, with_context, with_context_at, without, without_at}
+use Rattle.auc_server.specs.Contexts.{context_after, context_in, won_context, first_context, found_at, gives_next, homes_kept, homes_left, homes_resumed, homes_rewon, homes_won, later_context, with_context, with_context_at, without, without_at}
 use Rattle.auc_server.specs.Laws.{Fits}
 use Rattle.auc_server.specs.Messages.{reauth_bytes}
 use Rattle.auc_server.specs.Ordinals.{home_at, home_place, homes_given, ordinal_given}
@@ -435,7 +435,7 @@ first_sized s sent (Some identity) c fits last e =
 
 won_sized : (s : ServerEnd) (homes : List HomeRow) (o : Option Challenged) → Fits s → s.challenged ≡ o → AreSized homes → AreSized (homes_won s.options.method homes o)
 won_sized s homes None fits last sized = sized
-won_sized s homes (Some sent) fits last sized = kept_sized s.options.method homes sent.sub (context_of sent) (λ c e. first_sized s sent sent.next c fits last e) sized
+won_sized s homes (Some sent) fits last sized = kept_sized s.options.method homes sent.sub (won_context sent) (λ c e. first_sized s sent sent.next c fits last e) sized
 
 -- and of a re-authentication
 later_sized : (c : Context) (next : Option (List ℕ)) (d : Context) → IsSized c → ((text : List ℕ) → next ≡ Some text → c.counter + 1 < 65536) → later_context c next ≡ Some d → IsSized d

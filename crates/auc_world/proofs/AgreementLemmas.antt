@@ -44,7 +44,7 @@ use Rattle.auc_vector.specs.declared.turn.Outcome.TheVariants as outcome
 use Rattle.auc_vector.specs.declared.turn.Step.{Step}
 use Rattle.auc_vector.specs.declared.turn.Step.TheVariants as step
 use Rattle.auc_world.specs.Agreement.{AreOfOneChallenge, AreReleasedOnce, Happening, HaveSecrets, IsFresh, IsHonest, IsHonestAt, IsHonestFinding, Noted, Occurs, PeerWon, ServerWon, after, after_one}
-use Rattle.auc_world.specs.Happened.{Delivery, Told, at_place, at_session, delivered, delivery_at, delivery_of, found, found_by, give_up, in_session, keys_won, moved, opened, peer_finds, peer_turn, released_by, repeat, sent_by, server_gives_up, server_turn, start, to_peer, to_server, with_peer, with_server}
+use Rattle.auc_world.specs.Happened.{Delivery, Told, at_place, at_session, delivered, delivery_at, delivery_of, found, found_by, give_up, in_session, keys_won, moved, opened, peer_finds, peer_turn, drawn_in_turn, repeat, sent_by, server_gives_up, server_turn, start, to_peer, to_server, with_peer, with_server}
 use Rattle.auc_world.specs.Net.{Net, device_place, inputs_accepted, inputs_of_peer, inputs_of_server, inputs_sent, keeps_at, packet_at, posted, session_place}
 use Rattle.auc_lines.specs.declared.part.SessionLine.{SessionLine}
 use Rattle.auc_lines.specs.declared.part.End.{End}
@@ -549,7 +549,7 @@ to_server_next laws set w d told None subscribers is there = still set w
 to_server_next laws set w d told (Some s) subscribers is there =
     let turn = server_turn set w s told in
     let asked = asking (server_row set w.homes s told.seen told.reply) in
-    let more = released_by asked turn.1.notes.number in
+    let more = drawn_in_turn asked turn.1.notes.number in
     record {
       more = more;
       grows = refl;
@@ -561,7 +561,7 @@ to_server_next laws set w d told (Some s) subscribers is there =
           (λ kept. server_kept set w d.place d.session turn.0 turn.1.step more h there (kept_fine set w.packets s turn.0 old kept (turn_options set w.homes s told.seen told.reply told.notes) fits first))
           (λ (new : SendsChallenge set asked turn.0 turn.1).
           let x : Number = record { sub = new.request.sub; n = new.n } in
-          let is_more : more ≡ x ∷ [] = ap (λ (a : Option Asking). released_by a turn.1.notes.number) new.of ∙ ap (released_by (Some new.request)) new.drawn in
+          let is_more : more ≡ x ∷ [] = ap (λ (a : Option Asking). drawn_in_turn a turn.1.notes.number) new.of ∙ ap (drawn_in_turn (Some new.request)) new.drawn in
           subst (λ (r : List Number). AreReleasedOnce (w.released ++ r) → HoldsOf set (with_server w d.place d.session r turn.0 turn.1.step)) (sym is_more)
           (λ once. server_new laws set w d.place d.session turn.0 turn.1.step new.request.sub new.n new.vector new.next turn.0.last subscribers h there fits first new.of_number new.challenge new.sent once) o)
           (laws.server_moves set w.homes s told.seen told.reply told.notes old.fits);

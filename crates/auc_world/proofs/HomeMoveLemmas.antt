@@ -14,13 +14,13 @@ use Rattle.auc_ident.specs.Permanent.{username}
 use Rattle.auc_ident.specs.declared.names.NameKind.TheVariants as kinds
 use Rattle.auc_packet.specs.Received.{Seen}
 use Rattle.auc_reauth.specs.Machine.{Challenge, Lose, Move, Places, Resume, Win, next_in, used_by, used_in, with_place}
-use Rattle.auc_reauth.specs.Server.{Contexts, found, if_named, no_contexts}
+use Rattle.auc_reauth.specs.Server.{Contexts, entry_named, if_named, no_contexts}
 use Rattle.auc_reauth.specs.Store.{ByMethod, entry, with_entry}
 use Rattle.auc_reauth.specs.declared.context.Context.{Context}
 use Rattle.auc_request.specs.declared.identities.IdentityRequest.{IdentityRequest}
 use Rattle.auc_request.specs.declared.identities.IdentityRequest.TheVariants as asks
 use Rattle.auc_server.proofs.Facts.{Says, challenged_subs, given_store, gone, resumed_subs, rewon_subs, says_row, won_subs}
-use Rattle.auc_server.specs.Contexts.{context_after, context_in, context_of, first_context, found_at, gives_next, homes_kept, homes_left, homes_resumed, homes_rewon, homes_won, later_context, with_context, with_context_at, without, without_at}
+use Rattle.auc_server.specs.Contexts.{context_after, context_in, won_context, first_context, found_at, gives_next, homes_kept, homes_left, homes_resumed, homes_rewon, homes_won, later_context, with_context, with_context_at, without, without_at}
 use Rattle.auc_server.specs.Laws.{awaits_identity}
 use Rattle.auc_server.specs.Moves.{IsNewName, IsNewOrNone, is_at, left_first, left_later, moved_by, of_sub, waiting, waiting_at}
 use Rattle.auc_server.specs.Ordinals.{home_at, home_place, homes_given, homes_with, ordinal_after, ordinal_at, ordinal_given, with_next}
@@ -472,7 +472,7 @@ module _ (set : Setting) (sub place t : ℕ) (homes : List HomeRow) (s : ServerE
 
   succeeded_turn : (c : Option Challenged) (notes : Notes) → left ≡ left_first c → waiting s s.state ≡ left → T (homes_won s.options.method homes c) (succeeded s c).0 notes
   succeeded_turn None notes e f = stays homes s notes refl refl f refl
-  succeeded_turn (Some sent) notes e f = won_turn sent.sub (context_of sent) (succeeded s (Some sent)).0 notes e refl refl
+  succeeded_turn (Some sent) notes e f = won_turn sent.sub (won_context sent) (succeeded s (Some sent)).0 notes e refl refl
 
   renewed_turn : (c : Option Resumed) (notes : Notes) → left ≡ left_later c → waiting s s.state ≡ left → T (homes_rewon s.options.method homes c) (reauthenticated s c).0 notes
   renewed_turn None notes e f = stays homes s notes refl refl f refl
@@ -481,7 +481,7 @@ module _ (set : Setting) (sub place t : ℕ) (homes : List HomeRow) (s : ServerE
   -- ---- a context that is taken up again
 
   resumes_by : (text : List ℕ) (packets : List (List ℕ)) (other at' : ℕ) (c : Context) (notes : Notes) (b : Bool) → (at' == place) ≡ b → home_place homes other ≡ Some at'
-      → found s.options.method text (home_at homes at').store ≡ Some c → s.resumed ≡ None
+      → entry_named s.options.method text (home_at homes at').store ≡ Some c → s.resumed ≡ None
       → T (homes_resumed s.options text homes other (Some c)) (resumed_with set (homes_left s.options.method text homes other) s text packets other (Some c)).0 notes
   resumes_by text packets other at' c notes true here e f none =
       let m = s.options.method in
@@ -491,7 +491,7 @@ module _ (set : Setting) (sub place t : ℕ) (homes : List HomeRow) (s : ServerE
       let later = homes_resumed s.options text homes other (Some c) in
       let r = resumption set mid s other c in
       let one : other ≡ sub = one_sub homes sub other place placed placed' in
-      let is : found m text (home_at homes place).store ≡ Some c = subst (λ (p : ℕ). found m text (home_at homes p).store ≡ Some c) same f in
+      let is : entry_named m text (home_at homes place).store ≡ Some c = subst (λ (p : ℕ). entry_named m text (home_at homes p).store ≡ Some c) same f in
       let there : w zero ≡ Some c = stored ∙ if_named_is (username text) (entry m (home_at homes place).store) c is in
       let placed_mid : home_place mid other ≡ Some place = place_stays homes mid other (left_subs m text homes (home_place homes other)) ∙ placed' in
       let low : (home_at homes place).ordinals ≡ (home_at mid place).ordinals =
@@ -657,7 +657,7 @@ module _ (m : Method) (place : ℕ) where
 
   won_leaves : (by : Method) (homes : List HomeRow) (c : Option Challenged) → m ≢ by → Leaves homes (homes_won by homes c)
   won_leaves by homes None e = refl
-  won_leaves by homes (Some sent) e = kept_leaves by homes sent.sub (context_of sent) e
+  won_leaves by homes (Some sent) e = kept_leaves by homes sent.sub (won_context sent) e
 
   rewon_leaves : (by : Method) (homes : List HomeRow) (c : Option Resumed) → m ≢ by → Leaves homes (homes_rewon by homes c)
   rewon_leaves by homes None e = refl

@@ -17,7 +17,7 @@ use Rattle.auc_vector.specs.declared.notes.NumberNote.TheVariants as number
 use Rattle.auc_world.specs.Came.{Came, asked_sub, asking_at, asking_in, asking_of, came, came_at_peer, came_at_server, came_delivered, came_given_up, came_in, came_opened, came_repeated, came_started, server_came_to_give_up, session_at}
 use Rattle.auc_world.specs.Event.{event_number, number_released, number_with}
 use Rattle.auc_world.specs.Given.{IsCentreAsked}
-use Rattle.auc_world.specs.Happened.{Delivery, Told, at_place, delivered, delivery_at, delivery_of, give_up, in_session, moved, opened, released_by, repeat, server_gives_up, server_turn, start, to_peer, to_server}
+use Rattle.auc_world.specs.Happened.{Delivery, Told, at_place, delivered, delivery_at, delivery_of, give_up, in_session, moved, opened, drawn_in_turn, repeat, server_gives_up, server_turn, start, to_peer, to_server}
 use Rattle.auc_world.specs.Net.{Net, device_place, packet_at, session_place}
 use Rattle.auc_world.specs.Setting.{Setting}
 use Rattle.auc_world.specs.declared.event.Event.{Event}
@@ -52,7 +52,7 @@ stays set w next result same none = record {
 }
 
 -- what a turn released is what its note names
-turn_numbers : (asked : Option Asking) (note : Option NumberNote) → released_by asked note ≡ numbers_in (number_with (asked_sub asked) note)
+turn_numbers : (asked : Option Asking) (note : Option NumberNote) → drawn_in_turn asked note ≡ numbers_in (number_with (asked_sub asked) note)
 turn_numbers None drew = refl
 turn_numbers (Some asked) None = refl
 turn_numbers (Some asked) (Some (number.Drew n)) = refl

@@ -20,7 +20,7 @@ use Rattle.auc_vector.specs.declared.turn.Step.{Step}
 use Rattle.auc_vector.specs.declared.turn.Step.TheVariants as step
 use Rattle.auc_world.specs.Came.{Came, Presented, came, came_at_peer, came_at_server, came_delivered, came_given_up, came_in, came_opened, came_repeated, came_started, presented_by, presented_in, presented_at, server_came_to_give_up, session_of}
 use Rattle.auc_world.specs.Event.{device_in}
-use Rattle.auc_world.specs.Happened.{Delivery, Told, at_place, delivered, delivery_at, delivery_of, give_up, happened, in_session, new_session, opened, peer_turn, released_by, repeat, server_gives_up, server_turn, start, to_peer, to_server, with_peer, with_server}
+use Rattle.auc_world.specs.Happened.{Delivery, Told, at_place, delivered, delivery_at, delivery_of, give_up, happened, in_session, new_session, opened, peer_turn, drawn_in_turn, repeat, server_gives_up, server_turn, start, to_peer, to_server, with_peer, with_server}
 use Rattle.auc_world.specs.Net.{Net, device_place, keeps_at, packet_at, session_place}
 use Rattle.auc_world.specs.declared.event.Event.{Event}
 use Rattle.auc_world.specs.declared.event.Event.TheVariants as event
@@ -93,7 +93,7 @@ delivered_stays Q set w at' told packet (Some place) all = by (slice_get w.sessi
     to_server_stays d None own = all
     to_server_stays d (Some s) own =
         let turn = server_turn set w s told in
-        server_stays Q w d.place d.session (released_by (asking (server_row set w.homes s told.seen told.reply)) turn.1.notes.number) turn.0 turn.1.step all own
+        server_stays Q w d.place d.session (drawn_in_turn (asking (server_row set w.homes s told.seen told.reply)) turn.1.notes.number) turn.0 turn.1.step all own
 
     to_peer_stays : (d : Delivery) (o : Option Subscription) → Q d.session.sub d.session.device → AreAt Q (to_peer set w d told o).sessions
     to_peer_stays d None own = all

@@ -31,7 +31,7 @@ use Rattle.auc_world.proofs.PlainListLemmas.{last_packet, position_stays, set_th
 use Rattle.auc_world.proofs.PlainToldLemmas.{IsQuiet, IsSizedAt, IsSpared, Stage, TellSo, is_spared, line_of, loosened, stays}
 use Rattle.auc_world.specs.Came.{AreReceived, Came, Presented, RepliesAt, RepliesIn, TellsNotes, asked_sub, asking_at, asking_in, by_peer, by_server, came, came_at_peer, came_at_server, came_delivered, came_in, came_started, packet_number, presented_at, presented_in, received_at, received_by, session_at, session_of, vector_sent}
 use Rattle.auc_world.specs.Given.{Before, IsCentreAsked, IsUsimAsked, PlainGives, RelayGives, UsimNotes, behind, packet_of, past_before}
-use Rattle.auc_world.specs.Happened.{Delivery, Told, at_place, delivered, delivery_at, delivery_in, delivery_of, in_session, kept_after, keys_won, moved, peer_turn, released_by, sent_by, start, to_peer, to_server, with_peer, with_server}
+use Rattle.auc_world.specs.Happened.{Delivery, Told, at_place, delivered, delivery_at, delivery_in, delivery_of, in_session, kept_after, keys_won, moved, peer_turn, drawn_in_turn, sent_by, start, to_peer, to_server, with_peer, with_server}
 use Rattle.auc_world.specs.Net.{Net, inputs_of_peer, inputs_of_server, keeps_at, keeps_or, packet_at, posted, session_place}
 use Rattle.auc_world.specs.Plain.{sqn_reported}
 use Rattle.auc_world.specs.declared.event.Event.{Event}
@@ -326,7 +326,7 @@ server_takes_all set stage number s device keeps bytes q syncs next is o = by o.
         let line_is : line ≡ record_of.Event (record { event = e; result = Ok note }) =
         one_line line (record_of.Event (record { event = e; result = came set w e told })) gives.lines_are
         ∙ ap (λ (c : Came). record_of.Event (record { event = e; result = c })) came_is in
-        let news : List Number = released_by asks turn.1.notes.number in
+        let news : List Number = drawn_in_turn asks turn.1.notes.number in
         let moved_is : moved set w e told ≡ record (with_server w o.place s news turn.0 turn.1.step) { homes = homes_after set w.homes q told.seen told.reply told.notes } = ap (delivered set w end.Server told) there ∙ ap (to_server set w d told) is in
         let replies = subst (λ (d : Option Delivery). RepliesIn end.Server told d) there gives.replies in
         let left = syncs - length (sqn_reported told.notes.usim) in

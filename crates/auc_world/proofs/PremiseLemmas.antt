@@ -11,7 +11,7 @@ use Rattle.auc_hmac.specs.declared.method.Method.TheVariants as method
 use Rattle.auc_server.specs.Setting.{Setting}
 use Rattle.auc_world.specs.Agreement.{BreachIsFirst, BrokenTells, Happening, IsFirst, IsHonest, IsHonestAt, IsHonestFinding, Noted, Occurs, SentBefore, after, after_one}
 use Rattle.auc_world.specs.Happened.{found}
-use Rattle.auc_world.specs.Net.{Finding, Net, breaks, judged, other, same_challenge, same_end, same_fast, same_full, same_inputs, same_keys, same_master, same_method, share_inputs, was_sent}
+use Rattle.auc_world.specs.Net.{Finding, Net, breaks, judged, other, same_challenge, same_end, same_fast, same_full, same_inputs, same_fast_keys, same_master, same_method, share_inputs, was_sent}
 use Rattle.auc_lines.specs.declared.part.End.{End}
 use Rattle.auc_lines.specs.declared.part.End.TheVariants as end
 use Rattle.auc_world.specs.declared.net.Breach.{Breach}
@@ -78,9 +78,9 @@ master_itself (master.Prime a) = (bytes_eq-Decides a a).1 refl
 
 one_fast : (a b : FastInputs) → same_fast a b ≡ true → a ≡ b
 one_fast a b e =
-    let (sub, whole) = and_parts (a.sub == b.sub) (same_method a.method b.method && (bytes_eq a.identity b.identity && same_keys a b)) e in
-    let (by, rest) = and_parts (same_method a.method b.method) (bytes_eq a.identity b.identity && same_keys a b) whole in
-    let (identity, keys) = and_parts (bytes_eq a.identity b.identity) (same_keys a b) rest in
+    let (sub, whole) = and_parts (a.sub == b.sub) (same_method a.method b.method && (bytes_eq a.identity b.identity && same_fast_keys a b)) e in
+    let (by, rest) = and_parts (same_method a.method b.method) (bytes_eq a.identity b.identity && same_fast_keys a b) whole in
+    let (identity, keys) = and_parts (bytes_eq a.identity b.identity) (same_fast_keys a b) rest in
     let (encr, tail) = and_parts (bytes_eq a.k_encr b.k_encr) (bytes_eq a.k_aut b.k_aut && same_master a.master b.master) keys in
     let (aut, own) = and_parts (bytes_eq a.k_aut b.k_aut) (same_master a.master b.master) tail in
     let s = eqb-true a.sub b.sub sub in
@@ -93,9 +93,9 @@ one_fast a b e =
 
 fast_itself : (a : FastInputs) → same_fast a a ≡ true
 fast_itself a =
-    and_from (a.sub == a.sub) (same_method a.method a.method && (bytes_eq a.identity a.identity && same_keys a a)) (eq-eqb a.sub a.sub refl)
-    (and_from (same_method a.method a.method) (bytes_eq a.identity a.identity && same_keys a a) (method_itself a.method)
-    (and_from (bytes_eq a.identity a.identity) (same_keys a a) ((bytes_eq-Decides a.identity a.identity).1 refl)
+    and_from (a.sub == a.sub) (same_method a.method a.method && (bytes_eq a.identity a.identity && same_fast_keys a a)) (eq-eqb a.sub a.sub refl)
+    (and_from (same_method a.method a.method) (bytes_eq a.identity a.identity && same_fast_keys a a) (method_itself a.method)
+    (and_from (bytes_eq a.identity a.identity) (same_fast_keys a a) ((bytes_eq-Decides a.identity a.identity).1 refl)
     (and_from (bytes_eq a.k_encr a.k_encr) (bytes_eq a.k_aut a.k_aut && same_master a.master a.master) ((bytes_eq-Decides a.k_encr a.k_encr).1 refl)
     (and_from (bytes_eq a.k_aut a.k_aut) (same_master a.master a.master) ((bytes_eq-Decides a.k_aut a.k_aut).1 refl) (master_itself a.master)))))
 

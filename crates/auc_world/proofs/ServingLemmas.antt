@@ -30,7 +30,7 @@ use Rattle.auc_vector.specs.declared.turn.Turn.{Turn}
 use Rattle.auc_world.proofs.ActingLemmas.{numbered}
 use Rattle.auc_world.proofs.HomeLemmas.{asked_same}
 use Rattle.auc_world.specs.Came.{AreReceived, Came, AsksAt, RepliesAt, asked_sub, asking_at, by_server, came_at_server, packet_number, received_by, vector_sent}
-use Rattle.auc_world.specs.Happened.{Delivery, Told, breach_at, delivery_at, released_by, sent_by, server_finds, to_server, with_server}
+use Rattle.auc_world.specs.Happened.{Delivery, Told, breach_at, delivery_at, drawn_in_turn, sent_by, server_finds, to_server, with_server}
 use Rattle.auc_world.specs.InnerWorld.{Serves, number_after, refusal_of, released_for, state_of}
 use Rattle.auc_world.specs.Net.{Net, inputs_of_server, judged, packet_at, posted}
 use Rattle.auc_world.specs.World.{AreOfSame, WorldState}
@@ -58,7 +58,7 @@ same_sub : (a : Option Asking) → sub_asked a ≡ asked_sub a
 same_sub None = refl
 same_sub (Some request) = refl
 
-same_released : (a : Option Asking) (n : Option NumberNote) → released_for (asked_sub a) n ≡ released_by a n
+same_released : (a : Option Asking) (n : Option NumberNote) → released_for (asked_sub a) n ≡ drawn_in_turn a n
 same_released None None = refl
 same_released None (Some (number.Drew n)) = refl
 same_released None (Some (number.Exhausted w)) = refl
@@ -150,7 +150,7 @@ module _ {S : Type 0} (goes : S → ℕ → List Entry → List (ℕ × Stop) �
 
     -- the network after a turn
     abbrev after_turn : ServerEnd × Turn ServerWhy → Net
-    after_turn x = record (with_server old.net place session (released_by asks x.1.notes.number) x.0 x.1.step) {
+    after_turn x = record (with_server old.net place session (drawn_in_turn asks x.1.notes.number) x.0 x.1.step) {
       homes = homes_after set homes s steps.seen steps.reply turn.notes;
       broken = judged packets broken (Some (record { checked = x.1.checked; inputs = inputs_of_server s; bytes = sent_packet.bytes; delivery = breach_at d0 end.Server }));
     }
@@ -170,7 +170,7 @@ module _ {S : Type 0} (goes : S → ℕ → List Entry → List (ℕ × Stop) �
         let for_whom : asked ≡ asked_sub asks = is_asked ∙ ap (λ (h : List HomeRow). asked_after set h new turn.notes.resync turn.notes.number) is_served
         ∙ asked_same set homes later new turn.notes.resync turn.notes.number alike ∙ asked_for in
         let post : posted read end.Server inputs sent ≡ posted packets end.Server (inputs_of_server new) (sent_by turn.step) = λ j. posted (is_read j) end.Server (is_inputs j) (is_sent j) in
-        let out : released' ≡ released ++ released_by asks turn.notes.number =
+        let out : released' ≡ released ++ drawn_in_turn asks turn.notes.number =
         is_released ∙ ap (λ (all : List Number). all ++ released_for asked turn.notes.number) is_noted ∙ ap (λ (a : Option ℕ). released ++ released_for a turn.notes.number) for_whom
         ∙ ap (λ (all : List Number). released ++ all) (same_released asks turn.notes.number) in
         let judge : judged looked broken (Some (record { checked = turn.checked; inputs = inputs_before; bytes = bytes; delivery = breach_at d0 end.Server }))

@@ -66,9 +66,9 @@ keys_won before (step.Sent bytes) = before
 keys_won before (step.Ignored cause) = before
 
 -- the number that a turn drew for the subscriber that it asked for
-abbrev pub released_by : Option Asking → Option NumberNote → List Number
-released_by (Some asked) (Some (number.Drew n)) = record { sub = asked.sub; n = n } ∷ []
-released_by _ _ = []
+abbrev pub drawn_in_turn : Option Asking → Option NumberNote → List Number
+drawn_in_turn (Some asked) (Some (number.Drew n)) = record { sub = asked.sub; n = n } ∷ []
+drawn_in_turn _ _ = []
 
 -- a server that took a step
 abbrev pub with_server : Net → ℕ → Session → List Number → ServerEnd → Step ServerWhy → Net
@@ -120,7 +120,7 @@ abbrev pub to_server : Setting → Net → Delivery → Told → Option ServerEn
 to_server set w d told None = w
 to_server set w d told (Some s) =
     let turn = server_turn set w s told in
-    record (with_server w d.place d.session (released_by (asking (server_row set w.homes s told.seen told.reply)) turn.1.notes.number) turn.0 turn.1.step) {
+    record (with_server w d.place d.session (drawn_in_turn (asking (server_row set w.homes s told.seen told.reply)) turn.1.notes.number) turn.0 turn.1.step) {
       homes = homes_after set w.homes s told.seen told.reply told.notes;
     }
 

@@ -29,7 +29,7 @@ pub record Raises (rows : List Row) (early : List LineRecord) (limits highs next
   pub step : (sub : ℕ) → sub < length rows → (slice_index next sub ≡ slice_index limits sub)
       ⊎ ((slice_index next sub ≡ max_seq) ⊎ (slice_index limits sub + least_step ≤ slice_index next sub))
   -- it is at least each number that was released
-  pub covers : (sub : ℕ) → sub < length rows → All (λ n. n ≤ slice_index next sub) (numbers_of sub early)
+  pub released : (sub : ℕ) → sub < length rows → All (λ n. n ≤ slice_index next sub) (numbers_of sub early)
   -- it rises to a step above the greatest closing word at most
   pub near : (sub : ℕ) → sub < length rows → slice_index next sub ≤ max (slice_index limits sub) (slice_index highs sub + least_step)
   -- it is a number

@@ -133,12 +133,12 @@ same_master (master.Prime a) (master.Prime b) = bytes_eq a b
 same_master _ _ = false
 
 -- of one context's keys
-abbrev pub same_keys : FastInputs → FastInputs → Bool
-same_keys a b = bytes_eq a.k_encr b.k_encr && (bytes_eq a.k_aut b.k_aut && same_master a.master b.master)
+abbrev pub same_fast_keys : FastInputs → FastInputs → Bool
+same_fast_keys a b = bytes_eq a.k_encr b.k_encr && (bytes_eq a.k_aut b.k_aut && same_master a.master b.master)
 
 -- and of one subscriber, by one method, under one identity
 abbrev pub same_fast : FastInputs → FastInputs → Bool
-same_fast a b = a.sub == b.sub && (same_method a.method b.method && (bytes_eq a.identity b.identity && same_keys a b))
+same_fast a b = a.sub == b.sub && (same_method a.method b.method && (bytes_eq a.identity b.identity && same_fast_keys a b))
 
 abbrev pub same_inputs : Inputs → Inputs → Bool
 same_inputs (inputs.Full a) (inputs.Full b) = same_full a b

@@ -4,7 +4,7 @@
 ghost use Rattle.std.specs.Prelude.{◌≡◌, ◌≤◌, ◌<◌, ◌&&◌, [], length, Some, IfOk};
 ghost use Rattle.std.specs.Str.{bytes_eq};
 ghost use Rattle.auc_peer.specs.Table.{text_or_none};
-ghost use Rattle.auc_world.specs.Net.{inputs_of_context, inputs_of_peer, inputs_of_server, inputs_sent, judged, other, same_challenge, same_end, same_fast, same_full, same_inputs, same_keys, same_master, same_method, share_inputs, was_sent};
+ghost use Rattle.auc_world.specs.Net.{inputs_of_context, inputs_of_peer, inputs_of_server, inputs_sent, judged, other, same_challenge, same_end, same_fast, same_full, same_inputs, same_fast_keys, same_master, same_method, share_inputs, was_sent};
 
 use crate::copying::copy_of;
 use crate::net::{Breach, FastInputs, FullInputs, Inputs, SentPacket};
@@ -181,8 +181,8 @@ fn same_master(a: Master, b: Master) -> bool
     }
 }
 
-fn same_keys(a: &FastInputs, b: &FastInputs) -> bool
-    ensures { result ≡ same_keys a.now b.now }
+fn same_fast_keys(a: &FastInputs, b: &FastInputs) -> bool
+    ensures { result ≡ same_fast_keys a.now b.now }
 {
     a.k_encr.as_slice() == b.k_encr.as_slice()
         && (a.k_aut.as_slice() == b.k_aut.as_slice() && same_master(a.master, b.master))
@@ -193,7 +193,7 @@ fn same_fast(a: &FastInputs, b: &FastInputs) -> bool
 {
     a.sub == b.sub
         && (same_method(a.method, b.method)
-            && (a.identity.as_slice() == b.identity.as_slice() && same_keys(a, b)))
+            && (a.identity.as_slice() == b.identity.as_slice() && same_fast_keys(a, b)))
 }
 
 fn same_inputs(a: &Inputs, b: &Inputs) -> bool

@@ -3,7 +3,7 @@ use Rattle.auc_hmac.specs.declared.keys.KeySet.{KeySet}
 use Rattle.auc_hmac.specs.declared.keys.Master.{Master}
 use Rattle.auc_packet.specs.Received.{seen_of}
 use Rattle.auc_peer.specs.Table.{accepted, by_answer, keys_at, keys_for, text_or_none}
-use Rattle.auc_peer.specs.Turn.{told}
+use Rattle.auc_peer.specs.Turn.{inner_of}
 use Rattle.auc_usim.specs.declared.answer.Answer.{Answer}
 use Rattle.auc_vector.specs.Keys.{ck_by, ik_by, master_of}
 use Rattle.auc_peer.proofs.peer.Peer.on_answer.Goals as goal
@@ -12,7 +12,7 @@ pub returns-in-Accepted-clause-step : goal.returns-in-Accepted-clause-step
 returns-in-Accepted-clause-step c =
     let p = c.args.self.now in
     let seen = seen_of c.args.received.now in
-    let inner = told c.on_accepted.new.self in
+    let inner = inner_of c.on_accepted.new.self in
     c.on_accepted.ensures.step
     ∙ ap (λ (keys : KeySet). accepted p seen c.args.challenge c.in-Accepted.res c.in-Accepted.sqn keys c.master_at-master.result inner)
     (c.keys_at-keys.ensures ∙ ap (λ (network : List ℕ). keys_for p.options.method network c.args.challenge (text_or_none p.identity) c.in-Accepted.ik c.in-Accepted.ck) (c.as_slice.ensures ∙ c.requires.network))
