@@ -92,7 +92,7 @@ module _ (packets : List SentPacket) (sessions : List Session) (released : List 
       (same_card : subscription_of card ≡ subscription_of device) (of_packet : bytes ≡ sent_packet.bytes)
       (steps : Steps set.key (subscription_of device) device.store session.peer bytes device.usim.array new turn card.store card.usim.array) (pasts : RememberPasts devices) where
     abbrev told : Told
-    told = record { seen = steps.seen; notes = turn.notes; inner = peer_turns.told new; reply = replies.Wrong }
+    told = record { seen = steps.seen; notes = turn.notes; inner = peer_turns.inner_of new; reply = replies.Wrong }
 
     -- the network after a turn
     abbrev after_turn : Peer × Turn PeerWhy → Net
@@ -105,10 +105,10 @@ module _ (packets : List SentPacket) (sessions : List Session) (released : List 
     keeps_is : device.store ≡ keeps_at old.net session.device
     keeps_is = sym (ap keeps_or (store_at devices session.device device there))
 
-    turn_is : (new, turn) ≡ peer_step set.key (subscription_of device) (keeps_at old.net session.device) session.peer steps.seen turn.notes.usim (peer_turns.told new)
+    turn_is : (new, turn) ≡ peer_step set.key (subscription_of device) (keeps_at old.net session.device) session.peer steps.seen turn.notes.usim (peer_turns.inner_of new)
     turn_is =
         let past = pasts session.device device there in
-        steps.same past.0 past.1 ∙ ap (λ (k : Keeps). peer_step set.key (subscription_of device) k session.peer steps.seen turn.notes.usim (peer_turns.told new)) keeps_is
+        steps.same past.0 past.1 ∙ ap (λ (k : Keeps). peer_step set.key (subscription_of device) k session.peer steps.seen turn.notes.usim (peer_turns.inner_of new)) keeps_is
 
     -- `read` and `looked` are the packets as the steps of the code find them
     pub answers : (read looked packets' : List SentPacket) (sessions' : List Session) (broken' : Option Breach) (inputs : Option Inputs)
@@ -156,7 +156,7 @@ module _ (packets : List SentPacket) (sessions : List Session) (released : List 
             secret = ap (λ (s : Subscription). s.secret) same_card;
             others = λ other differ. get_other devices session.device other card differ;
             asked = steps.usim;
-            decrypts = λ past remembers. subst (λ (k : Keeps). Decrypts (decryption_made (subscription_of device) k session.peer steps.seen (peer_row session.peer steps.seen) turn.notes.usim) (peer_turns.told new))
+            decrypts = λ past remembers. subst (λ (k : Keeps). Decrypts (decryption_made (subscription_of device) k session.peer steps.seen (peer_row session.peer steps.seen) turn.notes.usim) (peer_turns.inner_of new))
                 keeps_is (steps.decrypts past remembers);
           });
         }

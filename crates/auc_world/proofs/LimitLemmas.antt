@@ -33,6 +33,6 @@ opened_above rows limits sub inside =
 -- a restart opens each subscriber at no less than each number that was released for it
 pub restart_opens_above : EachRestartOpensAboveReleased
 restart_opens_above set at next sub restarts inside k d k<n =
-    let low = restarts.raises.covers sub inside k d k<n in
+    let low = restarts.raises.released sub inside k d k<n in
     let high = opened_above set.rows restarts.limits sub inside in
     let same = ap (λ (c : Course). get_or c.openings sub 0) restarts.leads in omega (arith, low, high, same)
