@@ -595,7 +595,7 @@ module _ (shared : Shared) (early : List LineRecord) (openings : List ℕ) (book
   by_limits = record {
     raises = record {
       step = λ sub known. a.closes.closes.step sub (in_book sub known);
-      covers = λ sub known. (limited sub known).releases;
+      released = λ sub known. (limited sub known).releases;
       near = λ sub known. a.closes.closes.near sub (in_book sub known);
       within = λ sub known. a.closes.closes.within sub (in_book sub known);
     };
