@@ -1,6 +1,6 @@
 -- The image of a crash by a choice, call by call from the first on: for `crash` and its law.
-use Rattle.std.proofs.Common.{◌≡◌, ℕ, List, [], ◌∷◌, ◌++◌, length, refl, ap, subst}
-use Rattle.std.specs.Prelude.{Bool, true, false, if◌then◌else◌, ◌%◌, ◌==◌, replicate}
+use Rattle.std.proofs.Common.{◌≡◌, ℕ, List, [], ◌∷◌, ◌++◌, length, refl, sym, ap, subst}
+use Rattle.std.specs.Prelude.{Result, Ok, Err, IfOk, Bool, true, false, if◌then◌else◌, ◌%◌, ◌==◌, replicate}
 use Rattle.std.proofs.lemmas.List.{length-replicate}
 use Rattle.auc_disk.specs.Disk.{Torn, put, put_over}
 use Rattle.auc_disk.specs.InnerReplay.{AreInRange, sync_images}
@@ -25,6 +25,12 @@ chosen_is_image choice first [] = refl
 chosen_is_image choice first (Wrote at bytes done ∷ calls) =
     (image_by choice first first calls, chosen_is_image choice first calls, left-torn choice (image_by choice first first calls) at bytes)
 chosen_is_image choice first (Synced ∷ calls) = refl
+
+-- the same of an answer that is the image by a choice
+pub chosen_leaves : {E : Type 0} (result : Result (List ℕ) E) (choice : ℕ) (first : List ℕ) (calls : List Call) → IfOk result (λ image. image ≡ image_by choice first first calls)
+    → IfOk result (Image first calls)
+chosen_leaves (Ok image) choice first calls chosen = subst (Image first calls) (sym chosen) (chosen_is_image choice first calls)
+chosen_leaves (Err refusal) choice first calls chosen = tt
 
 -- what a read gives, with the first call replayed first
 pub seen-first : (seen : List ℕ) (calls : List Call) (call : Call) → seen_after seen (calls ++ call ∷ []) ≡ seen_after (seen_after seen (call ∷ [])) calls

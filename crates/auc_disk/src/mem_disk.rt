@@ -15,7 +15,7 @@ use crate::call::Call;
 use crate::disk::Disk;
 use crate::disk_call::DiskCall;
 use crate::fail_list::FailList;
-use crate::putting::{put, replay};
+use crate::putting::{left_of, put};
 use auc_edge::{Failed, NoMemory, Octets};
 use std::alloc::Global;
 use std::collections::LinkedList;
@@ -129,13 +129,7 @@ impl MemDisk {
             mut calls,
             ..
         } = self;
-        let mut seen = first.as_slice().to_vec(alloc)?;
-        let mut image = first.as_slice().to_vec(alloc)?;
-        while let Some(call) = calls.pop_back() {
-            replay(alloc, choice, &mut seen, &mut image, call)?;
-        }
-        let left = Octets::copied_from(alloc, &image)?;
-        Ok(left)
+        left_of(alloc, choice, first.as_slice(), &mut calls)
     }
 
     // Counts a call, and answers whether it is to fail.

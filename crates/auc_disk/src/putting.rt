@@ -1,16 +1,50 @@
 //! Writes into a file's bytes, and recorded calls that are replayed.
 
-ghost use Rattle.std.specs.Prelude.{◌≡◌, ◌≤◌, ◌+◌, ◌^◌, [], ◌∷◌, length, OnOk, OnErr};
+ghost use Rattle.std.specs.Prelude.{◌≡◌, ◌≤◌, ◌+◌, ◌^◌, [], ◌∷◌, length, IfOk, OnOk, OnErr};
 ghost use Rattle.auc_disk.specs.Disk.{put_over};
 ghost use Rattle.auc_disk.specs.InnerReplay.{AreInRange};
 ghost use Rattle.auc_disk.specs.Replay.{image_by, left_by, seen_after};
 
 use crate::call::Call;
-use auc_edge::NoMemory;
+use auc_edge::{NoMemory, Octets};
 use std::alloc::Global;
+use std::collections::LinkedList;
+
+// What a crash leaves by a choice of the calls on an image, the last of which stands first.
+pub(crate) fn left_of(
+    alloc: Global,
+    choice: u32,
+    first: &[u8],
+    calls: &mut LinkedList<Call>,
+) -> Result<Octets, NoMemory>
+    requires { AreInRange calls.old }
+    ensures { IfOk result (λ image. image ≡ image_by choice first.now first.now calls.old) }
+{
+    let mut seen = first.to_vec(alloc)?;
+    let mut image = first.to_vec(alloc)?;
+    replay_all(alloc, choice, &mut seen, &mut image, calls)?;
+    Octets::copied_from(alloc, &image)
+}
+
+// Replays calls, the last first, for what a crash leaves by a choice.
+fn replay_all(
+    alloc: Global,
+    choice: u32,
+    seen: &mut Vec<u8>,
+    image: &mut Vec<u8>,
+    calls: &mut LinkedList<Call>,
+) -> Result<(), NoMemory>
+    requires { AreInRange calls.old }
+    ensures { OnOk result (image.new.items ≡ image_by choice seen.old.items image.old.items calls.old) }
+{
+    while let Some(call) = calls.pop_back() {
+        replay(alloc, choice, seen, image, call)?;
+    }
+    Ok(())
+}
 
 // Replays a call, for what a read gives after it and for what a crash leaves by a choice.
-pub(crate) fn replay(
+fn replay(
     alloc: Global,
     choice: u32,
     seen: &mut Vec<u8>,

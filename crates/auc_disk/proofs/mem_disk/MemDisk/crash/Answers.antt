@@ -1,28 +1,9 @@
-use Rattle.std.proofs.Common.{rules, ◌≡◌, sym, ◌∙◌, ap, subst}
-use Rattle.auc_disk.specs.InnerReplay.{AreInRange}
-use Rattle.auc_disk.specs.Replay.{Image, image_by}
-use Rattle.auc_disk.proofs.CrashLemmas.{chosen_is_image, image-first, range-first}
+use Rattle.std.proofs.Common.{IfOk, subst}
+use Rattle.auc_disk.specs.MemDisk.{DiskState, LeavesNow}
+use Rattle.auc_disk.proofs.CrashLemmas.{chosen_leaves}
 use Rattle.auc_disk.proofs.mem_disk.MemDisk.crash.Goals as goal
-
-pub replay-requires : goal.replay-requires
-replay-requires c = (range-first c.pop_back.new.self c.in-Some.call (subst AreInRange c.in-Some.ensures.items c.loop-call.invariant.range)).1
-
-pub loop-call-preserved : goal.loop-call-preserved
-loop-call-preserved c =
-    let seen = c.loop-call.seen.items in
-    let image = c.loop-call.image.items in
-    let left = c.pop_back.new.self in
-    let call = c.in-Some.call in
-    record {
-      chosen =
-          (λ i. image_by c.args.choice (c.in_ok-replay.ensures.seen i) (c.in_ok-replay.ensures.image i) left)
-          ∙ sym (image-first c.args.choice seen image left call)
-          ∙ ap (λ calls. image_by c.args.choice seen image calls) (sym c.in-Some.ensures.items)
-          ∙ c.loop-call.invariant.chosen;
-      range = (range-first left call (subst AreInRange c.in-Some.ensures.items c.loop-call.invariant.range)).0;
-    }
 
 pub returns-clause-image : goal.returns-clause-image
 returns-clause-image c =
-    let chosen : c.in_ok-left.left ≡ image_by c.args.choice c.args.self.first c.args.self.first c.args.self.calls = search rules in
-    subst (Image c.args.self.first c.args.self.calls) (sym chosen) (chosen_is_image c.args.choice c.args.self.first c.args.self.calls)
+    subst (λ (disk : DiskState). IfOk c.left_of.result (LeavesNow disk)) c.self.view_is
+    (chosen_leaves c.left_of.result c.args.choice c.self.inside.first c.self.inside.calls (rw c.as_slice.ensures at c.left_of.ensures))
