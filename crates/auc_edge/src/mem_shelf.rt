@@ -75,12 +75,8 @@ impl MemShelf {
         ensures kept { OnErr result (self.new ≡ self.old) }
     {
         let alloc = *self.files.allocator();
-        let file = MemFile {
-            name: Octets::copied_from(alloc, name)?,
-            bytes: Octets::copied_from(alloc, bytes)?,
-        };
         self.counts.reserve(1)?;
-        self.files.push(file)?;
+        self.files.push(file_of(alloc, name, bytes)?)?;
         self.counts.push(self.others)?;
         Ok(())
     }
@@ -145,6 +141,23 @@ impl Shelf for MemShelf {
         }
     }
 }
+
+// A file of a name and bytes.
+fn file_of(alloc: Global, name: &[u8], bytes: &[u8]) -> Result<MemFile, NoMemory>
+    ensures { IfOk result (λ file. file ≡ record { name = name.now; bytes = bytes.now }) }
+{
+    let name = Octets::copied_from(alloc, name)?;
+    match Octets::copied_from(alloc, bytes) {
+        Ok(bytes) => Ok(MemFile { name, bytes }),
+        Err(refusal) => {
+            give_back(name);
+            Err(refusal)
+        }
+    }
+}
+
+// Gives a name back.
+fn give_back(_name: Octets) {}
 
 fn is_named(file: &MemFile, name: &[u8]) -> bool
     ensures { result ≡ bytes_eq file.now.name name.now }
