@@ -6,7 +6,7 @@ ghost use Rattle.auc_edge.specs.Faults.{raised};
 use std::io;
 
 /// A call of the outside failed: the object's count of faults rose.
-#[derive(Clone, Copy, Debug, PartialEq, Eq)]
+#[derive(Clone, Copy, PartialEq, Eq)]
 pub struct Failed;
 
 // The answer of a real call. If the call failed, a fault is counted.

@@ -8,7 +8,7 @@ use crate::no_memory::NoMemory;
 use std::alloc::AllocError;
 
 /// Why a file isn't read whole.
-#[derive(Clone, Copy, Debug, PartialEq, Eq)]
+#[derive(Clone, Copy, PartialEq, Eq)]
 pub enum ReadRefusal {
     /// A read failed: the shelf's count of faults of this name rose.
     ReadFault,

@@ -1,7 +1,7 @@
 //! Why the numbers' reservations ended.
 
 /// Why no further number is reserved: the store failed, or it is full.
-#[derive(Clone, Copy, Debug, PartialEq, Eq)]
+#[derive(Clone, Copy, PartialEq, Eq)]
 pub enum Stop {
     /// A call of the store failed.
     Fault,

@@ -6,7 +6,7 @@ ghost use Rattle.auc_milenage.specs.Milenage.{opc_of as opc_by};
 use auc_aes::{Key, xor};
 
 /// K and OPc of a subscriber.
-#[derive(Clone, Copy, Debug, PartialEq, Eq)]
+#[derive(Clone, Copy, PartialEq, Eq)]
 pub struct Secret {
     /// The subscriber key.
     pub k: [u8; 16],
