@@ -3,7 +3,7 @@
 use auc_hmac::Master;
 
 /// What a fast re-authentication starts from (RFC 4187 §5.1).
-#[derive(Clone, Copy, Debug, PartialEq, Eq)]
+#[derive(Clone, Copy, PartialEq, Eq)]
 pub struct Context {
     /// Which of the subscriber's full authentications it comes from: at a server the number of the vector; on a device the
     /// SQN that its USIM accepted, as a number.

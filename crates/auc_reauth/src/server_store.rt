@@ -10,7 +10,7 @@ use auc_ident::username;
 use std::marker::Model;
 
 /// The contexts of one subscriber, at most one for each method. Contracts see them by method.
-#[derive(Clone, Copy, Debug, PartialEq, Eq)]
+#[derive(Clone, Copy)]
 pub struct ServerStore {
     aka: Option<Context>,
     prime: Option<Context>,

@@ -29,7 +29,7 @@ pub(crate) enum Hasher {
 }
 
 /// The value of a checkcode.
-#[derive(Clone, Copy, Debug, PartialEq, Eq)]
+#[derive(Clone, Copy, PartialEq, Eq)]
 pub enum CheckValue {
     /// There was no packet.
     Empty,

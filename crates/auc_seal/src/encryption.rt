@@ -83,10 +83,10 @@ pub fn encrypt_attrs(
     ensures decrypts { OnOk result (Decrypts k_encr out.new (Ok inner.now)) }
     ensures kept { OnErr result (out.new ≡ out.old) }
 {
-    let room = EncryptionRoom::new(alloc)?;
     // A copy is extended, so that `out` gets both attributes or none.
     let mut list = copied(alloc, out)?;
     list.push(Attr::Iv(iv))?;
+    let room = EncryptionRoom::new(alloc)?;
     list.push(Attr::EncrData(encrypted_data(k_encr, iv, inner, room)))?;
     *out = list;
     Ok(())
