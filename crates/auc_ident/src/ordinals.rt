@@ -9,12 +9,12 @@ use std::marker::Model;
 const LAST_ORDINAL: u64 = 281474976710655;
 
 /// All ordinals of a subscriber are used.
-#[derive(Clone, Copy, Debug, PartialEq, Eq)]
+#[derive(Clone, Copy, PartialEq, Eq)]
 pub struct Spent;
 
 /// The ordinals of a subscriber's names, of both kinds together: each is given once. Contracts see the last that was given,
 /// 0 before the first.
-#[derive(Clone, Copy, Debug, PartialEq, Eq)]
+#[derive(Clone, Copy, PartialEq, Eq)]
 pub struct Ordinals {
     last: u64,
 }

@@ -5,7 +5,7 @@ use auc_edge::Octets;
 use auc_hmac::KeySet;
 
 /// Why what was received is ignored. The tests are made in the order of the variants, but for the last.
-#[derive(Clone, Copy, Debug, PartialEq, Eq)]
+#[derive(Clone, Copy, PartialEq, Eq)]
 pub enum Reason {
     /// The session has ended.
     Closed,
@@ -24,7 +24,7 @@ pub enum Reason {
 }
 
 /// How a session ended at one end. A failure has a cause of that end's own.
-#[derive(Clone, Copy, Debug, PartialEq, Eq)]
+#[derive(Clone, Copy, PartialEq, Eq)]
 pub enum Outcome<W> {
     /// The peer is authenticated, under these keys.
     Success(KeySet),
