@@ -37,7 +37,7 @@ pub enum Packet {
 }
 
 /// What every packet begins with, and the type of a Request or Response.
-#[derive(Clone, Copy, Debug, PartialEq, Eq)]
+#[derive(Clone, Copy, PartialEq, Eq)]
 pub struct Head {
     /// 1 Request, 2 Response, 3 Success, 4 Failure (RFC 3748 §4).
     pub code: u8,

@@ -9,7 +9,7 @@ use auc_ident::username;
 
 /// What a message gives in its encrypted attributes (RFC 4187 §10.12). A name is the username of a text, if it has 33 bytes:
 /// a device keeps no other.
-#[derive(Clone, Copy, Debug, PartialEq, Eq)]
+#[derive(Clone, Copy, PartialEq, Eq)]
 pub struct Enclosed {
     /// The next pseudonym (RFC 4187 §10.10), without its realm.
     pub pseudonym: Option<[u8; 33]>,

@@ -6,7 +6,7 @@ ghost use Rattle.auc_request.specs.Request.{request_in};
 use auc_attr::AttrList;
 
 /// Which identity an AKA-Identity request asks for (RFC 4187 §4.1.4).
-#[derive(Clone, Copy, Debug, PartialEq, Eq)]
+#[derive(Clone, Copy, PartialEq, Eq)]
 pub enum IdentityRequest {
     /// Any identity (RFC 4187 §10.3).
     Any,
