@@ -1,14 +1,21 @@
 //! A key of AES-128.
 
-ghost use Rattle.std.specs.Prelude.{◌≡◌, ◌%◌, length};
+ghost use Rattle.std.specs.Prelude.{◌≡◌, ◌≤◌, ◌%◌, ℕ, List, length, map};
+ghost use Rattle.auc_aes.specs.Bytes.{IsBlock};
 ghost use Rattle.auc_aes.specs.Cipher.{aes, aes_inverse};
+ghost use Rattle.auc_aes.specs.Lanes.{IsDone, IsLaneKeys};
 ghost use Rattle.auc_aes.specs.Cbc.{cbc_encrypted, cbc_decrypted};
 
 use crate::block::{block_at, put_block, xor};
 use crate::inverse_round::{undo_final_round, undo_full_round};
+use crate::lane_keys::lane_keys;
+use crate::lanes::encrypt_groups;
 use crate::round::{double, final_round, full_round, next_key};
 use crate::words::{add, block_of, words_of};
 use std::marker::Model;
+
+/// From how many blocks on it pays to make the round keys as lanes for one call.
+const LEAST_FOR_LANES: usize = 8;
 
 /// A key of 128 bits, with its key schedule. Contracts see its 16 bytes.
 #[derive(Drop)]
@@ -72,6 +79,51 @@ impl Key {
             state = previous;
         }
         xor(state, block_of(self.round_keys[0]))
+    }
+
+    /// Replaces each block by its cipher (FIPS 197 §5.1). For many calls, [`Lanes`](crate::Lanes) keeps what each call
+    /// makes here.
+    pub fn encrypt_many(&self, blocks: &mut [[u8; 16]])
+        ensures { blocks.new ≡ map (aes self.now) blocks.old }
+    {
+        if blocks.len() < LEAST_FOR_LANES {
+            self.encrypt_from(0, blocks);
+        } else {
+            let done = encrypt_groups(&self.lane_keys(), blocks);
+            self.encrypt_from(done, blocks);
+        }
+    }
+
+    /// The round keys as lanes.
+    pub(crate) fn lane_keys(&self) -> [[u8; 16]; 11]
+        ensures block { IsBlock self.now }
+        ensures keys { IsLaneKeys self.now result }
+    {
+        lane_keys(&self.round_keys)
+    }
+
+    /// Replaces each block from the place `from` on by its cipher, if those before it were replaced.
+    pub(crate) fn encrypt_from(&self, from: usize, blocks: &mut [[u8; 16]])
+        requires { from ≤ length blocks.old }
+        ensures { (first : List (List ℕ)) → IsDone (aes self.now) first blocks.old from
+            → blocks.new ≡ map (aes self.now) first }
+    {
+        let mut at = from;
+        while at < blocks.len() {
+            blocks[at] = self.encrypt(blocks[at]);
+            at += 1;
+        }
+    }
+
+    /// Replaces each block by its inverse cipher (FIPS 197 §5.3).
+    pub fn decrypt_many(&self, blocks: &mut [[u8; 16]])
+        ensures { blocks.new ≡ map (aes_inverse self.now) blocks.old }
+    {
+        let mut at = 0;
+        while at < blocks.len() {
+            blocks[at] = self.decrypt(blocks[at]);
+            at += 1;
+        }
     }
 
     /// Encrypts `bytes`, whole blocks, in place by CBC with the initialization vector `iv`
