@@ -2,3 +2,4 @@
 pub use Rattle.auc_aes.proofs.BytesLemmas.{listed, tabulate}
 pub use Rattle.auc_aes.proofs.CbcInverseLemmas.{cbc_encrypted_undone}
 pub use Rattle.auc_aes.proofs.InverseLemmas.{aes_block, bytes_append, bytes_drop, bytes_take, bytes_xor, length_xor, xor_block, xor_twice}
+pub use Rattle.auc_aes.proofs.ManyLemmas.{all_done, none_done, one_done}

@@ -1,2 +1,4 @@
 pub mod Facts
 mod BlockLemmas
+mod TurnLemmas
+mod GiveLemmas

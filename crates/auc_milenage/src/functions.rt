@@ -1,10 +1,10 @@
 //! The functions f1 to f5* (TS 35.206 §4.1).
 
 ghost use Rattle.std.specs.Prelude.{◌≡◌, take, drop};
-ghost use Rattle.auc_milenage.specs.Milenage.{f1 as f1_by, f1_star as f1_star_by, f2, f3, f4, f5, f5_star as f5_star_by, out, r2, r3, r4, c2, c3, c4};
+ghost use Rattle.auc_milenage.specs.Milenage.{f1 as f1_by, f1_star as f1_star_by, f2, f3, f4, f5, f5_star as f5_star_by, temp_of, out1, out, r2, r3, r4, r5, c2, c3, c4, c5};
 
 use crate::milenage::{Milenage, first_half, first_six, second_half};
-use crate::secret::{Four, Secret};
+use crate::secret::{Four, Outs, Secret};
 
 /// f1: MAC-A over RAND, SQN and AMF.
 #[tactic(auto, unfolding(crate::specs::Milenage::f1))]
@@ -58,6 +58,25 @@ pub fn f5_star(s: &Secret, rand: [u8; 16]) -> [u8; 6]
 {
     let m = Milenage::new(s);
     first_six(m.out5(m.temp(rand)))
+}
+
+/// OUT1 to OUT5 of a RAND, an SQN and an AMF, with six AES blocks.
+pub fn outs(s: &Secret, rand: [u8; 16], sqn: [u8; 6], amf: [u8; 2]) -> Outs
+    ensures out1 { result.out1 ≡ out1 s.now.k s.now.opc (temp_of s.now.k s.now.opc rand) sqn amf }
+    ensures out2 { result.out2 ≡ out r2 c2 s.now.k s.now.opc (temp_of s.now.k s.now.opc rand) }
+    ensures out3 { result.out3 ≡ out r3 c3 s.now.k s.now.opc (temp_of s.now.k s.now.opc rand) }
+    ensures out4 { result.out4 ≡ out r4 c4 s.now.k s.now.opc (temp_of s.now.k s.now.opc rand) }
+    ensures out5 { result.out5 ≡ out r5 c5 s.now.k s.now.opc (temp_of s.now.k s.now.opc rand) }
+{
+    let m = Milenage::new(s);
+    let temp = m.temp(rand);
+    Outs {
+        out1: m.out1(temp, sqn, amf),
+        out2: m.out2(temp),
+        out3: m.out3(temp),
+        out4: m.out4(temp),
+        out5: m.out5(temp),
+    }
 }
 
 /// RES, CK, IK and AK from OUT2, OUT3 and OUT4.

@@ -7,6 +7,7 @@ ghost use Rattle.auc_milenage.specs.Milenage.{temp_of, in1_of, out1 as out1_by, 
 use crate::secret::Secret;
 use auc_aes::{Key, rot, xor};
 use std::marker::Model;
+use std::simd::prelude::*;
 
 /// The first six bytes of a block.
 pub(crate) fn first_six(block: [u8; 16]) -> [u8; 6]
@@ -36,13 +37,15 @@ pub(crate) fn second_half(block: [u8; 16]) -> [u8; 8]
 }
 
 /// IN1: SQN and AMF, twice.
-fn in1(sqn: [u8; 6], amf: [u8; 2]) -> [u8; 16]
+#[inline(always)]
+pub fn in1(sqn: [u8; 6], amf: [u8; 2]) -> [u8; 16]
     ensures { result ≡ in1_of sqn amf }
 {
-    [
-        sqn[0], sqn[1], sqn[2], sqn[3], sqn[4], sqn[5], amf[0], amf[1], sqn[0], sqn[1], sqn[2],
-        sqn[3], sqn[4], sqn[5], amf[0], amf[1],
-    ]
+    let half = u8x8::from_array([
+        sqn[0], sqn[1], sqn[2], sqn[3], sqn[4], sqn[5], amf[0], amf[1],
+    ]);
+    half.swizzle([0, 1, 2, 3, 4, 5, 6, 7, 0, 1, 2, 3, 4, 5, 6, 7])
+        .to_array()
 }
 
 /// Milenage under one secret, with the key schedule of K. Contracts see the secret.

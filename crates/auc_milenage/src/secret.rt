@@ -27,6 +27,21 @@ pub struct Four {
     pub ak: [u8; 6],
 }
 
+/// OUT1 to OUT5 (TS 35.206 §4.1), of which f1 to f5* are parts.
+#[derive(Clone, Copy, PartialEq, Eq)]
+pub struct Outs {
+    /// MAC-A, then MAC-S: f1 and f1*.
+    pub out1: [u8; 16],
+    /// AK, two bytes that aren't used, then RES: f5 and f2.
+    pub out2: [u8; 16],
+    /// CK: f3.
+    pub out3: [u8; 16],
+    /// IK: f4.
+    pub out4: [u8; 16],
+    /// The AK of a resynchronisation, then bytes that aren't used: f5*.
+    pub out5: [u8; 16],
+}
+
 /// OPc, from the subscriber key and the operator's OP (TS 35.206 §4.1).
 #[tactic(auto, unfolding(crate::specs::Milenage::opc_of))]
 pub fn opc_of(k: [u8; 16], op: [u8; 16]) -> [u8; 16]
