@@ -6,7 +6,6 @@ use Rattle.auc_aes.specs.Bytes.{xor, rot}
 use Rattle.auc_aes.specs.Cipher.{aes}
 use Rattle.auc_milenage.specs.Lanes.{GiveOuts, input, input1}
 use Rattle.auc_milenage.specs.Milenage.{temp_of, in1_of, out1, out, r2, r3, r4, c2, c3, c4}
-use Rattle.auc_milenage.specs.declared.secret.Secret.{Secret}
 
 -- they are, with OPc added, OUT1 to OUT4
 given : (k opc rand sqn amf : List ℕ)

@@ -2,3 +2,4 @@ pub mod Facts
 mod AutnLemmas
 mod AutsLemmas
 mod CoreCentreLemmas
+mod ManyLemmas

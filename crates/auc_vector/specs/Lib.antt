@@ -4,3 +4,4 @@ pub mod Keys
 pub mod Stretch
 pub mod Vector
 pub mod Notes
+pub mod Many

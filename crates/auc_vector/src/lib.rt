@@ -4,7 +4,8 @@
 //! [`vector`] makes the [`Vector`] of a number with a RAND under a secret. For EAP-AKA' it has CK' and IK' in the place of CK
 //! and IK, bound to the network's name, as [`keys_by`] makes them (RFC 9048 §3.3); [`keys_of`] makes the keys of a full
 //! authentication by either method, [`master_of`] and [`reauth_keys`] those of the fast re-authentications after it. For
-//! many vectors of one subscriber for EAP-AKA, [`Vectors`] makes them with one key schedule and one generator.
+//! many vectors of one subscriber for EAP-AKA, [`Vectors`] makes them with one key schedule and one generator. [`vectors`]
+//! makes those of consecutive numbers, sixteen at a time.
 //! [`read_auts`] reads a USIM's AUTS.
 //!
 //! A [`Centre`] gives numbers and resynchronises them; its ghost members say which entries of a subscriber's history
@@ -18,18 +19,20 @@
 
 mod asking;
 mod auts;
+mod by_number;
 mod centre;
 mod core_centre;
 mod keys;
 mod law;
 mod making;
+mod many;
 mod notes;
 mod parts;
 mod turn;
-mod vectors;
 
 pub use asking::{ask, report};
 pub use auts::{Auts, read_auts};
+pub use by_number::Vectors;
 pub use centre::{Centre, CentreRefusal, Resynced};
 pub use core_centre::CoreCentre;
 pub use keys::{keys_by, keys_of, master_of, reauth_keys};
@@ -38,7 +41,7 @@ pub use law::{
     each_auts_is_read_back,
 };
 pub use making::vector;
+pub use many::vectors;
 pub use notes::{CounterNote, Notes, NumberNote, ResyncNote, UsimNote};
 pub use parts::Vector;
 pub use turn::{Outcome, Reason, Step, Turn};
-pub use vectors::Vectors;

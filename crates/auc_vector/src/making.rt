@@ -2,6 +2,7 @@
 
 ghost use Rattle.std.specs.Prelude.{◌≡◌, ◌≤◌, ◌++◌, [], length};
 ghost use Rattle.auc_hmac.specs.declared.method.Method.TheVariants.{Aka};
+ghost use Rattle.auc_vector.specs.Many.{keyed_by};
 ghost use Rattle.auc_vector.specs.Vector.{vector_of};
 ghost use Rattle.auc_sqn.specs.Number.{max_seq};
 
@@ -27,7 +28,14 @@ pub fn vector(
     requires last { n ≤ max_seq }
     ensures { result ≡ vector_of s.now method amf name.now n rand }
 {
-    let made = vector_under(&Milenage::new(s), amf, n, rand);
+    keyed(method, name, vector_under(&Milenage::new(s), amf, n, rand))
+}
+
+/// A vector of EAP-AKA with CK and IK by the method.
+pub(crate) fn keyed(method: Method, name: &[u8], made: Vector) -> Vector
+    requires { length name.now ≤ 255 }
+    ensures { result ≡ keyed_by method name.now made }
+{
     let (ck, ik) = keys_by(method, name, made.autn, made.ck, made.ik);
     Vector { ck, ik, ..made }
 }
