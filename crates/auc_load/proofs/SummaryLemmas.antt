@@ -1,10 +1,10 @@
 -- For the summary: the closings of a load's round, and the bytes of the vectors behind them.
-use Rattle.std.proofs.Common.{◌≡◌, ℕ, zero, suc, ◌+◌, ◌%◌, ◌<◌, ◌≤◌, Bool, false, List, [], ◌∷◌, ◌++◌, map, take, get_or, length, All, Some, refl, sym, ap, ◌∙◌, append-nil, arith}
+use Rattle.std.proofs.Common.{◌≡◌, ℕ, zero, suc, ◌+◌, ◌%◌, ◌<◌, ◌≤◌, Bool, false, List, [], ◌∷◌, ◌++◌, map, take, get_or, set, length, All, Some, refl, sym, ap, ◌∙◌, append-nil, append_assoc, arith}
 use Rattle.std.specs.Prelude.{◌==◌, if◌then◌else◌, count_by, flat_map, slice_get}
 use Rattle.std.specs.List.{range_with_len}
 use Rattle.std.proofs.lemmas.Bool.Decides.{nat_tests}
 use Rattle.std.proofs.lemmas.Grind.{flat_map-append}
-use Rattle.std.proofs.lemmas.List.{flat_map_more, take_more}
+use Rattle.std.proofs.lemmas.List.{flat_map_more, take_more, take-set, length-set, get_or-set_same, map-append}
 use Rattle.std.proofs.lemmas.List.Elements.{All-nil, All-cons, All-append, All-same}
 use Rattle.std.proofs.lemmas.List.FromFn.{get_or-map-range_with_len, length-map-range_with_len}
 use Rattle.std.proofs.lemmas.List.Sums.{count_by-le-length}
@@ -17,8 +17,10 @@ use Rattle.auc_load.specs.Words.{IsLoad}
 use Rattle.auc_load.specs.declared.words.LoadWords.{LoadWords}
 use Rattle.auc_load.proofs.InputLemmas.{range_more}
 use Rattle.auc_subs.specs.declared.row.Row.{Row}
-use Rattle.auc_random.specs.Random.{Stream, rand_of}
-use Rattle.auc_vector.specs.Vector.{Source, vector_of}
+use Rattle.auc_random.specs.Random.{rand_of}
+use Rattle.auc_vector.specs.Many.{vectors_of}
+use Rattle.auc_vector.specs.Vector.{vector_of}
+use Rattle.auc_vector.specs.declared.parts.Vector.{Vector}
 use Rattle.auc_world.specs.declared.record.Closing.{Closing}
 
 -- the bytes of the vectors up to a closing
@@ -85,20 +87,56 @@ closings_named load is = all_named load.subscribers (drawn_for load) 0 load.subs
 
 -- ---- the steps of the loops
 
--- what the vectors of a subscriber are made from
-pub vector_as : (vectors : Source) (row : Row) (key : List ℕ) (sub n : ℕ)
-    → vectors ≡ record { secret = row.secret; amf = row.amf; rands = record { key = key; sub = sub } }
-    → vector_of vectors.secret method.Aka vectors.amf [] n (rand_of vectors.rands.key vectors.rands.sub n) ≡ vector_of row.secret method.Aka row.amf [] n (rand_of key sub n)
-vector_as vectors row key sub n e = ap (λ (v : Source). vector_of v.secret method.Aka v.amf [] n (rand_of v.rands.key v.rands.sub n)) e
+-- numbers in a row, and those that follow them
+range-append : (a m n : ℕ) → range_with_len a (m + n) ≡ range_with_len a m ++ range_with_len (a + m) n
+range-append a zero n =
+    let none : zero + n ≡ n = omega arith in
+    let same : a ≡ a + zero = omega arith in
+    ap (range_with_len a) none ∙ ap (λ k. range_with_len k n) same
+range-append a (suc m) n =
+    let one : suc m + n ≡ suc (m + n) = omega arith in
+    let next : a + 1 + m ≡ a + suc m = omega arith in
+    ap (range_with_len a) one ∙ ap (λ l. a ∷ l) (range-append (a + 1) m n ∙ ap (λ k. range_with_len (a + 1) m ++ range_with_len k n) next)
+
+-- vectors of numbers in a row, each with its own RAND
+vectors_by : (row : Row) (rand : ℕ → List ℕ) (a n : ℕ)
+    → vectors_of row.secret method.Aka row.amf [] a (map rand (range_with_len a n)) ≡ map (λ k. vector_of row.secret method.Aka row.amf [] k (rand k)) (range_with_len a n)
+vectors_by row rand a zero = refl
+vectors_by row rand a (suc n) = ap (λ l. vector_of row.secret method.Aka row.amf [] a (rand a) ∷ l) (vectors_by row rand (a + 1) n)
+
+flat_map-map : (g : Vector → List ℕ) (h : ℕ → Vector) (xs : List ℕ) → flat_map g (map h xs) ≡ flat_map (λ x. g (h x)) xs
+flat_map-map g h [] = refl
+flat_map-map g h (x ∷ xs) = ap (λ l. g (h x) ++ l) (flat_map-map g h xs)
+
+-- a group of vectors more
+pub group_more : (key : List ℕ) (row : Row) (sub before count : ℕ) (fed : List ℕ) (rands : List (List ℕ)) (made : List Vector)
+    → rands ≡ map (rand_of key sub) (range_with_len (before + 1) count) → made ≡ vectors_of row.secret method.Aka row.amf [] (before + 1) rands
+    → (fed ++ subscriber_bytes key row sub before) ++ flat_map vector_bytes made ≡ fed ++ subscriber_bytes key row sub (before + count)
+group_more key row sub before count fed rands made er em =
+    let vector : ℕ → Vector = λ n. vector_of row.secret method.Aka row.amf [] n (rand_of key sub n) in
+    let bytes : ℕ → List ℕ = λ n. vector_bytes (vector n) in
+    let next : before + 1 ≡ 1 + before = omega arith in
+    let group : flat_map vector_bytes made ≡ flat_map bytes (range_with_len (1 + before) count) =
+    ap (flat_map vector_bytes) (em ∙ ap (vectors_of row.secret method.Aka row.amf [] (before + 1)) er ∙ vectors_by row (rand_of key sub) (before + 1) count)
+    ∙ flat_map-map vector_bytes vector (range_with_len (before + 1) count) ∙ ap (λ a. flat_map bytes (range_with_len a count)) next in
+    append_assoc fed (subscriber_bytes key row sub before) (flat_map vector_bytes made)
+    ∙ ap (λ l. fed ++ (subscriber_bytes key row sub before ++ l)) group
+    ∙ ap (λ l. fed ++ l) (sym (ap (flat_map bytes) (range-append 1 before count)
+    ∙ flat_map-append bytes (range_with_len 1 before) (range_with_len (1 + before) count)))
+
+-- one RAND more
+pub rands_more : (rand : ℕ → List ℕ) (rands : List (List ℕ)) (first i : ℕ) (next : List ℕ) → i < length rands → take i rands ≡ map rand (range_with_len first i)
+    → next ≡ rand (first + i) → take (i + 1) (set rands i next) ≡ map rand (range_with_len first (i + 1))
+rands_more rand rands first i next inside before is =
+    take_more (set rands i next) i [] (omega (arith, length-set rands i next)) ∙ ap (λ (l : List (List ℕ)). l ++ (get_or (set rands i next) i [] ∷ [])) (take-set rands i next ∙ before)
+    ∙ ap (λ (x : List ℕ). map rand (range_with_len first i) ++ (x ∷ [])) (get_or-set_same rands i next [] inside ∙ is)
+    ∙ sym (ap (map rand) (range_more first i (first + i) refl) ∙ map-append rand (range_with_len first i) ((first + i) ∷ []))
 
 -- one vector more
-pub bytes_more : (key : List ℕ) (row : Row) (sub before : ℕ) (fed : List ℕ)
-    → (fed ++ subscriber_bytes key row sub before) ++ vector_bytes (vector_of row.secret method.Aka row.amf [] (before + 1) (rand_of key sub (before + 1)))
-    ≡ fed ++ subscriber_bytes key row sub (before + 1)
-bytes_more key row sub before fed =
-    flat_map_more (λ n. vector_bytes (vector_of row.secret method.Aka row.amf [] n (rand_of key sub n))) fed (range_with_len 1 before) (before + 1)
-    ∙ ap (λ (ns : List ℕ). fed ++ flat_map (λ n. vector_bytes (vector_of row.secret method.Aka row.amf [] n (rand_of key sub n))) ns)
-    (sym (range_more 1 before (before + 1) (omega arith)))
+pub vector_more : (made : List Vector) (i : ℕ) (d : Vector) (fed : List ℕ) → i < length made
+    → (fed ++ flat_map vector_bytes (take i made)) ++ vector_bytes (get_or made i d) ≡ fed ++ flat_map vector_bytes (take (i + 1) made)
+vector_more made i d fed inside =
+    flat_map_more vector_bytes fed (take i made) (get_or made i d) ∙ ap (λ l. fed ++ flat_map vector_bytes l) (sym (take_more made i d inside))
 
 -- one closing more
 pub closings_more : (key : List ℕ) (closings : List Closing) (i : ℕ) (d : Closing) → i < length closings
