@@ -1,11 +1,11 @@
 #!/usr/bin/env python3
 """Measures how many authentication vectors a second one core makes, with this code and with libosmogsm's
-`osmo_auth_gen_vec` (Debian's libosmocore-dev), as a ratio in one run.
+`osmo_auth_gen_vec` (Debian's libosmocore-dev), as ratios in one run: each vector alone, and 256 at a call.
 
     bench/milenage.py [PROGRAM]     PROGRAM: crates/auc_vector_rate/out/auc_vector_rate, unless it is given
 
 `rt run` in crates/auc_vector_rate builds PROGRAM. Each side makes two different numbers of vectors, and the difference of
-the processor times is taken, so that the time to start doesn't count. The goal is 2.9: an AES by tables in C with one key
+the processor times is taken, so that the time to start doesn't count. The goal of a vector alone is 2.9: an AES by tables in C with one key
 schedule and five blocks a vector. If libosmocore-dev or a C compiler is missing, the script says so and ends.
 """
 import resource
@@ -51,14 +51,14 @@ int main(int argc, char **argv) {
 """
 
 
-def seconds(program, count):
+def seconds(program, count, words):
     before = resource.getrusage(resource.RUSAGE_CHILDREN).ru_utime
-    subprocess.run([program, str(count)], stdout=subprocess.DEVNULL, check=True)
+    subprocess.run([program, str(count), *words], stdout=subprocess.DEVNULL, check=True)
     return resource.getrusage(resource.RUSAGE_CHILDREN).ru_utime - before
 
 
-def rate(program):
-    return (MANY - FEW) / (seconds(program, MANY) - seconds(program, FEW))
+def rate(program, *words):
+    return (MANY - FEW) / (seconds(program, MANY, words) - seconds(program, FEW, words))
 
 
 def built_loop(folder):
@@ -79,10 +79,10 @@ def main():
         sys.exit("no C compiler: nothing to compare with")
     with tempfile.TemporaryDirectory() as folder:
         theirs = built_loop(folder)
-        print(f"{'ours':>10} {'libosmogsm':>11} {'ratio':>6}   vectors a second of processor time")
+        print(f"{'alone':>10} {'bulk':>10} {'libosmogsm':>11} {'ratio':>6} {'in bulk':>8}   vectors a second of processor time")
         for _ in range(REPEATS):
-            a, b = rate(ours), rate(theirs)
-            print(f"{a:>10.0f} {b:>11.0f} {a / b:>6.2f}")
+            alone, bulk, other = rate(ours), rate(ours, "bulk"), rate(theirs)
+            print(f"{alone:>10.0f} {bulk:>10.0f} {other:>11.0f} {alone / other:>6.2f} {bulk / other:>8.2f}")
 
 
 if __name__ == "__main__":

@@ -1,6 +1,6 @@
 //! Makes the authentication vectors of one subscriber with the numbers 1, 2, 3 and so on, as many as the
-//! argument says, and prints the exclusive or of their XRES and that of their AUTN. Measurements of speed
-//! run it; only a digest of all vectors is printed.
+//! argument says, and prints the exclusive or of their XRES and that of their AUTN. Each vector is made alone, or many
+//! at a call if a second argument is `bulk`. Measurements of speed run it; only a digest of all vectors is printed.
 #![tactic(auto)]
 
 mod folding;
@@ -15,7 +15,16 @@ fn main(rt: HostRuntime) -> io::Result<()> {
         Ok(length) => read_count(&digits[..length]),
         Err(_) => 0,
     };
-    let folded = Folded::of_first(count);
+    let mut word = [0u8; 4];
+    let bulk = match rt.arg(2, &mut word) {
+        Ok(length) => word[..length] == b"bulk"[..],
+        Err(_) => false,
+    };
+    let folded = if bulk {
+        Folded::of_many(count)
+    } else {
+        Folded::of_first(count)
+    };
     println!(rt; "vectors {count}")?;
     println!(rt; "xres {:016x}", folded.xres)?;
     println!(rt; "autn {:032x}", folded.autn)
