@@ -1,5 +1,6 @@
 pub mod Facts
 mod AskingLemmas
+mod EndingLemmas
 mod FitsLemmas
 mod HomeLemmas
 mod LawLemmas

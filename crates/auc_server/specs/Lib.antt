@@ -1,6 +1,7 @@
 pub mod Asked
 pub mod Attributes
 pub mod Contexts
+pub mod Ending
 pub mod InnerMessages
 pub mod InnerPlan
 pub mod InnerRooms

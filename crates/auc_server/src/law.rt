@@ -1,5 +1,6 @@
 //! What holds of every turn of a server.
 
+ghost use Rattle.auc_server.specs.Ending.{EachTurnLeavesFewer, FirstLeavesSeven};
 ghost use Rattle.auc_server.specs.Laws.{EachTurnFits, EachTurnKeepsOrChallenges, EachTurnKeepsOrResumes, OptionsStay, OrdinalsRise, SuccessNeedsARightMac};
 ghost use Rattle.auc_server.specs.Moves.{EachTurnMakesOneMove};
 
@@ -43,4 +44,13 @@ pub fn no_turn_changes_the_options()
 /// The ordinals of each home stay in a turn, or the next one or two are used; none is given back (RFC 4187 §4.1.1.7).
 pub fn no_turn_gives_an_ordinal_back()
     ensures { OrdinalsRise }
+{}
+
+/// A server sends at most seven packets after its first request, repetitions aside: three requests for an identity
+/// (RFC 4187 §4.1.4), a challenge, a second one after a synchronisation failure (TS 33.102 §6.3.5), a notification
+/// (RFC 4187 §6.3) and the packet that ends the session. A turn that is ignored leaves no more packets to send, and any
+/// other leaves fewer.
+pub fn each_turn_leaves_fewer_packets()
+    ensures first { FirstLeavesSeven }
+    ensures turn { EachTurnLeavesFewer }
 {}

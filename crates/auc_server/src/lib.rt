@@ -32,8 +32,9 @@ mod why;
 
 pub use law::{
     each_turn_keeps_the_challenge_or_sends_one, each_turn_keeps_the_keys_of_its_inputs,
-    each_turn_keeps_the_re_authentication_or_resumes, each_turn_makes_at_most_one_move,
-    no_turn_changes_the_options, no_turn_gives_an_ordinal_back, success_needs_a_right_mac,
+    each_turn_keeps_the_re_authentication_or_resumes, each_turn_leaves_fewer_packets,
+    each_turn_makes_at_most_one_move, no_turn_changes_the_options, no_turn_gives_an_ordinal_back,
+    success_needs_a_right_mac,
 };
 pub use naming::{GivenNames, NewNames};
 pub use options::ServerOptions;

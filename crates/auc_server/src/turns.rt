@@ -8,7 +8,7 @@ ghost use Rattle.auc_server.specs.Server.{started};
 ghost use Rattle.auc_server.specs.Steps.{bytes_of};
 ghost use Rattle.auc_server.specs.Table.{asked, awaiting, ended, failed, gave_up, identified, ignored, noted, notified, repeated, requested, silent, succeeded, unknown};
 
-use crate::contexts::{won_context, keep_context};
+use crate::contexts::{keep_context, won_context};
 use crate::messages::{aka_identity, message, notification};
 use crate::options::ServerOptions;
 use crate::rooms::{RequestRooms, Rooms, message_room};
