@@ -61,6 +61,7 @@ mod PlainNamedLemmas
 mod PlainLengthLemmas
 mod PlainFirstLemmas
 mod PlainLemmas
+mod EndingLemmas
 mod PlainReplyLemmas
 mod PlainTakenLemmas
 mod PlainRightLemmas

@@ -1,6 +1,7 @@
 //! Laws of a job's sessions, over every list of events.
 
 ghost use Rattle.auc_world.specs.Agreement.{BreachIsFirst, BrokenTells, EachHonestRunAgrees};
+ghost use Rattle.auc_world.specs.Ending.{EachDeliveryLeavesFewer, EachPlainSessionEnds, StartLeavesSixteen};
 ghost use Rattle.auc_world.specs.Plain.{EachPlainSessionSucceeds, EachResumedSessionSucceeds};
 ghost use Rattle.auc_world.specs.Places.{EachEventMovesDevicesOnce, EachEventMovesHomesOnce};
 ghost use Rattle.auc_world.specs.Resumption.{EachAcceptanceIsOwn};
@@ -22,7 +23,7 @@ use auc_seal::{
 };
 use auc_server::{
     each_turn_keeps_the_challenge_or_sends_one, each_turn_keeps_the_keys_of_its_inputs,
-    each_turn_keeps_the_re_authentication_or_resumes,
+    each_turn_keeps_the_re_authentication_or_resumes, each_turn_leaves_fewer_packets,
 };
 use auc_vector::{
     each_autn_carries_the_sqn_of_its_number, each_autn_has_the_mac_of_its_sqn,
@@ -112,4 +113,14 @@ pub fn each_resumed_session_succeeds()
     permanent_identities_are_read_back();
     each_autn_has_the_mac_of_its_sqn();
     each_auts_is_read_back();
+}
+
+/// A plain session ends: sixteen deliveries at most may follow its start, and fewer after each delivery to an end that
+/// answers. Its server sends at most eight packets; each is delivered once, and so is the answer to it.
+pub fn each_plain_session_ends()
+    ensures start { StartLeavesSixteen }
+    ensures delivery { EachDeliveryLeavesFewer }
+    ensures lines { EachPlainSessionEnds }
+{
+    each_turn_leaves_fewer_packets();
 }

@@ -14,8 +14,8 @@
 //! end of the other role sent with the same inputs of its keys; a [`Breach`] is the first delivery that breaks it. Laws say
 //! that a server and a peer of one challenge or of one fast re-authentication then agree on the keys
 //! ([`each_honest_run_agrees`]), and that a plain session, whose packets reach the other end in their order, succeeds
-//! ([`each_plain_session_succeeds`], [`each_resumed_session_succeeds`]). Each event moves the contexts of a home or of a device
-//! as `auc_reauth` says (`specs/Places`, [`each_event_moves_contexts_once`]).
+//! ([`each_plain_session_succeeds`], [`each_resumed_session_succeeds`]) and ends ([`each_plain_session_ends`]). Each event
+//! moves the contexts of a home or of a device as `auc_reauth` says (`specs/Places`, [`each_event_moves_contexts_once`]).
 //!
 //! Two laws are about a round that several workers serve, each without the others' lines (`specs/Pieces`).
 //! Put together, the workers' pieces are what the jobs give, and their entries split the same history. Two more
@@ -52,8 +52,8 @@ mod world;
 
 pub use agreement::{
     breach_is_the_first_delivery_that_is_not_honest, each_acceptance_is_of_the_own_context,
-    each_event_moves_contexts_once, each_honest_run_agrees, each_plain_session_succeeds,
-    each_resumed_session_succeeds,
+    each_event_moves_contexts_once, each_honest_run_agrees, each_plain_session_ends,
+    each_plain_session_succeeds, each_resumed_session_succeeds,
 };
 pub use auc_lines::End;
 pub use auc_server::Setting;
