@@ -1,5 +1,5 @@
 -- For a session that is played: what its events have given so far.
-use Rattle.std.proofs.Common.{◌≡◌, ℕ, List, [], ◌∷◌, ◌++◌, refl, sym, subst, append_assoc, append-nil}
+use Rattle.std.proofs.Common.{◌≡◌, ℕ, ◌<◌, List, [], ◌∷◌, ◌++◌, refl, sym, subst, append_assoc, append-nil, arith}
 use Rattle.std.specs.Prelude.{Option, Some, None}
 use Rattle.auc_edge.specs.declared.stop.Stop.{Stop}
 use Rattle.auc_history.specs.declared.entry.Entry.{Entry}
@@ -7,12 +7,14 @@ use Rattle.auc_lines.specs.declared.part.End.{End}
 use Rattle.auc_lines.specs.declared.part.End.TheVariants as end
 use Rattle.auc_subs.specs.declared.row.Row.{Row}
 use Rattle.auc_usim.specs.Usim.{Memory}
+use Rattle.auc_world.specs.Ending.{EachDeliveryLeavesFewer, deliveries_left}
 use Rattle.auc_world.specs.Given.{Before, PlainGives, RelayGives, behind}
 use Rattle.auc_world.specs.Net.{Net, other}
 use Rattle.auc_world.specs.Released.{Released}
 use Rattle.auc_world.specs.Setting.{Setting}
 use Rattle.auc_world.specs.declared.event.Event.TheVariants as event
 use Rattle.auc_world.specs.declared.record.LineRecord.{LineRecord}
+use Rattle.auc_jobs.specs.InnerPlaying.{Leads}
 use Rattle.auc_jobs.specs.InnerServing.{Happens, Serves, Stands, before_at}
 use Rattle.auc_jobs.proofs.JobLemmas.{serves_more}
 
@@ -74,3 +76,21 @@ play_more goes more whole set early beside own between new mid kept released fir
     plays_more set (before_at early beside own) start net next session packet at' made front rest
     (subst (λ (o : Option ℕ). PlaysOn set (before_at early beside own) start session net at' o front) is marked.1)
     (subst (λ (ls : List LineRecord). Happens set (before_at early beside ls) net (event.Deliver session at' packet) made rest next) marked.0 h))
+
+-- ---- the end
+
+-- how many deliveries may follow, if a packet is on its way
+abbrev pub if_made : Option ℕ → ℕ → ℕ
+if_made None left = 0
+if_made (Some packet) left = left
+
+one_left : (net : Net) (session : ℕ) (at' : End) → 0 < deliveries_left net session at'
+one_left net session end.Server = omega arith
+one_left net session end.Peer = omega arith
+
+-- fewer after each one
+pub plays_fewer : EachDeliveryLeavesFewer → (set : Setting) (net next : Net) (session packet : ℕ) (at' : End) (made : Option ℕ) → Leads set net (event.Deliver session at' packet) made next
+    → if_made made (deliveries_left next session (other at')) < deliveries_left net session at'
+plays_fewer law set net next session packet at' None l = one_left net session at'
+plays_fewer law set net next session packet at' (Some answer) l =
+    subst (λ (n : Net). deliveries_left n session (other at') < deliveries_left net session at') (sym l.leads) (law set net session packet answer at' l.told l.makes)

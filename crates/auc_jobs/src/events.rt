@@ -7,6 +7,7 @@ ghost use Rattle.auc_world.specs.declared.event.Event.TheVariants.{Open};
 ghost use Rattle.auc_world.specs.Given.{EventGives, PlainGives, packet_in};
 ghost use Rattle.auc_world.specs.Net.{other};
 ghost use Rattle.auc_world.specs.World.{Applies, IsKnownEvent};
+ghost use Rattle.auc_jobs.specs.InnerPlaying.{Leads};
 ghost use Rattle.auc_jobs.specs.InnerServing.{Happens};
 ghost use Rattle.auc_jobs.specs.InnerWorker.{AreForRows, GoesOnWith, WorkerServes};
 
@@ -14,7 +15,9 @@ use crate::worker::Worker;
 use auc_edge::NoMemory;
 use auc_lines::{End, SessionLine};
 use auc_vector::Centre;
-use auc_world::{BoxedEvent, Event, EventRecord, LineRecord, Note, WorldRefusal};
+use auc_world::{
+    BoxedEvent, Event, EventRecord, LineRecord, Note, WorldRefusal, each_plain_session_ends,
+};
 use std::alloc::Global;
 use std::sync::Wait;
 
@@ -69,6 +72,7 @@ impl<C: Centre> Worker<'_, C> {
 
         ensures happened { IfOk result (λ packet. WorkerServes C.kept C.goes self.old self.new
             (λ before lines. Happens self.old.set before self.old.world.net event packet lines self.new.world.net)) }
+        ensures led { IfOk result (λ packet. Leads self.old.set self.old.world.net event packet self.new.world.net) }
         ensures same { GoesOnWith (C.name self.old.centre) (C.name self.new.centre) self.old self.new }
     {
         let result = self.apply(rt, alloc, &event)?;
@@ -125,12 +129,10 @@ impl<C: Centre> Worker<'_, C> {
             (λ before lines. PlainGives self.old.set before self.old.world.net session lines self.new.world.net)) }
         ensures same { GoesOnWith (C.name self.old.centre) (C.name self.new.centre) self.old self.new }
     {
+        each_plain_session_ends();
         let mut made = self.happen(rt, alloc, Event::Start(session))?;
         let mut end = End::Peer;
-        for _ in rt.forever() {
-            let Some(packet) = made else {
-                return Ok(());
-            };
+        while let Some(packet) = made {
             made = self.happen(
                 rt,
                 alloc,

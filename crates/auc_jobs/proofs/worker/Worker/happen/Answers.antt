@@ -2,6 +2,8 @@ use Rattle.std.proofs.Common.{ℕ, [], ◌∷◌, ◌++◌, ◌∙◌, ap, sym, 
 use Rattle.std.specs.Prelude.{Option}
 use Rattle.auc_world.specs.declared.event.EventRecord.{EventRecord}
 use Rattle.auc_world.specs.declared.record.LineRecord.TheVariants.{Event as Happening}
+use Rattle.auc_world.specs.Given.{packet_in}
+use Rattle.auc_jobs.specs.InnerPlaying.{Leads}
 use Rattle.auc_jobs.specs.InnerServing.{Happens, Serves, before_at}
 use Rattle.auc_jobs.specs.InnerUsims.{usim_of}
 use Rattle.auc_jobs.specs.InnerWorker.{WorkerState}
@@ -25,3 +27,12 @@ returns-clause-happened g c = λ early beside stands.
     rows.is_centre.greatest c.in_ok-result.ensures.asked stands
     (c.in_ok-push.ensures ∙ ap (λ (r : EventRecord). c.self.inside.lines ++ Happening r ∷ []) c.in_ok-record.ensures
     ∙ ap (λ (w : WorkerState g.row.C.Denot). w.lines ++ Happening (record { event = c.args.event; result = c.in_ok-result.result }) ∷ []) (c.self.view_is ∙ c.in_ok-result.ensures.rest))))
+
+pub returns-clause-led : goal.returns-clause-led
+returns-clause-led g c =
+    subst (λ (w : WorkerState g.row.C.Denot). Leads c.args.self.now.set c.args.self.now.world.net c.args.event c.packet_in-packet.result w.world.net) (sym c.self.view_is)
+    (record {
+      told = c.in_ok-result.ensures.applied.told;
+      makes = sym (c.packet_in-packet.ensures ∙ ap packet_in c.in_ok-result.ensures.applied.is);
+      leads = c.in_ok-result.ensures.applied.leads;
+    })
