@@ -1,5 +1,5 @@
 -- Each plain session ends: after each delivery to an end that answers fewer deliveries may follow.
-use Rattle.std.proofs.Common.{◌≡◌, inl, inr, ℕ, suc, ◌+◌, ◌*◌, ◌<◌, ◌≤◌, ◌==◌, true, List, [], ◌∷◌, length, Option, Some, None, slice_get, slice_set, refl, sym, ap, ◌∙◌, subst, arith}
+use Rattle.std.proofs.Common.{◌≡◌, inl, inr, ℕ, suc, ◌+◌, ◌*◌, ◌<◌, ◌≤◌, ◌==◌, true, List, [], ◌∷◌, length, Option, Some, None, slice_get, slice_set, refl, sym, ap, ◌∙◌, arith}
 use Rattle.std.proofs.lemmas.List.Quantifiers.{position-Some}
 use Rattle.std.proofs.lemmas.Option.{get_or_from_slice_get, slice_get_within}
 use Rattle.auc_lines.specs.declared.part.End.{End}
@@ -9,7 +9,6 @@ use Rattle.auc_server.specs.Ending.{EachTurnLeavesFewer, LeavesFewer, packets_le
 use Rattle.auc_server.specs.Server.{ServerEnd, started}
 use Rattle.auc_server.specs.declared.why.ServerWhy.{ServerWhy}
 use Rattle.auc_vector.specs.declared.turn.Step.{Step}
-use Rattle.auc_vector.specs.declared.turn.Step.TheVariants as step
 use Rattle.auc_vector.specs.declared.turn.Turn.{Turn}
 use Rattle.auc_world.proofs.PlainListLemmas.{position_stays, set_there}
 use Rattle.auc_world.specs.Came.{came, came_at_peer, came_at_server, came_delivered, came_in, came_started, packet_number, session_at, session_of}
