@@ -56,7 +56,7 @@ pub record IsOutput (rows : List Row) (script : Script) (reserved : List ℕ) (s
   pub keys : EndsAgree nets
   pub breaches : BreachesAreTold transcript nets
   -- the counters that are told are those that were used, none is told twice, no identity is resumed twice, and each acceptance is of
-  -- the device's own context
-  pub contexts : KeepsContexts transcript nets
+  -- the context that the device has at that moment
+  pub contexts : KeepsContexts (setting_of rows script) parts transcript nets
   pub plain : PlainSessionsAgree rows parts transcript nets
   pub resumed : ResumedSessionsAgree (setting_of rows script) parts transcript nets

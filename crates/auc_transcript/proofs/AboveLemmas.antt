@@ -1,5 +1,5 @@
 -- The law of limits: each released number is above what was reserved for its subscriber at first.
-use Rattle.std.proofs.Common.{◌≡◌, ℕ, ◌+◌, ◌<◌, ◌≤◌, ◌⊎◌, min, Option, List, [], ◌∷◌, ◌++◌, length, get_or, All, ap, subst, arith, inl, inr}
+use Rattle.std.proofs.Common.{◌≡◌, ℕ, ◌+◌, ◌<◌, ◌≤◌, ◌⊎◌, min, Option, List, [], ◌∷◌, length, get_or, ap, subst, arith, inl, inr}
 use Rattle.std.proofs.Math.ListN.{length-map}
 use Rattle.std.proofs.lemmas.Bool.{cases_lt}
 use Rattle.auc_edge.specs.declared.stop.Stop.{Stop}
@@ -10,10 +10,9 @@ use Rattle.auc_lines.specs.declared.part.Part.{Part}
 use Rattle.auc_lines.specs.declared.part.Part.TheVariants.{Round, Restart}
 use Rattle.auc_world.specs.declared.record.PartRecord.{PartRecord}
 use Rattle.auc_world.specs.declared.record.PartRecord.TheVariants as record_of
-use Rattle.auc_world.specs.Limits.{opened}
 use Rattle.auc_world.specs.Lines.{numbers_of, all_lines}
 use Rattle.auc_world.specs.Setting.{Setting}
-use Rattle.auc_world.specs.Transcript.{Course, Leads, after_round, after_restart, beginning, reopened, lines_of}
+use Rattle.auc_world.specs.Transcript.{Course, Leads, after_round, after_restart, beginning, lines_of}
 use Rattle.auc_world.proofs.Facts.{length-opened, opened_above}
 use Rattle.auc_transcript.specs.Headline.{EachNumberIsAboveReserved}
 use Rattle.auc_transcript.proofs.LineLemmas.{times-numbers-append}

@@ -1,84 +1,26 @@
 -- The law of contexts: no counter is used twice, no identity is resumed twice, and each acceptance is of the own context.
-use Rattle.std.proofs.Common.{◌≡◌, ℕ, zero, suc, List, [], ◌∷◌, ◌++◌, length, map, All, AllPairs, None, refl, sym, ap, ◌∙◌, subst, arith, append-nil}
+use Rattle.std.proofs.Common.{◌≡◌, ℕ, zero, suc, List, [], ◌∷◌, length, map, All, AllPairs, None, refl, sym, subst, arith, append-nil}
 use Rattle.std.proofs.lemmas.List.{length-map}
-use Rattle.std.proofs.lemmas.List.Elements.{All-append, All-contains, All-nil}
 use Rattle.std.proofs.lemmas.List.Sorted.{IsPermutation-refl}
 use Rattle.auc_hmac.specs.declared.method.Method.{Method}
 use Rattle.auc_hmac.specs.declared.method.Method.TheVariants as method
-use Rattle.auc_lines.specs.declared.part.Line.{Line}
 use Rattle.auc_lines.specs.declared.part.Part.{Part}
-use Rattle.auc_lines.specs.declared.part.Part.TheVariants as part
 use Rattle.auc_reauth.specs.Machine.{AreDifferent, EachCounterOnce, IsFresh}
 use Rattle.auc_reauth.specs.Store.{entry}
 use Rattle.auc_subs.specs.Subscriber.{AreSubscribers}
 use Rattle.auc_subs.specs.declared.row.Row.{Row}
-use Rattle.auc_world.specs.Agreement.{Happening, Occurs, after}
-use Rattle.auc_world.specs.Given.{Before, JobGives, JobsGive}
-use Rattle.auc_world.specs.Happened.{happened}
-use Rattle.auc_world.specs.Lines.{all_lines}
 use Rattle.auc_world.specs.Net.{Net}
 use Rattle.auc_world.specs.Places.{EachEventMovesDevicesOnce}
 use Rattle.auc_world.specs.Resumption.{counters_accepted}
 use Rattle.auc_world.specs.Setting.{Setting}
-use Rattle.auc_world.specs.Start.{Kept, fresh_kept, kept_by_jobs, kept_of, start_of}
+use Rattle.auc_world.specs.Start.{Kept, fresh_kept, kept_of}
 use Rattle.auc_world.specs.Transcript.{lines_of}
-use Rattle.auc_world.specs.declared.net.Session.{Session}
-use Rattle.auc_world.specs.declared.record.LineRecord.{LineRecord}
 use Rattle.auc_world.specs.declared.record.PartRecord.{PartRecord}
-use Rattle.auc_world.specs.declared.record.PartRecord.TheVariants as record_of
-use Rattle.auc_world.proofs.Facts.{IsNamed, PeerLaws, run_is_named}
-use Rattle.auc_transcript.specs.Counters.{AcceptancesAreOwn, all_sessions}
-use Rattle.auc_transcript.specs.Keys.{AreNets, AreNetsAfter, IsHeldApart}
-use Rattle.auc_transcript.proofs.DeviceFoldLemmas.{DeviceState, after-append, device_busy, device_idle}
-use Rattle.auc_transcript.proofs.JobFoldLemmas.{job_keeps}
+use Rattle.auc_transcript.specs.Counters.{all_sessions}
+use Rattle.auc_transcript.specs.Keys.{AreNets, IsHeldApart}
+use Rattle.auc_transcript.proofs.DeviceFoldLemmas.{DeviceState, device_busy, device_idle}
 use Rattle.auc_transcript.proofs.MoveFoldLemmas.{led_alike, led_counters_differ, led_to_nothing, stored_alone}
-use Rattle.auc_transcript.proofs.RoundFoldLemmas.{rounds_fold, sessions_of}
-
--- ---- acceptances
-
--- a job's network is one to which a run leads
-job_leads : (set : Setting) (place : Before) (start last : Net) (job : List Line) (lines : List LineRecord) → JobGives set place start job lines last
-    → (hs : List Happening) × (last ≡ after set start hs)
-job_leads set place start last job lines gives =
-    job_keeps set (λ b w. (hs : List Happening) × (w ≡ after set start hs)) (λ b w more is. is)
-    (λ b w next e more here is. (
-      is.0 ++ Occurs e here.told ∷ [],
-      here.leads ∙ ap (λ (v : Net). happened set v e here.told) is.1 ∙ sym (after-append set start is.0 (Occurs e here.told ∷ [])),
-    )) place start last job lines gives ([], refl)
-
-abbrev AreNamed : List Session → Type 0
-AreNamed sessions = All (λ session. IsNamed session.peer) sessions
-
-jobs_named : PeerLaws → (set : Setting) (early : List LineRecord) (kept : List Kept) (beside : List LineRecord) (jobs : List (List Line)) (records : List (List LineRecord)) (nets : List Net)
-    → JobsGive set early kept beside jobs records nets → AreNamed (sessions_of nets)
-jobs_named laws set early kept beside [] records nets (none, is) =
-    subst (λ (ns : List Net). AreNamed (sessions_of ns)) (sym is) (All-nil (λ (session : Session). IsNamed session.peer))
-jobs_named laws set early kept beside (job ∷ jobs) [] nets gives = absurd gives
-jobs_named laws set early kept beside (job ∷ jobs) (lines ∷ records) [] gives = absurd gives
-jobs_named laws set early kept beside (job ∷ jobs) (lines ∷ records) (net ∷ nets) (gives, more) =
-    let (hs, leads) = job_leads set (record { early = early; beside = beside; own = [] }) (start_of set kept job) net job lines gives in
-    let named = run_is_named laws set (start_of set kept job) hs (record { packets = refl; sessions = refl }) in
-    All-append (λ (session : Session). IsNamed session.peer) net.sessions (sessions_of nets) (subst (λ (w : Net). AreNamed w.sessions) (sym leads) named)
-    (jobs_named laws set early kept (beside ++ lines) jobs records nets more)
-
-rounds_named : PeerLaws → (set : Setting) (early : List LineRecord) (kept : List Kept) (parts : List Part) (records : List PartRecord) (nets : List (List Net))
-    → AreNetsAfter set early kept parts records nets → AreNamed (all_sessions nets)
-rounds_named laws set early kept [] records nets (none, is) =
-    subst (λ (ns : List (List Net)). AreNamed (all_sessions ns)) (sym is) (All-nil (λ (session : Session). IsNamed session.peer))
-rounds_named laws set early kept (part.Round jobs ∷ parts) [] nets gives = absurd gives
-rounds_named laws set early kept (part.Round jobs ∷ parts) (record_of.Restart ∷ records) nets gives = absurd gives
-rounds_named laws set early kept (part.Round jobs ∷ parts) (record_of.Round round ∷ records) [] gives = absurd gives
-rounds_named laws set early kept (part.Round jobs ∷ parts) (record_of.Round round ∷ records) (first ∷ nets) (gives, more) =
-    All-append (λ (session : Session). IsNamed session.peer) (sessions_of first) (all_sessions nets) (jobs_named laws set early kept [] jobs round.jobs first gives)
-    (rounds_named laws set (early ++ all_lines round.jobs) (kept_by_jobs kept first) parts records nets more)
-rounds_named laws set early kept (part.Restart ∷ parts) [] nets gives = absurd gives
-rounds_named laws set early kept (part.Restart ∷ parts) (record_of.Round round ∷ records) nets gives = absurd gives
-rounds_named laws set early kept (part.Restart ∷ parts) (record_of.Restart ∷ records) nets gives = rounds_named laws set early kept parts records nets gives
-
--- each acceptance is of the own context
-pub acceptances_are_own : PeerLaws → (set : Setting) (parts : List Part) (records : List PartRecord) (nets : List (List Net)) → AreNets set parts records nets → AcceptancesAreOwn nets
-acceptances_are_own laws set parts records nets lead session there =
-    All-contains (λ (s : Session). IsNamed s.peer) (all_sessions nets) session (rounds_named laws set [] (map (λ (row : Row). fresh_kept) set.rows) parts records nets lead) there
+use Rattle.auc_transcript.proofs.RoundFoldLemmas.{rounds_fold}
 
 -- ---- counters that devices accept
 

@@ -16,7 +16,7 @@ use Rattle.auc_transcript.specs.Headline.{IsOutsideSessions}
 use Rattle.auc_transcript.proofs.WalkLemmas.{draw_quiet, follows_quiet}
 
 -- after no line
-behind_none : (place : Before) → behind place [] ≡ place
+pub behind_none : (place : Before) → behind place [] ≡ place
 behind_none place = ap (λ (own : List LineRecord). record { early = place.early; beside = place.beside; own = own }) (append-nil place.own)
 
 -- after some lines, and then others

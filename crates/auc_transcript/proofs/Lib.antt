@@ -46,12 +46,14 @@ mod PlainLemmas
 mod ResumedLemmas
 mod Examples
 mod WitnessLemmas
+mod OwnWitnessLemmas
 mod JobFoldLemmas
 mod PutBackLemmas
 mod SqnLemmas
 mod DeviceEventLemmas
 mod RoundFoldLemmas
 mod DeviceFoldLemmas
+mod OwnContextLemmas
 mod ContextLemmas
 mod ToldTurnLemmas
 mod ToldSessionLemmas

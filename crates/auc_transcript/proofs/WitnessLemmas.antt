@@ -13,10 +13,10 @@ use Rattle.auc_attr.proofs.Facts.{frame_again}
 use Rattle.auc_history.specs.Split.{all_entries}
 use Rattle.auc_hmac.specs.declared.keys.KeySet.{KeySet}
 use Rattle.auc_hmac.specs.declared.method.Method.TheVariants as method
-use Rattle.auc_ident.specs.Permanent.{username}
 use Rattle.auc_lines.specs.declared.part.End.TheVariants as end
 use Rattle.auc_lines.specs.declared.part.Line.{Line}
 use Rattle.auc_lines.specs.declared.part.Line.TheVariants as line
+use Rattle.auc_lines.specs.declared.part.Part.{Part}
 use Rattle.auc_packet.specs.Laws.{WrittenIsRead}
 use Rattle.auc_packet.specs.Packet.{ReadsPacket}
 use Rattle.auc_packet.specs.Received.{IsReceived, Seen}
@@ -28,6 +28,7 @@ use Rattle.auc_packet.specs.declared.subtype.Subtype.TheVariants as subtype
 use Rattle.auc_peer.specs.declared.decrypted.Decrypted.TheVariants as decrypted
 use Rattle.auc_random.specs.Random.{rand_of}
 use Rattle.auc_reauth.specs.Machine.{used_by}
+use Rattle.auc_reauth.specs.declared.context.Context.{Context}
 use Rattle.auc_server.specs.Table.{silent}
 use Rattle.auc_server.specs.declared.reply.Reply.TheVariants as reply
 use Rattle.auc_server.specs.declared.server.Resumed.{Resumed}
@@ -40,6 +41,7 @@ use Rattle.auc_world.specs.Given.{Before, JobGives}
 use Rattle.auc_world.specs.Happened.{Told, happened, new_session}
 use Rattle.auc_world.specs.Net.{Net}
 use Rattle.auc_world.specs.Plain.{IsAskedFor, TellNoCause, is_refused, is_too_far, results}
+use Rattle.auc_world.specs.Setting.{Setting}
 use Rattle.auc_world.specs.Start.{Kept, fresh_kept, kept_by_jobs, start_of}
 use Rattle.auc_world.specs.Transcript.{stretches_of}
 use Rattle.auc_world.specs.declared.event.Event.TheVariants as event
@@ -260,21 +262,19 @@ keys_are_equal k l = (full_agree k l, fast_agree k l)
 
 -- ---- contexts
 
-servers_apart : (x y : List ℕ) (c d : ℕ) → KeepsContexts (transcript_of (resumes 1 c ∷ resumes 2 d ∷ [])) (one_job (resuming 1 (context x c) ∷ resuming 2 (context y d) ∷ [])) → (c ≢ d) × (x ≢ y)
-servers_apart x y c d promise = (
+servers_apart : (set : Setting) (parts : List Part) (x y : List ℕ) (c d : ℕ)
+    → KeepsContexts set parts (transcript_of (resumes 1 c ∷ resumes 2 d ∷ [])) (one_job (resuming 1 (context x c) ∷ resuming 2 (context y d) ∷ [])) → (c ≢ d) × (x ≢ y)
+servers_apart set parts x y c d promise = (
   promise.counters.resumed method.Aka 0 0 1 (used_by c (context x c)) (omega arith) (omega arith) refl,
   promise.identities 0 1 (record { sub = 0; context = context x c; nonce = zeros; next = None }) (omega arith) (omega arith) refl,
 )
 
-peers_apart : (text x y : List ℕ) (c d : ℕ)
-    → KeepsContexts (transcript_of (accepts 1 c ∷ accepts 2 d ∷ [])) (one_job (accepting 1 text (context x c) ∷ accepting 2 text (context y d) ∷ [])) → (c ≢ d) × (username text ≡ x)
-peers_apart text x y c d promise = (
-  promise.counters.accepted method.Aka 0 0 1 (used_by c (context x c)) (omega arith) (omega arith) refl,
-  promise.own (accepting 1 text (context x c)) (0, omega arith, refl) 0 (used_by c (context x c)) (omega arith),
-)
+peers_apart : (set : Setting) (parts : List Part) (x y : List ℕ) (c d : ℕ)
+    → KeepsContexts set parts (transcript_of (accepts 1 c ∷ accepts 2 d ∷ [])) (one_job (accepting 1 (context x c) ∷ accepting 2 (context y d) ∷ [])) → c ≢ d
+peers_apart set parts x y c d promise = promise.counters.accepted method.Aka 0 0 1 (used_by c (context x c)) (omega arith) (omega arith) refl
 
 pub contexts_are_kept : ContextsAreKept
-contexts_are_kept text x y c d = (servers_apart x y c d, peers_apart text x y c d)
+contexts_are_kept set parts x y c d = (servers_apart set parts x y c d, peers_apart set parts x y c d)
 
 same_one : (n c : ℕ) → ◌≡◌ {A = List ℕ} (n ∷ []) (c ∷ []) → n ≡ c
 same_one n c e = cc
@@ -283,11 +283,11 @@ not_nothing : (c : ℕ) → ◌≡◌ {A = List ℕ} [] (c ∷ []) → ⊥
 not_nothing c e = cc
 
 pub counters_are_noted : CountersAreNoted
-counters_are_noted text c n = (
+counters_are_noted set parts c n = (
   λ promise. same_one n c (promise.told.0.0 0 (resuming 1 (context [] c)) (omega arith)).resumed,
-  λ promise. same_one n c (promise.told.0.0 0 (accepting 1 text (context [] c)) (omega arith)).accepted,
+  λ promise. same_one n c (promise.told.0.0 0 (accepting 1 (context [] c)) (omega arith)).accepted,
   λ promise. not_nothing c (promise.told.0.0 0 (resuming 1 (context [] c)) (omega arith)).resumed,
-  λ promise. not_nothing c (promise.told.0.0 0 (accepting 1 text (context [] c)) (omega arith)).accepted,
+  λ promise. not_nothing c (promise.told.0.0 0 (accepting 1 (context [] c)) (omega arith)).accepted,
 )
 
 -- ---- plain sessions
@@ -324,11 +324,11 @@ plain_session_wins verdicts net promise = promise.0.0 (line.Session (opening 1) 
 -- ---- resumed sessions
 
 -- what is kept of the subscriber after the first round
-abbrev kept : List Kept
-kept = kept_by_jobs (fresh_kept ∷ []) (first_net ∷ [])
+abbrev pub kept : Context → List Kept
+kept c = kept_by_jobs (fresh_kept ∷ []) (first_net c ∷ [])
 
 abbrev begun : List ℕ → Net
-begun key = start_of (setting key) kept (line.Session (opening 2) ∷ line.Plain 2 ∷ [])
+begun key = start_of (setting key) (kept (context zeros 1)) (line.Session (opening 2) ∷ line.Plain 2 ∷ [])
 
 -- what is told of an opening
 abbrev of_opened : List ℕ → Told
@@ -337,7 +337,7 @@ of_opened key = record { seen = seen key; notes = silent; inner = decrypted.Unre
 abbrev opened_net : List ℕ → Net
 opened_net key = happened (setting key) (begun key) (event.Open (opening 2)) (of_opened key)
 
-abbrev place : Before
+abbrev pub place : Before
 place = record { early = plain_lines; beside = []; own = [] }
 
 abbrev opened_line : LineRecord
@@ -357,7 +357,7 @@ has_context : (key : List ℕ) → HasContext (opened_net key) 2 (context zeros 
 has_context key = record {
   own = new_session (opening 2) 0;
   is = refl;
-  keeps = device;
+  keeps = device (context zeros 1);
   stored = refl;
   same = record { own = context zeros 1; has = refl; identity = refl; k_encr = refl; k_aut = refl; master = refl; counter = refl };
 }

@@ -1,7 +1,7 @@
 -- Witnesses of the promises: for each promise transcripts of a few lines that meet its premise, with a part left open. The promise
 -- determines that part. So no promise is empty: if nothing met the premise, it would determine nothing, and the law here would be
 -- false.
-use Rattle.std.specs.Prelude.{◌≡◌, ◌≢◌, ℕ, true, false, List, [], ◌∷◌, ◌++◌, map, replicate, Contains, Option, Some, None, Ok}
+use Rattle.std.specs.Prelude.{◌≡◌, ◌≢◌, ℕ, ◌≤◌, true, false, List, [], ◌∷◌, ◌++◌, map, replicate, Contains, Option, Some, None, Ok}
 use Rattle.auc_attr.specs.declared.attr.Attr.TheVariants as attr
 use Rattle.auc_history.specs.History.{numbers_after}
 use Rattle.auc_hmac.specs.declared.keys.KeySet.{KeySet}
@@ -256,32 +256,31 @@ resuming session c = record (new_session (opening session) 0) {
   server = Some (record (started (server_options (opening session))) { resumed = Some (record { sub = 0; context = c; nonce = zeros; next = None }) });
 }
 
--- and one whose peer sent a text and accepted the counter of its device's context
-abbrev pub accepting : ℕ → List ℕ → Context → Session
-accepting session text c = record (new_session (opening session) 0) {
+-- and one whose peer accepted the counter of its device's context
+abbrev pub accepting : ℕ → Context → Session
+accepting session c = record (new_session (opening session) 0) {
   peer = record (new_peer (peer_options (opening session))) {
-    identity = Some text;
     inner = decrypted.Attributes (record { pseudonym = None; identity = None; counter = Some c.counter; nonce = Some zeros });
     resumed = Some c;
     next = next.Renamed c.identity None;
   };
 }
 
--- the counters and the identities of two resumptions differ, and so do the counters of two acceptances; the text that was sent has
--- the identity of the context
+-- the counters and the identities of two resumptions differ, and so do the counters of two acceptances
 abbrev pub ContextsAreKept : Type 0
-ContextsAreKept = (text x y : List ℕ) (c d : ℕ)
-    → (KeepsContexts (transcript_of (resumes 1 c ∷ resumes 2 d ∷ [])) (one_job (resuming 1 (context x c) ∷ resuming 2 (context y d) ∷ [])) → (c ≢ d) × (x ≢ y))
-    × (KeepsContexts (transcript_of (accepts 1 c ∷ accepts 2 d ∷ [])) (one_job (accepting 1 text (context x c) ∷ accepting 2 text (context y d) ∷ []))
-    → (c ≢ d) × (username text ≡ x))
+ContextsAreKept = (set : Setting) (parts : List Part) (x y : List ℕ) (c d : ℕ)
+    → (KeepsContexts set parts (transcript_of (resumes 1 c ∷ resumes 2 d ∷ [])) (one_job (resuming 1 (context x c) ∷ resuming 2 (context y d) ∷ []))
+    → (c ≢ d) × (x ≢ y))
+    × (KeepsContexts set parts (transcript_of (accepts 1 c ∷ accepts 2 d ∷ [])) (one_job (accepting 1 (context x c) ∷ accepting 2 (context y d) ∷ []))
+    → c ≢ d)
 
 -- a counter that was used is told, and no other one is
 abbrev pub CountersAreNoted : Type 0
-CountersAreNoted = (text : List ℕ) (c n : ℕ)
-    → (KeepsContexts (transcript_of (resumes 1 n ∷ [])) (one_job (resuming 1 (context [] c) ∷ [])) → n ≡ c)
-    × (KeepsContexts (transcript_of (accepts 1 n ∷ [])) (one_job (accepting 1 text (context [] c) ∷ [])) → n ≡ c)
-    × (KeepsContexts (transcript_of []) (one_job (resuming 1 (context [] c) ∷ [])) → ⊥)
-    × (KeepsContexts (transcript_of []) (one_job (accepting 1 text (context [] c) ∷ [])) → ⊥)
+CountersAreNoted = (set : Setting) (parts : List Part) (c n : ℕ)
+    → (KeepsContexts set parts (transcript_of (resumes 1 n ∷ [])) (one_job (resuming 1 (context [] c) ∷ [])) → n ≡ c)
+    × (KeepsContexts set parts (transcript_of (accepts 1 n ∷ [])) (one_job (accepting 1 (context [] c) ∷ [])) → n ≡ c)
+    × (KeepsContexts set parts (transcript_of []) (one_job (resuming 1 (context [] c) ∷ [])) → ⊥)
+    × (KeepsContexts set parts (transcript_of []) (one_job (accepting 1 (context [] c) ∷ [])) → ⊥)
 
 -- ---- plain sessions
 
@@ -304,11 +303,11 @@ PlainSessionWins = (verdicts : List SessionVerdict) (net : Net)
 -- ---- resumed sessions
 
 -- after that session the device keeps a context
-abbrev pub device : Keeps
-device = record { pseudonyms = record { aka = None; prime = None }; contexts = record { aka = Some (context zeros 1); prime = None } }
+abbrev pub device : Context → Keeps
+device c = record { pseudonyms = record { aka = None; prime = None }; contexts = record { aka = Some c; prime = None } }
 
-abbrev pub first_net : Net
-first_net = record (net_of []) { homes = record { sub = 0; ordinals = 1; store = no_contexts } ∷ []; stores = device ∷ [] }
+abbrev pub first_net : Context → Net
+first_net c = record (net_of []) { homes = record { sub = 0; ordinals = 1; store = no_contexts } ∷ []; stores = device c ∷ [] }
 
 -- in the next round a session's server takes it up again, and the device accepts its counter
 abbrev pub resumed_lines : List LineRecord
@@ -334,5 +333,37 @@ two_rounds verdicts =
 -- the session succeeds too
 abbrev pub ResumedSessionWins : Type 0
 ResumedSessionWins = (key : List ℕ) (verdicts : List SessionVerdict) (now : ServerState) (keys : Option KeySet)
-    → ResumedSessionsAgree (setting key) (plain_round 1 ∷ plain_round 2 ∷ []) (two_rounds verdicts) ((first_net ∷ []) ∷ (second_net now keys ∷ []) ∷ [])
+    → ResumedSessionsAgree (setting key) (plain_round 1 ∷ plain_round 2 ∷ []) (two_rounds verdicts) ((first_net (context zeros 1) ∷ []) ∷ (second_net now keys ∷ []) ∷ [])
     → Succeeds (second_net now keys) 2 × Contains verdicts (record { session = 2; agree = true })
+
+-- ---- acceptances
+
+-- a session whose peer sends a text as its first identity
+abbrev pub opening_with : ℕ → List ℕ → SessionLine
+opening_with session text = record (opening session) { identity = identity.Text text }
+
+-- a job of such a session: its server starts, and packets 1 and 3 reach the peer
+abbrev pub text_round : ℕ → List ℕ → Part
+text_round session text = part.Round ((
+    line.Session (opening_with session text) ∷ line.Start session ∷ line.Deliver session end.Peer 1 ∷ line.Deliver session end.Peer 3 ∷ []
+    ) ∷ [])
+
+-- the session is opened, its server asks for the identity, and its peer sends the text
+abbrev pub text_sent : ℕ → List ℕ → List LineRecord
+text_sent session text =
+    line_of (event.Open (opening_with session text)) of_opening
+    ∷ line_of (event.Start session) (server_sent silent None (packet_text (packet.Identity true 1 [])) 1)
+    ∷ line_of (event.Deliver session end.Peer 1) (peer_sent silent (packet_text (packet.Identity false 1 text)) 2)
+    ∷ []
+
+-- the round after the plain session, in which the device is told to have accepted a counter
+abbrev pub text_rounds : List ℕ → ℕ → List PartRecord
+text_rounds text n =
+    record_of.Round (round_of 1 plain_lines []) ∷ record_of.Round (round_of 2 (text_sent 2 text ++ accepts 2 n ∷ []) []) ∷ []
+
+-- the text has the identity of the context that the device kept, and the context was open for the counter, whatever network there is
+-- in the end
+abbrev pub AcceptanceIsOwn : Type 0
+AcceptanceIsOwn = (key text x : List ℕ) (c n : ℕ) (net : Net)
+    → KeepsContexts (setting key) (plain_round 1 ∷ text_round 2 text ∷ []) (text_rounds text n) ((first_net (context x c) ∷ []) ∷ (net ∷ []) ∷ [])
+    → (username text ≡ x) × (c ≤ n)

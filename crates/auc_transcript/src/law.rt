@@ -1,14 +1,14 @@
 //! Laws of every lawful transcript.
 
 ghost use Rattle.auc_transcript.specs.Completeness.{EachPlainSessionAgrees, EachResumedSessionAgrees};
-ghost use Rattle.auc_transcript.specs.Counters.{EachTranscriptKeepsContexts};
+ghost use Rattle.auc_transcript.specs.Counters.{EachJobLeadsOn, EachTranscriptKeepsContexts};
 ghost use Rattle.auc_transcript.specs.Headline.{EachNumberIsAboveReserved, EachTranscriptKeepsNumbersApart, EachTranscriptMayRestart, EachUsimAcceptsNoneTwice, EachFailureIsByPlace, EachSqnOutsideSessionsIsGenuine};
 ghost use Rattle.auc_transcript.specs.Keys.{EachAuthenticationAgrees, EachBreachIsTold, EachTranscriptHasItsNets};
 ghost use Rattle.auc_transcript.specs.OneTold.{EachToldTranscriptIsOne};
 ghost use Rattle.auc_transcript.specs.Position.{EachMoveStandsBetween, EachPlaceIsAPosition};
 ghost use Rattle.auc_transcript.specs.Presented.{EachFailureInSessionsIsByPlace, EachFailureInSessionsOfRoundsIsByPlace, EachPresentedVectorHasARightMac};
 ghost use Rattle.auc_transcript.specs.Rounds.{EachFailureInRoundsIsByPlace, EachSqnInRoundsIsGenuine};
-ghost use Rattle.auc_transcript.specs.Witnesses.{ContextsAreKept, CountersAreNoted, KeysAreEqual, MacIsRight, PlacesDecide, PlacesDecideInSessions, PlainSessionWins, ResumedSessionWins};
+ghost use Rattle.auc_transcript.specs.Witnesses.{AcceptanceIsOwn, ContextsAreKept, CountersAreNoted, KeysAreEqual, MacIsRight, PlacesDecide, PlacesDecideInSessions, PlainSessionWins, ResumedSessionWins};
 
 use auc_attr::bytes_have_one_reading_or_one_fault;
 use auc_ident::each_name_is_given_once;
@@ -16,10 +16,9 @@ use auc_packet::{
     equal_bytes_are_received_alike, sealed_messages_are_read, written_packets_are_read,
 };
 use auc_peer::{
-    each_accepted_counter_is_of_the_context, each_turn_keeps_contexts_of_the_method,
+    each_accepted_counter_is_of_the_context,
     each_turn_keeps_the_keys_of_its_inputs as each_peer_keeps_its_keys,
-    each_turn_keeps_what_keys_are_made_from, each_turn_leaves_the_other_method,
-    each_turn_moves_at_most_one_context,
+    each_turn_keeps_what_keys_are_made_from,
 };
 use auc_reauth::{no_counter_is_used_twice, no_identity_is_resumed_twice};
 use auc_seal::{
@@ -31,7 +30,8 @@ use auc_server::{
 };
 use auc_vector::each_autn_carries_the_sqn_of_its_number;
 use auc_world::{
-    each_event_moves_contexts_once, each_plain_session_succeeds, each_resumed_session_succeeds,
+    each_acceptance_is_of_the_own_context, each_event_moves_contexts_once,
+    each_plain_session_succeeds, each_resumed_session_succeeds,
 };
 
 /// No two vectors of a subscriber carry the same SQN, in whichever rounds and jobs they were released, and
@@ -128,7 +128,7 @@ pub fn each_authentication_agrees()
 /// Whatever was lost, repeated, delivered out of order or to another session: a session's records tell the counter that its server
 /// resumed and the one that its device accepted, and no other; no server resumes a counter twice under the keys of one
 /// full authentication, and no device accepts one twice (RFC 4187 §5.1); no identity is resumed twice, and a peer accepts a
-/// re-authentication only under the identity of its device's context (RFC 4187 §5.3).
+/// re-authentication only under the identity that its device's context has at that moment (RFC 4187 §5.3).
 pub fn each_transcript_keeps_contexts()
     ensures { EachTranscriptKeepsContexts }
 {
@@ -138,10 +138,20 @@ pub fn each_transcript_keeps_contexts()
     each_name_is_given_once();
     no_turn_gives_an_ordinal_back();
     each_event_moves_contexts_once();
-    each_turn_moves_at_most_one_context();
-    each_turn_keeps_contexts_of_the_method();
-    each_turn_leaves_the_other_method();
-    each_turn_keeps_what_keys_are_made_from();
+    each_acceptance_is_of_the_own_context();
+    bytes_have_one_reading_or_one_fault();
+    equal_bytes_are_received_alike();
+    opening_has_one_answer();
+}
+
+/// The lines of a job lead from its first network to its last, and to no other. So there is one network before each event of a job,
+/// which is the moment of which [`each_transcript_keeps_contexts`] speaks.
+pub fn each_job_leads_on()
+    ensures { EachJobLeadsOn }
+{
+    bytes_have_one_reading_or_one_fault();
+    equal_bytes_are_received_alike();
+    opening_has_one_answer();
 }
 
 /// A lawful transcript leads to networks of its jobs' sessions, and to no others. Each round tells of a breach
@@ -192,6 +202,7 @@ pub fn each_promise_has_a_witness()
     ensures keys { KeysAreEqual }
     ensures contexts { ContextsAreKept }
     ensures counters { CountersAreNoted }
+    ensures acceptances { AcceptanceIsOwn }
     ensures plain { PlainSessionWins }
     ensures resumed { ResumedSessionWins }
 {

@@ -18,7 +18,8 @@
 //! premise in these jobs; and a round tells of a breach exactly if one did (`specs/Keys`). A session whose ends suit
 //! each other and whose only event line is `plain` ends in Success at both ends, unless a record of it tells why not
 //! (`specs/Completeness`); so does one whose server takes up a context again that its device has with the same counter. No counter
-//! of a fast re-authentication is used twice, and no identity is resumed twice (`specs/Counters`). All of them hold of EAP-AKA and of EAP-AKA'.
+//! of a fast re-authentication is used twice, no identity is resumed twice, and a peer accepts a counter only under the identity that
+//! its device's context has at that moment (`specs/Counters`). All of them hold of EAP-AKA and of EAP-AKA'.
 //!
 //! None of these promises is empty: transcripts of a few lines meet the premise of each (`specs/Witnesses`).
 #![tactic(auto)]
@@ -27,7 +28,7 @@ mod law;
 
 pub use law::{
     each_authentication_agrees, each_breach_is_told, each_failure_in_rounds_is_by_place,
-    each_failure_in_sessions_is_by_place, each_failure_is_by_place,
+    each_failure_in_sessions_is_by_place, each_failure_is_by_place, each_job_leads_on,
     each_number_is_above_what_was_reserved, each_plain_session_agrees, each_promise_has_a_witness,
     each_resumed_session_agrees, each_sqn_outside_sessions_is_genuine, each_told_transcript_is_one,
     each_transcript_keeps_contexts, each_transcript_may_restart, each_usim_accepts_none_twice,

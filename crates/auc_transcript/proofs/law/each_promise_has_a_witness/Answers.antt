@@ -1,4 +1,5 @@
 -- The laws are lemmas on the witnesses, by the law of written packets.
+use Rattle.auc_transcript.proofs.OwnWitnessLemmas.{acceptance_is_own}
 use Rattle.auc_transcript.proofs.WitnessLemmas.{contexts_are_kept, counters_are_noted, keys_are_equal, mac_is_right, places_decide, places_decide_in_sessions, plain_session_wins, resumed_session_wins}
 use Rattle.auc_transcript.proofs.law.each_promise_has_a_witness.Goals as goal
 
@@ -25,3 +26,6 @@ returns-clause-plain c = plain_session_wins
 
 pub returns-clause-resumed : goal.returns-clause-resumed
 returns-clause-resumed c = resumed_session_wins
+
+pub returns-clause-acceptances : goal.returns-clause-acceptances
+returns-clause-acceptances c = acceptance_is_own c.written_packets_are_read.ensures

@@ -1,11 +1,12 @@
--- The law is a lemma on transcripts for each of its parts, by the laws of moves, of names, of events and of a peer's turns.
+-- The law is a lemma on transcripts for each of its parts, by the laws of moves, of names, of events, of bytes and of a peer's turns.
 use Rattle.std.proofs.Common.{[], AllPairs, map, subst, sym}
 use Rattle.auc_reauth.specs.Machine.{AreDifferent}
 use Rattle.auc_subs.specs.declared.row.Row.{Row}
 use Rattle.auc_world.specs.Start.{fresh_kept}
 use Rattle.auc_transcript.specs.Counters.{CountersAreTold}
-use Rattle.auc_transcript.proofs.ContextLemmas.{acceptances_are_own, counters_accepted_once}
+use Rattle.auc_transcript.proofs.ContextLemmas.{counters_accepted_once}
 use Rattle.auc_transcript.proofs.HomeLawLemmas.{HomeLaws, identities_come_once, resumed_differ}
+use Rattle.auc_transcript.proofs.OwnContextLemmas.{acceptances_are_own}
 use Rattle.auc_transcript.proofs.ToldCounterLemmas.{accepted_is_told, counters_are_told, resumed_is_told}
 use Rattle.auc_transcript.proofs.law.each_transcript_keeps_contexts.Goals as goal
 
@@ -27,9 +28,8 @@ returns c set reserved stop parts records nets are block held lawful lead =
       };
       identities = identities_come_once homes set reserved stop parts records nets are block held lawful lead;
       own = acceptances_are_own (record {
-        moves = c.each_turn_moves_at_most_one_context.ensures;
-        of_method = c.each_turn_keeps_contexts_of_the_method.ensures;
-        leaves = c.each_turn_leaves_the_other_method.ensures;
-        options = c.each_turn_keeps_what_keys_are_made_from.ensures;
-      }) set parts records nets lead;
+        received = c.equal_bytes_are_received_alike.ensures;
+        walk = c.bytes_have_one_reading_or_one_fault.ensures;
+        opening = c.opening_has_one_answer.ensures;
+      }) c.each_acceptance_is_of_the_own_context.ensures set parts records nets lead;
     }

@@ -1,0 +1,10 @@
+-- The law is a lemma on the lines of a job, by the laws of bytes and of decryption.
+use Rattle.auc_transcript.proofs.OwnContextLemmas.{each_job_leads_on}
+use Rattle.auc_transcript.proofs.law.each_job_leads_on.Goals as goal
+
+pub returns : goal.returns
+returns c = each_job_leads_on (record {
+  received = c.equal_bytes_are_received_alike.ensures;
+  walk = c.bytes_have_one_reading_or_one_fault.ensures;
+  opening = c.opening_has_one_answer.ensures;
+})
