@@ -1,3 +1,4 @@
+pub mod Facts
 mod LineLemmas
 mod SayingLemmas
 mod DrawingLemmas

@@ -1,0 +1,82 @@
+-- For the laws: a run may go on.
+use Rattle.std.proofs.Common.{◌≡◌, ℕ, ◌<◌, ◌≤◌, List, [], ◌∷◌, ◌++◌, length, map, refl, sym, ◌∙◌, ap, subst, arith}
+use Rattle.std.specs.Prelude.{All}
+use Rattle.std.proofs.lemmas.List.{length-map}
+use Rattle.std.proofs.lemmas.List.Elements.{All-append, All-cons, All-head, All-map, All-nil, All-tail, All-weaker}
+use Rattle.auc_cards.proofs.Facts.{helds_known}
+use Rattle.auc_jobs.proofs.Facts.{same_known}
+use Rattle.auc_jobs.specs.Serving.{IsKnownLine}
+use Rattle.auc_lines.specs.Part.{held_subs}
+use Rattle.auc_lines.specs.declared.part.Line.{Line}
+use Rattle.auc_lines.specs.declared.part.Line.TheVariants as line
+use Rattle.auc_server.specs.Steps.{IsHome}
+use Rattle.auc_server.specs.declared.setting.HomeRow.{HomeRow}
+use Rattle.auc_sqn.specs.Number.{max_seq}
+use Rattle.auc_subs.specs.declared.row.Row.{Row}
+use Rattle.auc_world.specs.Came.{Came}
+use Rattle.auc_world.specs.Net.{Net}
+use Rattle.auc_world.specs.Setting.{Setting}
+use Rattle.auc_world.specs.Start.{home_of}
+use Rattle.auc_world.specs.World.{IsKnownEvent, WorldState}
+use Rattle.auc_world.specs.declared.event.Event.{Event}
+use Rattle.auc_world.specs.declared.event.Event.TheVariants as event
+use Rattle.auc_events.specs.Promises.{EachRunMayGoOn}
+use Rattle.auc_events.specs.Run.{IsRun, LeadsTo, all_fresh, event_records, first_words, job_records, job_with, line_for, top_in}
+use Rattle.auc_events.proofs.HoldingLemmas.{holding}
+use Rattle.auc_events.proofs.LawfulLemmas.{run_serves}
+
+-- ---- the lines of the job are known
+
+pub event_known : (count : ℕ) (e : Event) → IsKnownEvent count e → IsKnownLine count (line_for e)
+event_known count (event.Open opening) known = known
+event_known count (event.Start session) known = tt
+event_known count (event.Deliver session at' packet) known = tt
+event_known count (event.Repeat session) known = tt
+event_known count (event.GiveUp session at') known = tt
+
+events_known : (set : Setting) (world : WorldState) (words : List ℕ) (events : List Event) (results : List Came) (last : WorldState) (end : List ℕ) → LeadsTo set world words events results last end
+    → All (IsKnownEvent (length set.rows)) events
+events_known set world words [] results last end leads = All-nil (IsKnownEvent (length set.rows))
+events_known set world words (e ∷ events) [] last end leads = absurd leads
+events_known set world words (e ∷ events) (result ∷ results) last end (mid, next, step, more) =
+    All-cons (IsKnownEvent (length set.rows)) e events step.known (events_known set mid next events results last end more)
+
+holding_known : (count : ℕ) (subs : List ℕ) → All (λ sub. sub < count) subs → All (IsKnownLine count) (holding subs)
+holding_known count [] known = All-nil (IsKnownLine count)
+holding_known count (s ∷ subs) known =
+    All-cons (IsKnownLine count) (line.Give s 1) (holding subs) (All-head (λ (n : ℕ). n < count) s subs known, omega arith, omega arith)
+    (holding_known count subs (All-tail (λ (n : ℕ). n < count) s subs known))
+
+pub job_known : (set : Setting) (subs : List ℕ) (events : List Event) (results : List Came) (last : WorldState) (words : List ℕ) → IsRun set subs events results last words
+    → All (IsKnownLine (length set.rows)) (job_with subs events)
+job_known set subs events results last words run =
+    All-append (IsKnownLine (length set.rows)) (holding subs) (map line_for events) (holding_known (length set.rows) subs run.known)
+    (All-map (IsKnownLine (length set.rows)) line_for events
+    (All-weaker (IsKnownEvent (length set.rows)) (λ (e : Event). IsKnownLine (length set.rows) (line_for e)) (event_known (length set.rows)) events
+    (events_known set run.first (first_words set.rows) events results last words run.leads)))
+
+-- ---- the homes
+
+abbrev IsRowed : ℕ → HomeRow → Type 0
+IsRowed count home = home.sub < count
+
+homes_after : (set : Setting) (world : WorldState) (words : List ℕ) (events : List Event) (results : List Came) (last : WorldState) (end : List ℕ) → LeadsTo set world words events results last end
+    → All (IsRowed (length set.rows)) world.net.homes → All (IsRowed (length set.rows)) last.net.homes
+homes_after set world words [] results last end (none, same, is) known = subst (λ (w : WorldState). All (IsRowed (length set.rows)) w.net.homes) (sym same) known
+homes_after set world words (e ∷ events) [] last end leads known = absurd leads
+homes_after set world words (e ∷ events) (result ∷ results) last end (mid, next, step, more) known =
+    homes_after set mid next events results last end more (same_known (length set.rows) world.net.homes mid.net.homes step.homes known)
+
+pub each_run_may_go_on : EachRunMayGoOn
+each_run_may_go_on set subs events results last words run =
+    All-weaker (IsRowed (length set.rows)) (λ (h : HomeRow). IsHome set.rows (length words) (top_in words) h.sub)
+    (λ (h : HomeRow) (low : IsRowed (length set.rows) h). record { listed = low; known = subst (λ (n : ℕ). h.sub < n) (sym size) low; greatest = refl })
+    last.net.homes (homes_after set run.first (first_words set.rows) events results last words run.leads first)
+  where
+    size : length words ≡ length set.rows
+    size = (run_serves set subs events results last words run).size ∙ length-map set.rows (λ (row : Row). row.seq)
+
+    first : All (IsRowed (length set.rows)) run.first.net.homes
+    first = subst (λ (net : Net). All (IsRowed (length set.rows)) net.homes) (sym run.begins)
+        (All-map (IsRowed (length set.rows)) (home_of (all_fresh set.rows)) (held_subs (job_with subs events))
+        (helds_known (length set.rows) (job_with subs events) (job_known set subs events results last words run)))

@@ -1,0 +1,126 @@
+-- For the laws: the transcript of a run is lawful.
+use Rattle.std.proofs.Common.{◌≡◌, ℕ, List, [], ◌∷◌, ◌++◌, length, map, refl, sym, ◌∙◌, ap, subst, append-nil, arith}
+use Rattle.std.specs.Prelude.{None, slice_index}
+use Rattle.auc_edge.specs.declared.stop.Stop.{Stop}
+use Rattle.auc_history.proofs.Facts.{cut_history_is_a_split}
+use Rattle.auc_history.specs.History.{IsLegal}
+use Rattle.auc_history.specs.Split.{Splits}
+use Rattle.auc_history.specs.declared.entry.Entry.{Entry}
+use Rattle.auc_lines.specs.declared.part.Line.{Line}
+use Rattle.auc_sqn.specs.Number.{max_seq}
+use Rattle.auc_vector.specs.Stretch.{IsStretch}
+use Rattle.auc_world.proofs.Facts.{none_held}
+use Rattle.auc_world.specs.Came.{Came}
+use Rattle.auc_world.specs.Entries.{entries_of_lines}
+use Rattle.auc_world.specs.Given.{JobGives}
+use Rattle.auc_world.specs.Limits.{greater, opened}
+use Rattle.auc_world.specs.Lines.{held_of, withheld_of}
+use Rattle.auc_world.specs.Net.{Net}
+use Rattle.auc_world.specs.Round.{IsLawfulRound, closings_from}
+use Rattle.auc_world.specs.Sessions.{AreVerdicts, job_sessions, premise_from}
+use Rattle.auc_world.specs.Setting.{Setting}
+use Rattle.auc_world.specs.Start.{start_of}
+use Rattle.auc_world.specs.Transcript.{Course, after_round, beginning}
+use Rattle.auc_world.specs.World.{WorldState}
+use Rattle.auc_world.specs.declared.event.Event.{Event}
+use Rattle.auc_world.specs.declared.record.LineRecord.{LineRecord}
+use Rattle.auc_world.specs.declared.record.RoundRecord.{RoundRecord}
+use Rattle.auc_world.specs.declared.record.SessionVerdict.{SessionVerdict}
+use Rattle.auc_jobs.specs.InnerServing.{before_at}
+use Rattle.auc_events.specs.Promises.{EachRunIsLawful, IsLawfulJob}
+use Rattle.auc_events.specs.Run.{IsRun, all_fresh, event_records, first_words, job_records, job_with, line_for}
+use Rattle.auc_events.proofs.HoldingLemmas.{absent, entries_absent, held_absent, holding_gives, holds_first}
+use Rattle.auc_events.proofs.RunLemmas.{RunGives, run_gives}
+use Rattle.auc_events.proofs.VerdictLemmas.{some_verdicts}
+use Rattle.auc_events.proofs.WordLemmas.{IsLow}
+
+-- nothing was reserved, so each subscriber is opened at its row's number
+opened_are : (numbers : List ℕ) → greater numbers [] ≡ numbers
+opened_are [] = refl
+opened_are (n ∷ numbers) = ap (λ (ns : List ℕ). n ∷ ns) (opened_are numbers)
+
+-- what a job gave from the rows' numbers to some words
+pub record Serves (set : Setting) (job : List Line) (lines : List LineRecord) (net : Net) (words : List ℕ) : Type 0 where
+  pub given : JobGives set (before_at [] [] []) (start_of set (all_fresh set.rows) job) job lines net
+  pub made : (sub : ℕ) → IsStretch (first_words set.rows) sub (entries_of_lines sub [] lines) (held_of sub lines) words
+  pub size : length words ≡ length (first_words set.rows)
+  pub low : (sub : ℕ) → IsLow (slice_index words sub)
+
+-- the record of a round with this job alone
+abbrev round_with : List ℕ → List LineRecord → Net → List ℕ → List SessionVerdict → RoundRecord
+round_with begun lines net words verdicts = record {
+  number = 1;
+  jobs = lines ∷ [];
+  closings = closings_from 0 begun words (lines ∷ []);
+  sessions = verdicts;
+  premise = premise_from 1 (job_sessions net ∷ []);
+}
+
+module _ (set : Setting) (job : List Line) (lines : List LineRecord) (net : Net) (words : List ℕ) (s : Serves set job lines net words) where
+  opens : opened set.rows [] ≡ first_words set.rows
+  opens = opened_are (first_words set.rows)
+
+  history : (sub : ℕ) → IsLegal max_seq (slice_index (first_words set.rows) sub) (slice_index words sub) (entries_of_lines sub [] lines)
+  history sub = (s.made sub).0
+
+  -- one list is a split of its history
+  split : (sub : ℕ) → Splits max_seq (slice_index (opened set.rows []) sub) (slice_index words sub) (entries_of_lines sub [] lines ∷ [])
+  split sub =
+      subst (λ (begun : List ℕ). Splits max_seq (slice_index begun sub) (slice_index words sub) (entries_of_lines sub [] lines ∷ [])) (sym opens)
+      (cut_history_is_a_split max_seq (slice_index (first_words set.rows) sub) (slice_index words sub) (entries_of_lines sub [] lines ∷ [])
+      (subst (IsLegal max_seq (slice_index (first_words set.rows) sub) (slice_index words sub)) (sym (append-nil (entries_of_lines sub [] lines))) (history sub)))
+
+  -- the round is lawful
+  round_is : (verdicts : List SessionVerdict) → AreVerdicts (job_sessions net ∷ []) verdicts
+      → IsLawfulRound set None [] (all_fresh set.rows) (opened set.rows []) (job ∷ []) (round_with (opened set.rows []) lines net words verdicts) words
+  round_is verdicts are = record {
+    sizes = s.size ∙ ap (λ (ns : List ℕ). length ns) (sym opens);
+    fits = λ sub inside. let low = s.low sub in omega (arith, low);
+    nets = net ∷ [];
+    given = (s.given, (refl, refl));
+    split = λ sub inside. split sub;
+    closings = refl;
+    withheld = λ sub. ap (withheld_of sub) (append-nil lines) ∙ none_held sub lines (s.made sub).1;
+    sessions = are;
+    premise = refl;
+  }
+
+  -- what the next round would go on from
+  abbrev after : List SessionVerdict → Course
+  after verdicts = after_round (beginning set.rows []) (round_with (opened set.rows []) lines net words verdicts) words (net ∷ [])
+
+  pub job_is_lawful : (round : RoundRecord) × IsLawfulJob set job lines net words round
+  unfolding round_is
+  job_is_lawful = by (some_verdicts net)
+    where
+      by : (verdicts : List SessionVerdict) × AreVerdicts (job_sessions net ∷ []) verdicts → (round : RoundRecord) × IsLawfulJob set job lines net words round
+      by (verdicts, are) = (
+        round_with (opened set.rows []) lines net words verdicts,
+        record {
+          jobs = refl;
+          lawful = (after verdicts, (after verdicts, record { numbered = refl; words = words; lawful = round_is verdicts are; leads = refl }, (refl, refl)));
+          nets = ((s.given, (refl, refl)), (refl, refl));
+          histories = λ sub inside. history sub;
+        },
+      )
+
+-- a run serves its job
+pub run_serves : (set : Setting) (subs : List ℕ) (events : List Event) (results : List Came) (last : WorldState) (words : List ℕ) → IsRun set subs events results last words
+    → Serves set (job_with subs events) (job_records subs events results) last.net words
+run_serves set subs events results last words run = record {
+  given = subst (λ (net : Net). JobGives set (before_at [] [] []) net (job_with subs events) (job_records subs events results) last.net) run.begins
+      (holding_gives set [] subs run.first.net last.net (map line_for events) (event_records events results) run.known (λ sub. refl) gives.given);
+  made = λ sub.
+      subst (λ (es : List Entry). IsStretch (first_words set.rows) sub es (held_of sub (job_records subs events results)) words) (sym (entries_absent sub [] subs (event_records events results)))
+      (subst (λ (ws : List (ℕ × Stop)). IsStretch (first_words set.rows) sub (entries_of_lines sub (absent subs) (event_records events results)) ws words) (sym (held_absent sub subs (event_records events results))) (gives.made sub));
+  size = gives.size;
+  low = gives.low;
+}
+  where
+    gives : RunGives set (absent subs) run.first.net (first_words set.rows) events (event_records events results) last.net words
+    gives = run_gives set (absent subs) run.first (first_words set.rows) events results last words run.subscribers run.leads
+        (holds_first set subs run.first run.subscribers run.fresh (ap (λ (net : Net). net.sessions) run.begins))
+
+pub each_run_is_lawful : EachRunIsLawful
+each_run_is_lawful set subs events results last words run =
+    job_is_lawful set (job_with subs events) (job_records subs events results) last.net words (run_serves set subs events results last words run)

@@ -1,0 +1,106 @@
+-- For the laws: the promises of a run, by those of its transcript.
+use Rattle.std.proofs.Common.{◌≡◌, ◌≢◌, ℕ, ◌<◌, Bool, true, false, List, [], ◌∷◌, ◌++◌, AllPairs, Contains, length, map, refl, sym, ◌∙◌, ap, subst, append-nil, arith}
+use Rattle.std.specs.Prelude.{All, ◌||◌, None}
+use Rattle.std.proofs.lemmas.Bool.{eqb-true}
+use Rattle.std.proofs.lemmas.List.Elements.{All-cons, All-head, All-nil, All-tail}
+use Rattle.auc_jobs.specs.Serving.{IsKnownLine}
+use Rattle.auc_lines.specs.Part.{holds, is_held_by}
+use Rattle.auc_lines.specs.declared.part.Line.{Line}
+use Rattle.auc_lines.specs.declared.part.Line.TheVariants as line
+use Rattle.auc_lines.specs.declared.part.Part.TheVariants.{Round}
+use Rattle.auc_sqn.specs.Number.{sqn_bytes}
+use Rattle.auc_transcript.proofs.Facts.{accepts_none_twice, keeps_numbers_apart}
+use Rattle.auc_transcript.specs.Keys.{EachAuthenticationAgrees, IsHeldApart, IsOfUnbrokenJob}
+use Rattle.auc_transcript.specs.Presented.{EachFailureInSessionsIsByPlace, EachPresentedVectorHasARightMac}
+use Rattle.auc_world.specs.Lines.{accepted, all_lines, numbers_of}
+use Rattle.auc_world.specs.Net.{Net}
+use Rattle.auc_world.specs.Transcript.{lines_of as transcript_lines}
+use Rattle.auc_world.specs.declared.net.Session.{Session}
+use Rattle.auc_world.specs.declared.record.LineRecord.{LineRecord}
+use Rattle.auc_world.specs.declared.record.RoundRecord.{RoundRecord}
+use Rattle.auc_events.specs.Promises.{EachRunAcceptsNoneTwice, EachRunAgreesOnKeys, EachRunDrawsNoNumberTwice, EachRunFailsByPlace, parts_with, transcript_with}
+use Rattle.auc_events.specs.Run.{event_records, job_records, job_with}
+use Rattle.auc_events.proofs.GoingLemmas.{job_known}
+use Rattle.auc_events.proofs.HoldingLemmas.{accepted_absent, numbers_absent}
+use Rattle.auc_events.proofs.LawfulLemmas.{each_run_is_lawful}
+
+-- ---- vectors and SQNs
+
+-- the lines of the transcript are those of the job
+told_lines : (round : RoundRecord) (lines : List LineRecord) → round.jobs ≡ lines ∷ [] → transcript_lines (transcript_with round) ≡ lines
+told_lines round lines is = append-nil (all_lines round.jobs) ∙ ap all_lines is ∙ append-nil lines
+
+pub each_run_draws_no_number_twice : EachRunDrawsNoNumberTwice
+each_run_draws_no_number_twice set subs events results last words sub run inside =
+    let (round, is) = each_run_is_lawful set subs events results last words run in
+    subst (λ (ns : List ℕ). AllPairs ◌≢◌ (map sqn_bytes ns))
+    (ap (numbers_of sub) (told_lines round (job_records subs events results) is.jobs) ∙ numbers_absent sub subs (event_records events results))
+    (keeps_numbers_apart set [] None (parts_with (job_with subs events)) (transcript_with round) is.lawful sub inside)
+
+pub each_run_accepts_none_twice : EachRunAcceptsNoneTwice
+each_run_accepts_none_twice set subs events results last words sub run inside =
+    let (round, is) = each_run_is_lawful set subs events results last words run in
+    subst (AllPairs ◌≢◌)
+    (ap (accepted sub) (told_lines round (job_records subs events results) is.jobs) ∙ accepted_absent sub subs (event_records events results))
+    (accepts_none_twice set [] None (parts_with (job_with subs events)) (transcript_with round) is.lawful sub inside)
+
+pub each_run_fails_by_place : EachFailureInSessionsIsByPlace → EachPresentedVectorHasARightMac → EachRunFailsByPlace
+each_run_fails_by_place places macs set subs events results last words run =
+    let (round, is) = each_run_is_lawful set subs events results last words run in (
+      round,
+      is,
+      record {
+        places = places set [] None (parts_with (job_with subs events)) (transcript_with round) run.subscribers is.lawful;
+        macs = macs set [] None (parts_with (job_with subs events)) (transcript_with round) run.subscribers is.lawful;
+      },
+    )
+
+-- ---- whose USIMs the job holds
+
+line_holds : (count sub : ℕ) (l : Line) → IsKnownLine count l → is_held_by sub l ≡ true → sub < count
+line_holds count sub (line.Draw s n) known held = absurd (cc)
+line_holds count sub (line.Sync s seq bit n) known held = absurd (cc)
+line_holds count sub (line.Give s n) known held = let same = eqb-true s sub held in let here = known.0 in omega (arith, same, here)
+line_holds count sub (line.Session opening) known held = let same = eqb-true opening.sub sub held in let here = known.0 in omega (arith, same, here)
+line_holds count sub (line.Start session) known held = absurd (cc)
+line_holds count sub (line.Deliver session at' packet) known held = absurd (cc)
+line_holds count sub (line.Repeat session) known held = absurd (cc)
+line_holds count sub (line.GiveUp session at') known held = absurd (cc)
+line_holds count sub (line.Plain session) known held = absurd (cc)
+
+job_holds : (count sub : ℕ) (job : List Line) → All (IsKnownLine count) job → holds sub job ≡ true → sub < count
+job_holds count sub [] known held = absurd (cc)
+job_holds count sub (l ∷ job) known held =
+    by (is_held_by sub l) refl held (λ more. job_holds count sub job (All-tail (IsKnownLine count) l job known) more)
+  where
+    by : (b : Bool) → is_held_by sub l ≡ b → (b || holds sub job) ≡ true → (holds sub job ≡ true → sub < count) → sub < count
+    by true is held more = line_holds count sub l (All-head (IsKnownLine count) l job known) is
+    by false is held more = more held
+
+-- the job holds the USIMs of known subscribers alone
+job_apart : (count : ℕ) (job : List Line) → All (IsKnownLine count) job → All (IsHeldApart count) (parts_with job)
+job_apart count job known =
+    All-cons (IsHeldApart count) (Round (job ∷ [])) [] (record {
+      known = All-cons (λ (lines : List Line). (sub : ℕ) → holds sub lines ≡ true → sub < count) job [] (λ sub held. job_holds count sub job known held)
+          (All-nil (λ (lines : List Line). (sub : ℕ) → holds sub lines ≡ true → sub < count));
+      apart = λ i j d i<j j<n. absurd (omega (arith, i<j, j<n));
+    }) (All-nil (IsHeldApart count))
+
+-- ---- keys
+
+-- a session of the run is one of the transcript's only job
+own_session : (net : Net) (a : Session) → Contains net.sessions a → net.broken ≡ None → IsOfUnbrokenJob ((net ∷ []) ∷ []) a
+own_session net a here unbroken = record {
+  round = net ∷ [];
+  is_round = (0, omega arith, refl);
+  net = net;
+  is_job = (0, omega arith, refl);
+  is_in = here;
+  unbroken = unbroken;
+}
+
+pub each_run_agrees_on_keys : EachAuthenticationAgrees → EachRunAgreesOnKeys
+each_run_agrees_on_keys agree set subs events results last words run realm block unbroken a b k l i j at_a at_b won_a won_b one =
+    let (round, is) = each_run_is_lawful set subs events results last words run in
+    agree set [] None (parts_with (job_with subs events)) (transcript_with round) ((last.net ∷ []) ∷ []) run.subscribers realm block (job_apart (length set.rows) (job_with subs events) (job_known set subs events results last words run)) is.lawful is.nets
+    a b k l i j (own_session last.net a at_a unbroken) (own_session last.net b at_b unbroken) won_a won_b one

@@ -1,0 +1,88 @@
+-- What every run of events promises.
+use Rattle.std.specs.Prelude.{◌≡◌, ◌≢◌, ℕ, ◌<◌, List, [], ◌∷◌, AllPairs, Contains, None, length, map, slice_index}
+use Rattle.auc_aes.specs.Bytes.{IsBlock}
+use Rattle.auc_history.specs.History.{IsLegal}
+use Rattle.auc_hmac.specs.declared.keys.KeySet.{KeySet}
+use Rattle.auc_lines.specs.declared.part.Line.{Line}
+use Rattle.auc_lines.specs.declared.part.Part.{Part}
+use Rattle.auc_lines.specs.declared.part.Part.TheVariants.{Round}
+use Rattle.auc_sqn.specs.Number.{max_seq, sqn_bytes}
+use Rattle.auc_transcript.specs.Keys.{AreNets}
+use Rattle.auc_transcript.specs.Presented.{FailsExactlyByPlaceInSessions, FindsRightMacs}
+use Rattle.auc_world.specs.Agreement.{AreOfOne, IsRealm, PeerWon, ServerWon}
+use Rattle.auc_world.specs.Came.{Came}
+use Rattle.auc_world.specs.Entries.{entries_of_lines}
+use Rattle.auc_world.specs.Lines.{accepted, numbers_of}
+use Rattle.auc_world.specs.Net.{Net}
+use Rattle.auc_world.specs.Setting.{Setting}
+use Rattle.auc_world.specs.Transcript.{IsLawful}
+use Rattle.auc_world.specs.World.{AreHomes, WorldState}
+use Rattle.auc_world.specs.declared.event.Event.{Event}
+use Rattle.auc_world.specs.declared.net.Inputs.{Inputs}
+use Rattle.auc_world.specs.declared.net.Session.{Session}
+use Rattle.auc_world.specs.declared.record.LineRecord.{LineRecord}
+use Rattle.auc_world.specs.declared.record.PartRecord.{PartRecord}
+use Rattle.auc_world.specs.declared.record.PartRecord.TheVariants as record_of
+use Rattle.auc_world.specs.declared.record.RoundRecord.{RoundRecord}
+use Rattle.auc_events.specs.Run.{IsRun, event_records, first_words, job_records, job_with, top_in}
+
+-- ---- the transcript of a run
+
+-- a scenario of one round with one job, and a transcript of one round
+abbrev pub parts_with : List Line → List Part
+parts_with job = Round (job ∷ []) ∷ []
+
+abbrev pub transcript_with : RoundRecord → List PartRecord
+transcript_with round = record_of.Round round ∷ []
+
+-- the lines of a job are those of a lawful transcript of one round with this job alone, before which nothing was reserved and in
+-- which no reservation stopped. The job leads to a network of its sessions, and its entries of each subscriber are a legal
+-- history from the row's number to the centre's word
+pub record IsLawfulJob (set : Setting) (job : List Line) (lines : List LineRecord) (net : Net) (words : List ℕ) (round : RoundRecord) : Type 0 where
+  pub jobs : round.jobs ≡ lines ∷ []
+  pub lawful : IsLawful set [] None (parts_with job) (transcript_with round)
+  pub nets : AreNets set (parts_with job) (transcript_with round) ((net ∷ []) ∷ [])
+  pub histories : (sub : ℕ) → sub < length set.rows → IsLegal max_seq (slice_index (first_words set.rows) sub) (slice_index words sub) (entries_of_lines sub [] lines)
+
+-- the records of a run are the lines of its job
+abbrev pub IsTranscriptOf : Setting → List ℕ → List Event → List Came → WorldState → List ℕ → RoundRecord → Type 0
+IsTranscriptOf set subs events results last words round = IsLawfulJob set (job_with subs events) (job_records subs events results) last.net words round
+
+abbrev pub EachRunIsLawful : Type 0
+EachRunIsLawful = (set : Setting) (subs : List ℕ) (events : List Event) (results : List Came) (last : WorldState) (words : List ℕ)
+    → IsRun set subs events results last words → (round : RoundRecord) × IsTranscriptOf set subs events results last words round
+
+-- the condition of `World::apply` that the homes are the centre's subscribers holds after a run
+abbrev pub EachRunMayGoOn : Type 0
+EachRunMayGoOn = (set : Setting) (subs : List ℕ) (events : List Event) (results : List Came) (last : WorldState) (words : List ℕ)
+    → IsRun set subs events results last words → AreHomes set.rows (length words) (top_in words) last.net.homes
+
+-- ---- its promises
+
+-- no two vectors that a run releases for a subscriber have the same SQN
+abbrev pub EachRunDrawsNoNumberTwice : Type 0
+EachRunDrawsNoNumberTwice = (set : Setting) (subs : List ℕ) (events : List Event) (results : List Came) (last : WorldState) (words : List ℕ) (sub : ℕ)
+    → IsRun set subs events results last words → sub < length set.rows → AllPairs ◌≢◌ (map sqn_bytes (numbers_of sub (event_records events results)))
+
+-- no USIM accepts an SQN twice in a run
+abbrev pub EachRunAcceptsNoneTwice : Type 0
+EachRunAcceptsNoneTwice = (set : Setting) (subs : List ℕ) (events : List Event) (results : List Came) (last : WorldState) (words : List ℕ) (sub : ℕ)
+    → IsRun set subs events results last words → sub < length set.rows → AllPairs ◌≢◌ (accepted sub (event_records events results))
+
+-- a run presents vectors, by its transcript: each released one that is in reach gets a synchronisation failure if and only if it
+-- fails by its place, and no USIM finds a wrong MAC in one
+pub record JudgesVectors (set : Setting) (round : RoundRecord) : Type 0 where
+  pub places : FailsExactlyByPlaceInSessions set (transcript_with round)
+  pub macs : FindsRightMacs set (transcript_with round)
+
+abbrev pub EachRunFailsByPlace : Type 0
+EachRunFailsByPlace = (set : Setting) (subs : List ℕ) (events : List Event) (results : List Came) (last : WorldState) (words : List ℕ)
+    → IsRun set subs events results last words → (round : RoundRecord) × IsTranscriptOf set subs events results last words round × JudgesVectors set round
+
+-- a server and a peer of a run that ended in Success over one challenge or in one fast re-authentication have equal keys, if no
+-- delivery broke the premise
+abbrev pub EachRunAgreesOnKeys : Type 0
+EachRunAgreesOnKeys = (set : Setting) (subs : List ℕ) (events : List Event) (results : List Came) (last : WorldState) (words : List ℕ)
+    → IsRun set subs events results last words → IsRealm set.realm → IsBlock set.names → last.net.broken ≡ None
+    → (a b : Session) (k l : KeySet) (i j : Inputs) → Contains last.net.sessions a → Contains last.net.sessions b
+    → ServerWon a k i → PeerWon b l j → AreOfOne i j → k ≡ l
