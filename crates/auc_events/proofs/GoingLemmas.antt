@@ -1,5 +1,5 @@
 -- For the laws: a run may go on.
-use Rattle.std.proofs.Common.{◌≡◌, ℕ, ◌<◌, ◌≤◌, List, [], ◌∷◌, ◌++◌, length, map, refl, sym, ◌∙◌, ap, subst, arith}
+use Rattle.std.proofs.Common.{◌≡◌, ℕ, ◌<◌, List, [], ◌∷◌, length, map, refl, sym, ◌∙◌, subst, arith}
 use Rattle.std.specs.Prelude.{All}
 use Rattle.std.proofs.lemmas.List.{length-map}
 use Rattle.std.proofs.lemmas.List.Elements.{All-append, All-cons, All-head, All-map, All-nil, All-tail, All-weaker}
@@ -7,11 +7,9 @@ use Rattle.auc_cards.proofs.Facts.{helds_known}
 use Rattle.auc_jobs.proofs.Facts.{same_known}
 use Rattle.auc_jobs.specs.Serving.{IsKnownLine}
 use Rattle.auc_lines.specs.Part.{held_subs}
-use Rattle.auc_lines.specs.declared.part.Line.{Line}
 use Rattle.auc_lines.specs.declared.part.Line.TheVariants as line
 use Rattle.auc_server.specs.Steps.{IsHome}
 use Rattle.auc_server.specs.declared.setting.HomeRow.{HomeRow}
-use Rattle.auc_sqn.specs.Number.{max_seq}
 use Rattle.auc_subs.specs.declared.row.Row.{Row}
 use Rattle.auc_world.specs.Came.{Came}
 use Rattle.auc_world.specs.Net.{Net}
@@ -21,7 +19,7 @@ use Rattle.auc_world.specs.World.{IsKnownEvent, WorldState}
 use Rattle.auc_world.specs.declared.event.Event.{Event}
 use Rattle.auc_world.specs.declared.event.Event.TheVariants as event
 use Rattle.auc_events.specs.Promises.{EachRunMayGoOn}
-use Rattle.auc_events.specs.Run.{IsRun, LeadsTo, all_fresh, event_records, first_words, job_records, job_with, line_for, top_in}
+use Rattle.auc_events.specs.Run.{IsRun, LeadsTo, all_fresh, first_words, job_with, line_for, top_in}
 use Rattle.auc_events.proofs.HoldingLemmas.{holding}
 use Rattle.auc_events.proofs.LawfulLemmas.{run_serves}
 
