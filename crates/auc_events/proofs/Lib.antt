@@ -4,5 +4,6 @@ mod StepLemmas
 mod HoldingLemmas
 mod RunLemmas
 mod LawfulLemmas
+mod HeldLemmas
 mod GoingLemmas
 mod PromiseLemmas

@@ -1,8 +1,9 @@
 -- What every run of events promises.
-use Rattle.std.specs.Prelude.{◌≡◌, ◌≢◌, ℕ, ◌<◌, List, [], ◌∷◌, AllPairs, Contains, None, length, map, slice_index}
+use Rattle.std.specs.Prelude.{◌≡◌, ◌≢◌, ℕ, ◌<◌, true, List, [], ◌∷◌, All, AllPairs, Contains, None, length, map, slice_index}
 use Rattle.auc_aes.specs.Bytes.{IsBlock}
 use Rattle.auc_history.specs.History.{IsLegal}
 use Rattle.auc_hmac.specs.declared.keys.KeySet.{KeySet}
+use Rattle.auc_lines.specs.Part.{held_subs}
 use Rattle.auc_lines.specs.declared.part.Line.{Line}
 use Rattle.auc_lines.specs.declared.part.Part.{Part}
 use Rattle.auc_lines.specs.declared.part.Part.TheVariants.{Round}
@@ -12,12 +13,14 @@ use Rattle.auc_transcript.specs.Presented.{FailsExactlyByPlaceInSessions, FindsR
 use Rattle.auc_world.specs.Agreement.{AreOfOne, IsRealm, PeerWon, ServerWon}
 use Rattle.auc_world.specs.Came.{Came}
 use Rattle.auc_world.specs.Entries.{entries_of_lines}
+use Rattle.auc_world.specs.Given.{is_in}
 use Rattle.auc_world.specs.Lines.{accepted, numbers_of}
 use Rattle.auc_world.specs.Net.{Net}
 use Rattle.auc_world.specs.Setting.{Setting}
 use Rattle.auc_world.specs.Transcript.{IsLawful}
 use Rattle.auc_world.specs.World.{AreHomes, WorldState}
 use Rattle.auc_world.specs.declared.event.Event.{Event}
+use Rattle.auc_world.specs.declared.event.Event.TheVariants as event
 use Rattle.auc_world.specs.declared.net.Inputs.{Inputs}
 use Rattle.auc_world.specs.declared.net.Session.{Session}
 use Rattle.auc_world.specs.declared.record.LineRecord.{LineRecord}
@@ -51,6 +54,16 @@ IsTranscriptOf set subs events results last words round = IsLawfulJob set (job_w
 abbrev pub EachRunIsLawful : Type 0
 EachRunIsLawful = (set : Setting) (subs : List ℕ) (events : List Event) (results : List Came) (last : WorldState) (words : List ℕ)
     → IsRun set subs events results last words → (round : RoundRecord) × IsTranscriptOf set subs events results last words round
+
+-- if it opens a session, its subscriber is one of some
+abbrev pub OpensAmong : List ℕ → Event → Type 0
+OpensAmong subs (event.Open opening) = is_in opening.sub subs ≡ true
+OpensAmong subs other = Unit {0}
+
+-- a run may begin with the homes and devices of any subscribers, no two of them the same, if each session that is opened is of one
+-- of them: these are the subscribers whose USIMs the job then holds
+abbrev pub EachJobHoldsItsSubscribers : Type 0
+EachJobHoldsItsSubscribers = (subs : List ℕ) (events : List Event) → AllPairs ◌≢◌ subs → All (OpensAmong subs) events → held_subs (job_with subs events) ≡ subs
 
 -- the condition of `World::apply` that the homes are the centre's subscribers holds after a run
 abbrev pub EachRunMayGoOn : Type 0

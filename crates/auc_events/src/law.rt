@@ -1,12 +1,17 @@
 //! Laws of every run of events.
 
-ghost use Rattle.auc_events.specs.Promises.{EachRunDrawsNoNumberTwice, EachRunAcceptsNoneTwice, EachRunFailsByPlace, EachRunAgreesOnKeys, EachRunIsLawful, EachRunMayGoOn};
+ghost use Rattle.auc_events.specs.Promises.{EachJobHoldsItsSubscribers, EachRunDrawsNoNumberTwice, EachRunAcceptsNoneTwice, EachRunFailsByPlace, EachRunAgreesOnKeys, EachRunIsLawful, EachRunMayGoOn};
 
 use auc_transcript::{each_authentication_agrees, each_failure_in_sessions_is_by_place};
 
 /// The records of each run of events are those of a lawful transcript.
 pub fn each_run_is_lawful()
     ensures { EachRunIsLawful }
+{}
+
+/// A run may begin with the homes and devices of any subscribers among which are those of its sessions.
+pub fn each_job_holds_its_subscribers()
+    ensures { EachJobHoldsItsSubscribers }
 {}
 
 /// After each run the homes of the network are subscribers of the centre, as `World::apply` asks.

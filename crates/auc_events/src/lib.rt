@@ -15,4 +15,7 @@
 
 mod law;
 
-pub use law::{each_run_is_lawful, each_run_keeps_its_promises, each_run_may_go_on};
+pub use law::{
+    each_job_holds_its_subscribers, each_run_is_lawful, each_run_keeps_its_promises,
+    each_run_may_go_on,
+};
