@@ -40,6 +40,7 @@ use Rattle.auc_vector.specs.declared.parts.Vector.{Vector as AuthVector}
 use Rattle.auc_jobs.specs.declared.claiming.ClaimedJob.{ClaimedJob}
 use Rattle.auc_jobs.specs.declared.claiming.WorkerJobs.{WorkerJobs}
 use Rattle.auc_jobs.specs.InnerClaims.{Turn, turns, entries_of_turn, IsGiven, IsSettledAt, IsPrinted, ClaimsAre, HasServed, IsLast, IsDone, AreCollected}
+use Rattle.auc_jobs.specs.InnerKeeping.{told_stop}
 use Rattle.auc_jobs.specs.InnerRound.{AreSettled, AreServed, GoesByLimits, IsSettled, left_in, left_on}
 use Rattle.auc_jobs.specs.InnerServing.{before_at}
 use Rattle.auc_jobs.specs.InnerSharing.{Shared, Begins, IsServable}
@@ -49,6 +50,7 @@ use Rattle.auc_jobs.proofs.LimitLemmas.{AreLimited, above_limit, flat_limited, f
 use Rattle.auc_jobs.proofs.LineLemmas.{all_at}
 use Rattle.auc_jobs.proofs.OrderLemmas.{up, places_of, places, Placed, placed, sorted_up, all_front, all_back}
 use Rattle.auc_jobs.proofs.PieceLemmas.{not_given}
+use Rattle.auc_jobs.proofs.StoppingLemmas.{full_holds, withholds_told}
 use Rattle.auc_jobs.proofs.TellingLemmas.{IsOwn, job_own}
 use Rattle.auc_jobs.proofs.TurnLemmas.{apart_at}
 
@@ -591,7 +593,7 @@ module _ (shared : Shared) (early : List LineRecord) (openings : List ℕ) (book
       (All-permutation P (all_jobs all) sorted a.same
       (gather_jobs P all (workers_limited shared early sub limit keeper.stop all a.served (a.closes.closes.released sub (in_book sub known)) (a.closes.closes.withheld sub (in_book sub known)))))
 
-  pub by_limits : GoesByLimits shared.set keeper.stop (map (λ c. c.served.lines) sorted) book.limits closed.words keeper.limits
+  pub by_limits : GoesByLimits shared.set (told_stop keeper.stop (map (λ c. c.served.lines) sorted)) (map (λ c. c.served.lines) sorted) book.limits closed.words keeper.limits
   by_limits = record {
     raises = record {
       step = λ sub known. a.closes.closes.step sub (in_book sub known);
@@ -599,8 +601,10 @@ module _ (shared : Shared) (early : List LineRecord) (openings : List ℕ) (book
       near = λ sub known. a.closes.closes.near sub (in_book sub known);
       within = λ sub known. a.closes.closes.within sub (in_book sub known);
     };
-    withholds = withholds_by keeper.stop (length shared.set.rows) (all_lines (map (λ c. c.served.lines) sorted)) (slice_index keeper.limits) own limited;
+    withholds = withholds_told keeper.stop (map (λ c. c.served.lines) sorted)
+        (withholds_by keeper.stop (length shared.set.rows) (all_lines (map (λ c. c.served.lines) sorted)) (slice_index keeper.limits) own limited);
     above = λ sub known. above_limit sub (slice_index keeper.limits sub) keeper.stop (all_lines (map (λ c. c.served.lines) sorted)) (limited sub known);
+    full = full_holds keeper.stop (length shared.set.rows) (map (λ c. c.served.lines) sorted) (slice_index keeper.limits) own limited;
   }
 
   -- the printed vectors of the sorted jobs
@@ -656,12 +660,12 @@ served_by_workers id shared openings book keeper all passes closed done sorted r
 -- the limits that its lines go by
 pub limited_by_workers : (id : TableId) (shared : Shared) (openings : List ℕ) (book : BookValue) (keeper : KeeperValue) (all : List WorkerJobs) (passes : List PassValue) (closed : ClosedValue) (done sorted : List ClaimedJob) (records : List (List LineRecord)) (words : List ℕ) (stop : Option Stop)
     → Closing id shared openings book keeper all passes closed done sorted → IsServable shared → records ≡ map (λ c. c.served.lines) sorted → words ≡ closed.words → stop ≡ keeper.stop
-    → GoesByLimits shared.set stop records book.limits words keeper.limits
+    → GoesByLimits shared.set (told_stop stop records) records book.limits words keeper.limits
 limited_by_workers id shared openings book keeper all passes closed done sorted records words stop c servable lines ends why =
     let (early, begins) = servable.begins in
-    subst (λ (s : Option Stop). GoesByLimits shared.set s records book.limits words keeper.limits) (sym why)
-    (subst (λ (ws : List ℕ). GoesByLimits shared.set keeper.stop records book.limits ws keeper.limits) (sym ends)
-    (subst (λ (rs : List (List LineRecord)). GoesByLimits shared.set keeper.stop rs book.limits closed.words keeper.limits) (sym lines)
+    subst (λ (s : Option Stop). GoesByLimits shared.set (told_stop s records) records book.limits words keeper.limits) (sym why)
+    (subst (λ (ws : List ℕ). GoesByLimits shared.set (told_stop keeper.stop records) records book.limits ws keeper.limits) (sym ends)
+    (subst (λ (rs : List (List LineRecord)). GoesByLimits shared.set (told_stop keeper.stop rs) rs book.limits closed.words keeper.limits) (sym lines)
     (by_limits shared early openings book keeper all closed sorted (assembles id shared openings book keeper all passes closed done sorted c early begins))))
 
 -- the vectors of a full print

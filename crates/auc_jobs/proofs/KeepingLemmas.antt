@@ -1,34 +1,41 @@
 -- For the keeper of a round: the journal after it.
-use Rattle.std.proofs.Common.{◌≡◌, ◌≢◌, ℕ, zero, suc, ◌+◌, ◌<◌, ◌≤◌, List, [], ◌∷◌, length, map, max, slice_get, slice_index, All, AllPairs, Option, Some, Result, Ok, Err, arith, refl, sym, ap, ◌∙◌, subst}
+use Rattle.std.proofs.Common.{◌≡◌, ◌≢◌, ℕ, zero, suc, ◌+◌, ◌<◌, ◌≤◌, List, [], ◌∷◌, length, map, max, slice_get, slice_index, All, AllPairs, Contains, Option, Some, Result, Ok, Err, arith, refl, sym, ap, ◌∙◌, subst}
 use Rattle.std.specs.Prelude.{IfOk, OnOk}
 use Rattle.std.specs.Result.{result_and}
 use Rattle.std.proofs.lemmas.Option.{slice_get_within}
-use Rattle.std.proofs.lemmas.List.Elements.{All-map}
+use Rattle.std.proofs.lemmas.List.Elements.{All-contains, All-map}
 use Rattle.auc_draw.specs.Book.{Opens}
 use Rattle.auc_draw.specs.Values.{BookValue, KeeperValue, PassValue}
 use Rattle.auc_edge.specs.Identity.{Identity}
 use Rattle.auc_edge.specs.declared.no_memory.NoMemory.{NoMemory}
 use Rattle.auc_edge.specs.declared.stop.Stop.{Stop}
 use Rattle.auc_edge.specs.declared.stop.Stop.TheVariants.{Full}
+use Rattle.auc_history.specs.History.{drawn}
+use Rattle.auc_history.specs.Split.{all_entries}
 use Rattle.auc_history.proofs.Facts.{AllPairs-cons, AllPairs-head, AllPairs-tail}
 use Rattle.auc_journal.specs.Image.{reserved_in}
-use Rattle.auc_journal.specs.Journal.{JournalState, NeedsFrame, limits_of}
+use Rattle.auc_journal.specs.Journal.{JournalState, limits_of}
 use Rattle.auc_journal.proofs.Facts.{durable_more}
 use Rattle.auc_keeper.specs.Keeper.{Since}
 use Rattle.auc_lines.specs.declared.part.Line.{Line}
 use Rattle.auc_subs.specs.Subscriber.{AreSubscribers}
 use Rattle.auc_subs.specs.declared.row.Row.{Row}
 use Rattle.auc_world.specs.declared.record.LineRecord.{LineRecord}
+use Rattle.auc_world.specs.declared.record.RoundRecord.{RoundRecord}
 use Rattle.auc_world.specs.Limits.{Raises, least_step}
-use Rattle.auc_world.specs.Lines.{all_lines, withheld_of}
+use Rattle.auc_world.specs.Entries.{entries_of_jobs}
+use Rattle.auc_world.specs.Lines.{all_lines, held_of, withheld_of}
 use Rattle.auc_world.specs.Setting.{Setting}
 use Rattle.auc_world.specs.Transcript.{reopened}
+use Rattle.auc_world.proofs.Facts.{withheld_of-held_of}
 use Rattle.auc_jobs.specs.declared.round.Ran.{Ran}
 use Rattle.auc_jobs.specs.declared.workers.RoundPieces.{RoundPieces}
-use Rattle.auc_jobs.specs.InnerKeeping.{CanKeep, StaysNear}
+use Rattle.auc_jobs.specs.InnerKeeping.{CanKeep, StaysNear, TellsStop, told_stop}
 use Rattle.auc_jobs.specs.InnerRound.{GoesByLimits, LeadsOn}
-use Rattle.auc_jobs.specs.Round.{IsJournalOf, Serves}
+use Rattle.auc_jobs.specs.Round.{DrewFull, IsJournalOf, Serves}
 use Rattle.auc_jobs.specs.State.{Standing, StandsAt}
+use Rattle.auc_jobs.proofs.LineLemmas.{some_at}
+use Rattle.auc_jobs.proofs.StoppingLemmas.{fault_told, full_told, jobs_drawn, number_held}
 
 -- the identities of rows differ if the rows do
 imsis_differ : (rows : List Row) → AllPairs (λ a b. a.imsi ≢ b.imsi) rows → AllPairs (λ (a b : Identity). a ≢ b) (map (λ row. row.imsi) rows)
@@ -45,10 +52,6 @@ subscribers_differ rows imsis is differ = subst (AllPairs (λ (a b : Identity). 
 pub if_ok_map : {A E : Type 0} (P Q : A → Type 0) (result : Result A E) → ((x : A) → P x → Q x) → IfOk result P → IfOk result Q
 if_ok_map P Q (Ok x) f holds = f x holds
 if_ok_map P Q (Err e) f holds = tt
-
-pub if_ok_map_two : {A E : Type 0} (P Q R : A → Type 0) (result : Result A E) → ((x : A) → P x → Q x → R x) → IfOk result P → IfOk result Q → IfOk result R
-if_ok_map_two P Q R (Ok x) f first second = f x first second
-if_ok_map_two P Q R (Err e) f first second = tt
 
 -- what holds where two results are both Ok: of the first, and of the second
 pub first_ok : {A B : Type 0} (first : Result A NoMemory) (second : Result B NoMemory) (value : B) (P : Type 0) → result_and first second ≡ Ok value → OnOk first P → P
@@ -75,15 +78,17 @@ stays_near seen may_leave faults journal after pass words openings since sized l
     higher : (m a b : ℕ) → a ≤ b → max m (a + 64) ≤ max m (b + 64)
     higher m a b low = omega (arith, low)
 
--- a stop for a full file needed a frame, if the keeper saw nothing above the words
-pub needs_frame : {D : Type 0} (seen : D → Option (List ℕ)) (may_leave : D → List ℕ → Type 0) (faults : D → ℕ) (journal after : JournalState D) (pass : KeeperValue) (words openings : List ℕ)
-    → Since seen may_leave faults journal (record { journal = after; pass = pass }) → length journal.imsis ≡ length openings
-    → ((i : ℕ) → i < length openings → slice_index pass.seen i ≤ slice_index words i) → pass.stop ≡ Some Full → NeedsFrame after words
-needs_frame seen may_leave faults journal after pass words openings since sized looked full =
-    let needs = (since.full full).1 in
-    let same = ap (λ (imsis : List Identity). length imsis) since.subscribers in
-    let low = looked needs.0 (omega (arith, needs.1, same, sized)) in
-    (needs.0, needs.1, omega (arith, low, needs.2))
+-- what the stop that the lines tell says of the journals, by the keeper's
+pub stop_told : {D : Type 0} (seen : D → Option (List ℕ)) (may_leave : D → List ℕ → Type 0) (faults : D → ℕ) (journal after : JournalState D) (pass : KeeperValue) (records : List (List LineRecord))
+    → Since seen may_leave faults journal (record { journal = after; pass = pass }) → TellsStop faults journal (told_stop pass.stop records) after
+stop_told seen may_leave faults journal after pass records since =
+    let told = fault_told pass.stop records in
+    record {
+      ready = (λ failed. told.1 (since.failed.0 failed), λ stop. since.failed.1 (told.0 stop));
+      fault = λ stop. since.fault (told.0 stop);
+      quiet = λ other. since.quiet (λ stop. other (told.1 stop));
+      full = λ stop. (since.full (full_told pass.stop records stop)).0;
+    }
 
 -- a keeper can begin a round over its journal
 pub can_keep : {D : Type 0} (rows : List Row) (openings : List ℕ) (workers : ℕ) (journal : JournalState D) (book : BookValue) (passes : List PassValue) (pass : KeeperValue)
@@ -111,14 +116,33 @@ limit_of_row rows journal sub row is there = ap (λ imsis. slice_index (map (λ 
     by (first ∷ rows) zero there = ap (λ (r : Row). reserved_in journal.limits r.imsi) (some_row first row there)
     by (first ∷ rows) (suc sub) there = by rows sub there
 
+-- a round that tells of a full journal drew a number above its limit
+drew_above : {D : Type 0} (set : Setting) (stop : Option Stop) (round : RoundRecord) (records : List (List LineRecord)) (before words : List ℕ) (after : JournalState D)
+    → after.imsis ≡ map (λ row. row.imsi) set.rows → round.jobs ≡ records → GoesByLimits set stop records before words (limits_of after) → stop ≡ Some Full
+    → (drew : DrewFull set.rows round) × (reserved_in after.limits drew.row.imsi < drew.number)
+drew_above {D} set stop round records before words after subscribers is limits full =
+    let (sub, known, n, held) = limits.full full in
+    let (row, there) = some_at set.rows sub known in
+    let numbers = subst (λ (ns : List ℕ). Contains ns n) (sym (withheld_of-held_of sub (all_lines records))) (number_held (held_of sub (all_lines records)) n Full held) in
+    let above = All-contains (λ m. slice_index (limits_of after) sub < m) (withheld_of sub (all_lines records)) n (limits.above sub known) numbers in (
+      record {
+        sub = sub;
+        row = row;
+        there = there;
+        number = n;
+        drew = subst (λ (jobs : List (List LineRecord)). Contains (drawn (all_entries (entries_of_jobs sub [] jobs))) n) (sym is) (jobs_drawn sub [] records n Full held);
+        withheld = subst (λ (jobs : List (List LineRecord)). Contains (held_of sub (all_lines jobs)) (n, Full)) (sym is) held;
+      },
+      subst (λ (limit : ℕ). limit < n) (limit_of_row set.rows after sub row subscribers there) above,
+    )
+
 -- a round whose pieces go by the limits is served
 pub served_round : {D : Type 0} (seen : D → Option (List ℕ)) (may_leave : D → List ℕ → Type 0) (set : Setting) (state next : Standing) (jobs : List (List Line)) (journal after : JournalState D)
     (done : RoundPieces) (result : Result Ran NoMemory) → IfOk result (λ ran. (early : List LineRecord) → StandsAt set early state → LeadsOn set done.stop early state jobs ran.round done.words next)
     → OnOk result (next.words ≡ reopened done.words) → IfOk result (λ ran. (ran.round.jobs ≡ done.jobs.records) × (ran.vectors ≡ done.jobs.vectors) × (ran.stop ≡ done.stop))
     → after.imsis ≡ map (λ row. row.imsi) set.rows → GoesByLimits set done.stop done.jobs.records (limits_of journal) done.words (limits_of after) → StaysNear seen may_leave journal done.words after
-    → (done.stop ≡ Some Full → NeedsFrame after done.words)
     → IfOk result (λ ran. (early : List LineRecord) → StandsAt set early state → Serves seen may_leave set early state jobs ran.round ran.stop journal next after)
-served_round seen may_leave set state next jobs journal after done (Ok ran) lawful opens parts subscribers limits near needs = λ early stands.
+served_round seen may_leave set state next jobs journal after done (Ok ran) lawful opens parts subscribers limits near = λ early stands.
     let leads : LeadsOn set ran.stop early state jobs ran.round done.words next =
     subst (λ (stop : Option Stop). LeadsOn set stop early state jobs ran.round done.words next) (sym parts.2) (lawful early stands) in
     record {
@@ -131,10 +155,10 @@ served_round seen may_leave set state next jobs journal after done (Ok ran) lawf
           subst (λ (records : List (List LineRecord)). All (λ n. reserved_in after.limits row.imsi < n) (withheld_of sub (all_lines records))) (sym parts.0)
           (subst (λ (limit : ℕ). All (λ n. limit < n) (withheld_of sub (all_lines done.jobs.records))) (limit_of_row set.rows after sub row subscribers there)
           (limits.above sub (slice_get_within set.rows sub row there)));
-      needs = λ full. needs (sym parts.2 ∙ full);
+      needs = λ full. drew_above set done.stop ran.round done.jobs.records (limits_of journal) done.words after subscribers parts.0 limits (sym parts.2 ∙ full);
       durable = near;
     }
-served_round seen may_leave set state next jobs journal after done (Err e) lawful opens parts subscribers limits near needs = tt
+served_round seen may_leave set state next jobs journal after done (Err e) lawful opens parts subscribers limits near = tt
 
 -- what holds where a result is Ok holds of what it has
 pub if_ok_at : {A E : Type 0} (P : A → Type 0) (result : Result A E) (x : A) → result ≡ Ok x → IfOk result P → P x

@@ -22,6 +22,7 @@ mod TellingLemmas
 mod TurnLemmas
 mod OrderLemmas
 mod LimitLemmas
+mod StoppingLemmas
 mod CrewLemmas
 mod KeepingLemmas
 mod CollectLemmas

@@ -1,6 +1,7 @@
 -- Inner facts: what only private contracts of this crate cite. Here: the keeper of a round, from its journal to the journal
 -- after it.
-use Rattle.std.specs.Prelude.{◌≡◌, ◌≢◌, ◌↔◌, ℕ, ◌+◌, ◌<◌, ◌^◌, AllPairs, false, true, List, Option, Some, None, max, slice_index}
+use Rattle.std.specs.Prelude.{◌≡◌, ◌≢◌, ◌↔◌, ℕ, ◌+◌, ◌<◌, ◌^◌, AllPairs, Bool, false, true, List, Option, Some, None, max, slice_index, if◌then◌else◌}
+use Rattle.std.specs.List.{list_any}
 use Rattle.atomic_table.specs.Seated.{TableId}
 use Rattle.auc_draw.specs.Values.{KeeperValue}
 use Rattle.auc_edge.specs.Faults.{Rose}
@@ -8,7 +9,12 @@ use Rattle.auc_edge.specs.declared.stop.Stop.{Stop}
 use Rattle.auc_edge.specs.declared.stop.Stop.TheVariants.{Fault, Full}
 use Rattle.auc_journal.specs.Durable.{IsDurable}
 use Rattle.auc_journal.specs.Journal.{JournalState, limits_of}
+use Rattle.auc_vector.specs.declared.notes.NumberNote.{NumberNote}
+use Rattle.auc_vector.specs.declared.notes.NumberNote.TheVariants as number
+use Rattle.auc_world.specs.Event.{number_in}
 use Rattle.auc_world.specs.Limits.{least_step}
+use Rattle.auc_world.specs.declared.record.LineRecord.{LineRecord}
+use Rattle.auc_world.specs.declared.record.LineRecord.TheVariants.{Vector, Withheld, Exhausted, Sync, Give, Event}
 
 -- a keeper can begin a round: its pass is of the round's table, and the limits of its pass are the journal's
 pub record CanKeep {D : Type 0} (table : TableId) (passes : ℕ) (opening : Option (JournalState D)) (journal : JournalState D) (pass : KeeperValue) : Type 0 where
@@ -32,3 +38,26 @@ pub record TellsStop {D : Type 0} (faults : D → ℕ) (journal : JournalState D
 abbrev pub StaysNear : {D : Type 0} → (D → Option (List ℕ)) → (D → List ℕ → Type 0) → JournalState D → List ℕ → JournalState D → Type 0
 StaysNear {D} seen may_leave journal words after = (from : D) (most : ℕ → ℕ) → IsDurable seen may_leave from most journal
     → IsDurable seen may_leave from (λ i. max (most i) (slice_index words i + least_step)) after
+
+-- whether a note says that a number was withheld
+abbrev pub is_withheld : Option NumberNote → Bool
+is_withheld None = false
+is_withheld (Some (number.Drew n)) = false
+is_withheld (Some (number.Exhausted word)) = false
+is_withheld (Some (number.Withheld n stop)) = true
+
+-- whether a line does
+abbrev pub withholds : LineRecord → Bool
+withholds (Vector s n) = false
+withholds (Withheld s n stop) = true
+withholds (Exhausted s word) = false
+withholds (Sync s answer) = false
+withholds (Give s n answer) = false
+withholds (Event r) = is_withheld (number_in r.result)
+
+-- why reservations ended in a round whose keeper stopped so, as its lines tell it: that the journal is full is told only if
+-- a number was withheld
+abbrev pub told_stop : Option Stop → List (List LineRecord) → Option Stop
+told_stop None records = None
+told_stop (Some Fault) records = Some Fault
+told_stop (Some Full) records = if list_any (list_any withholds) records then Some Full else None

@@ -1,8 +1,9 @@
 -- Inner facts: what only private contracts of this crate cite. Here: the jobs of a round, each served after its worker's
 -- earlier lines and with its own devices, and what their pieces come to.
-use Rattle.std.specs.Prelude.{◌≡◌, ℕ, ◌≤◌, ◌<◌, false, List, [], ◌∷◌, ◌++◌, All, fold, length, map, Option, slice_get, slice_index}
+use Rattle.std.specs.Prelude.{◌≡◌, ℕ, ◌≤◌, ◌<◌, false, List, [], ◌∷◌, ◌++◌, All, Contains, fold, length, map, Option, Some, slice_get, slice_index}
 use Rattle.auc_cards.specs.Stores.{put_own}
 use Rattle.auc_edge.specs.declared.stop.Stop.{Stop}
+use Rattle.auc_edge.specs.declared.stop.Stop.TheVariants.{Full}
 use Rattle.auc_history.specs.declared.entry.Entry.{Entry}
 use Rattle.auc_history.specs.Split.{Splits}
 use Rattle.auc_lines.specs.declared.part.Line.{Line}
@@ -98,12 +99,18 @@ pub record AreServed (set : Setting) (early : List LineRecord) (stores : List Ke
   pub settled : AreSettled set.rows early jobs records own
   pub size : length words ≡ length openings
 
+-- some lines withhold a number of one of so many subscribers, because the journal is full
+abbrev pub HoldsFull : ℕ → List LineRecord → Type 0
+HoldsFull count lines = (sub : ℕ) × (sub < count) × (number : ℕ) × Contains (held_of sub lines) (number, Full)
+
 -- what a round releases and withholds goes by the limits: those before it, and those after it with the stop
 pub record GoesByLimits (set : Setting) (stop : Option Stop) (records : List (List LineRecord)) (limits words next : List ℕ) : Type 0 where
   pub raises : Raises set.rows (all_lines records) limits words next
   pub withholds : Withholds stop (all_lines records)
   -- each withheld number is above its subscriber's limit
   pub above : (sub : ℕ) → sub < length set.rows → All (λ n. slice_index next sub < n) (withheld_of sub (all_lines records))
+  -- and if the journal is full, there is one
+  pub full : stop ≡ Some Full → HoldsFull (length set.rows) (all_lines records)
 
 -- the state after a round: where the round's words lead, with the jobs' USIMs and what their homes and devices keep put back,
 -- and the released numbers noted

@@ -1,18 +1,19 @@
 -- A round that is served with a journal.
-use Rattle.std.specs.Prelude.{◌≡◌, ℕ, ◌+◌, ◌<◌, ◌≤◌, max, false, List, All, length, map, slice_get, slice_index, Option, Some}
+use Rattle.std.specs.Prelude.{◌≡◌, ℕ, ◌+◌, ◌<◌, ◌≤◌, max, false, List, All, Contains, length, map, slice_get, slice_index, Option, Some}
 use Rattle.auc_edge.specs.declared.stop.Stop.{Stop}
 use Rattle.auc_edge.specs.declared.stop.Stop.TheVariants.{Full}
+use Rattle.auc_history.specs.History.{drawn}
 use Rattle.auc_journal.specs.Durable.{IsDurable}
 use Rattle.auc_journal.specs.Image.{reserved_in}
-use Rattle.auc_journal.specs.Journal.{JournalState, NeedsFrame, limits_of, reserved_at}
+use Rattle.auc_journal.specs.Journal.{JournalState, limits_of, reserved_at}
 use Rattle.auc_lines.specs.declared.part.Line.{Line}
 use Rattle.auc_subs.specs.declared.row.Row.{Row}
 use Rattle.auc_world.specs.Limits.{Raises, least_step}
-use Rattle.auc_world.specs.Lines.{all_lines, withheld_of}
+use Rattle.auc_world.specs.Lines.{all_lines, held_of, withheld_of}
 use Rattle.auc_world.specs.Round.{IsLawfulRound}
 use Rattle.auc_world.specs.Setting.{Setting}
 use Rattle.auc_world.specs.Start.{kept_by_jobs}
-use Rattle.auc_world.specs.Transcript.{reopened}
+use Rattle.auc_world.specs.Transcript.{entries_of, reopened}
 use Rattle.auc_world.specs.declared.record.LineRecord.{LineRecord}
 use Rattle.auc_world.specs.declared.record.RoundRecord.{RoundRecord}
 use Rattle.auc_jobs.specs.State.{Standing}
@@ -21,6 +22,15 @@ use Rattle.auc_jobs.specs.State.{Standing}
 pub record IsJournalOf {D : Type 0} (rows : List Row) (journal : JournalState D) : Type 0 where
   pub subscribers : journal.imsis ≡ map (λ row. row.imsi) rows
   pub ready : journal.failed ≡ false
+
+-- a round drew a number of a subscriber, and withheld it because the journal is full
+pub record DrewFull (rows : List Row) (round : RoundRecord) : Type 0 where
+  pub sub : ℕ
+  pub row : Row
+  pub there : slice_get rows sub ≡ Some row
+  pub number : ℕ
+  pub drew : Contains (drawn (entries_of sub round)) number
+  pub withheld : Contains (held_of sub (all_lines round.jobs)) (number, Full)
 
 -- a round was served after the lines of earlier rounds: from a state and a journal to the next ones. Reservations may have
 -- ended in it, for this cause
@@ -35,8 +45,8 @@ pub record Serves {D : Type 0} (seen : D → Option (List ℕ)) (may_leave : D �
   pub limits : Raises set.rows (all_lines round.jobs) (limits_of journal) words (limits_of after)
   -- each withheld number is above what the journal reserves for its subscriber, by the identity
   pub withheld : (sub : ℕ) (row : Row) → slice_get set.rows sub ≡ Some row → All (λ n. reserved_in after.limits row.imsi < n) (withheld_of sub (all_lines round.jobs))
-  -- reservations ended as full only if a subscriber needed a frame
-  pub needs : stop ≡ Some Full → NeedsFrame after words
+  -- reservations ended as full only if the round drew a number above what the journal reserves for its subscriber
+  pub needs : stop ≡ Some Full → (drew : DrewFull set.rows round) × (reserved_in after.limits drew.row.imsi < drew.number)
   -- a crash leaves these limits at least, and none above that of before and a step above the word
   pub durable : (from : D) (most : ℕ → ℕ) → IsDurable seen may_leave from most journal → IsDurable seen may_leave from (λ i. max (most i) (slice_index words i + least_step)) after
 

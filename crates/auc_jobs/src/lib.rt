@@ -24,6 +24,7 @@ mod jobs;
 mod round;
 mod round_jobs;
 mod state;
+mod stopping;
 mod syncing;
 mod worker;
 mod workers;

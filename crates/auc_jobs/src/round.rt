@@ -3,7 +3,7 @@
 ghost use Rattle.std.specs.Prelude.{◌≡◌, ◌≢◌, ◌≤◌, ◌<◌, ◌^◌, ◌+◌, ◌++◌, ◌↔◌, [], ℕ, true, Some, List, All, AllPairs, length, map, IfOk, OnErr, OnOk, if◌then◌else◌};
 ghost use Rattle.auc_edge.specs.Faults.{Rose};
 ghost use Rattle.auc_edge.specs.declared.stop.Stop.TheVariants.{Fault, Full};
-ghost use Rattle.auc_journal.specs.Journal.{NeedsFrame, limits_of};
+ghost use Rattle.auc_journal.specs.Journal.{limits_of};
 ghost use Rattle.auc_lines.specs.Part.{AreApart};
 ghost use Rattle.auc_sqn.specs.Number.{max_seq};
 ghost use Rattle.auc_subs.specs.Subscriber.{AreSubscribers};
@@ -147,7 +147,6 @@ fn pieces<D: Disk + Drop + Send, G: Gate + Sync, R: Threads + Wait + Sync>(
     ensures leaves { LeavesMore D.seen D.may_leave journal result.journal }
     ensures near { IfOk result.result (λ done. StaysNear D.seen D.may_leave journal done.words result.journal) }
     ensures stop { IfOk result.result (λ done. TellsStop D.faults journal done.stop result.journal) }
-    ensures needs { IfOk result.result (λ done. done.stop ≡ Some Full → NeedsFrame result.journal done.words) }
 {
     let _count = set.subs.len();
     let round = RoundJobs {

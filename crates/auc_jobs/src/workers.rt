@@ -1,17 +1,16 @@
 //! The workers of a round, and what they served in the order of the jobs.
 
-ghost use Rattle.std.specs.Prelude.{◌≡◌, ◌≤◌, ◌<◌, ◌+◌, ℕ, [], All, AllPairs, IsPermutation, List, length, map, slice_index, Some, IfOk, if◌then◌else◌};
+ghost use Rattle.std.specs.Prelude.{◌≡◌, ◌≤◌, ◌<◌, ◌+◌, ℕ, [], All, AllPairs, IsPermutation, List, length, map, slice_index, IfOk, if◌then◌else◌};
 ghost use Rattle.auc_centre.specs.Kept.{subs_of};
 ghost use Rattle.auc_draw.specs.Book.{IsNew, Opens};
-ghost use Rattle.auc_edge.specs.declared.stop.Stop.TheVariants.{Full};
-ghost use Rattle.auc_journal.specs.Journal.{NeedsFrame, limits_of};
+ghost use Rattle.auc_journal.specs.Journal.{limits_of};
 ghost use Rattle.auc_keeper.specs.Keeper.{Since};
 ghost use Rattle.auc_sqn.specs.Number.{max_seq};
 ghost use Rattle.auc_subs.specs.Subscriber.{AreSubscribers};
 ghost use Rattle.auc_world.specs.declared.record.LineRecord.{LineRecord};
 ghost use Rattle.auc_world.specs.Vectors.{vectors_in};
 ghost use Rattle.auc_jobs.specs.InnerClaims.{AreCollected, IsDone};
-ghost use Rattle.auc_jobs.specs.InnerKeeping.{CanKeep, StaysNear, TellsStop};
+ghost use Rattle.auc_jobs.specs.InnerKeeping.{CanKeep, StaysNear, TellsStop, told_stop};
 ghost use Rattle.auc_jobs.specs.InnerRound.{AreServed, GoesByLimits};
 ghost use Rattle.auc_jobs.specs.InnerSharing.{Begins, IsBookOf, IsServable};
 ghost use Rattle.auc_jobs.specs.Round.{IsJournalOf, LeavesMore};
@@ -19,6 +18,7 @@ ghost use Rattle.auc_jobs.specs.Round.{IsJournalOf, LeavesMore};
 use crate::claiming::{ClaimedJob, WorkerJobs, work};
 use crate::jobs::ServedJobs;
 use crate::round_jobs::RoundJobs;
+use crate::stopping::told_stop;
 use auc_centre::{Kept, Naming};
 use auc_disk::Disk;
 use auc_draw::{Book, Closed, KeeperPass, Pass};
@@ -31,7 +31,7 @@ use std::marker::Brand;
 use std::sync::{Mutex, Wait};
 use std::thread::{self, Threads};
 
-/// What the jobs of a round gave, the subscribers' words after them, and why reservations ended, if they did.
+/// What the jobs of a round gave, the subscribers' words after them, and why reservations ended, if the lines tell of it.
 #[derive(Drop)]
 pub(crate) struct RoundPieces {
     pub(crate) jobs: ServedJobs,
@@ -233,13 +233,13 @@ fn close(
         → AreServed round.now.set early round.now.stores book.openings round.now.jobs done.jobs.records done.jobs.devices
         done.jobs.sessions done.words) }
     ensures limits { IfOk result (λ done.
-        GoesByLimits round.now.set stop done.jobs.records book.limits done.words keeper.limits) }
+        GoesByLimits round.now.set done.stop done.jobs.records book.limits done.words keeper.limits) }
     ensures looked { IfOk result (λ done. (i : ℕ) → i < length book.openings
         → slice_index keeper.seen i ≤ slice_index done.words i) }
     ensures vectors { IfOk result (λ done. done.jobs.vectors
         ≡ (if round.now.full then map (vectors_in round.now.set) done.jobs.records else [])) }
     ensures bound { IfOk result (λ done. All (λ word. word ≤ max_seq + 64) done.words) }
-    ensures stop { IfOk result (λ done. done.stop ≡ stop) }
+    ensures stop { IfOk result (λ done. done.stop ≡ told_stop stop done.jobs.records) }
 {
     recut_split_is_a_split();
     let (passes, done) = collect(alloc, all)?;
@@ -248,6 +248,7 @@ fn close(
     let closed = book.close(passes, keeper);
     let words = words(alloc, &closed, subs)?;
     let jobs = served_jobs(alloc, in_order(done)?, round.full)?;
+    let stop = told_stop(stop, jobs.records.as_slice());
     Ok(RoundPieces { jobs, words, stop })
 }
 
@@ -284,7 +285,6 @@ pub(crate) fn serve_pieces<D: Disk + Drop + Send, G: Gate + Sync, R: Threads + W
     ensures leaves { LeavesMore D.seen D.may_leave journal result.journal }
     ensures near { IfOk result.result (λ done. StaysNear D.seen D.may_leave journal done.words result.journal) }
     ensures stop { IfOk result.result (λ done. TellsStop D.faults journal done.stop result.journal) }
-    ensures needs { IfOk result.result (λ done. done.stop ≡ Some Full → NeedsFrame result.journal done.words) }
 {
     let (book, passes, keeper) = match open_book(alloc, openings, &journal, workers) {
         Ok(opened) => opened,

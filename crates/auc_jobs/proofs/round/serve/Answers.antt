@@ -1,6 +1,5 @@
-use Rattle.std.proofs.Common.{◌≡◌, Some, ◌∙◌}
-use Rattle.auc_edge.specs.declared.stop.Stop.TheVariants.{Full}
-use Rattle.auc_journal.specs.Journal.{NeedsFrame, limits_of}
+use Rattle.std.proofs.Common.{◌∙◌}
+use Rattle.auc_journal.specs.Journal.{limits_of}
 use Rattle.auc_jobs.specs.declared.workers.RoundPieces.{RoundPieces}
 use Rattle.auc_jobs.specs.InnerKeeping.{StaysNear}
 use Rattle.auc_jobs.specs.InnerRound.{GoesByLimits}
@@ -18,9 +17,7 @@ returns-clause-served g c = elim c.match-result.branch [
       (if_ok_at (λ (done : RoundPieces). GoesByLimits c.args.set.now done.stop done.jobs.records (limits_of c.args.journal) done.words (limits_of c.pieces-pieces.result.journal))
       c.pieces-pieces.result.result w.in-Ok.done w.in-Ok.is c.pieces-pieces.ensures.limits)
       (if_ok_at (λ (done : RoundPieces). StaysNear g.D.Disk.seen g.D.Disk.may_leave c.args.journal done.words c.pieces-pieces.result.journal)
-      c.pieces-pieces.result.result w.in-Ok.done w.in-Ok.is c.pieces-pieces.ensures.near)
-      (if_ok_at (λ (done : RoundPieces). done.stop ≡ Some Full → NeedsFrame c.pieces-pieces.result.journal done.words)
-      c.pieces-pieces.result.result w.in-Ok.done w.in-Ok.is c.pieces-pieces.ensures.needs))
+      c.pieces-pieces.result.result w.in-Ok.done w.in-Ok.is c.pieces-pieces.ensures.near))
   | in-Err w ↦ rw w.result-is tt
 ]
 

@@ -1,4 +1,8 @@
-use Rattle.std.proofs.Common.{ap, map, refl}
+use Rattle.std.proofs.Common.{List, Option, ap, map, refl, subst, sym, ◌∙◌}
+use Rattle.auc_edge.specs.declared.stop.Stop.{Stop}
+use Rattle.auc_world.specs.declared.record.LineRecord.{LineRecord}
+use Rattle.auc_jobs.specs.InnerKeeping.{told_stop}
+use Rattle.auc_jobs.specs.InnerRound.{GoesByLimits}
 use Rattle.auc_jobs.specs.InnerSharing.{Shared}
 use Rattle.auc_jobs.proofs.CollectLemmas.{passes_own}
 use Rattle.auc_jobs.proofs.CrewLemmas.{served_by_workers, limited_by_workers, printed_by_workers, closed_within}
@@ -26,7 +30,9 @@ returns-clause-served c =
 
 pub returns-clause-limits : goal.returns-clause-limits
 returns-clause-limits c =
-    limited_by_workers c.args.book.id c.args.round.now c.args.book.openings c.args.book c.args.keeper c.args.all.items c.in_ok-passes.passes.items c.close-closed.result c.in_ok-passes.done.items
+    subst (λ (s : Option Stop). GoesByLimits c.args.round.now.set s c.in_ok-jobs.jobs.records c.args.book.limits c.in_ok-words.words c.args.keeper.limits)
+    (sym (c.told_stop-stop.ensures ∙ ap (λ (records : List (List LineRecord)). told_stop c.args.stop records) c.as_slice.ensures))
+    (limited_by_workers c.args.book.id c.args.round.now c.args.book.openings c.args.book c.args.keeper c.args.all.items c.in_ok-passes.passes.items c.close-closed.result c.in_ok-passes.done.items
     c.in_ok-in_order.field-0.items c.in_ok-jobs.jobs.records c.in_ok-words.words c.args.stop (record {
       recut = c.recut_split_is_a_split.ensures;
       some = c.requires.all.0;
@@ -39,7 +45,7 @@ returns-clause-limits c =
       known = c.requires.round.known;
       sized = c.requires.book;
     })
-    c.requires.round c.in_ok-jobs.ensures.records c.in_ok-words.ensures c.requires.stop
+    c.requires.round c.in_ok-jobs.ensures.records c.in_ok-words.ensures c.requires.stop)
 
 pub returns-clause-vectors : goal.returns-clause-vectors
 returns-clause-vectors c =
