@@ -41,7 +41,7 @@ pub struct Ran {
     pub round: RoundRecord,
     /// The vectors that each job's lines release, in the order of the jobs; none in a brief print.
     pub vectors: Items<JobVectors>,
-    /// Why reservations ended in this round, if they did.
+    /// Why reservations ended in this round, if they did. That the journal is full is told only if a number was withheld.
     pub stop: Option<Stop>,
 }
 
