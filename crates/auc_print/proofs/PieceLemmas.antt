@@ -1,18 +1,20 @@
--- The words of an event's line in pieces, for the functions that print it.
-use Rattle.std.proofs.Common.{ℕ, zero, suc, List, [], ◌∷◌, ◌++◌, take, drop, slice_index, ◌/◌, ◌%◌, codes, Ok, ◌≡◌, refl, ap, sym, ◌∙◌, append_assoc}
-use Rattle.std.proofs.lemmas.List.{append-nil}
+-- The words of a line in pieces, for the functions that print them.
+use Rattle.std.proofs.Common.{ℕ, zero, suc, List, [], ◌∷◌, ◌++◌, take, drop, slice_index, ◌/◌, ◌%◌, codes, Result, Ok, Err, OnOk, OnErr, subst, ◌≡◌, refl, ap, sym, ◌∙◌, append_assoc}
 use Rattle.std.proofs.lemmas.List.Concat.{flat_map-append}
 use Rattle.hex.specs.Hex.{encode_lower, encode_with, lower_digits}
 use Rattle.auc_vector.specs.declared.notes.Notes.{Notes}
-use Rattle.auc_world.specs.declared.event.Event.{Event}
-use Rattle.auc_world.specs.declared.event.Event.TheVariants as event
+use Rattle.auc_vector.specs.declared.turn.Outcome.TheVariants as outcome
+use Rattle.auc_vector.specs.declared.turn.Step.TheVariants as step
 use Rattle.auc_world.specs.declared.event.EventRecord.{EventRecord}
 use Rattle.auc_world.specs.declared.event.Note.{Note}
+use Rattle.auc_world.specs.declared.event.NoteStep.{NoteStep}
+use Rattle.auc_world.specs.declared.event.NoteStep.TheVariants as did
 use Rattle.auc_world.specs.declared.net.Breach.{Breach}
 use Rattle.auc_print.specs.EventText.{came_words, counter_words, end_word, event_words, notes_words, number_words, resumed_words, resync_words, sent_words, step_words, usim_words}
-use Rattle.auc_print.specs.Inner.{after_spaces, joined}
+use Rattle.auc_print.specs.Inner.{IsFrontOf, after_spaces, did_words, why_words}
 use Rattle.auc_print.specs.Numeral.{numeral}
 use Rattle.auc_print.specs.Text.{broken_words, spaced}
+use Rattle.auc_print.proofs.TextLemmas.{front_more}
 
 -- words after words
 pub spaces_more : (out a b : List ℕ) (v w : List (List ℕ)) → a ≡ out ++ after_spaces v → b ≡ a ++ after_spaces w → b ≡ out ++ after_spaces (v ++ w)
@@ -21,41 +23,74 @@ spaces_more out a b v w e f =
     ∙ ap (λ t. out ++ t) (sym (flat_map-append (λ word. 32 ∷ word) v w))
 
 -- the words of the notes
-pub notes_printed : (notes : Notes) (out a b c d e : List ℕ) → a ≡ out ++ after_spaces (resync_words notes.resync)
-    → b ≡ a ++ after_spaces (number_words notes.number) → c ≡ b ++ after_spaces (resumed_words notes.resumed)
-    → d ≡ c ++ after_spaces (usim_words notes.usim) → e ≡ d ++ after_spaces (counter_words notes.counter) → e ≡ out ++ after_spaces (notes_words notes)
-notes_printed notes out a b c d e p q r s t =
-    spaces_more out a e (resync_words notes.resync) _ p
-    (spaces_more a b e (number_words notes.number) _ q
-    (spaces_more b c e (resumed_words notes.resumed) _ r (spaces_more c d e (usim_words notes.usim) (counter_words notes.counter) s t)))
+pub notes_printed : (notes : Notes) (r n m u k : List (List ℕ)) (out a b c d e : List ℕ) → r ≡ resync_words notes.resync
+    → n ≡ number_words notes.number → m ≡ resumed_words notes.resumed → u ≡ usim_words notes.usim → k ≡ counter_words notes.counter
+    → a ≡ out ++ after_spaces r → b ≡ a ++ after_spaces n → c ≡ b ++ after_spaces m → d ≡ c ++ after_spaces u → e ≡ d ++ after_spaces k
+    → e ≡ out ++ after_spaces (notes_words notes)
+notes_printed notes r n m u k out a b c d e r_is n_is m_is u_is k_is p q s t v =
+    let same : r ++ (n ++ (m ++ (u ++ k))) ≡ notes_words notes = cc in
+    spaces_more out a e r _ p (spaces_more a b e n _ q (spaces_more b c e m _ s (spaces_more c d e u k t v))) ∙ ap (λ ws. out ++ after_spaces ws) same
 
 -- the words of a note
-pub note_printed : (note : Note) (out a b c : List ℕ) → a ≡ out ++ after_spaces (notes_words note.notes) → b ≡ a ++ after_spaces (sent_words note.packet)
-    → c ≡ b ++ after_spaces (step_words note.step) → c ≡ out ++ after_spaces (came_words (Ok note))
-note_printed note out a b c p q r =
-    spaces_more out a c (notes_words note.notes) _ p (spaces_more a b c (sent_words note.packet) (step_words note.step) q r)
+pub note_printed : (note : Note) (sent : List (List ℕ)) (out a b c : List ℕ) → sent ≡ sent_words note.packet → a ≡ out ++ after_spaces (notes_words note.notes)
+    → b ≡ a ++ after_spaces sent → c ≡ b ++ after_spaces (step_words note.step) → c ≡ out ++ after_spaces (came_words (Ok note))
+note_printed note sent out a b c same p q r =
+    spaces_more out a c (notes_words note.notes) _ p
+    (spaces_more a b c (sent_words note.packet) (step_words note.step) (q ∙ ap (λ ws. a ++ after_spaces ws) same) r)
 
--- a line is its first words, the others and a line feed
-joined_more : (word : List ℕ) (ws vs : List (List ℕ)) → spaced (word ∷ (ws ++ vs)) ≡ (joined (word ∷ ws) ++ after_spaces vs) ++ codes "\n"
-joined_more word ws vs =
-    ap (λ t. (word ++ t) ++ codes "\n") (flat_map-append (λ next. 32 ∷ next) ws vs)
-    ∙ ap (λ t. t ++ codes "\n") (sym (append_assoc word (after_spaces ws) (after_spaces vs)))
+-- what an end did, and the cause of a Failure
+step_joined : (s : NoteStep) → did_words s ++ why_words s ≡ step_words s
+step_joined did.Opened = refl
+step_joined (did.Server (step.Sent bytes)) = refl
+step_joined (did.Server (step.Ended (outcome.Success keys) bytes)) = refl
+step_joined (did.Server (step.Ended (outcome.Failure why) bytes)) = refl
+step_joined (did.Server (step.Ignored why)) = refl
+step_joined (did.Peer (step.Sent bytes)) = refl
+step_joined (did.Peer (step.Ended (outcome.Success keys) bytes)) = refl
+step_joined (did.Peer (step.Ended (outcome.Failure why) bytes)) = refl
+step_joined (did.Peer (step.Ignored why)) = refl
 
-event_line : (e : Event) (words : List (List ℕ)) → spaced (event_words e ++ words) ≡ (joined (event_words e) ++ after_spaces words) ++ codes "\n"
-event_line (event.Open opening) words = joined_more (codes "session") (numeral opening.session ∷ []) words
-event_line (event.Start session) words = joined_more (codes "start") (numeral session ∷ []) words
-event_line (event.Deliver session at' packet) words = joined_more (codes "deliver") (numeral session ∷ end_word at' ∷ numeral packet ∷ []) words
-event_line (event.Repeat session) words = joined_more (codes "repeat") (numeral session ∷ []) words
-event_line (event.GiveUp session at') words = joined_more (codes "giveup") (numeral session ∷ end_word at' ∷ []) words
+pub step_printed : (s : NoteStep) (v w : List (List ℕ)) (out a b : List ℕ) → v ≡ did_words s → w ≡ why_words s → a ≡ out ++ after_spaces v
+    → b ≡ a ++ after_spaces w → b ≡ out ++ after_spaces (step_words s)
+step_printed s v w out a b v_is w_is e f =
+    let same : v ++ w ≡ did_words s ++ why_words s = cc in spaces_more out a b v w e f ∙ ap (λ ws. out ++ after_spaces ws) (same ∙ step_joined s)
+
+-- a line is a front, words after it and a line feed
+pub line_printed : (front : List ℕ) (words : List (List ℕ)) (out a b c : List ℕ) → a ≡ out ++ front → b ≡ a ++ after_spaces words → c ≡ b ++ codes "\n"
+    → c ≡ out ++ ((front ++ after_spaces words) ++ codes "\n")
+line_printed front words out a b c e f g =
+    g ∙ ap (λ x. x ++ codes "\n") (f ∙ ap (λ x. x ++ after_spaces words) e ∙ append_assoc out front (after_spaces words))
+    ∙ append_assoc out (front ++ after_spaces words) (codes "\n")
+
+-- a line whose front is a word and an IMSI
+pub named_printed : (first imsi : List ℕ) (words : List (List ℕ)) (out a b c : List ℕ) → a ≡ out ++ (first ++ 32 ∷ imsi) → b ≡ a ++ after_spaces words
+    → c ≡ b ++ codes "\n" → c ≡ out ++ spaced (first ∷ imsi ∷ words)
+named_printed first imsi words out a b c e f g =
+    line_printed (first ++ 32 ∷ imsi) words out a b c e f g
+    ∙ ap (λ t. out ++ (t ++ codes "\n")) (append_assoc first (32 ∷ imsi) (after_spaces words))
+
+-- the line of a breach
+pub broken_printed : (job : ℕ) (breach : Breach) (j s p : ℕ) (e out c : List ℕ) → j ≡ job → s ≡ breach.session → e ≡ end_word breach.end → p ≡ breach.packet
+    → c ≡ out ++ spaced (codes "premise" ∷ codes "broken" ∷ numeral j ∷ numeral s ∷ e ∷ numeral p ∷ [])
+    → c ≡ out ++ spaced (broken_words job breach)
+broken_printed job breach j s p e out c j_is s_is e_is p_is printed =
+    let words : codes "premise" ∷ codes "broken" ∷ numeral j ∷ numeral s ∷ e ∷ numeral p ∷ [] ≡ broken_words job breach = cc in
+    printed ∙ ap (λ ws. out ++ spaced ws) words
+
+-- what begins with a front still does so after a text was appended, or wasn't
+pub append_front : {A E : Type 0} (r : Result A E) (a b c x : List ℕ) → IsFrontOf a b → OnOk r (c ≡ b ++ x) → OnErr r (c ≡ b) → IsFrontOf a c
+append_front (Ok v) a b c x p e f = front_more a b c p (record { rest = x; is = e })
+append_front (Err v) a b c x p e f = subst (IsFrontOf a) (sym f) p
 
 -- the line of an event
-pub event_printed : (r : EventRecord) (out a b c : List ℕ) → a ≡ out ++ joined (event_words r.event) → b ≡ a ++ after_spaces (came_words r.result)
-    → c ≡ b ++ codes "\n" → c ≡ out ++ spaced (event_words r.event ++ came_words r.result)
-event_printed r out a b c e f g =
-    let front : List ℕ = joined (event_words r.event) in
-    let came : List ℕ = after_spaces (came_words r.result) in
-    g ∙ ap (λ x. x ++ codes "\n") (f ∙ ap (λ x. x ++ came) e ∙ append_assoc out front came)
-    ∙ append_assoc out (front ++ came) (codes "\n") ∙ ap (λ t. out ++ t) (sym (event_line r.event (came_words r.result)))
+pub event_printed : (r : EventRecord) (first : List ℕ) (deed : List (List ℕ)) (out a b c d : List ℕ) → first ∷ deed ≡ event_words r.event → a ≡ out ++ first
+    → b ≡ a ++ after_spaces deed → c ≡ b ++ after_spaces (came_words r.result) → d ≡ c ++ codes "\n"
+    → d ≡ out ++ spaced (event_words r.event ++ came_words r.result)
+event_printed r first deed out a b c d same e f g h =
+    line_printed first (deed ++ came_words r.result) out a c d e (spaces_more a b c deed (came_words r.result) f g) h
+    ∙ ap (λ ws. out ++ spaced (ws ++ came_words r.result)) same
+
+-- ---- digits
 
 -- the digits of bytes are those of a front and of the rest
 pub encode_cut : (n : ℕ) (bytes : List ℕ) → encode_lower bytes ≡ encode_lower (take n bytes) ++ encode_lower (drop n bytes)
@@ -74,18 +109,3 @@ digits_more n out next old bytes front rest left e f g h =
     ap (λ x. x ++ encode_lower left) h ∙ append_assoc out (encode_lower front) (encode_lower left)
     ∙ ap (λ x. out ++ (encode_lower x ++ encode_lower left)) f ∙ ap (λ x. out ++ (encode_lower (take n rest) ++ encode_lower x)) g
     ∙ ap (λ t. out ++ t) (sym (encode_cut n rest)) ∙ e
-
--- a line of a word and words after it, in two pieces
-pub line_printed : (word : List ℕ) (v w : List (List ℕ)) (out a b c d : List ℕ) → a ≡ out ++ word → b ≡ a ++ after_spaces v → c ≡ b ++ after_spaces w
-    → d ≡ c ++ codes "\n" → d ≡ out ++ spaced (word ∷ (v ++ w))
-line_printed word v w out a b c d e f g h =
-    h ∙ ap (λ x. x ++ codes "\n") (spaces_more a b c v w f g ∙ ap (λ x. x ++ after_spaces (v ++ w)) e ∙ append_assoc out word (after_spaces (v ++ w)))
-    ∙ append_assoc out (word ++ after_spaces (v ++ w)) (codes "\n")
-
--- the line of a breach
-pub broken_printed : (job number : ℕ) (breach : Breach) (out a b c d : List ℕ) → number ≡ job → a ≡ out ++ codes "premise broken" → b ≡ a ++ 32 ∷ numeral number
-    → c ≡ b ++ after_spaces (numeral breach.session ∷ end_word breach.end ∷ numeral breach.packet ∷ []) → d ≡ c ++ codes "\n"
-    → d ≡ out ++ spaced (broken_words job breach)
-broken_printed job number breach out a b c d same e f g h =
-    line_printed (codes "premise broken") (numeral job ∷ []) (numeral breach.session ∷ end_word breach.end ∷ numeral breach.packet ∷ []) out a b c d e
-    (f ∙ ap (λ (n : ℕ). a ++ 32 ∷ numeral n) same ∙ ap (λ t. a ++ 32 ∷ t) (sym (append-nil (numeral job)))) g h

@@ -1,12 +1,21 @@
 -- Inner facts: what only private contracts of this crate cite.
 use Rattle.std.specs.Prelude.{ℕ, ◌≡◌, Bool, List, [], ◌∷◌, ◌++◌, map, take, drop, flat_map, if◌then◌else◌, Option, Some, None, codes}
+use Rattle.hex.specs.Hex.{encode_lower}
 use Rattle.auc_edge.specs.Identity.{Identity}
+use Rattle.auc_vector.specs.declared.turn.Outcome.TheVariants as outcome
+use Rattle.auc_vector.specs.declared.turn.Step.{Step}
+use Rattle.auc_vector.specs.declared.turn.Step.TheVariants as step
 use Rattle.auc_vector.specs.declared.parts.Vector.{Vector as AuthVector}
 use Rattle.auc_world.specs.Event.{event_vector}
+use Rattle.auc_world.specs.declared.event.NoteStep.{NoteStep}
+use Rattle.auc_world.specs.declared.event.NoteStep.TheVariants as did
 use Rattle.auc_world.specs.declared.record.LineRecord.{LineRecord}
 use Rattle.auc_world.specs.declared.record.LineRecord.TheVariants.{Vector, Withheld, Exhausted, Sync, Give, Event}
 use Rattle.auc_world.specs.declared.record.Premise.{Premise}
 use Rattle.auc_world.specs.declared.record.Premise.TheVariants as premise
+use Rattle.auc_print.specs.declared.word.Word.{Word}
+use Rattle.auc_print.specs.declared.word.Word.TheVariants as words
+use Rattle.auc_print.specs.EventText.{peer_words, reason_word, server_words}
 use Rattle.auc_print.specs.Numeral.{numeral}
 use Rattle.auc_print.specs.Text.{broken_words, bytes_words, event_lines, record_words, spaced}
 
@@ -19,10 +28,47 @@ pub record IsFrontOf (front text : List ℕ) : Type 0 where
 abbrev pub after_spaces : List (List ℕ) → List ℕ
 after_spaces words = flat_map (λ word. 32 ∷ word) words
 
--- words with a space between each two
-abbrev pub joined : List (List ℕ) → List ℕ
-joined [] = []
-joined (word ∷ words) = word ++ after_spaces words
+-- ---- words as values
+
+-- a word, if it is one
+abbrev pub word_texts : Word → List (List ℕ)
+word_texts words.Nothing = []
+word_texts (words.Text text) = text.now ∷ []
+word_texts (words.Number number) = numeral number ∷ []
+word_texts (words.Hex bytes) = encode_lower bytes.now ∷ []
+word_texts (words.Sqn bytes) = encode_lower bytes ∷ []
+
+-- the words of a group
+abbrev pub group_texts : List Word → List (List ℕ)
+group_texts group = flat_map word_texts group
+
+-- ---- what an end did besides sending, in two
+
+-- without the cause of a Failure
+abbrev pub ended_words : {W : Type 0} → Step W → List (List ℕ)
+ended_words (step.Sent bytes) = []
+ended_words (step.Ended (outcome.Success keys) bytes) = codes "ended" ∷ codes "success" ∷ []
+ended_words (step.Ended (outcome.Failure why) bytes) = codes "ended" ∷ codes "failure" ∷ []
+ended_words (step.Ignored why) = codes "ignored" ∷ reason_word why ∷ []
+
+abbrev pub did_words : NoteStep → List (List ℕ)
+did_words did.Opened = codes "open" ∷ []
+did_words (did.Server what) = ended_words what
+did_words (did.Peer what) = ended_words what
+
+-- the cause of a Failure
+abbrev pub why_words : NoteStep → List (List ℕ)
+why_words did.Opened = []
+why_words (did.Server (step.Sent bytes)) = []
+why_words (did.Server (step.Ended (outcome.Success keys) bytes)) = []
+why_words (did.Server (step.Ended (outcome.Failure why) bytes)) = server_words why
+why_words (did.Server (step.Ignored why)) = []
+why_words (did.Peer (step.Sent bytes)) = []
+why_words (did.Peer (step.Ended (outcome.Success keys) bytes)) = []
+why_words (did.Peer (step.Ended (outcome.Failure why) bytes)) = peer_words why
+why_words (did.Peer (step.Ignored why)) = []
+
+-- ---- lines
 
 -- the text of lines
 abbrev pub lines_text : List (List (List ℕ)) → List ℕ

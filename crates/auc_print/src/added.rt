@@ -1,12 +1,12 @@
 //! The lines that a full print adds after an event's.
 
-ghost use Rattle.std.specs.Prelude.{◌≡◌, ◌++◌, ◌∷◌, [], OnOk};
-ghost use Rattle.hex.specs.Hex.{encode_lower};
+ghost use Rattle.std.specs.Prelude.{◌≡◌, ◌++◌, OnOk};
 ghost use Rattle.auc_print.specs.EventText.{came_lines, keys_words, packet_lines, packet_words, step_lines, step_sent, what_lines, what_sent};
-ghost use Rattle.auc_print.specs.Inner.{IsFrontOf, after_spaces, lines_text};
+ghost use Rattle.auc_print.specs.Inner.{IsFrontOf, lines_text};
 ghost use Rattle.auc_print.specs.Text.{spaced};
 
-use crate::word::{print_hex, print_number};
+use crate::word::Word;
+use crate::writer::print_line;
 use auc_edge::{NoMemory, Octets};
 use auc_hmac::KeySet;
 use auc_vector::{Outcome, Step};
@@ -44,10 +44,8 @@ fn print_packet_line(packet: u32, bytes: &[u8], out: &mut Octets) -> Result<(), 
         (out.new ≡ out.old ++ spaced (packet_words packet bytes.now)) }
     ensures grows { IsFrontOf out.old out.new }
 {
-    out.append(b"packet")?;
-    print_number(u64::from(packet), out)?;
-    print_hex(bytes, out)?;
-    out.append(b"\n")
+    let packet = Word::Number(u64::from(packet));
+    print_line(b"packet", &[packet, Word::Hex(bytes)], out)
 }
 
 /// The bytes that a step sent, if it sent any.
@@ -98,30 +96,12 @@ fn print_keys(keys: &KeySet, out: &mut Octets) -> Result<(), NoMemory>
     ensures printed { OnOk result (out.new ≡ out.old ++ spaced (keys_words keys.now)) }
     ensures grows { IsFrontOf out.old out.new }
 {
-    out.append(b"keys")?;
-    print_own_keys(keys, out)?;
-    print_session_keys(keys, out)?;
-    out.append(b"\n")
-}
-
-/// Appends K_encr, K_aut and K_re, each after a space.
-fn print_own_keys(keys: &KeySet, out: &mut Octets) -> Result<(), NoMemory>
-    ensures printed { OnOk result (out.new ≡ out.old ++ after_spaces
-        (encode_lower keys.now.k_encr ∷ encode_lower keys.now.k_aut ∷ encode_lower keys.now.k_re
-        ∷ [])) }
-    ensures grows { IsFrontOf out.old out.new }
-{
-    print_hex(&keys.k_encr, out)?;
-    print_hex(&keys.k_aut, out)?;
-    print_hex(&keys.k_re, out)
-}
-
-/// Appends MSK and EMSK, each after a space.
-fn print_session_keys(keys: &KeySet, out: &mut Octets) -> Result<(), NoMemory>
-    ensures printed { OnOk result (out.new ≡ out.old ++ after_spaces
-        (encode_lower keys.now.msk ∷ encode_lower keys.now.emsk ∷ [])) }
-    ensures grows { IsFrontOf out.old out.new }
-{
-    print_hex(&keys.msk, out)?;
-    print_hex(&keys.emsk, out)
+    let words = [
+        Word::Hex(&keys.k_encr),
+        Word::Hex(&keys.k_aut),
+        Word::Hex(&keys.k_re),
+        Word::Hex(&keys.msk),
+        Word::Hex(&keys.emsk),
+    ];
+    print_line(b"keys", &words, out)
 }

@@ -18,7 +18,8 @@ mod line;
 mod notes;
 mod round;
 mod word;
+mod writer;
 
 pub use law::each_text_has_one_transcript;
 pub use round::{print_restart, print_round};
-pub use word::append_hex_digits;
+pub use writer::append_hex_digits;

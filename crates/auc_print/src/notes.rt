@@ -1,13 +1,13 @@
 //! The notes of an event's line.
 
-ghost use Rattle.std.specs.Prelude.{◌≡◌, ◌++◌, ◌∷◌, [], ◌≤◌, length, OnOk};
-ghost use Rattle.hex.specs.Hex.{IsBytes, encode_lower};
+ghost use Rattle.std.specs.Prelude.{◌≡◌, ◌++◌, ◌∷◌, [], OnOk};
 ghost use Rattle.auc_print.specs.EventText.{counter_words, notes_words, number_words, resumed_words, resync_words, sent_words, stop_word, usim_words};
-ghost use Rattle.auc_print.specs.Inner.{IsFrontOf, after_spaces};
+ghost use Rattle.auc_print.specs.Inner.{IsFrontOf, after_spaces, group_texts};
 ghost use Rattle.auc_print.specs.Numeral.{numeral};
 ghost use Rattle.auc_print.specs.OneText.{UsimFits};
 
-use crate::word::{print_hex, print_number, print_pair, print_word};
+use crate::word::{Group, Word, none, one, pair, sqn_after, value};
+use crate::writer::print_group;
 use auc_edge::{NoMemory, Octets, Stop};
 use auc_vector::{CounterNote, Notes, NumberNote, ResyncNote, UsimNote};
 
@@ -17,115 +17,87 @@ pub fn print_notes(notes: &Notes, out: &mut Octets) -> Result<(), NoMemory>
     ensures grows { IsFrontOf out.old out.new }
     ensures fits { OnOk result (UsimFits notes.now.usim) }
 {
-    print_resync(notes.resync, out)?;
-    print_drawn(notes.number, out)?;
-    print_resumed(notes.resumed, out)?;
-    print_usim(notes.usim, out)?;
-    print_counter(notes.counter, out)
+    print_group(&words_of_resync(notes.resync), out)?;
+    print_group(&words_of_number(notes.number), out)?;
+    print_group(&words_of_resumed(notes.resumed), out)?;
+    print_group(&words_of_usim(notes.usim), out)?;
+    print_group(&words_of_counter(notes.counter), out)
 }
 
-/// Appends what the centre made of an AUTS.
-fn print_resync(note: Option<ResyncNote>, out: &mut Octets) -> Result<(), NoMemory>
-    ensures printed { OnOk result (out.new ≡ out.old ++ after_spaces (resync_words note)) }
-    ensures grows { IsFrontOf out.old out.new }
+/// What the centre made of an AUTS.
+fn words_of_resync(note: Option<ResyncNote>) -> Group<'static>
+    ensures { group_texts result ≡ resync_words note }
 {
     match note {
-        None => Ok(()),
-        Some(ResyncNote::Moved(from, to)) => print_pair(b"moved", from, to, out),
-        Some(ResyncNote::InRange(seen, seq_ms)) => print_pair(b"inrange", seen, seq_ms, out),
-        Some(ResyncNote::Beyond(seen, seq_ms)) => print_pair(b"beyond", seen, seq_ms, out),
-        Some(ResyncNote::BadAuts) => print_word(b"badauts", out),
+        None => none(),
+        Some(ResyncNote::Moved(from, to)) => pair(b"moved", from, to),
+        Some(ResyncNote::InRange(seen, seq_ms)) => pair(b"inrange", seen, seq_ms),
+        Some(ResyncNote::Beyond(seen, seq_ms)) => pair(b"beyond", seen, seq_ms),
+        Some(ResyncNote::BadAuts) => one(b"badauts"),
     }
 }
 
-/// Appends what the centre answered to a draw.
-fn print_drawn(note: Option<NumberNote>, out: &mut Octets) -> Result<(), NoMemory>
-    ensures printed { OnOk result (out.new ≡ out.old ++ after_spaces (number_words note)) }
-    ensures grows { IsFrontOf out.old out.new }
+/// What the centre answered to a draw.
+fn words_of_number(note: Option<NumberNote>) -> Group<'static>
+    ensures { group_texts result ≡ number_words note }
 {
     match note {
-        None => Ok(()),
-        Some(NumberNote::Drew(n)) => print_value(b"drew", n, out),
-        Some(NumberNote::Exhausted(word)) => print_value(b"exhausted", word, out),
-        Some(NumberNote::Withheld(n, stop)) => print_stopped(b"withheld", n, stop, out),
+        None => none(),
+        Some(NumberNote::Drew(n)) => value(b"drew", n),
+        Some(NumberNote::Exhausted(word)) => value(b"exhausted", word),
+        Some(NumberNote::Withheld(n, stop)) => stopped(b"withheld", n, stop),
     }
 }
 
-/// Appends the counter of the context that was taken up again.
-fn print_resumed(counter: Option<u16>, out: &mut Octets) -> Result<(), NoMemory>
-    ensures printed { OnOk result (out.new ≡ out.old ++ after_spaces (resumed_words counter)) }
-    ensures grows { IsFrontOf out.old out.new }
+/// The counter of the context that was taken up again.
+fn words_of_resumed(counter: Option<u16>) -> Group<'static>
+    ensures { group_texts result ≡ resumed_words counter }
 {
     match counter {
-        None => Ok(()),
-        Some(counter) => print_small(b"resumed", counter, out),
+        None => none(),
+        Some(counter) => value(b"resumed", u64::from(counter)),
     }
 }
 
-/// Appends what the USIM answered.
-fn print_usim(note: Option<UsimNote>, out: &mut Octets) -> Result<(), NoMemory>
-    ensures printed { OnOk result (out.new ≡ out.old ++ after_spaces (usim_words note)) }
-    ensures grows { IsFrontOf out.old out.new }
+/// What the USIM answered.
+fn words_of_usim(note: Option<UsimNote>) -> Group<'static>
+    ensures words { group_texts result ≡ usim_words note }
     ensures fits { UsimFits note }
 {
     match note {
-        None => Ok(()),
-        Some(UsimNote::Accepted(sqn)) => print_sqn(b"accepted", sqn, out),
-        Some(UsimNote::Sync(sqn_ms)) => print_sqn(b"sync", sqn_ms, out),
-        Some(UsimNote::WrongMac) => print_word(b"wrongmac", out),
+        None => none(),
+        Some(UsimNote::Accepted(sqn)) => sqn_after(b"accepted", sqn),
+        Some(UsimNote::Sync(sqn_ms)) => sqn_after(b"sync", sqn_ms),
+        Some(UsimNote::WrongMac) => one(b"wrongmac"),
     }
 }
 
-/// Appends what became of a counter.
-fn print_counter(note: Option<CounterNote>, out: &mut Octets) -> Result<(), NoMemory>
-    ensures printed { OnOk result (out.new ≡ out.old ++ after_spaces (counter_words note)) }
-    ensures grows { IsFrontOf out.old out.new }
+/// What became of a counter.
+fn words_of_counter(note: Option<CounterNote>) -> Group<'static>
+    ensures { group_texts result ≡ counter_words note }
 {
     match note {
-        None => Ok(()),
-        Some(CounterNote::Taken(counter)) => print_small(b"counter", counter, out),
-        Some(CounterNote::Small(counter)) => print_small(b"small", counter, out),
+        None => none(),
+        Some(CounterNote::Taken(counter)) => value(b"counter", u64::from(counter)),
+        Some(CounterNote::Small(counter)) => value(b"small", u64::from(counter)),
     }
 }
 
-/// Appends the number of the packet that was sent, if one was.
-pub fn print_sent(packet: Option<u32>, out: &mut Octets) -> Result<(), NoMemory>
-    ensures printed { OnOk result (out.new ≡ out.old ++ after_spaces (sent_words packet)) }
-    ensures grows { IsFrontOf out.old out.new }
+/// The number of the packet that was sent, if one was.
+pub fn words_of_sent(packet: Option<u32>) -> Group<'static>
+    ensures { group_texts result ≡ sent_words packet }
 {
     match packet {
-        None => Ok(()),
-        Some(packet) => print_value(b"sent", u64::from(packet), out),
+        None => none(),
+        Some(packet) => value(b"sent", u64::from(packet)),
     }
 }
 
-/// Appends a word and a number, each after a space.
-pub fn print_value(word: &[u8], number: u64, out: &mut Octets) -> Result<(), NoMemory>
-    ensures printed { OnOk result
-        (out.new ≡ out.old ++ after_spaces (word.now ∷ numeral number ∷ [])) }
-    ensures grows { IsFrontOf out.old out.new }
+/// A word, a number that was withheld, and the cause.
+pub fn stopped(text: &'static [u8], n: u64, stop: Stop) -> Group<'static>
+    ensures { group_texts result ≡ text.now ∷ numeral n ∷ stop_word stop ∷ [] }
 {
-    print_word(word, out)?;
-    print_number(number, out)
-}
-
-/// Appends a word and a number of 16 bits, each after a space.
-pub fn print_small(word: &[u8], number: u16, out: &mut Octets) -> Result<(), NoMemory>
-    ensures printed { OnOk result
-        (out.new ≡ out.old ++ after_spaces (word.now ∷ numeral number ∷ [])) }
-    ensures grows { IsFrontOf out.old out.new }
-{
-    print_value(word, u64::from(number), out)
-}
-
-/// Appends a word, a number that was withheld, and the cause, each after a space.
-pub fn print_stopped(word: &[u8], n: u64, stop: Stop, out: &mut Octets) -> Result<(), NoMemory>
-    ensures printed { OnOk result
-        (out.new ≡ out.old ++ after_spaces (word.now ∷ numeral n ∷ stop_word stop ∷ [])) }
-    ensures grows { IsFrontOf out.old out.new }
-{
-    print_value(word, n, out)?;
-    print_word(word_of(stop), out)
+    [Word::Text(text), Word::Number(n), Word::Text(word_of(stop))]
 }
 
 /// The word that says why a number was withheld.
@@ -136,15 +108,4 @@ pub fn word_of(stop: Stop) -> &'static [u8]
         Stop::Fault => b"fault",
         Stop::Full => b"full",
     }
-}
-
-/// Appends a word and an SQN, each after a space.
-pub fn print_sqn(word: &[u8], sqn: [u8; 6], out: &mut Octets) -> Result<(), NoMemory>
-    ensures printed { OnOk result
-        (out.new ≡ out.old ++ after_spaces (word.now ∷ encode_lower sqn ∷ [])) }
-    ensures grows { IsFrontOf out.old out.new }
-    ensures fits { IsBytes sqn }
-{
-    print_word(word, out)?;
-    print_hex(&sqn, out)
 }

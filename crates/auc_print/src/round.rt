@@ -1,21 +1,20 @@
 //! The text of a part of a transcript: a round or a restart.
 
-ghost use Rattle.std.specs.Prelude.{◌≡◌, ◌++◌, ◌<◌, [], drop, length, map, All, IsTrue, OnOk, OnErr, flat_map, if◌then◌else◌, slice_index_or};
+ghost use Rattle.std.specs.Prelude.{◌≡◌, ◌++◌, ◌<◌, [], drop, length, map, take, All, IsTrue, OnOk, OnErr, flat_map, if◌then◌else◌, slice_index_or};
 ghost use Rattle.auc_world.specs.Record.{IsBelow, NamesBelow, subscriber_of};
 ghost use Rattle.auc_world.specs.Vectors.{vectors_in};
-ghost use Rattle.auc_print.specs.Inner.{IsFrontOf, answers_text, job_text, left_after, premise_text};
+ghost use Rattle.auc_print.specs.Inner.{IsFrontOf, answer_text, answers_text, bytes_text, job_text, left_after, lines_text, shown_after};
 ghost use Rattle.auc_print.specs.OneText.{AnswerFits, RoundFits};
-ghost use Rattle.auc_print.specs.Text.{closing_words, end_lines, identities_of, jobs_lines, line_text, premise_lines, restart_text, round_text, session_words, spaced};
+ghost use Rattle.auc_print.specs.Text.{closing_words, end_lines, event_lines, identities_of, jobs_lines, line_text, restart_text, round_text, session_words, spaced};
 
-use crate::line::{
-    print_answer, print_broken, print_closing, print_heading, print_session_verdict,
-};
+use crate::added::print_came_lines;
+use crate::line::{print_bytes, print_closing, print_premise, print_record, print_session};
+use crate::word::Word;
+use crate::writer::print_line;
 use auc_edge::{NoMemory, Octets};
 use auc_subs::Subscribers;
 use auc_vector::Vector;
-use auc_world::{
-    Closing, JobRecord, JobVectors, LineRecord, Premise, RoundRecord, SessionVerdict, Setting,
-};
+use auc_world::{Closing, JobRecord, JobVectors, LineRecord, RoundRecord, SessionVerdict, Setting};
 
 /// Appends the text of a restart. If memory runs out, `out` stays as it was.
 pub fn print_restart(out: &mut Octets) -> Result<(), NoMemory>
@@ -71,7 +70,7 @@ fn print_lines(
     ensures grows { IsFrontOf out.old out.new }
     ensures fits { OnOk result (RoundFits round.now) }
 {
-    print_heading(b"round", round.number as u64, out)?;
+    print_line(b"round", &[Word::Number(round.number as u64)], out)?;
     print_jobs(round.jobs.as_slice(), vectors, set, full, out)?;
     print_end(round, set, full, out)
 }
@@ -101,21 +100,9 @@ fn print_sessions(sessions: &[SessionVerdict], out: &mut Octets) -> Result<(), N
     ensures grows { IsFrontOf out.old out.new }
 {
     for verdict in sessions {
-        print_session_verdict(verdict, out)?;
+        print_session(verdict, out)?;
     }
     Ok(())
-}
-
-/// Appends the line of a round's premise, if the round has sessions.
-fn print_premise(premise: Premise, out: &mut Octets) -> Result<(), NoMemory>
-    ensures printed { OnOk result (out.new ≡ out.old ++ premise_text premise) }
-    ensures grows { IsFrontOf out.old out.new }
-{
-    match premise {
-        Premise::NoSession => Ok(()),
-        Premise::Held => out.append(b"premise held\n"),
-        Premise::Broken { job, breach } => print_broken(job, breach, out),
-    }
 }
 
 /// Appends the lines of a round's jobs.
@@ -165,7 +152,7 @@ fn print_job(
     ensures grows { IsFrontOf out.old out.new }
     ensures fits { OnOk result (All AnswerFits job.now) }
 {
-    print_heading(b"job", number, out)?;
+    print_line(b"job", &[Word::Number(number)], out)?;
     print_answers(job, vectors, full, subs, out)
 }
 
@@ -191,6 +178,66 @@ fn print_answers(
         left = after(answer, left);
     }
     Ok(())
+}
+
+/// Appends the line of a job's record. If it releases a vector and vectors are left, the line of the first
+/// one's bytes follows; in a full print, so do those of an event's packet and keys.
+fn print_answer(
+    answer: &LineRecord,
+    vectors: &[Vector],
+    full: bool,
+    subs: &Subscribers,
+    out: &mut Octets,
+) -> Result<(), NoMemory>
+    requires { IsBelow (length subs.now) (subscriber_of answer.now) }
+
+    ensures printed { OnOk result
+        (out.new ≡ out.old ++ answer_text (identities_of subs.now) full answer.now vectors.now) }
+    ensures grows { IsFrontOf out.old out.new }
+    ensures fits { OnOk result (AnswerFits answer.now) }
+{
+    print_record(answer, subs, out)?;
+    print_shown(answer, vectors, out)?;
+    if full {
+        print_added(answer, out)
+    } else {
+        Ok(())
+    }
+}
+
+/// Appends the line of the first vector's bytes, if the record releases a vector and there is one.
+fn print_shown(answer: &LineRecord, vectors: &[Vector], out: &mut Octets) -> Result<(), NoMemory>
+    ensures printed { OnOk result
+        (out.new ≡ out.old ++ bytes_text (shown_after answer.now vectors.now)) }
+    ensures grows { IsFrontOf out.old out.new }
+{
+    match answer {
+        LineRecord::Vector { .. } => print_first(vectors, out),
+        LineRecord::Event(event) if event.record().vector().is_some() => print_first(vectors, out),
+        _ => Ok(()),
+    }
+}
+
+/// Appends the line of the first vector's bytes, if there is one.
+fn print_first(vectors: &[Vector], out: &mut Octets) -> Result<(), NoMemory>
+    ensures printed { OnOk result (out.new ≡ out.old ++ bytes_text (take 1 vectors.now)) }
+    ensures grows { IsFrontOf out.old out.new }
+{
+    match vectors {
+        [vector, ..] => print_bytes(vector, out),
+        [] => Ok(()),
+    }
+}
+
+/// Appends the lines that a full print adds after an event's.
+fn print_added(answer: &LineRecord, out: &mut Octets) -> Result<(), NoMemory>
+    ensures printed { OnOk result (out.new ≡ out.old ++ lines_text (event_lines answer.now)) }
+    ensures grows { IsFrontOf out.old out.new }
+{
+    match answer {
+        LineRecord::Event(event) => print_came_lines(&event.record().result, out),
+        _ => Ok(()),
+    }
 }
 
 /// The vectors that are left after a record's line.

@@ -1,149 +1,67 @@
-//! The words of a line.
+//! The words of a line as values. They take no memory.
 
-ghost use Rattle.std.specs.Prelude.{◌≡◌, ◌*◌, ◌++◌, ◌∷◌, [], ◌<◌, ◌≤◌, length, drop, flat_map, OnOk, OnErr};
-ghost use Rattle.hex.specs.Hex.{encode_lower};
-ghost use Rattle.auc_print.specs.Inner.{IsFrontOf, after_spaces};
+ghost use Rattle.std.specs.Prelude.{◌≡◌, ◌∷◌, []};
+ghost use Rattle.hex.specs.Hex.{IsBytes, encode_lower};
+ghost use Rattle.auc_print.specs.Inner.{group_texts};
 ghost use Rattle.auc_print.specs.Numeral.{numeral};
-ghost use Rattle.auc_print.specs.Text.{identities_of, imsi_of};
 
-use auc_edge::{NoMemory, Octets};
-use auc_subs::Subscribers;
-
-/// Appends a line's first word and the IMSI of a subscriber.
-pub fn print_subject(
-    word: &[u8],
-    sub: u32,
-    subs: &Subscribers,
-    out: &mut Octets,
-) -> Result<(), NoMemory>
-    requires { sub < length subs.now }
-
-    ensures printed { OnOk result
-        (out.new ≡ out.old ++ (word.now ++ 32 ∷ imsi_of (identities_of subs.now) sub)) }
-    ensures grows { IsFrontOf out.old out.new }
-{
-    out.append(word)?;
-    out.append(b" ")?;
-    subs.row(sub).imsi.write_to(out)
+/// A word of a line.
+#[derive(Clone, Copy)]
+pub enum Word<'a> {
+    /// No word: nothing is printed, no space either.
+    Nothing,
+    /// This text.
+    Text(&'a [u8]),
+    /// A number in decimal digits.
+    Number(u64),
+    /// Bytes in lower-case hexadecimal digits.
+    Hex(&'a [u8]),
+    /// An SQN in lower-case hexadecimal digits.
+    Sqn([u8; 6]),
 }
 
-/// Appends a line's first word, the IMSI of a subscriber and a number.
-pub fn print_numbered(
-    word: &[u8],
-    sub: u32,
-    number: u64,
-    subs: &Subscribers,
-    out: &mut Octets,
-) -> Result<(), NoMemory>
-    requires { sub < length subs.now }
+/// Up to three words.
+pub type Group<'a> = [Word<'a>; 3];
 
-    ensures printed { OnOk result (out.new ≡ out.old
-        ++ (word.now ++ 32 ∷ imsi_of (identities_of subs.now) sub ++ 32 ∷ numeral number)) }
-    ensures grows { IsFrontOf out.old out.new }
+/// No words.
+pub fn none() -> Group<'static>
+    ensures { group_texts result ≡ [] }
 {
-    print_subject(word, sub, subs, out)?;
-    print_number(number, out)
+    [Word::Nothing, Word::Nothing, Word::Nothing]
 }
 
-/// Appends a space and a word.
-pub fn print_word(word: &[u8], out: &mut Octets) -> Result<(), NoMemory>
-    ensures printed { OnOk result (out.new ≡ out.old ++ 32 ∷ word.now) }
-    ensures grows { IsFrontOf out.old out.new }
+/// One word.
+pub fn one(text: &[u8]) -> Group<'_>
+    ensures { group_texts result ≡ text.now ∷ [] }
 {
-    out.append(b" ")?;
-    out.append(word)
+    [Word::Text(text), Word::Nothing, Word::Nothing]
 }
 
-/// Appends numbers, each after a space.
-pub fn print_numbers(numbers: &[u64], out: &mut Octets) -> Result<(), NoMemory>
-    ensures printed { OnOk result
-        (out.new ≡ out.old ++ flat_map (λ number. 32 ∷ numeral number) numbers.now) }
-    ensures grows { IsFrontOf out.old out.new }
+/// Two words.
+pub fn two<'a>(first: &'a [u8], second: &'a [u8]) -> Group<'a>
+    ensures { group_texts result ≡ first.now ∷ second.now ∷ [] }
 {
-    for number in numbers {
-        print_number(*number, out)?;
-    }
-    Ok(())
+    [Word::Text(first), Word::Text(second), Word::Nothing]
 }
 
-/// Appends a word and two numbers, each after a space.
-pub fn print_pair(word: &[u8], first: u64, second: u64, out: &mut Octets) -> Result<(), NoMemory>
-    ensures printed { OnOk result (out.new ≡ out.old
-        ++ after_spaces (word.now ∷ numeral first ∷ numeral second ∷ [])) }
-    ensures grows { IsFrontOf out.old out.new }
+/// A word and a number.
+pub fn value(text: &[u8], number: u64) -> Group<'_>
+    ensures { group_texts result ≡ text.now ∷ numeral number ∷ [] }
 {
-    print_word(word, out)?;
-    print_number(first, out)?;
-    print_number(second, out)
+    [Word::Text(text), Word::Number(number), Word::Nothing]
 }
 
-/// Appends a space and a number.
-pub fn print_number(number: u64, out: &mut Octets) -> Result<(), NoMemory>
-    ensures printed { OnOk result (out.new ≡ out.old ++ 32 ∷ numeral number) }
-    ensures grows { IsFrontOf out.old out.new }
+/// A word and two numbers.
+pub fn pair(text: &[u8], first: u64, second: u64) -> Group<'_>
+    ensures { group_texts result ≡ text.now ∷ numeral first ∷ numeral second ∷ [] }
 {
-    let mut room = [0; 21];
-    let start = write_number(number, &mut room);
-    out.append(&room[start..])
+    [Word::Text(text), Word::Number(first), Word::Number(second)]
 }
 
-/// Writes a space and the decimal digits of a number at the end of `room`. It answers where they begin.
-fn write_number(number: u64, room: &mut [u8; 21]) -> usize
-    ensures within { result ≤ 21 }
-    ensures written { drop result room.new ≡ 32 ∷ numeral number }
+/// A word and an SQN.
+pub fn sqn_after(text: &[u8], sqn: [u8; 6]) -> Group<'_>
+    ensures words { group_texts result ≡ text.now ∷ encode_lower sqn ∷ [] }
+    ensures fits { IsBytes sqn }
 {
-    let mut place = 21;
-    let mut rest = number;
-    while rest >= 10 {
-        place -= 1;
-        room[place] = b'0' + (rest % 10) as u8;
-        rest /= 10;
-    }
-    room[place - 1] = b'0' + rest as u8;
-    room[place - 2] = b' ';
-    place - 2
-}
-
-/// Appends a space and bytes in lower-case hexadecimal digits.
-pub fn print_hex(bytes: &[u8], out: &mut Octets) -> Result<(), NoMemory>
-    ensures printed { OnOk result (out.new ≡ out.old ++ 32 ∷ encode_lower bytes.now) }
-    ensures grows { IsFrontOf out.old out.new }
-{
-    out.append(b" ")?;
-    print_all_digits(bytes, out)
-}
-
-/// Appends bytes in lower-case hexadecimal digits.
-fn print_all_digits(bytes: &[u8], out: &mut Octets) -> Result<(), NoMemory>
-    ensures printed { OnOk result (out.new ≡ out.old ++ encode_lower bytes.now) }
-    ensures grows { IsFrontOf out.old out.new }
-{
-    let mut rest = bytes;
-    while rest.len() > 16 {
-        append_hex_digits(&rest[..16], out)?;
-        rest = &rest[16..];
-    }
-    append_hex_digits(rest, out)
-}
-
-/// Appends up to 16 bytes in lower-case hexadecimal digits, two for each. If memory runs out, `out` stays
-/// as it was.
-pub fn append_hex_digits(bytes: &[u8], out: &mut Octets) -> Result<(), NoMemory>
-    requires { length bytes.now ≤ 16 }
-
-    ensures appended { OnOk result (out.new ≡ out.old ++ encode_lower bytes.now) }
-    ensures kept { OnErr result (out.new ≡ out.old) }
-{
-    let mut room = [0; 32];
-    let digits = &mut room[..2 * bytes.len()];
-    write_digits(bytes, digits);
-    out.append(digits)
-}
-
-/// Writes bytes as their lower-case hexadecimal digits, two for each.
-fn write_digits(bytes: &[u8], digits: &mut [u8])
-    requires { length digits.old ≡ 2 * length bytes.now }
-    ensures { digits.new ≡ encode_lower bytes.now }
-{
-    hex::encode_to_slice(bytes, digits).unwrap();
+    [Word::Text(text), Word::Sqn(sqn), Word::Nothing]
 }

@@ -5,7 +5,8 @@ use Rattle.auc_print.proofs.notes.print_notes.Goals as goal
 
 pub returns-clause-printed : goal.returns-clause-printed
 returns-clause-printed c =
-    on_ok_weaker c.print_counter.result
-    (λ last. notes_printed c.args.notes.now _ _ _ _ _ _ c.in_ok-print_resync.ensures.printed c.in_ok-print_drawn.ensures.printed
-    c.in_ok-print_resumed.ensures.printed c.in_ok-print_usim.ensures.printed last)
-    c.print_counter.ensures.printed
+    on_ok_weaker c.print_group-5.result
+    (λ last. notes_printed c.args.notes.now _ _ _ _ _ _ _ _ _ _ _ c.words_of_resync.ensures c.words_of_number.ensures c.words_of_resumed.ensures
+    c.words_of_usim.ensures.words c.words_of_counter.ensures c.in_ok-print_group.ensures.printed c.in_ok-print_group-2.ensures.printed
+    c.in_ok-print_group-3.ensures.printed c.in_ok-print_group-4.ensures.printed last)
+    c.print_group-5.ensures.printed

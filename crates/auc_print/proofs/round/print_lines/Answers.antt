@@ -7,5 +7,5 @@ pub returns-clause-printed : goal.returns-clause-printed
 returns-clause-printed c =
     on_ok_weaker c.print_end.result
     (λ ending. round_printed c.args.set.now c.args.full c.args.round.now _ _ _ _ _ c.as_slice.ensures
-    c.in_ok-print_heading.ensures.printed c.in_ok-print_jobs.ensures.printed ending)
+    c.in_ok-print_line.ensures.printed c.in_ok-print_jobs.ensures.printed ending)
     c.print_end.ensures.printed

@@ -3,7 +3,7 @@ use Rattle.std.proofs.Common.{◌∙◌, ap, sym, ◌∷◌, ◌-◌, arith}
 use Rattle.std.proofs.lemmas.List.{length-set}
 use Rattle.auc_print.proofs.NumberLemmas.{digit_fewer, digit_written, first_written}
 use Rattle.auc_print.proofs.NumeralLemmas.{numeral_small}
-use Rattle.auc_print.proofs.word.write_number.Goals as goal
+use Rattle.auc_print.proofs.writer.write_number.Goals as goal
 
 pub loop-rest-preserved : goal.loop-rest-preserved
 loop-rest-preserved c =

@@ -1,6 +1,6 @@
 -- The digits that are still to be written and those that were are the number's. There is room for the former and a space.
 use Rattle.std.proofs.Common.{◌≡◌, ◌-◌, ◌^◌, ◌<◌, ◌≤◌, ◌++◌, length, drop, decimal}
-use Rattle.auc_print.proofs.word.write_number.Given as goal
+use Rattle.auc_print.proofs.writer.write_number.Given as goal
 
 abbrev pub invariant-loop-rest : goal.invariant-loop-rest
 invariant-loop-rest l = record {
