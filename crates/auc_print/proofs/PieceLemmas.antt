@@ -1,5 +1,6 @@
 -- The words of a line in pieces, for the functions that print them.
 use Rattle.std.proofs.Common.{ℕ, zero, suc, List, [], ◌∷◌, ◌++◌, take, drop, slice_index, ◌/◌, ◌%◌, codes, Result, Ok, Err, OnOk, OnErr, subst, ◌≡◌, refl, ap, sym, ◌∙◌, append_assoc}
+use Rattle.std.proofs.lemmas.List.{append-nil}
 use Rattle.std.proofs.lemmas.List.Concat.{flat_map-append}
 use Rattle.hex.specs.Hex.{encode_lower, encode_with, lower_digits}
 use Rattle.auc_vector.specs.declared.notes.Notes.{Notes}
@@ -10,8 +11,8 @@ use Rattle.auc_world.specs.declared.event.Note.{Note}
 use Rattle.auc_world.specs.declared.event.NoteStep.{NoteStep}
 use Rattle.auc_world.specs.declared.event.NoteStep.TheVariants as did
 use Rattle.auc_world.specs.declared.net.Breach.{Breach}
-use Rattle.auc_print.specs.EventText.{came_words, counter_words, end_word, event_words, notes_words, number_words, resumed_words, resync_words, sent_words, step_words, usim_words}
-use Rattle.auc_print.specs.Inner.{IsFrontOf, after_spaces, did_words, why_words}
+use Rattle.auc_print.specs.EventText.{came_words, counter_words, end_word, event_words, notes_words, number_words, packet_words, resumed_words, resync_words, sent_words, step_words, usim_words}
+use Rattle.auc_print.specs.Inner.{IsFrontOf, after_spaces, did_words, lines_text, why_words}
 use Rattle.auc_print.specs.Numeral.{numeral}
 use Rattle.auc_print.specs.Text.{broken_words, spaced}
 use Rattle.auc_print.proofs.TextLemmas.{front_more}
@@ -31,13 +32,6 @@ notes_printed notes r n m u k out a b c d e r_is n_is m_is u_is k_is p q s t v =
     let same : r ++ (n ++ (m ++ (u ++ k))) ≡ notes_words notes = cc in
     spaces_more out a e r _ p (spaces_more a b e n _ q (spaces_more b c e m _ s (spaces_more c d e u k t v))) ∙ ap (λ ws. out ++ after_spaces ws) same
 
--- the words of a note
-pub note_printed : (note : Note) (sent : List (List ℕ)) (out a b c : List ℕ) → sent ≡ sent_words note.packet → a ≡ out ++ after_spaces (notes_words note.notes)
-    → b ≡ a ++ after_spaces sent → c ≡ b ++ after_spaces (step_words note.step) → c ≡ out ++ after_spaces (came_words (Ok note))
-note_printed note sent out a b c same p q r =
-    spaces_more out a c (notes_words note.notes) _ p
-    (spaces_more a b c (sent_words note.packet) (step_words note.step) (q ∙ ap (λ ws. a ++ after_spaces ws) same) r)
-
 -- what an end did, and the cause of a Failure
 step_joined : (s : NoteStep) → did_words s ++ why_words s ≡ step_words s
 step_joined did.Opened = refl
@@ -50,10 +44,16 @@ step_joined (did.Peer (step.Ended (outcome.Success keys) bytes)) = refl
 step_joined (did.Peer (step.Ended (outcome.Failure why) bytes)) = refl
 step_joined (did.Peer (step.Ignored why)) = refl
 
-pub step_printed : (s : NoteStep) (v w : List (List ℕ)) (out a b : List ℕ) → v ≡ did_words s → w ≡ why_words s → a ≡ out ++ after_spaces v
-    → b ≡ a ++ after_spaces w → b ≡ out ++ after_spaces (step_words s)
-step_printed s v w out a b v_is w_is e f =
-    let same : v ++ w ≡ did_words s ++ why_words s = cc in spaces_more out a b v w e f ∙ ap (λ ws. out ++ after_spaces ws) (same ∙ step_joined s)
+-- the words of a note
+pub note_printed : (note : Note) (s v w : List (List ℕ)) (out a b c d : List ℕ) → s ≡ sent_words note.packet → v ≡ did_words note.step → w ≡ why_words note.step
+    → a ≡ out ++ after_spaces (notes_words note.notes) → b ≡ a ++ after_spaces s → c ≡ b ++ after_spaces v → d ≡ c ++ after_spaces w
+    → d ≡ out ++ after_spaces (came_words (Ok note))
+note_printed note s v w out a b c d s_is v_is w_is p q r t =
+    let did_is : v ++ w ≡ did_words note.step ++ why_words note.step = cc in
+    let step_is : v ++ w ≡ step_words note.step = did_is ∙ step_joined note.step in
+    let more : s ++ (v ++ w) ≡ sent_words note.packet ++ step_words note.step = cc in
+    spaces_more out a d (notes_words note.notes) (s ++ (v ++ w)) p (spaces_more a b d s (v ++ w) q (spaces_more b c d v w r t))
+    ∙ ap (λ ws. out ++ after_spaces (notes_words note.notes ++ ws)) more
 
 -- a line is a front, words after it and a line feed
 pub line_printed : (front : List ℕ) (words : List (List ℕ)) (out a b c : List ℕ) → a ≡ out ++ front → b ≡ a ++ after_spaces words → c ≡ b ++ codes "\n"
@@ -76,6 +76,13 @@ pub broken_printed : (job : ℕ) (breach : Breach) (j s p : ℕ) (e out c : List
 broken_printed job breach j s p e out c j_is s_is e_is p_is printed =
     let words : codes "premise" ∷ codes "broken" ∷ numeral j ∷ numeral s ∷ e ∷ numeral p ∷ [] ≡ broken_words job breach = cc in
     printed ∙ ap (λ ws. out ++ spaced ws) words
+
+-- the line of a packet
+pub packet_printed : (packet n : ℕ) (bytes out c : List ℕ) → n ≡ packet → c ≡ out ++ spaced (codes "packet" ∷ numeral n ∷ encode_lower bytes ∷ [])
+    → c ≡ out ++ lines_text (packet_words packet bytes ∷ [])
+packet_printed packet n bytes out c same printed =
+    printed ∙ ap (λ (m : ℕ). out ++ spaced (codes "packet" ∷ numeral m ∷ encode_lower bytes ∷ [])) same
+    ∙ ap (λ t. out ++ t) (sym (append-nil (spaced (packet_words packet bytes))))
 
 -- what begins with a front still does so after a text was appended, or wasn't
 pub append_front : {A E : Type 0} (r : Result A E) (a b c x : List ℕ) → IsFrontOf a b → OnOk r (c ≡ b ++ x) → OnErr r (c ≡ b) → IsFrontOf a c

@@ -139,6 +139,14 @@ job_text_is set full number job named =
     answers_are true = full_answers set job named
     answers_are false = brief_answers set job
 
+-- the pieces that are appended for a job are its text
+pub job_printed : (identities : List Identity) (full : Bool) (number : ℕ) (job : List LineRecord) (vectors : List AuthVector) (out a b : List ℕ)
+    → a ≡ out ++ spaced (codes "job" ∷ numeral number ∷ []) → b ≡ a ++ answers_text identities full job vectors
+    → b ≡ out ++ job_text identities full number job vectors
+job_printed identities full number job vectors out a b e f =
+    f ∙ ap (λ x. x ++ answers_text identities full job vectors) e
+    ∙ append_assoc out (spaced (codes "job" ∷ numeral number ∷ [])) (answers_text identities full job vectors)
+
 -- the text so far with that of the job at a place goes on with the lines of the jobs after it
 pub jobs_step : (set : Setting) (full : Bool) (rows : List Row) (jobs : List (List LineRecord)) (vectors : List (List AuthVector)) (place : ℕ)
     (item job : List LineRecord) (own : List AuthVector) (out next : List ℕ)

@@ -1,29 +1,30 @@
 //! The lines that a full print adds after an event's.
 
 ghost use Rattle.std.specs.Prelude.{◌≡◌, ◌++◌, OnOk};
-ghost use Rattle.auc_print.specs.EventText.{came_lines, keys_words, packet_lines, packet_words, step_lines, step_sent, what_lines, what_sent};
+ghost use Rattle.auc_print.specs.EventText.{keys_words, packet_lines, step_lines, step_sent, what_lines, what_sent};
 ghost use Rattle.auc_print.specs.Inner.{IsFrontOf, lines_text};
-ghost use Rattle.auc_print.specs.Text.{spaced};
+ghost use Rattle.auc_print.specs.Text.{event_lines, spaced};
 
 use crate::word::Word;
 use crate::writer::print_line;
 use auc_edge::{NoMemory, Octets};
 use auc_hmac::KeySet;
 use auc_vector::{Outcome, Step};
-use auc_world::{Note, NoteStep, WorldRefusal};
+use auc_world::{LineRecord, NoteStep};
 
-/// Appends the lines that a full print adds: the packet that was sent, and the keys of Success.
-pub fn print_came_lines(came: &Result<Note, WorldRefusal>, out: &mut Octets) -> Result<(), NoMemory>
-    ensures printed { OnOk result (out.new ≡ out.old ++ lines_text (came_lines came.now)) }
+/// Appends the lines that a full print adds after an event's: the packet that was sent, and the keys of Success.
+pub fn print_added(answer: &LineRecord, out: &mut Octets) -> Result<(), NoMemory>
+    ensures printed { OnOk result (out.new ≡ out.old ++ lines_text (event_lines answer.now)) }
     ensures grows { IsFrontOf out.old out.new }
 {
-    match came {
-        Ok(note) => {
-            print_packet(note.packet, bytes_of_step(&note.step), out)?;
-            print_step_lines(&note.step, out)
-        }
-        Err(_) => Ok(()),
-    }
+    let LineRecord::Event(event) = answer else {
+        return Ok(());
+    };
+    let Ok(note) = &event.record().result else {
+        return Ok(());
+    };
+    print_packet(note.packet, bytes_of_step(&note.step), out)?;
+    print_step_lines(&note.step, out)
 }
 
 /// Appends the line of a packet, if there is one.
@@ -34,18 +35,11 @@ fn print_packet(packet: Option<u32>, bytes: &[u8], out: &mut Octets) -> Result<(
 {
     match packet {
         None => Ok(()),
-        Some(packet) => print_packet_line(packet, bytes, out),
+        Some(packet) => {
+            let packet = Word::Number(u64::from(packet));
+            print_line(b"packet", &[packet, Word::Hex(bytes)], out)
+        }
     }
-}
-
-/// Appends the line of a packet.
-fn print_packet_line(packet: u32, bytes: &[u8], out: &mut Octets) -> Result<(), NoMemory>
-    ensures printed { OnOk result
-        (out.new ≡ out.old ++ spaced (packet_words packet bytes.now)) }
-    ensures grows { IsFrontOf out.old out.new }
-{
-    let packet = Word::Number(u64::from(packet));
-    print_line(b"packet", &[packet, Word::Hex(bytes)], out)
 }
 
 /// The bytes that a step sent, if it sent any.

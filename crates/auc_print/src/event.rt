@@ -1,10 +1,10 @@
 //! The line of an event.
 
-ghost use Rattle.std.specs.Prelude.{◌≡◌, ◌++◌, ◌∷◌, [], Ok, OnOk};
-ghost use Rattle.auc_print.specs.EventText.{came_words, end_word, event_words, peer_words, reason_word, refusal_words, server_words, step_words};
-ghost use Rattle.auc_print.specs.Inner.{IsFrontOf, after_spaces, did_words, ended_words, group_texts, why_words, word_texts};
+ghost use Rattle.std.specs.Prelude.{◌≡◌, ◌++◌, ◌∷◌, [], OnOk};
+ghost use Rattle.auc_print.specs.EventText.{came_words, end_word, event_words, peer_words, reason_word, refusal_words, server_words};
+ghost use Rattle.auc_print.specs.Inner.{IsFrontOf, after_spaces, did_words, ended_words, group_texts, why_words};
 ghost use Rattle.auc_print.specs.Numeral.{numeral};
-ghost use Rattle.auc_print.specs.OneText.{CameFits, UsimFits};
+ghost use Rattle.auc_print.specs.OneText.{CameFits};
 ghost use Rattle.auc_print.specs.Text.{spaced};
 
 use crate::notes::{print_notes, stopped, words_of_sent};
@@ -37,20 +37,14 @@ fn print_came(came: &Result<Note, WorldRefusal>, out: &mut Octets) -> Result<(),
     ensures fits { OnOk result (CameFits came.now) }
 {
     match came {
-        Ok(note) => print_note(note, out),
+        Ok(note) => {
+            print_notes(&note.notes, out)?;
+            print_group(&words_of_sent(note.packet), out)?;
+            print_group(&words_of_step(&note.step), out)?;
+            print_group(&words_of_why(&note.step), out)
+        }
         Err(why) => print_group(&words_of_refusal(*why), out),
     }
-}
-
-/// Appends the words of the notes and of the step.
-fn print_note(note: &Note, out: &mut Octets) -> Result<(), NoMemory>
-    ensures printed { OnOk result (out.new ≡ out.old ++ after_spaces (came_words (Ok note.now))) }
-    ensures grows { IsFrontOf out.old out.new }
-    ensures fits { OnOk result (UsimFits note.now.notes.usim) }
-{
-    print_notes(&note.notes, out)?;
-    print_group(&words_of_sent(note.packet), out)?;
-    print_step(&note.step, out)
 }
 
 /// The first word of an event, and the others.
@@ -58,40 +52,40 @@ fn words_of_deed(event: &Event) -> (&'static [u8], Group<'static>)
     ensures { result.0.now ∷ group_texts result.1 ≡ event_words event.now }
 {
     match *event {
-        Event::Open(ref opening) => (b"session", number(opening.session)),
-        Event::Start(session) => (b"start", number(session)),
+        Event::Open(ref opening) => (b"session", alone(opening.session)),
+        Event::Start(session) => (b"start", alone(session)),
         Event::Deliver {
             session,
             end,
             packet,
         } => (
             b"deliver",
-            at(session, end, Word::Number(u64::from(packet))),
+            [
+                Word::Number(u64::from(session)),
+                Word::Text(word_of_end(end)),
+                Word::Number(u64::from(packet)),
+            ],
         ),
-        Event::Repeat(session) => (b"repeat", number(session)),
-        Event::GiveUp { session, end } => (b"giveup", at(session, end, Word::Nothing)),
+        Event::Repeat(session) => (b"repeat", alone(session)),
+        Event::GiveUp { session, end } => (
+            b"giveup",
+            [
+                Word::Number(u64::from(session)),
+                Word::Text(word_of_end(end)),
+                Word::Nothing,
+            ],
+        ),
     }
 }
 
-/// A session.
-fn number(session: u32) -> Group<'static>
+/// A session alone.
+fn alone(session: u32) -> Group<'static>
     ensures { group_texts result ≡ numeral session ∷ [] }
 {
     [
         Word::Number(u64::from(session)),
         Word::Nothing,
         Word::Nothing,
-    ]
-}
-
-/// A session, an end and a further word.
-fn at<'a>(session: u32, end: End, more: Word<'a>) -> Group<'a>
-    ensures { group_texts result ≡ numeral session ∷ end_word end ∷ word_texts more.entry }
-{
-    [
-        Word::Number(u64::from(session)),
-        Word::Text(word_of_end(end)),
-        more,
     ]
 }
 
@@ -114,15 +108,6 @@ fn words_of_refusal(why: WorldRefusal) -> Group<'static>
         WorldRefusal::NoSuchEnd => one(b"nosuchend"),
         WorldRefusal::Started => one(b"started"),
     }
-}
-
-/// Appends what an end did besides sending, and the cause of a Failure.
-fn print_step(step: &NoteStep, out: &mut Octets) -> Result<(), NoMemory>
-    ensures printed { OnOk result (out.new ≡ out.old ++ after_spaces (step_words step.now)) }
-    ensures grows { IsFrontOf out.old out.new }
-{
-    print_group(&words_of_step(step), out)?;
-    print_group(&words_of_why(step), out)
 }
 
 /// What an end did besides sending, without the cause of a Failure.

@@ -1,12 +1,11 @@
 //! The lines of a round.
 
-ghost use Rattle.std.specs.Prelude.{◌≡◌, ◌++◌, ◌∷◌, [], ◌<◌, codes, length, OnOk};
-ghost use Rattle.hex.specs.Hex.{IsBytes, encode_lower};
+ghost use Rattle.std.specs.Prelude.{◌≡◌, ◌++◌, ◌∷◌, [], ◌<◌, codes, flat_map, length, take, All, OnOk};
 ghost use Rattle.auc_world.specs.Record.{IsBelow, subscriber_of};
-ghost use Rattle.auc_print.specs.Inner.{IsFrontOf, group_texts, premise_text};
+ghost use Rattle.auc_print.specs.Inner.{IsFrontOf, bytes_text, group_texts, premise_text};
 ghost use Rattle.auc_print.specs.Numeral.{numeral};
 ghost use Rattle.auc_print.specs.OneText.{AnswerFits, GiveFits};
-ghost use Rattle.auc_print.specs.Text.{agree_word, broken_words, bytes_words, closing_words, give_words, identities_of, record_words, session_words, spaced, sync_words};
+ghost use Rattle.auc_print.specs.Text.{agree_word, broken_words, closing_words, give_words, identities_of, record_words, session_words, spaced, sync_words};
 
 use crate::event::{print_event, word_of_end};
 use crate::notes::word_of;
@@ -70,50 +69,50 @@ fn words_of_give(n: u64, verdict: GiveVerdict) -> Group<'static>
 {
     match verdict {
         GiveVerdict::Accepted => [Word::Number(n), Word::Text(b"accepted"), Word::Nothing],
-        GiveVerdict::Sync(sqn_ms) => synchronising(n, sqn_ms),
+        GiveVerdict::Sync(sqn_ms) => [Word::Number(n), Word::Text(b"sync"), Word::Sqn(sqn_ms)],
         GiveVerdict::Absent => [Word::Number(n), Word::Text(b"absent"), Word::Nothing],
     }
 }
 
-/// The number of a vector, and the SQN of a synchronisation failure.
-fn synchronising(n: u64, sqn_ms: [u8; 6]) -> Group<'static>
-    ensures words { group_texts result ≡ numeral n ∷ codes "sync" ∷ encode_lower sqn_ms ∷ [] }
-    ensures fits { IsBytes sqn_ms }
-{
-    [Word::Number(n), Word::Text(b"sync"), Word::Sqn(sqn_ms)]
-}
-
-/// Appends the line of a closing.
-pub fn print_closing(
-    closing: &Closing,
+/// Appends the lines of a round's closings.
+pub fn print_closings(
+    closings: &[Closing],
     subs: &Subscribers,
     out: &mut Octets,
 ) -> Result<(), NoMemory>
-    requires { closing.now.sub < length subs.now }
+    requires { All (λ closing. closing.sub < length subs.now) closings.now }
 
-    ensures printed { OnOk result
-        (out.new ≡ out.old ++ spaced (closing_words (identities_of subs.now) closing.now)) }
+    ensures printed { OnOk result (out.new ≡ out.old
+        ++ flat_map (λ closing. spaced (closing_words (identities_of subs.now) closing))
+        closings.now) }
     ensures grows { IsFrontOf out.old out.new }
 {
-    let words = [
-        Word::Number(closing.first),
-        Word::Number(closing.last),
-        Word::Number(closing.drawn),
-        Word::Number(closing.skipped),
-        Word::Number(closing.released),
-        Word::Number(closing.withheld),
-    ];
-    print_named(b"closed", closing.sub, &words, subs, out)
+    for closing in closings {
+        let words = [
+            Word::Number(closing.first),
+            Word::Number(closing.last),
+            Word::Number(closing.drawn),
+            Word::Number(closing.skipped),
+            Word::Number(closing.released),
+            Word::Number(closing.withheld),
+        ];
+        print_named(b"closed", closing.sub, &words, subs, out)?;
+    }
+    Ok(())
 }
 
-/// Appends the line of the verdict on a session.
-pub fn print_session(verdict: &SessionVerdict, out: &mut Octets) -> Result<(), NoMemory>
-    ensures printed { OnOk result (out.new ≡ out.old ++ spaced (session_words verdict.now)) }
+/// Appends the lines of the verdicts on a round's sessions.
+pub fn print_sessions(sessions: &[SessionVerdict], out: &mut Octets) -> Result<(), NoMemory>
+    ensures printed { OnOk result (out.new ≡ out.old
+        ++ flat_map (λ verdict. spaced (session_words verdict)) sessions.now) }
     ensures grows { IsFrontOf out.old out.new }
 {
-    let session = Word::Number(u64::from(verdict.session));
-    let agree = Word::Text(word_of_verdict(verdict.agree));
-    print_line(b"session", &[session, agree], out)
+    for verdict in sessions {
+        let session = Word::Number(u64::from(verdict.session));
+        let agree = Word::Text(word_of_verdict(verdict.agree));
+        print_line(b"session", &[session, agree], out)?;
+    }
+    Ok(())
 }
 
 /// The word that says whether the keys of a session's ends are equal.
@@ -150,11 +149,14 @@ fn print_broken(job: u32, breach: Breach, out: &mut Octets) -> Result<(), NoMemo
     print_line(b"premise", &words, out)
 }
 
-/// Appends the line of a vector's bytes.
-pub fn print_bytes(vector: &Vector, out: &mut Octets) -> Result<(), NoMemory>
-    ensures printed { OnOk result (out.new ≡ out.old ++ spaced (bytes_words vector.now)) }
+/// Appends the line of the first vector's bytes, if there is one.
+pub fn print_first(vectors: &[Vector], out: &mut Octets) -> Result<(), NoMemory>
+    ensures printed { OnOk result (out.new ≡ out.old ++ bytes_text (take 1 vectors.now)) }
     ensures grows { IsFrontOf out.old out.new }
 {
+    let [vector, ..] = vectors else {
+        return Ok(());
+    };
     let words = [
         Word::Hex(&vector.rand),
         Word::Hex(&vector.autn),

@@ -1,20 +1,20 @@
 //! The text of a part of a transcript: a round or a restart.
 
-ghost use Rattle.std.specs.Prelude.{◌≡◌, ◌++◌, ◌<◌, [], drop, length, map, take, All, IsTrue, OnOk, OnErr, flat_map, if◌then◌else◌, slice_index_or};
+ghost use Rattle.std.specs.Prelude.{◌≡◌, ◌++◌, ◌<◌, [], drop, length, map, All, IsTrue, OnOk, OnErr, flat_map, if◌then◌else◌, slice_index_or};
 ghost use Rattle.auc_world.specs.Record.{IsBelow, NamesBelow, subscriber_of};
 ghost use Rattle.auc_world.specs.Vectors.{vectors_in};
-ghost use Rattle.auc_print.specs.Inner.{IsFrontOf, answer_text, answers_text, bytes_text, job_text, left_after, lines_text, shown_after};
+ghost use Rattle.auc_print.specs.Inner.{IsFrontOf, answer_text, answers_text, bytes_text, left_after, shown_after};
 ghost use Rattle.auc_print.specs.OneText.{AnswerFits, RoundFits};
-ghost use Rattle.auc_print.specs.Text.{closing_words, end_lines, event_lines, identities_of, jobs_lines, line_text, restart_text, round_text, session_words, spaced};
+ghost use Rattle.auc_print.specs.Text.{identities_of, jobs_lines, line_text, restart_text, round_text};
 
-use crate::added::print_came_lines;
-use crate::line::{print_bytes, print_closing, print_premise, print_record, print_session};
+use crate::added::print_added;
+use crate::line::{print_closings, print_first, print_premise, print_record, print_sessions};
 use crate::word::Word;
 use crate::writer::print_line;
 use auc_edge::{NoMemory, Octets};
 use auc_subs::Subscribers;
 use auc_vector::Vector;
-use auc_world::{Closing, JobRecord, JobVectors, LineRecord, RoundRecord, SessionVerdict, Setting};
+use auc_world::{JobRecord, JobVectors, LineRecord, RoundRecord, Setting};
 
 /// Appends the text of a restart. If memory runs out, `out` stays as it was.
 pub fn print_restart(out: &mut Octets) -> Result<(), NoMemory>
@@ -72,37 +72,9 @@ fn print_lines(
 {
     print_line(b"round", &[Word::Number(round.number as u64)], out)?;
     print_jobs(round.jobs.as_slice(), vectors, set, full, out)?;
-    print_end(round, set, full, out)
-}
-
-/// Appends the lines after a round's jobs.
-fn print_end(
-    round: &RoundRecord,
-    set: &Setting,
-    full: bool,
-    out: &mut Octets,
-) -> Result<(), NoMemory>
-    requires { All (λ closing. closing.sub < length set.now.rows) round.now.closings }
-
-    ensures printed { OnOk result (out.new ≡ out.old
-        ++ flat_map (line_text set.now full) (end_lines round.now)) }
-    ensures grows { IsFrontOf out.old out.new }
-{
     print_closings(round.closings.as_slice(), set.subs, out)?;
     print_sessions(round.sessions.as_slice(), out)?;
     print_premise(round.premise, out)
-}
-
-/// Appends the lines of the verdicts on a round's sessions.
-fn print_sessions(sessions: &[SessionVerdict], out: &mut Octets) -> Result<(), NoMemory>
-    ensures printed { OnOk result (out.new ≡ out.old
-        ++ flat_map (λ verdict. spaced (session_words verdict)) sessions.now) }
-    ensures grows { IsFrontOf out.old out.new }
-{
-    for verdict in sessions {
-        print_session(verdict, out)?;
-    }
-    Ok(())
 }
 
 /// Appends the lines of a round's jobs.
@@ -122,8 +94,9 @@ fn print_jobs(
     ensures fits { OnOk result (All (All AnswerFits) jobs.now) }
 {
     for (place, job) in jobs.iter().enumerate() {
+        print_line(b"job", &[Word::Number(place as u64 + 1)], out)?;
         let own = vectors_of(vectors, place, full);
-        print_job(place as u64 + 1, job.as_slice(), own, full, set.subs, out)?;
+        print_answers(job.as_slice(), own, full, set.subs, out)?;
     }
     Ok(())
 }
@@ -134,26 +107,6 @@ fn vectors_of(vectors: &[JobVectors], place: usize, full: bool) -> &[Vector]
     ensures { result.now ≡ (if full then slice_index_or vectors.now place [] else []) }
 {
     if full { vectors[place].as_slice() } else { &[] }
-}
-
-/// Appends a job's lines: its own and those of its records, with the bytes of these vectors.
-fn print_job(
-    number: u64,
-    job: &[LineRecord],
-    vectors: &[Vector],
-    full: bool,
-    subs: &Subscribers,
-    out: &mut Octets,
-) -> Result<(), NoMemory>
-    requires { All (λ answer. IsBelow (length subs.now) (subscriber_of answer)) job.now }
-
-    ensures printed { OnOk result (out.new ≡ out.old
-        ++ job_text (identities_of subs.now) full number job.now vectors.now) }
-    ensures grows { IsFrontOf out.old out.new }
-    ensures fits { OnOk result (All AnswerFits job.now) }
-{
-    print_line(b"job", &[Word::Number(number)], out)?;
-    print_answers(job, vectors, full, subs, out)
 }
 
 /// Appends the lines of a job's records. The i-th line that releases a vector is followed by the bytes of the
@@ -218,28 +171,6 @@ fn print_shown(answer: &LineRecord, vectors: &[Vector], out: &mut Octets) -> Res
     }
 }
 
-/// Appends the line of the first vector's bytes, if there is one.
-fn print_first(vectors: &[Vector], out: &mut Octets) -> Result<(), NoMemory>
-    ensures printed { OnOk result (out.new ≡ out.old ++ bytes_text (take 1 vectors.now)) }
-    ensures grows { IsFrontOf out.old out.new }
-{
-    match vectors {
-        [vector, ..] => print_bytes(vector, out),
-        [] => Ok(()),
-    }
-}
-
-/// Appends the lines that a full print adds after an event's.
-fn print_added(answer: &LineRecord, out: &mut Octets) -> Result<(), NoMemory>
-    ensures printed { OnOk result (out.new ≡ out.old ++ lines_text (event_lines answer.now)) }
-    ensures grows { IsFrontOf out.old out.new }
-{
-    match answer {
-        LineRecord::Event(event) => print_came_lines(&event.record().result, out),
-        _ => Ok(()),
-    }
-}
-
 /// The vectors that are left after a record's line.
 fn after<'a>(answer: &LineRecord, vectors: &'a [Vector]) -> &'a [Vector]
     ensures { result.now ≡ left_after answer.now vectors.now }
@@ -259,23 +190,4 @@ fn behind_first(vectors: &[Vector]) -> &[Vector]
         [_, left @ ..] => left,
         [] => vectors,
     }
-}
-
-/// Appends the lines of a round's closings.
-fn print_closings(
-    closings: &[Closing],
-    subs: &Subscribers,
-    out: &mut Octets,
-) -> Result<(), NoMemory>
-    requires { All (λ closing. closing.sub < length subs.now) closings.now }
-
-    ensures printed { OnOk result (out.new ≡ out.old
-        ++ flat_map (λ closing. spaced (closing_words (identities_of subs.now) closing))
-        closings.now) }
-    ensures grows { IsFrontOf out.old out.new }
-{
-    for closing in closings {
-        print_closing(closing, subs, out)?;
-    }
-    Ok(())
 }

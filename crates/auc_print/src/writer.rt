@@ -1,6 +1,6 @@
 //! The one writer: it appends the words of a line.
 
-ghost use Rattle.std.specs.Prelude.{◌≡◌, ◌*◌, ◌++◌, ◌∷◌, ◌<◌, ◌≤◌, length, drop, OnOk, OnErr};
+ghost use Rattle.std.specs.Prelude.{◌≡◌, ◌++◌, ◌∷◌, ◌<◌, ◌≤◌, length, drop, OnOk, OnErr};
 ghost use Rattle.hex.specs.Hex.{encode_lower};
 ghost use Rattle.auc_print.specs.Inner.{IsFrontOf, after_spaces, group_texts, word_texts};
 ghost use Rattle.auc_print.specs.Numeral.{numeral};
@@ -75,20 +75,14 @@ fn print_word(word: Word<'_>, out: &mut Octets) -> Result<(), NoMemory>
 {
     match word {
         Word::Nothing => Ok(()),
-        Word::Text(text) => print_text(text, out),
+        Word::Text(text) => {
+            out.append(b" ")?;
+            out.append(text)
+        }
         Word::Number(number) => print_number(number, out),
         Word::Hex(bytes) => print_hex(bytes, out),
         Word::Sqn(sqn) => print_hex(&sqn, out),
     }
-}
-
-/// Appends a space and a text.
-fn print_text(text: &[u8], out: &mut Octets) -> Result<(), NoMemory>
-    ensures printed { OnOk result (out.new ≡ out.old ++ 32 ∷ text.now) }
-    ensures grows { IsFrontOf out.old out.new }
-{
-    out.append(b" ")?;
-    out.append(text)
 }
 
 /// Appends a space and a number.
@@ -124,14 +118,6 @@ fn print_hex(bytes: &[u8], out: &mut Octets) -> Result<(), NoMemory>
     ensures grows { IsFrontOf out.old out.new }
 {
     out.append(b" ")?;
-    print_all_digits(bytes, out)
-}
-
-/// Appends bytes in lower-case hexadecimal digits.
-fn print_all_digits(bytes: &[u8], out: &mut Octets) -> Result<(), NoMemory>
-    ensures printed { OnOk result (out.new ≡ out.old ++ encode_lower bytes.now) }
-    ensures grows { IsFrontOf out.old out.new }
-{
     let mut rest = bytes;
     while rest.len() > 16 {
         append_hex_digits(&rest[..16], out)?;
@@ -150,14 +136,6 @@ pub fn append_hex_digits(bytes: &[u8], out: &mut Octets) -> Result<(), NoMemory>
 {
     let mut room = [0; 32];
     let digits = &mut room[..2 * bytes.len()];
-    write_digits(bytes, digits);
+    hex::encode_to_slice(bytes, &mut *digits).unwrap();
     out.append(digits)
-}
-
-/// Writes bytes as their lower-case hexadecimal digits, two for each.
-fn write_digits(bytes: &[u8], digits: &mut [u8])
-    requires { length digits.old ≡ 2 * length bytes.now }
-    ensures { digits.new ≡ encode_lower bytes.now }
-{
-    hex::encode_to_slice(bytes, digits).unwrap();
 }

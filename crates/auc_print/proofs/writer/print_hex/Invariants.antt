@@ -2,7 +2,7 @@
 use Rattle.std.proofs.Common.{◌≡◌, ◌++◌, length}
 use Rattle.hex.specs.Hex.{encode_lower}
 use Rattle.auc_print.specs.Inner.{IsFrontOf}
-use Rattle.auc_print.proofs.writer.print_all_digits.Given as goal
+use Rattle.auc_print.proofs.writer.print_hex.Given as goal
 
 abbrev pub invariant-loop-rest : goal.invariant-loop-rest
 invariant-loop-rest l = record {

@@ -3,7 +3,7 @@ use Rattle.std.proofs.Common.{refl, arith}
 use Rattle.std.proofs.lemmas.List.{length-drop, take_all}
 use Rattle.auc_print.proofs.PieceLemmas.{digits_more}
 use Rattle.auc_print.proofs.TextLemmas.{front_more}
-use Rattle.auc_print.proofs.writer.print_all_digits.Goals as goal
+use Rattle.auc_print.proofs.writer.print_hex.Goals as goal
 
 pub loop-rest-preserved : goal.loop-rest-preserved
 loop-rest-preserved c =
