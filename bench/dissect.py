@@ -18,11 +18,11 @@ from pathlib import Path
 from measure import TOP, program
 
 sys.path += [str(TOP / "examples"), str(TOP / "tools")]
+from eap.attributes import AT_IDENTITY, places_in
+from eap.messages import METHODS
 from ends import run_main
 from full import transcripts
 
-METHODS = (23, 50)
-AT_IDENTITY = 14
 FIELDS = ["eap.code", "eap.id", "eap.len", "eap.aka.subtype", "eap.aka.subtype.type", "_ws.malformed"]
 
 
@@ -36,12 +36,9 @@ def sent(transcript):
 
 
 def attributes(packet):
-    found, place = [], 8
-    while len(packet) > 8 and packet[4] in METHODS and place < len(packet):
-        size = 4 * packet[place + 1]
-        found.append((packet[place], packet[place + 2 : place + size]))
-        place += size
-    return found
+    """The type and the value of each attribute."""
+    is_message = len(packet) > 8 and packet[4] in METHODS
+    return [(kind, packet[start:end]) for kind, start, end in places_in(packet, 8)] if is_message else []
 
 
 def has_empty_identity(packet):

@@ -7,7 +7,7 @@ Each pair has N sessions, 5 unless it is given. PROGRAM of our ends is crates/au
 on the PATH, unless they are given. --packets prints the packets of each session.
 
 Our ends are those of the program of crates/auc_ends_cli, which is kept running. The vectors for hostapd and the answers of
-wpa_supplicant's USIM are made by the Milenage of tools/eap_rows.py, under the key of the program's subscriber. The USIM is ahead
+wpa_supplicant's USIM are made by the Milenage of tools/eap, under the key of the program's subscriber. The USIM is ahead
 at first, so the first challenge ends in a resynchronisation. Pseudonyms and re-authentication identities are given.
 
 Our peer with hostapd, of each five sessions: a full authentication; a re-authentication by the identity of EAP; one by that of
@@ -44,8 +44,11 @@ if __name__ == "__main__":
 
 import foreign_trial
 import foreign_verdict
-from eap_rows import Functions, Usim, auts_of, autn_of, rand_of, xor
-from foreign_ours import PROGRAM, Program, Subscriber
+from eap.lines import RANDOM_KEY
+from eap.session import Row, Subscriber
+from eap.streams import rand_of
+from eap.usim import Usim, sqn_of
+from foreign_ours import PROGRAM, Program
 from foreign_radius import Radius
 from foreign_verdict import AFTER_SYNC, AGAIN, FULL
 
@@ -86,32 +89,32 @@ class Centre:
     """Draws hostapd's vectors, from number 1 on."""
 
     def __init__(self):
-        self.number = 0
+        self.row = Row(Subscriber())
 
     def play(self, sockets):
         while True:
             asked, sender = sockets.recvfrom(4096)
             word, imsi, *rest = asked.decode().split()
             if word == "AKA-REQ-AUTH":
-                self.number += 1
                 sockets.sendto(f"AKA-RESP-AUTH {imsi} {self.vector()}".encode(), sender)
             elif word == "AKA-AUTS":
                 self.resynchronise(*map(bytes.fromhex, rest))
 
     def vector(self):
-        rand = rand_of(self.number)
-        f = Functions(rand)
-        return " ".join(it.hex() for it in (rand, autn_of(self.number, rand), f.ik, f.ck, f.res))
+        number = self.row.draw()
+        rand = rand_of(RANDOM_KEY, self.row.place, number)
+        f = self.row.subscriber.functions(rand)
+        return " ".join(it.hex() for it in (rand, f.autn(sqn_of(number), self.row.amf), f.ik, f.ck, f.res))
 
     def resynchronise(self, auts, rand):
-        number = int.from_bytes(xor(auts[:6], Functions(rand).ak_star)) >> 5
-        if auts == auts_of(number, rand):
-            self.number = max(self.number, number)
+        sqn_ms = self.row.subscriber.functions(rand).sqn_in(auts)
+        if sqn_ms is not None:
+            self.row.resynchronise(sqn_ms)
 
 
 def usim():
     """What wpa_supplicant's USIM answers to each challenge."""
-    array = Usim(AHEAD)
+    array = Usim(Subscriber().functions, AHEAD)
 
     def answer(rand, autn):
         _, f, auts = array.challenge(bytes.fromhex(rand), bytes.fromhex(autn))

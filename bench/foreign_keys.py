@@ -4,13 +4,12 @@
     bench/foreign_keys.py
 
 By each method the two run a full authentication and two fast re-authentications with each other. The keys that hostapd
-writes into its log have to be those that bench/network.py makes from the same master key, identity, counter and NONCE_S
-(RFC 4187 §7, RFC 9048 §3.3); network.py in its turn is compared with the program by bench/random_sessions.py. It needs
+writes into its log have to be those that tools/eap makes from the same master key, identity, counter and NONCE_S (RFC 4187 §7,
+RFC 9048 §3.3); tools/eap in its turn is compared with the program by bench/random_sessions.py. It needs
 Debian's packages hostapd and eapoltest, and Python's `cryptography`. The exit status is 0 only if all keys are equal.
 """
 import re
 import sys
-from collections import namedtuple
 
 import hostapd
 from measure import TOP
@@ -21,9 +20,9 @@ from ends import needs, run_main
 if __name__ == "__main__":
     needs("cryptography", __doc__)
 
-from network import TYPES, Renewed
+from eap.keys import renewed
+from network import TYPES
 
-Master = namedtuple("Master", "encr aut master")
 METHODS = {"aka": "AKA", "prime": "AKA'"}
 RENEWALS = 2
 # What a line of the log tells; a text, a counter and bytes in hex are told apart by their groups.
@@ -55,9 +54,8 @@ def renewals(log):
 
 
 def are_equal(method, told):
-    master = Master(told["encr"], told["aut"], told["master"])
-    keys = Renewed(TYPES[method], master, told["identity"], told["counter"], told["nonce"])
-    return keys.words[3:5] == [told["msk"], told["emsk"]]
+    keys = renewed(TYPES[method], told["master"], told["identity"], told["counter"], told["nonce"])
+    return keys == [told["msk"], told["emsk"]]
 
 
 def main():

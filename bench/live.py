@@ -26,14 +26,14 @@ import time
 from pathlib import Path
 
 import hostapd
-from measure import KEYS, TOP
+from journal import imsi
+from measure import HEADER, KEYS, TOP
 
 sys.path.append(str(TOP / "tools"))
-from aka_functions import xor
+from eap.usim import seq_of, sqn_of
 from ends import run_main
 from gateway_centre import Subscriber
 
-HEADER = "imsi,k,kind,op,amf,seq,usim\n"
 # The leading digit of the permanent identity of each method, and where its USIM is opened.
 METHODS = {"AKA": ("0", 500), "AKA'": ("6", 5000), "SIM": ("1", 0)}
 SESSIONS, CLIENTS, SUBSCRIBERS = 3, 4, 12
@@ -52,12 +52,8 @@ def options():
     return parser.parse_args()
 
 
-def imsi_of(place):
-    return f"00101{place:010}"
-
-
 def row_of(place):
-    return Subscriber(imsi_of(place), *KEYS)
+    return Subscriber(imsi(place), *KEYS)
 
 
 class Gateway:
@@ -68,7 +64,7 @@ class Gateway:
         self.path = folder / "centre"
         (folder / "journal").mkdir()
         rows = [",".join(row_of(place)) + "\n" for place in range(subscribers)]
-        (folder / "subscribers").write_text(HEADER + "".join(rows))
+        (folder / "subscribers").write_text(f"{HEADER}\n" + "".join(rows))
         self.child = None
 
     def start(self):
@@ -114,7 +110,7 @@ def ran_sessions(folder, port, method):
     """Runs some sessions of eapol_test by a method: what its USIM found."""
     number = METHODS[method][1]
     words = ["eapol_test", "-c", folder / "peer.conf", "-p", str(port), "-r", str(SESSIONS - 1), "-t", "60", "-W"]
-    usim_words = [TOP / "tools/usim", folder / "ctrl/test", folder / "subscribers", imsi_of(0), "--number", str(number)]
+    usim_words = [TOP / "tools/usim", folder / "ctrl/test", folder / "subscribers", imsi(0), "--number", str(number)]
     with open(folder / "peer.log", "w") as log:
         peer = subprocess.Popen(words, stdout=log, stderr=subprocess.STDOUT)
     usim = subprocess.Popen(usim_words, stdout=subprocess.PIPE, text=True)
@@ -128,7 +124,7 @@ def try_method(given, method):
     with tempfile.TemporaryDirectory(dir="/tmp") as name:
         folder, port = Path(name), hostapd.free_port()
         hostapd.write_files(folder, port, method)
-        (folder / "peer.conf").write_text((folder / "peer.conf").read_text().replace(hostapd.IMSI, imsi_of(0)))
+        (folder / "peer.conf").write_text((folder / "peer.conf").read_text().replace(hostapd.IMSI, imsi(0)))
         gateway = Gateway(folder, given, 1)
         try:
             gateway.start()
@@ -188,18 +184,16 @@ class Client(threading.Thread):
         rand, autn = (bytes.fromhex(word) for word in words[2:4])
         row = self.rows[int(words[1][5:])]
         f = row.functions(rand)
-        sqn = xor(autn[:6], f.ak)
-        assert f.f1(sqn, autn[6:8])[0] == autn[8:], words
+        sqn = f.sqn_of(autn)
+        assert f.is_right(autn), words
         self.sqns.append((row.imsi, int.from_bytes(sqn, "big")))
         if self.chance.random() < 0.05:
-            self.resynchronise(row, rand, f, int.from_bytes(sqn, "big") >> 5)
+            self.resynchronise(row, rand, f, seq_of(sqn))
 
     def resynchronise(self, row, rand, f, seq):
         """Sends an AUTS whose SEQ is somewhat above or below what was received; at times a wrong one, or an old one."""
         seq = max(0, seq + self.chance.randrange(-200, 400))
-        sqn = (32 * seq + seq % 32).to_bytes(6, "big")
-        auts = xor(sqn, f.ak_star) + f.f1(sqn, bytes(2))[1]
-        said = f"AKA-AUTS {row.imsi} {auts.hex()} {rand.hex()}"
+        said = f"AKA-AUTS {row.imsi} {f.auts(sqn_of(seq)).hex()} {rand.hex()}"
         what = self.chance.randrange(3)
         if what == 1:
             said = said[:-1] + ("0" if said[-1] != "0" else "1")

@@ -2,11 +2,11 @@
 import os
 import subprocess
 import sys
-import tempfile
 from pathlib import Path
 
 TOP = Path(__file__).resolve().parent.parent
-KEYS = ("465b5ce8b199b49faa5f0a2ee238a6bc", "opc", "cd63cb71954a9f4e48a5994e37a02baf", "8000", "0", "0")
+sys.path.append(str(TOP / "tools"))
+from trial import HEADER, KEYS, folder_with
 
 
 def program():
@@ -14,14 +14,19 @@ def program():
     return str(Path(sys.argv[1]).resolve()) if len(sys.argv) > 1 else str(TOP / "crates/auc_cli/out/auc_cli")
 
 
-def measured(words, prefix):
-    """Runs the program with these words: its own processor seconds, its greatest resident bytes, its status, and
-    how many of its lines begin with the prefix."""
-    with tempfile.TemporaryDirectory() as folder:
+def followed(words, read):
+    """Runs the program with these words in a new folder, and reads its lines while it runs: its own processor seconds, its
+    greatest resident bytes, its status, and what was read."""
+    with folder_with() as folder:
         child = subprocess.Popen([program(), *words], cwd=folder, stdout=subprocess.PIPE)
-        lines = sum(line.startswith(prefix) for line in child.stdout)
+        found = read(child.stdout)
         _, status, usage = os.wait4(child.pid, 0)
-    return usage.ru_utime + usage.ru_stime, usage.ru_maxrss * 1024, os.waitstatus_to_exitcode(status), lines
+    return usage.ru_utime + usage.ru_stime, usage.ru_maxrss * 1024, os.waitstatus_to_exitcode(status), found
+
+
+def measured(words, prefix):
+    """The same, of how many lines begin with a prefix."""
+    return followed(words, lambda lines: sum(line.startswith(prefix) for line in lines))
 
 
 def ratio(seconds, before):

@@ -18,7 +18,7 @@ replayed    the AUTS of a USIM that accepted SEQ 100 is handed in; after 50 vect
 end         vectors are asked for at the last number but one, 3 or more
 
 hlr_auc_gw's text file has no lock. libosmogsm keeps nothing: its caller hands it a number and gets the next, so the first three
-trials aren't its own. SQN and AUTS are made by tools/aka_functions.py.
+trials aren't its own. SQN and AUTS are made by tools/eap.
 """
 import argparse
 import datetime
@@ -33,7 +33,7 @@ from pathlib import Path
 
 from journal import NAME, run, write_scenario
 from measure import KEYS, TOP
-from rivals import IMSI, LAST, Library, Milenage, OsmoHlr, Sqlite, TextFile
+from rivals import IMSI, LAST, Library, OsmoHlr, Sqlite, TextFile, auts_of, sqns_of
 
 sys.path.append(str(TOP / "tools"))
 from ends import run_main
@@ -162,7 +162,7 @@ class Rival:
     """Another implementation in each trial, over a store in a folder of its own."""
 
     def __init__(self, kind, program, folder):
-        self.rival, self.milenage = kind(program, folder), Milenage()
+        self.rival = kind(program, folder)
         self.keeps = self.rival.keeps
 
     def killed(self):
@@ -172,7 +172,7 @@ class Rival:
             client = self.rival.start()
             vectors += client.vectors()
             client.end()
-        return came_again(self.milenage.sqns(vectors))
+        return came_again(sqns_of(vectors))
 
     def two(self):
         self.rival.store()
@@ -182,7 +182,7 @@ class Rival:
         for client in both:
             client.end()
         vectors = [vector for got, _ in done for vector in got]
-        return came_again(self.milenage.sqns(vectors), sum(refused for _, refused in done))
+        return came_again(sqns_of(vectors), sum(refused for _, refused in done))
 
     def locked(self):
         if self.rival.locked is None:
@@ -192,23 +192,23 @@ class Rival:
         with self.rival.locked():
             done = [client.vectors() for _ in range(REQUESTS)]
         client.end()
-        return came_again(self.milenage.sqns(vector for got in done for vector in got), sum(not got for got in done))
+        return came_again(sqns_of(vector for got in done for vector in got), sum(not got for got in done))
 
     def replayed(self):
         self.rival.store()
         client = self.rival.start()
         (rand, _), *_ = client.vectors()
-        auts, vectors = self.milenage.auts(rand, sqn_of(SEEN)), []
+        auts, vectors = auts_of(rand, sqn_of(SEEN)), []
         for turn in range(1, 3):
             vectors += client.resynchronise(auts, rand)
             vectors += asked(client, turn * AFTER - len(vectors))[0]
         client.end()
-        return came_again(self.milenage.sqns(vectors))
+        return came_again(sqns_of(vectors))
 
     def end(self):
         self.rival.store(LAST - 63)
         client = self.rival.start()
-        sqns = self.milenage.sqns(asked(client, 3)[0])
+        sqns = sqns_of(asked(client, 3)[0])
         client.end()
         fallen = [later for sqn, later in zip(sqns, sqns[1:]) if later <= sqn]
         return f"it begins again, with SQN {fallen[0]}" if fallen else came_again(sqns)

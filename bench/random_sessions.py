@@ -12,10 +12,7 @@ The seed of each scenario whose output differs is printed with the first line th
 one. A thousand scenarios take a minute or two.
 """
 import random
-import subprocess
 import sys
-import tempfile
-from pathlib import Path
 
 from measure import TOP, program
 
@@ -25,12 +22,14 @@ from ends import needs, run_main
 if __name__ == "__main__":
     needs("cryptography", __doc__)
 
-from network import Job, Names, Peer, World, is_readable
+from eap.names import Names
+from eap.peer import Peer
+from network import Job, World, is_readable
+from trial import K, OPC, difference, ran_in_new_folder
 
 # ---- scenarios
 
-SECRETS = ["465b5ce8b199b49faa5f0a2ee238a6bc opc cd63cb71954a9f4e48a5994e37a02baf",
-           "0396eb317b6d1c36f19c1c84cd6ffd16 opc 53c15671c60a4b731c55b4a441c0bde2"]
+SECRETS = [f"{K} opc {OPC}", "0396eb317b6d1c36f19c1c84cd6ffd16 opc 53c15671c60a4b731c55b4a441c0bde2"]
 
 
 def scenario(seed):
@@ -45,8 +44,6 @@ def scenario(seed):
         lines.append(f"subscriber {imsi} {secret} {amf} {choose.choice([0, 0, 5])} {choose.choice([0, 0, 0, 3, 40])}")
     # Half of the scenarios lean towards re-authentications of one device.
     leans, opened, world = choose.random() < 0.5, 0, World("".join(line + "\n" for line in lines))
-    for sub in world.subs:
-        sub.drawn = sub.skipped = 0
     for _ in range(choose.randint(1, 3)):
         sessions = range(opened + 1, opened + 1 + choose.randint(2 if leans else 1, 5 if leans else 4))
         opened = sessions[-1]
@@ -127,25 +124,16 @@ def event(choose, sessions, left, packets):
 # ---- comparing
 
 def ran(text):
-    with tempfile.TemporaryDirectory() as folder:
-        (Path(folder) / "scenario").write_text(text)
-        done = subprocess.run([program(), "run", "scenario"], cwd=folder, capture_output=True, text=True)
+    done = ran_in_new_folder([program(), "run", "scenario"], {"scenario": text}, text=True)
     return done.stdout if done.returncode == 0 else f"status {done.returncode}\n{done.stdout}"
 
 
-def difference(text, output):
-    """The first line of an output that network.py has otherwise, if there is one."""
-    theirs = World(text).output()
-    if output == theirs:
-        return ""
-    pairs = zip([*output.splitlines(), ""], [*theirs.splitlines(), ""])
-    return next((f"{a[:200]!r}, and by network.py {b[:200]!r}" for a, b in pairs if a != b), "the end")
-
-
 def compared(name, text, output):
-    found = difference(text, output)
+    """Whether an output is that of network.py; the first line that it has otherwise is printed."""
+    found = difference(output, World(text).output())
     if found:
-        print(f"{name} differs: {found}")
+        lines = [(line or "")[:200] for line in found[1:]]
+        print(f"{name} differs: " + (f"{lines[0]!r}, and by network.py {lines[1]!r}" if any(lines) else "the end"))
     return not found
 
 

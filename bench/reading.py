@@ -14,7 +14,7 @@ import sys
 import tempfile
 from pathlib import Path
 
-from measure import KEYS, TOP, measured, ratio
+from measure import HEADER, KEYS, TOP, measured, ratio
 
 sys.path.append(str(TOP / "tools"))
 from ends import run_main
@@ -23,7 +23,7 @@ SUBSCRIBERS = 100
 
 
 def subscribers(count):
-    return "imsi,k,kind,op,amf,seq,usim\n" + "".join(f"{i:015},{','.join(KEYS)}\n" for i in range(count))
+    return f"{HEADER}\n" + "".join(f"{i:015},{','.join(KEYS)}\n" for i in range(count))
 
 
 def jobs(count):

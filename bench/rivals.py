@@ -19,31 +19,23 @@ from pathlib import Path
 from measure import KEYS, TOP
 
 sys.path.append(str(TOP / "tools"))
-from aka_functions import Aes, Functions, xor
+from eap.session import Subscriber
 
 K, OPC, AMF, IMSI = KEYS[0], KEYS[2], KEYS[3], "001010000000001"
+SUBSCRIBER = Subscriber(IMSI, bytes.fromhex(K), bytes.fromhex(OPC))
 LAST = 2**48 - 1
 # The longest wait for an answer, and for a process to begin.
 LONGEST_WAIT = 20
 
 
-class Milenage:
-    """The functions of Milenage under the subscriber's key."""
+def sqns_of(vectors):
+    """The SQN of each vector."""
+    return [int.from_bytes(SUBSCRIBER.functions(rand).sqn_of(autn), "big") for rand, autn in vectors]
 
-    def __init__(self):
-        self.aes = Aes(bytes.fromhex(K))
 
-    def at(self, rand):
-        return Functions(self.aes.encrypt, bytes.fromhex(OPC), rand)
-
-    def sqns(self, vectors):
-        """The SQN of each vector: AUTN's without AK."""
-        return [int.from_bytes(xor(autn[:6], self.at(rand).ak), "big") for rand, autn in vectors]
-
-    def auts(self, rand, sqn):
-        """AUTS of a USIM with this SQN_MS (TS 33.102 §6.3.3)."""
-        functions, sqn = self.at(rand), sqn.to_bytes(6, "big")
-        return xor(sqn, functions.ak_star) + functions.f1(sqn, bytes(2))[1]
+def auts_of(rand, sqn):
+    """AUTS of a USIM with this SQN_MS."""
+    return SUBSCRIBER.functions(rand).auts(sqn.to_bytes(6, "big"))
 
 
 def wait_for(path, child):

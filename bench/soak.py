@@ -16,25 +16,18 @@ many runs kept the rules; the exit status is 1 if one didn't. Twenty runs on a b
 6.5 seconds each, with the reading of the output, 1.17 to 1.27 seconds of processor time and at most 407 MB, and kept the
 rules.
 """
-import os
-import subprocess
+import io
 import sys
-import tempfile
 import time
 from collections import Counter, defaultdict
-from pathlib import Path
 
-from measure import KEYS, TOP, program
+from journal import imsi
+from measure import HEADER, KEYS, TOP, folder_with, followed
 
 sys.path.append(str(TOP / "tools"))
 from ends import run_main
 
 SUBSCRIBERS, JOBS, WORKERS, HOT = 65_536, 200_000, 64, 64
-HEADER = "imsi,k,kind,op,amf,seq,usim"
-
-
-def imsi(sub):
-    return f"00101{sub:010}"
 
 
 def lines_of(job):
@@ -91,24 +84,18 @@ def judged(output, asked):
 
 def run(words, asked):
     began = time.monotonic()
-    with tempfile.TemporaryDirectory() as folder:
-        child = subprocess.Popen([program(), *words], cwd=folder, stdout=subprocess.PIPE, text=True)
-        fault, vectors = judged(child.stdout, asked)
-        _, status, usage = os.wait4(child.pid, 0)
+    spent, size, status, (fault, vectors) = followed(words, lambda lines: judged(io.TextIOWrapper(lines), asked))
     seconds = time.monotonic() - began
-    if os.waitstatus_to_exitcode(status):
-        fault = f"status {os.waitstatus_to_exitcode(status)}"
-    print(f"{seconds:>8.2f} {usage.ru_utime + usage.ru_stime:>10.2f} {usage.ru_maxrss / 1024:>6.0f} {vectors:>8}  {fault or 'kept'}", flush=True)
+    if status:
+        fault = f"status {status}"
+    print(f"{seconds:>8.2f} {spent:>10.2f} {size / 2**20:>6.0f} {vectors:>8}  {fault or 'kept'}", flush=True)
     return not fault
 
 
 def main():
     times = int(sys.argv[2]) if len(sys.argv) > 2 else 20
-    with tempfile.TemporaryDirectory() as folder:
-        rows = [HEADER] + [",".join([imsi(sub), *KEYS]) for sub in range(SUBSCRIBERS)]
-        (Path(folder) / "subscribers").write_text("".join(row + "\n" for row in rows))
-        text, asked = scenario()
-        (Path(folder) / "scenario").write_text(text)
+    rows, (text, asked) = [HEADER, *(",".join([imsi(sub), *KEYS]) for sub in range(SUBSCRIBERS))], scenario()
+    with folder_with({"subscribers": "".join(row + "\n" for row in rows), "scenario": text}) as folder:
         print(f"{'seconds':>8} {'processor':>10} {'MB':>6} {'vectors':>8}  rules")
         words = ["run", f"{folder}/scenario", f"{folder}/subscribers"]
         kept = sum(run(words, asked) for _ in range(times))

@@ -14,12 +14,12 @@ import argparse
 import re
 import subprocess
 import sys
-import tempfile
 from pathlib import Path
 
 HERE = Path(__file__).resolve().parent
 sys.path.append(str(HERE.parent / "tools"))
 from ends import run_main
+from trial import difference, ran_in_new_folder
 
 BUILT = HERE.parent / "crates/auc_cli/out/auc_cli"
 SUBSCRIBERS = {"day": "subscribers.csv"}
@@ -45,28 +45,13 @@ def words_of(name):
     return ["run", *(str(HERE / file) for file in files)]
 
 
-def ran_anew(program, words):
-    """A run in a new folder, so that it finds no journal of an earlier run."""
-    with tempfile.TemporaryDirectory() as folder:
-        return subprocess.run([program, *words], cwd=folder, capture_output=True, timeout=SECONDS)
-
-
-def difference(wrote, expected):
-    """Where two texts differ first, in words; nothing if they are the same."""
-    if wrote == expected:
-        return ""
-    ours, theirs = wrote.splitlines(), expected.splitlines()
-    place = next((i for i, (a, b) in enumerate(zip(ours, theirs)) if a != b), min(len(ours), len(theirs)))
-    return f"line {place + 1} differs"
-
-
 def fault_of(name, program):
     """What is wrong with an example; nothing if it is right."""
     expected = HERE / f"{name}.expected"
     if not expected.exists():
         return f"there is no {expected.name}"
     try:
-        ran = ran_anew(program, words_of(name))
+        ran = ran_in_new_folder([program, *words_of(name)], timeout=SECONDS)
     except OSError as error:
         return f"the program could not be run: {error.strerror}"
     except subprocess.TimeoutExpired:
@@ -75,7 +60,8 @@ def fault_of(name, program):
         return f"status {ran.returncode}"
     if ran.stderr:
         return "something was printed to standard error"
-    return difference(ran.stdout, expected.read_bytes())
+    found = difference(ran.stdout, expected.read_bytes())
+    return f"line {found[0]} differs" if found else ""
 
 
 def stray(names):

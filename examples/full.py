@@ -1,10 +1,10 @@
 """Runs the examples that have a session, each with the bytes of its packets. Scripts in bench/ and docs/ use it."""
-import subprocess
 import sys
-import tempfile
 from pathlib import Path
 
 HERE = Path(__file__).resolve().parent
+sys.path.append(str(HERE.parent / "tools"))
+from trial import ran_in_new_folder
 
 
 def with_full_print(lines):
@@ -12,10 +12,8 @@ def with_full_print(lines):
 
 
 def ran(program, scenario):
-    """What the program prints of a scenario, in a new folder, so that it finds no journal of an earlier run."""
-    with tempfile.TemporaryDirectory() as folder:
-        (Path(folder) / "scenario").write_text(scenario)
-        done = subprocess.run([program, "run", "scenario"], cwd=folder, capture_output=True, text=True)
+    """What the program prints of a scenario."""
+    done = ran_in_new_folder([program, "run", "scenario"], {"scenario": scenario}, text=True)
     if done.returncode:
         sys.exit(f"status {done.returncode} of\n{scenario}")
     return done.stdout

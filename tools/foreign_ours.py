@@ -1,5 +1,5 @@
 """Our ends in a trial with a foreign one, for tools/foreign: the program of crates/auc_ends_cli, whose server and peer are the
-proved crates auc_server and auc_peer, or the ends of tools/eap_rows.py, which are Python.
+proved crates auc_server and auc_peer, or the ends of tools/eap, which are Python.
 
 Either gets a line of text for each packet and answers by one, as crates/auc_ends_cli/src/main.rt has them.
 """
@@ -8,23 +8,13 @@ import subprocess
 from dataclasses import dataclass, field
 from pathlib import Path
 
-from aka_functions import Aes, Functions
+from eap import ciphers
+from eap.lines import Ends
 from ends import missing
 from transcript import NOTES
 
 PROGRAM = Path(__file__).resolve().parent.parent / "crates/auc_ends_cli/out/auc_ends_cli"
 KEY_WORDS = 5
-
-
-@dataclass(frozen=True)
-class Subscriber:
-    """Whose session it is. That of auc_ends_cli is fixed: K and OPc of TS 35.208 §4.3, test set 1."""
-    imsi: str = "001010000000001"
-    k: bytes = bytes.fromhex("465b5ce8b199b49faa5f0a2ee238a6bc")
-    opc: bytes = bytes.fromhex("cd63cb71954a9f4e48a5994e37a02baf")
-
-    def functions(self, rand):
-        return Functions(Aes(self.k).encrypt, self.opc, rand)
 
 
 @dataclass
@@ -130,42 +120,16 @@ class Program:
 
 
 class Python:
-    """The ends of tools/eap_rows.py, for any subscriber."""
-    title = "that of tools/eap_rows.py, in Python"
+    """The ends of tools/eap, for any subscriber."""
+    title = "that of tools/eap, in Python"
 
     def __init__(self, subscriber):
-        try:
-            import eap_rows
-        except ImportError:
-            raise missing("cryptography") from None
-        self.rows, self.end, self.shared = eap_rows, None, None
-        eap_rows.use(subscriber.imsi.encode(), subscriber.k, subscriber.opc)
+        if ciphers.Cipher is None:
+            raise missing("cryptography")
+        self.ends = Ends(subscriber)
 
     def tell(self, line):
-        word, _, rest = line.partition(" ")
-        if word == "bytes":
-            return answer_in(self.end.deliver(bytes.fromhex(rest)))
-        if word == "giveup":
-            return answer_in(self.end.give_up())
-        if word == "repeat":
-            return answer_in(self.end.repeat())
-        return self.begin(word, rest)
-
-    def begin(self, word, rest):
-        options, _, name = rest.partition("prime ")
-        options, method = options.split(), {"kind": 50, "name": name.encode()} if name else {}
-        if word != "next":
-            number = int(options[0])
-            self.shared = self.rows.Home(number, True) if word == "server" else self.rows.Device(number)
-        if isinstance(self.shared, self.rows.Home):
-            made = {"gives": "pseudonym" in options, "renews": "reauth" in options, "asks_any": "any" in options}
-            self.end = self.rows.Server(self.shared, bidding="bidding" in options, **made, **method)
-            return answer_in(self.end.answer)
-        if name == "*":
-            method["name"] = None
-        first = b"permanent" if "permanent" in options else None
-        self.end = self.rows.Peer(self.shared, has_prime="hasprime" in options, first=first, **method)
-        return Answer("peer", step="peer")
+        return answer_in(self.ends.tell(line))
 
     def close(self):
         pass

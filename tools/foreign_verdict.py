@@ -1,21 +1,23 @@
 """What a session with a foreign end was: its transcript, and a verdict, for tools/foreign.
 
-A verdict rests on what our end answered. Where it names a wrong field, a second implementation, tools/aka_functions.py and
-tools/aka_keys.py, computes what the field has to be, and tries which other input the foreign end may have used.
+A verdict rests on what our end answered. Where it names a wrong field, a second implementation, tools/eap, computes what the
+field has to be, and tries which other input the foreign end may have used.
 """
-import hashlib
-import hmac
 from dataclasses import dataclass, field
 
-from aka_keys import Keys
+from eap.attributes import (AT_AUTN, AT_AUTS, AT_CHECKCODE, AT_IDENTITY, AT_KDF_INPUT, AT_MAC, AT_RAND,
+                            AT_RES, NAMES, number_in, text_in, values_in)
+from eap.keys import Keys
+from eap.messages import (AKA, AKA_IDENTITY, CHALLENGE, CLIENT_ERROR, IDENTITY, METHODS, NAK, NOTIFICATION,
+                          PRIME, REAUTHENTICATION, REJECT, REQUEST, RESPONSE, SUBTYPES, SYNC, checkcode,
+                          is_sealed, lacking, right_mac, within)
+from eap.milenage import xor
+from eap.names import username
 from foreign_ours import Answer
-from report_packets import ATTRIBUTES, parts_of
-from transcript import AT_IDENTITY, SUBTYPES, attributes_in, name_of, other, text_in
+from report_packets import parts_of
+from transcript import name_of, other
 
-AKA, PRIME, IDENTITY, NAK = 23, 50, 1, 3
 TITLES = {"aka": "EAP-AKA", "prime": "EAP-AKA'"}
-AT_RAND, AT_AUTN, AT_RES, AT_AUTS, AT_MAC, AT_KDF_INPUT, AT_CHECKCODE = 1, 2, 3, 4, 11, 23, 134
-CHALLENGE, REJECT, SYNC, AKA_IDENTITY, NOTIFICATION, REAUTHENTICATION, CLIENT_ERROR = 1, 2, 4, 5, 12, 13, 14
 FULL, AFTER_SYNC, AGAIN = "full authentication", "full authentication after a resynchronisation", "re-authentication"
 KINDS = {"full": FULL, "sync": AFTER_SYNC, "reauth": AGAIN, "any": ""}
 EQUAL, DIFFERENT, UNSEEN, FAILED = "equal keys", "keys differ", "keys unseen", "fails"
@@ -27,10 +29,6 @@ FIELDS = {"wrongautn": "AT_AUTN", "wrongmac": "AT_MAC", "wrongcheckcode": "AT_CH
           "unexpected": "Subtype", "nocontext": "identity"}
 # The fields that stand in the line of a packet's name.
 HEAD = ("Code", "Identifier", "Length", "Type", "Subtype", "Reserved")
-# What a message needs, by its subtype and whether it is a request.
-NEEDED = {(CHALLENGE, True): (AT_RAND, AT_AUTN, AT_MAC), (CHALLENGE, False): (AT_RES, AT_MAC), (SYNC, False): (AT_AUTS,),
-          (AKA_IDENTITY, False): (AT_IDENTITY,), (NOTIFICATION, True): (12,), (CLIENT_ERROR, False): (22,),
-          (REAUTHENTICATION, True): (129, 130, AT_MAC), (REAUTHENTICATION, False): (129, 130, AT_MAC)}
 REASONS = {
     "secondsync": "a second AUTS came in one session",
     "beyond": "its SEQ_MS is further below our number than a USIM accepts",
@@ -42,11 +40,6 @@ REASONS = {
     "unexpected": "our end doesn't wait for this message",
     "nocontext": "our device has told another identity than that of its context, or has none",
 }
-
-
-def within(data):
-    """The bytes of a packet up to its length; those behind it are padding (RFC 3748 §4.1)."""
-    return data[:int.from_bytes(data[2:4], "big")]
 
 
 def fields_of(data):
@@ -67,15 +60,15 @@ class Packet:
 
     @property
     def kind(self):
-        return self.data[4] if len(self.data) > 4 and self.data[0] in (1, 2) else 0
+        return self.data[4] if len(self.data) > 4 and self.data[0] in (REQUEST, RESPONSE) else 0
 
     @property
     def subtype(self):
-        return self.data[5] if self.kind in (AKA, PRIME) and len(self.data) > 5 else 0
+        return self.data[5] if self.kind in METHODS and len(self.data) > 5 else 0
 
     @property
     def attributes(self):
-        return attributes_in(within(self.data)[8:]) if self.subtype else {}
+        return values_in(within(self.data)[8:]) if self.subtype else {}
 
     @property
     def is_ignored(self):
@@ -168,16 +161,9 @@ class Difference:
 
 # ---- the second implementation
 
-def sum_of(kind, key, data):
-    """AT_MAC that a message has to have."""
-    at = place_of_mac(data)
-    data = within(data)
-    zeroed = data[:at] + bytes(16) + data[at + 16:]
-    return hmac.digest(key, zeroed, "sha1" if kind == AKA else "sha256")[:16]
-
-
-def place_of_mac(data):
-    return next(start for name, start, _, _ in fields_of(data) if name == "AT_MAC") + 2
+def sum_of(packet, keys):
+    """The code that AT_MAC of a message has to have."""
+    return right_mac(packet.kind, keys.aut, within(packet.data))
 
 
 def identity_of(packet):
@@ -208,10 +194,8 @@ class Judge:
         rand, autn = found[AT_RAND][2:], found[AT_AUTN][2:]
         told = [identity_of(it) for it in reversed(session.packets[:challenge.number])]
         identities = [it for it in told if it is not None] or [b""]
-        digits = {AKA: b"0", PRIME: b"6"}
-        permanent = digits[kind] + self.subscriber.imsi.encode()
-        others = [permanent, self.subscriber.imsi.encode(), digits[AKA + PRIME - kind] + self.subscriber.imsi.encode()]
-        others += [it.partition(b"@")[0] for it in identities if b"@" in it]
+        others = [self.subscriber.permanent(kind), self.subscriber.imsi.encode(), self.subscriber.permanent(AKA + PRIME - kind)]
+        others += [username(it) for it in identities if b"@" in it]
         names = [text_in(found[AT_KDF_INPUT]) if AT_KDF_INPUT in found else b"", *([self.network, b""] if kind == PRIME else [])]
         f = self.subscriber.functions(rand)
         for name in dict.fromkeys(names):
@@ -238,13 +222,12 @@ class Judge:
         keys = self.keys(session, packet)
         if packet.subtype != CHALLENGE or not keys or len(packet.attributes.get(AT_MAC, b"")) != 18:
             return None
-        return sum_of(packet.kind, keys.aut, packet.data) == packet.attributes[AT_MAC][2:]
+        return is_sealed(packet.kind, keys.aut, within(packet.data))
 
     def is_autn_right(self, challenge):
         """Whether MAC-A of a challenge is right."""
         found = challenge.attributes
-        f, autn = self.subscriber.functions(found[AT_RAND][2:]), found[AT_AUTN][2:]
-        return f.f1(bytes(a ^ b for a, b in zip(autn[:6], f.ak)), autn[6:8])[0] == autn[8:]
+        return self.subscriber.functions(found[AT_RAND][2:]).is_right(found[AT_AUTN][2:])
 
     # ---- what a field has to be
 
@@ -254,15 +237,15 @@ class Judge:
         found, keys = packet.attributes[AT_MAC][2:], self.keys(session, packet)
         if not keys:
             return f"it is {found.hex()}"
-        fits = self.fitting(session, packet, lambda it: sum_of(packet.kind, it.aut, packet.data) == found)
-        wanted = f"it is {found.hex()}, and has to be {sum_of(packet.kind, keys.aut, packet.data).hex()}"
+        fits = self.fitting(session, packet, lambda it: sum_of(packet, it) == found)
+        wanted = f"it is {found.hex()}, and has to be {sum_of(packet, keys).hex()}"
         return f"{wanted}; it fits {fits[1]}" if fits and not fits[0] else f"{wanted}; no other input that was tried fits"
 
     def of_autn(self, session, packet):
         found = packet.attributes
         rand, autn = found[AT_RAND][2:], found[AT_AUTN][2:]
         f = self.subscriber.functions(rand)
-        sqn = bytes(a ^ b for a, b in zip(autn[:6], f.ak))
+        sqn = f.sqn_of(autn)
         told = f"with the SQN {sqn.hex()} and the AMF {autn[6:8].hex()} that AUTN then has"
         wanted = f.f1(sqn, autn[6:8])[0].hex()
         return f"MAC-A is {autn[8:].hex()}, and by our K and OPc, {told}, it has to be {wanted}: compare K and OPc"
@@ -270,7 +253,7 @@ class Judge:
     def of_res(self, session, packet):
         challenge = self.challenge_before(session, packet)
         value = packet.attributes[AT_RES]
-        size = int.from_bytes(value[:2], "big")
+        size = number_in(value)
         found = value[2:2 + size // 8].hex()
         if not challenge:
             return f"it is {found}"
@@ -280,15 +263,14 @@ class Judge:
     def of_auts(self, session, packet):
         challenge, auts = self.challenge_before(session, packet), packet.attributes[AT_AUTS]
         f = self.subscriber.functions(challenge.attributes[AT_RAND][2:])
-        sqn = bytes(a ^ b for a, b in zip(auts[:6], f.ak_star))
+        sqn = xor(auts[:6], f.ak_star)
         told, wanted = f"with the AMF 0000 and the SQN_MS {sqn.hex()} that AUTS then has", f.f1(sqn, bytes(2))[1].hex()
         return f"MAC-S is {auts[6:].hex()}, and by our K and OPc, {told}, it has to be {wanted}"
 
     def of_checkcode(self, session, packet):
         """The hash over the packets of AKA-Identity rounds that both ends took (RFC 4187 §10.13)."""
         taken = [it for it in session.packets[:packet.number] if it.subtype == AKA_IDENTITY and not it.is_ignored]
-        data = b"".join(dict.fromkeys(within(it.data) for it in taken))
-        wanted = hashlib.new("sha1" if packet.kind == AKA else "sha256", data).hexdigest() if data else "empty"
+        wanted = checkcode(packet.kind, dict.fromkeys(within(it.data) for it in taken))[4:].hex() or "empty"
         return f"it is {packet.attributes[AT_CHECKCODE][2:].hex() or 'empty'}, and has to be {wanted}"
 
     def of_functions(self, session, packet):
@@ -320,10 +302,10 @@ def form_of(packet):
     return "an attribute has a wrong size or value, comes twice, or may not stand in this message"
 
 
-def lacking(packet):
+def lacking_text(packet):
     if packet.subtype == AKA_IDENTITY and packet.data[0] == 1:
         return "exactly one of AT_PERMANENT_ID_REQ, AT_ANY_ID_REQ and AT_FULLAUTH_ID_REQ"
-    names = [ATTRIBUTES[it] for it in NEEDED.get((packet.subtype, packet.data[0] == 1), ()) if it not in packet.attributes]
+    names = [NAMES[it] for it in lacking(packet.data[0], packet.subtype, packet.attributes)]
     return " and ".join(names) or "what the message needs"
 
 
@@ -409,7 +391,7 @@ def difference(judge, session):
     if cause == "malformed":
         return Difference(session.foreign, packet, "", form_of(packet))
     if cause == "missing":
-        return Difference(session.foreign, packet, lacking(packet), "it isn't there")
+        return Difference(session.foreign, packet, lacking_text(packet), "it isn't there")
     return Difference(session.foreign, packet, FIELDS.get(cause, ""), why(judge, session, packet, cause))
 
 

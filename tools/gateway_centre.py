@@ -1,7 +1,7 @@
 """The authentication centre behind tools/gateway: its subscribers, the runs of the program, and the vectors drawn ahead.
 
 No socket is used here. Each vector is one that a run of the program released; AUTS alone are read here, by
-tools/aka_functions.py.
+tools/eap.
 """
 import csv
 import io
@@ -11,12 +11,12 @@ import subprocess
 from collections import OrderedDict, defaultdict, deque
 from typing import NamedTuple
 
-from aka_functions import REACH, Aes, Functions, triplet, xor
+from eap.milenage import Aes, Functions, opc_of
+from eap.usim import REACH, seq_of, triplet
 
 # A run draws as many numbers of a subscriber as the program reserves at once. A run that drew one would begin 64 above the
 # last, so all its numbers would have one index, and a USIM refuses those out of order.
 AHEAD = 64
-INDEX_BITS = 5
 HEADER = "imsi,k,kind,op,amf,seq,usim".split(",")
 ROW = re.compile(r"[0-9]{6,15},[0-9a-f]{32},opc?,[0-9a-f]{32},[0-9a-f]{4},[0-9]{1,13},[0-9]{1,13}", re.IGNORECASE)
 
@@ -64,12 +64,12 @@ class Subscriber(NamedTuple):
         """f1 to f5* of a RAND."""
         encrypt = Aes(bytes.fromhex(self.k)).encrypt
         op = bytes.fromhex(self.op)
-        return Functions(encrypt, op if self.kind == "opc" else xor(op, encrypt(op)), rand)
+        return Functions(encrypt, op if self.kind == "opc" else opc_of(encrypt, op), rand)
 
     def seq_in(self, auts, rand):
         """SEQ_MS of an AUTS, or nothing if its MAC-S is wrong."""
         sqn = self.functions(bytes.fromhex(rand)).sqn_in(bytes.fromhex(auts))
-        return None if sqn is None else int.from_bytes(sqn, "big") >> INDEX_BITS
+        return None if sqn is None else seq_of(sqn)
 
 
 def read_subscribers(data):

@@ -4,7 +4,9 @@ from bisect import bisect_left
 from dataclasses import dataclass, field
 
 import transcript
-from transcript import AT_NEXT_PSEUDONYM, FORMS, identity_in, text_in
+from eap.attributes import AT_NEXT_PSEUDONYM, text_in
+from eap.names import username
+from transcript import FORMS, identity_in
 
 AT_NEXT_REAUTH_ID = 133
 # How far above the greatest accepted number a USIM accepts another one (TS 33.102 Annex C.2.1).
@@ -47,13 +49,13 @@ def names_given(session):
     """The names that the server gives in a session, if they can be decrypted."""
     given = [transcript.encrypted_in(packet) for packet in session.packets if packet.sender == "server"]
     names = [found[kind] for found in given for kind in (AT_NEXT_PSEUDONYM, AT_NEXT_REAUTH_ID) if kind in found]
-    return [text_in(name).partition(b"@")[0] for name in names]
+    return [username(text_in(name)) for name in names]
 
 
 def told_in(session, names):
     """The IMSI that the last identity of a session tells: a permanent one, or a name that was given before."""
     for packet in reversed(session.packets):
-        name = (identity_in(packet) or b"").partition(b"@")[0]
+        name = username(identity_in(packet) or b"")
         if re.fullmatch(FORMS["permanent"], name):
             return name[1:].decode()
         if name in names:

@@ -1,25 +1,16 @@
 """Takes the packets of a session apart for tools/report: their fields, what is encrypted in them, and what AT_MAC and the keys
 are made from.
 """
-import hashlib
-import hmac
 from dataclasses import dataclass, field
 
 import transcript
-from transcript import AT_IDENTITY, CODES, METHODS, SUBTYPES, identity_in, text_in
-
-AKA = 23
-AT_MAC, AT_NONCE_S, AT_KDF_INPUT = 11, 21, 23
-ATTRIBUTES = {1: "AT_RAND", 2: "AT_AUTN", 3: "AT_RES", 4: "AT_AUTS", 6: "AT_PADDING", 7: "AT_NONCE_MT", AT_MAC: "AT_MAC",
-              12: "AT_NOTIFICATION", AT_IDENTITY: "AT_IDENTITY", 19: "AT_COUNTER", 20: "AT_COUNTER_TOO_SMALL",
-              AT_NONCE_S: "AT_NONCE_S", 22: "AT_CLIENT_ERROR_CODE", AT_KDF_INPUT: "AT_KDF_INPUT",
-              24: "AT_KDF", 129: "AT_IV", 130: "AT_ENCR_DATA", 132: "AT_NEXT_PSEUDONYM", 133: "AT_NEXT_REAUTH_ID",
-              134: "AT_CHECKCODE", 135: "AT_RESULT_IND", 136: "AT_BIDDING", **transcript.ASKED}
-REAUTHENTICATION = 13
-
-
-def number_in(value):
-    return int.from_bytes(value[:2], "big")
+from eap.attributes import (AT_AUTN, AT_AUTS, AT_BIDDING, AT_CHECKCODE, AT_CLIENT_ERROR_CODE, AT_ENCR_DATA,
+                            AT_IDENTITY, AT_IV, AT_KDF, AT_KDF_INPUT, AT_MAC, AT_NONCE_S, AT_NOTIFICATION,
+                            AT_RAND, AT_RES, NAMES, number_in, places_in, text_in)
+from eap.keys import master_key
+from eap.messages import (AKA, CODES, IDENTITY, METHODS, REAUTHENTICATION, REQUEST, RESPONSE, SUBTYPES,
+                          is_sealed)
+from transcript import identity_in
 
 
 def shown_text(data):
@@ -45,20 +36,20 @@ def of_checkcode(value):
 
 # What the value of an attribute says, by its type.
 MEANINGS = {
-    1: lambda value: f"RAND {value[2:].hex()}",
-    2: of_autn,
-    3: lambda value: f"RES {value[2:2 + number_in(value) // 8].hex()}, {number_in(value)} bits",
-    4: lambda value: f"SQN_MS xor AK* {value[:6].hex()}; MAC-S {value[6:].hex()}",
+    AT_RAND: lambda value: f"RAND {value[2:].hex()}",
+    AT_AUTN: of_autn,
+    AT_RES: lambda value: f"RES {value[2:2 + number_in(value) // 8].hex()}, {number_in(value)} bits",
+    AT_AUTS: lambda value: f"SQN_MS xor AK* {value[:6].hex()}; MAC-S {value[6:].hex()}",
     AT_MAC: lambda value: f"MAC {value[2:].hex()}",
-    12: of_notification,
+    AT_NOTIFICATION: of_notification,
     AT_IDENTITY: lambda value: shown_text(text_in(value)),
-    22: lambda value: f"code {number_in(value)}",
+    AT_CLIENT_ERROR_CODE: lambda value: f"code {number_in(value)}",
     AT_KDF_INPUT: lambda value: f"network name {shown_text(text_in(value))}",
-    24: lambda value: f"key derivation function {number_in(value)}",
-    129: lambda value: f"initialisation vector {value[2:].hex()}",
-    130: lambda value: f"{len(value) - 2} bytes encrypted",
-    134: of_checkcode,
-    136: lambda value: "D is set: the server has EAP-AKA'" if value[0] & 0x80 else "D is clear",
+    AT_KDF: lambda value: f"key derivation function {number_in(value)}",
+    AT_IV: lambda value: f"initialisation vector {value[2:].hex()}",
+    AT_ENCR_DATA: lambda value: f"{len(value) - 2} bytes encrypted",
+    AT_CHECKCODE: of_checkcode,
+    AT_BIDDING: lambda value: "D is set: the server has EAP-AKA'" if value[0] & 0x80 else "D is clear",
 }
 
 
@@ -87,14 +78,9 @@ class Ends:
 def attribute_parts(data, start):
     """The attributes from a byte on: name, first byte of the value, end, and meaning. The last one may not fill its length."""
     parts = []
-    while start < len(data):
-        size = 4 * data[start + 1] if start + 1 < len(data) else 0
-        if not 0 < size <= len(data) - start:
-            return parts + [["not an attribute", start, len(data), ""]]
-        kind, value = data[start], data[start + 2:start + size]
-        meaning = MEANINGS.get(kind, lambda value: "")(value)
-        parts.append([ATTRIBUTES.get(kind, f"attribute {kind}"), start + 2, start + size, meaning])
-        start += size
+    for kind, first, end in places_in(data, start):
+        name = "not an attribute" if kind is None else NAMES.get(kind, f"attribute {kind}")
+        parts.append([name, first, end, MEANINGS.get(kind, lambda value: "")(data[first:end])])
     return parts
 
 
@@ -102,14 +88,14 @@ def parts_of(data):
     """The fields of a packet: name, first byte, end, and meaning."""
     length = str(number_in(data[2:]))
     parts = [["Code", 0, 1, CODES.get(data[0], "")], ["Identifier", 1, 2, str(data[1])], ["Length", 2, 4, length]]
-    if len(data) < 5 or data[0] not in (1, 2):
+    if len(data) < 5 or data[0] not in (REQUEST, RESPONSE):
         return parts
     kind = data[4]
-    parts.append(["Type", 4, 5, f"EAP-{METHODS[kind]}" if kind in METHODS else "Identity" if kind == 1 else str(kind)])
+    parts.append(["Type", 4, 5, f"EAP-{METHODS[kind]}" if kind in METHODS else "Identity" if kind == IDENTITY else str(kind)])
     if kind in METHODS and len(data) >= 8:
         parts += [["Subtype", 5, 6, SUBTYPES.get(data[5], str(data[5]))], ["Reserved", 6, 8, ""]]
         return parts + attribute_parts(data, 8)
-    return parts + ([["Type-Data", 5, len(data), shown_text(data[5:]) if kind == 1 else ""]] if len(data) > 5 else [])
+    return parts + ([["Type-Data", 5, len(data), shown_text(data[5:]) if kind == IDENTITY else ""]] if len(data) > 5 else [])
 
 
 # ---- authentications
@@ -174,8 +160,8 @@ def inputs_of_challenge(it):
     rows = [["RAND", rand], ["AUTN", autn], ["XRES", xres], [f"CK{prime}", ck], [f"IK{prime}", ik]]
     if it.method != AKA:
         return rows + [["keys are", "PRF'(IK' | CK', \"EAP-AKA'\" | identity): K_encr, K_aut, K_re, MSK, EMSK"]]
-    master = hashlib.sha1((it.identity or b"") + bytes.fromhex(ik) + bytes.fromhex(ck)).hexdigest()
-    return rows + [["MK = SHA-1(identity | IK | CK)", master], ["keys are", "PRF(MK): K_encr, K_aut, MSK, EMSK"]]
+    master = master_key(it.identity or b"", bytes.fromhex(ck), bytes.fromhex(ik))
+    return rows + [["MK = SHA-1(identity | IK | CK)", master.hex()], ["keys are", "PRF(MK): K_encr, K_aut, MSK, EMSK"]]
 
 
 def shown_keys(it):
@@ -186,14 +172,11 @@ def shown_keys(it):
 
 def mac_of(packet, it):
     """In words, what AT_MAC of a packet is made from, and whether it is right."""
-    place = next(start for name, start, _, _ in parts_of(packet.data) if name == "AT_MAC") + 2
-    behind = it.nonce if packet.data[0] == 2 and packet.data[5] == REAUTHENTICATION else b""
+    behind = it.nonce if packet.data[0] == RESPONSE and packet.data[5] == REAUTHENTICATION else b""
     name = "SHA-1" if it.method == AKA else "SHA-256"
     what = f"HMAC-{name}-128 under K_aut over the packet, with zeros in the place of the MAC"
     what += " and NONCE_S behind it" if behind else ""
     if not it.keys:
         return f"{what}. K_aut isn't printed, so it wasn't computed."
-    key = bytes.fromhex(shown_keys(it)[1])
-    front = packet.data[:place] + bytes(16) + packet.data[place + 16:] + behind
-    right = hmac.digest(key, front, name.replace("-", "").lower())[:16] == packet.data[place:place + 16]
+    right = is_sealed(it.method, bytes.fromhex(shown_keys(it)[1]), packet.data, behind)
     return f"{what}. Computed here with the K_aut below: {'it is right' if right else 'it is another one'}."

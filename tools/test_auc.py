@@ -17,11 +17,10 @@ import unittest
 from ends import run_main
 from launcher import costs, explain
 from small_checkout import OPEN, PIPES, SECONDS, TOP, Checkout, as_a_user
+from trial import HEADER, K, OPC
 
 WRONG = ["", "rnu", "--hlep", "-x run", "--old", "--journal-dir", "prove x", "prove --jobs 0", "prove --jobs", "--version x"]
-K, OPC = "465b5ce8b199b49faa5f0a2ee238a6bc", "cd63cb71954a9f4e48a5994e37a02baf"
 RECORD = f"001010000000001,{K},opc,{OPC},8000,0,0"
-HEADER = "imsi,k,kind,op,amf,seq,usim"
 
 
 class Words(Checkout):

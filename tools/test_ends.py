@@ -14,19 +14,18 @@ import itertools
 import os
 import subprocess
 import sys
-import tempfile
 from pathlib import Path
 
 from ends import run_main
+from trial import HEADER as FIELDS, KEYS, K, OPC, folder_with
 
 TOP = Path(__file__).resolve().parent.parent
 JOURNAL, HEADER = "auc.journal", b"AUC-SQN-JOURNAL1"
 WRITE_FAULT = 5
 SECONDS = 60
-K, OPC = "465b5ce8b199b49faa5f0a2ee238a6bc", "cd63cb71954a9f4e48a5994e37a02baf"
 FILES = {
     "day.scenario": "round\njob\ndraw 001010000000001 3\njob\ndraw 001010000000001 100\n",
-    "subscribers.csv": f"imsi,k,kind,op,amf,seq,usim\n001010000000001,{K},opc,{OPC},8000,0,0\n",
+    "subscribers.csv": f"{FIELDS}\n001010000000001,{','.join(KEYS)}\n",
 }
 FORMS = [
     ["run", "day.scenario", "subscribers.csv"], ["reserved"], ["load", "7", "2", "2", "2"],
@@ -48,11 +47,7 @@ def ran(program, words, journal, closed):
         for descriptor in closed:
             os.close(descriptor)
 
-    with tempfile.TemporaryDirectory() as folder:
-        for name, text in FILES.items():
-            Path(folder, name).write_text(text)
-        if journal is not None:
-            Path(folder, JOURNAL).write_bytes(journal)
+    with folder_with(FILES if journal is None else FILES | {JOURNAL: journal}) as folder:
         done = subprocess.run(
             [program, *words], cwd=folder, stdin=subprocess.DEVNULL, stdout=subprocess.PIPE, stderr=subprocess.PIPE,
             preexec_fn=close, timeout=SECONDS,

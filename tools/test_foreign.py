@@ -2,7 +2,7 @@
 """Tests of tools/foreign: RADIUS, the answers of our ends, the verdicts, and both trials on the loopback.
 
 The bytes of RADIUS are those of RFC 2865 §7.1, and an exchange with hostapd 2.10. The verdicts are tried on each session of the
-rows of crates/auc_ends_cli. In the trials on the loopback both ends are played here, by tools/aka_keys.py. Neither hostapd nor a
+rows of crates/auc_ends_cli. In the trials on the loopback both ends are played here, by tools/eap. Neither hostapd nor a
 program of ours is needed.
 """
 import hashlib
@@ -16,12 +16,14 @@ from pathlib import Path
 import foreign_radius
 import foreign_trial
 import foreign_verdict
-from aka_functions import xor
-from aka_keys import Keys
+from eap.attributes import res_attr, sixteen
+from eap.keys import Keys
+from eap.messages import AKA, CHALLENGE, REQUEST, RESPONSE, packet, place_of_mac, sealed
+from eap.session import Subscriber
 from ends import run_main
-from foreign_ours import Subscriber, Unreadable, answer_in
+from foreign_ours import Unreadable, answer_in
 from foreign_radius import ACCEPT, Fault, Radius
-from foreign_verdict import AKA, DIFFERENT, EQUAL, FAILED, UNSEEN, Judge, Session, verdict_of
+from foreign_verdict import DIFFERENT, EQUAL, FAILED, UNSEEN, Judge, Session, verdict_of
 
 TOOLS = Path(__file__).resolve().parent
 ROWS = TOOLS.parent / "crates/auc_ends_cli"
@@ -243,8 +245,8 @@ class Verdicts(unittest.TestCase):
         packet, judge = foreign_verdict.refused_packet(session), Judge(Subscriber(), name)
         challenge = judge.challenge_before(session, packet)
         keys = [it for what, it in judge.guesses(session, challenge) if what.startswith("the identity 001010000000001")][0]
-        at = foreign_verdict.place_of_mac(packet.data)
-        packet.data = packet.data[:at] + foreign_verdict.sum_of(packet.kind, keys.aut, packet.data) + packet.data[at + 16:]
+        at = place_of_mac(packet.data)
+        packet.data = packet.data[:at] + foreign_verdict.sum_of(packet, keys) + packet.data[at + 16:]
         self.assertIn("it fits the identity 001010000000001", str(verdict_of(judge, session)))
 
     def test_our_packet_that_a_peer_refuses_is_compared(self):
@@ -291,19 +293,12 @@ RAND, SQN, AMF = bytes(range(16)), bytes(5) + b"\x21", b"\x80\0"
 IDENTITY = b"0001010000000001"
 
 
-def sealed(code, identifier, keys, attrs):
-    """A Challenge, or the answer to one, with AT_MAC."""
-    size = 8 + len(attrs) + 20
-    data = bytes([code, identifier]) + size.to_bytes(2, "big") + bytes([AKA, 1, 0, 0]) + attrs + b"\x0b\5" + bytes(18)
-    return data[:-16] + foreign_verdict.sum_of(AKA, keys.aut, data)
-
-
 class Played:
     """An end of EAP-AKA with one session after another, in the words of auc_ends_cli; MSK may be that of another identity."""
 
     def __init__(self, identity_of_msk=IDENTITY):
         self.f = Subscriber().functions(RAND)
-        self.autn = xor(SQN, self.f.ak) + AMF + self.f.f1(SQN, AMF)[0]
+        self.autn = self.f.autn(SQN, AMF)
         self.keys, self.other = (Keys(AKA, b"", it, self.autn, self.f) for it in (IDENTITY, identity_of_msk))
 
     def tell(self, line):
@@ -325,7 +320,8 @@ class PlayedServer(Played):
 
     def heard(self, data):
         if data[4] == 1:
-            return f"drew 1 sent {sealed(1, 2, self.keys, bytes([1, 5, 0, 0]) + RAND + bytes([2, 5, 0, 0]) + self.autn).hex()}"
+            attrs = sixteen(1, RAND) + sixteen(2, self.autn)
+            return f"drew 1 sent {sealed(AKA, self.keys.aut, REQUEST, 2, CHALLENGE, attrs).hex()}"
         return self.won("03020004")
 
 
@@ -337,8 +333,9 @@ class PlayedPeer(Played):
             self.ended = True
             return self.won() if data[0] == 3 else "ended failure failurereceived"
         if data[4] == 1:
-            return f"sent {(bytes([2, data[1], 0, 21, 1]) + IDENTITY).hex()}"
-        return f"accepted {SQN.hex()} sent {sealed(2, data[1], self.keys, bytes([3, 3, 0, 64]) + self.f.res).hex()}"
+            return f"sent {packet(RESPONSE, data[1], bytes([1]) + IDENTITY).hex()}"
+        answer = sealed(AKA, self.keys.aut, RESPONSE, data[1], CHALLENGE, res_attr(self.f.res))
+        return f"accepted {SQN.hex()} sent {answer.hex()}"
 
 
 class Trials(unittest.TestCase):

@@ -3,7 +3,7 @@
 
     tools/test_gateway.py [PROGRAM]      PROGRAM: crates/auc_cli/out/auc_cli, unless it is given
 
-AUTS are made by the program's own `vector`, and SQNs are read by tools/aka_functions.py.
+AUTS are made by the program's own `vector`, and SQNs are read by tools/eap.
 """
 import os
 import random
@@ -17,33 +17,34 @@ import time
 import unittest
 from pathlib import Path
 
-from aka_functions import Aes, Functions, triplet, xor
+from eap.session import Subscriber
+from eap.usim import triplet
 from ends import run_main
 from gateway_centre import Centre, read_subscribers
+from trial import HEADER, K, OPC
 
 TOOLS = Path(__file__).resolve().parent
 PROGRAM = str(TOOLS.parent / "crates/auc_cli/out/auc_cli")
-K, OP, OPC = "465b5ce8b199b49faa5f0a2ee238a6bc", "cdc202d5123e20f62b6d676ac72cb318", "cd63cb71954a9f4e48a5994e37a02baf"
+OP = "cdc202d5123e20f62b6d676ac72cb318"
 A, B, FAR = "001010000000001", "001010000000002", "001010000000003"
 # The second one has OP, from which the OPc of the first one is made. The third one is out of the reach of a new USIM.
 ROWS = f"{A},{K},opc,{OPC},8000,0,0\n{B},{K},op,{OP},8000,40,0\n{FAR},{K},opc,{OPC},8000,268435466,0\n"
-SUBSCRIBERS = "imsi,k,kind,op,amf,seq,usim\n" + ROWS
+SUBSCRIBERS = f"{HEADER}\n{ROWS}"
 # Seconds that a test waits for what has to come, and for what must not.
 SOON, SILENCE = 30, 0.2
 KILLS, SEED = 50, 7
 
 
 def functions(rand):
-    return Functions(Aes(bytes.fromhex(K)).encrypt, bytes.fromhex(OPC), bytes.fromhex(rand))
+    return Subscriber().functions(bytes.fromhex(rand))
 
 
 def sqn_in(answer):
     """The SQN of an answer's AUTN, and whether its MAC is right."""
     rand, autn = (bytes.fromhex(word) for word in answer.split()[2:4])
     f = functions(rand.hex())
-    sqn = xor(autn[:6], f.ak)
-    assert f.f1(sqn, autn[6:8])[0] == autn[8:], answer
-    return int.from_bytes(sqn, "big")
+    assert f.is_right(autn), answer
+    return int.from_bytes(f.sqn_of(autn), "big")
 
 
 def seq_in(answer):
@@ -161,24 +162,6 @@ class Gateways(unittest.TestCase):
         path.write_text(f"#!/usr/bin/env python3\nimport os, signal, subprocess, sys, time\nPROGRAM = {PROGRAM!r}\n{text}")
         path.chmod(0o755)
         return path
-
-
-# ---- the values
-
-class Values(unittest.TestCase):
-    # FIPS 197 Appendix C.1.
-    def test_aes_gives_the_standards_example(self):
-        key, text = bytes(range(16)), bytes.fromhex("00112233445566778899aabbccddeeff")
-        self.assertEqual(Aes(key).encrypt(text).hex(), "69c4e0d86a7b0430d8cdb78070b4c55a")
-
-    # TS 35.208, test set 1, and for SRES and Kc TS 55.205, test set 1.
-    def test_functions_give_the_standards_values(self):
-        f = functions("23553cbe9637a89d218ae64dae47bf35")
-        macs = f.f1(bytes.fromhex("ff9bb4d0b607"), bytes.fromhex("b9b9"))
-        found = [it.hex() for it in (*macs, f.res, f.ck, f.ik, f.ak, f.ak_star, *triplet(f.res, f.ck, f.ik))]
-        self.assertEqual(found, [
-            "4a9ffac354dfafb3", "01cfaf9ec4e871e9", "a54211d5e3ba50bf", "b40ba9a3c58b2a05bbf0d987b21bf8cb",
-            "f769bcd751044604127672711c6d3441", "aa689c648370", "451e8beca43b", "46f8416a", "eae4be823af9a08b"])
 
 
 class Runs(unittest.TestCase):

@@ -5,21 +5,16 @@ import io
 import shutil
 import sqlite3
 import subprocess
-import sys
 import tempfile
 import unittest
 from contextlib import closing
-from importlib.machinery import SourceFileLoader
-from importlib.util import module_from_spec, spec_from_loader
 from pathlib import Path
 
 from ends import run_main
+from trial import loaded
 
 TOOL = Path(__file__).resolve().parent / "import"
-LOADER = SourceFileLoader("import_tool", str(TOOL))
-tool = module_from_spec(spec_from_loader(LOADER.name, LOADER))
-sys.modules[LOADER.name] = tool
-LOADER.exec_module(tool)
+tool = loaded("import")
 
 K = "90dca4eda45b53cf0f12d7c9c3bc6a89"
 OPC = "cb9cccc4b9258e6dca4760379fb82581"

@@ -35,6 +35,8 @@ class Prefix(Checkout):
         super().setUp()
         for name in [f"tools/{it}" for it in (*install.TOOLS, *install.MODULES, "completion.bash")]:
             shutil.copy(TOP / name, self.top / name)
+        for name in install.PACKAGES:
+            shutil.copytree(TOP / "tools" / name, self.top / "tools" / name, dirs_exist_ok=True)
         for name in ("docs/auc.1", "docs/USER-GUIDE.md", "docs/OPERATOR.md", "docs/INSTALL.md", "examples/first.scenario"):
             (self.top / name).parent.mkdir(exist_ok=True)
             shutil.copy(TOP / name, self.top / name)

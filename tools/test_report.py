@@ -9,32 +9,24 @@ import sys
 import time
 import unittest
 from html.parser import HTMLParser
-from importlib.machinery import SourceFileLoader
-from importlib.util import module_from_spec, spec_from_loader
 from pathlib import Path
 from unittest import mock
 
 import report_numbers
 import transcript
+from eap import ciphers
 from ends import run_main
 from report_numbers import ACCEPTED, DRAWN, MOVED, REFUSED
 from transcript import Unreadable
 from transcript_lines import LINES, NOTES, REFUSED as REFUSED_FORMS, STATUSES, STEPS, Lines, objects_in
+from trial import loaded
 
 TOOLS = Path(__file__).resolve().parent
 TOP = TOOLS.parent
 EXAMPLES = TOP / "examples"
 EXPECTED = sorted(EXAMPLES.glob("*.expected"))
 WHOLE_PAGE = (TOP / "docs/TRANSCRIPT.md").read_text()
-needs_cryptography = unittest.skipIf(transcript.Cipher is None, "Python's cryptography is missing")
-
-
-def loaded(name):
-    loader = SourceFileLoader(f"{name}_tool", str(TOOLS / name))
-    module = module_from_spec(spec_from_loader(loader.name, loader))
-    sys.modules[loader.name] = module
-    loader.exec_module(module)
-    return module
+needs_cryptography = unittest.skipIf(ciphers.Cipher is None, "Python's cryptography is missing")
 
 
 report, tool = loaded("report"), loaded("transcript")
@@ -220,7 +212,7 @@ class Reports(unittest.TestCase):
     def test_page_has_each_session_and_each_event(self):
         for path in EXPECTED:
             text = path.read_text()
-            if transcript.Cipher is None and "-full-print" in path.name:
+            if ciphers.Cipher is None and "-full-print" in path.name:
                 continue
             page, _ = page_of(text)
             data = json.loads(page.scripts[0])

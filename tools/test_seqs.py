@@ -11,10 +11,10 @@ import unittest
 from pathlib import Path
 
 from ends import run_main
+from trial import HEADER, K, OPC
 
 TOOL = Path(__file__).resolve().parent / "seqs"
-HEADER = "imsi,k,kind,op,amf,seq,usim"
-KEYS = "465b5ce8b199b49faa5f0a2ee238a6bc,opc,cd63cb71954a9f4e48a5994e37a02baf,8000"
+KEYS = f"{K},opc,{OPC},8000"
 ONE, TWO, LAST = "001010000000001", "123456", 8796093022207
 FURTHEST = 268435456
 

@@ -5,32 +5,23 @@ import os
 import re
 import struct
 import subprocess
-import sys
 import tempfile
 import time
 import unittest
-from importlib.machinery import SourceFileLoader
-from importlib.util import module_from_spec, spec_from_loader
 from pathlib import Path
 from unittest import mock
 from xml.etree import ElementTree
 
 import transcript
+from eap import ciphers
 from ends import UNWRITTEN, Missing, run_main
+from trial import loaded
 
 TOOLS = Path(__file__).resolve().parent
 EXAMPLES, CHARTS = TOOLS.parent / "examples", TOOLS.parent / "docs/charts"
 FULL = EXAMPLES / "session-full-print.expected"
 PSEUDONYMS = EXAMPLES / "pseudonyms-full-print.expected"
 AGAIN = EXAMPLES / "re-authentication-full-print.expected"
-
-
-def loaded(name):
-    loader = SourceFileLoader(f"{name}_tool", str(TOOLS / name))
-    module = module_from_spec(spec_from_loader(loader.name, loader))
-    sys.modules[loader.name] = module
-    loader.exec_module(module)
-    return module
 
 
 chart, pcap = loaded("chart"), loaded("pcap")
@@ -463,7 +454,7 @@ class Identities(unittest.TestCase):
             (19, ["pseudonym"]), (20, ["AT_ANY_ID_REQ"]), (21, ["pseudonym"]),
         ])
 
-    @unittest.skipIf(transcript.Cipher is None, "Python's cryptography is missing")
+    @unittest.skipIf(ciphers.Cipher is None, "Python's cryptography is missing")
     def test_pseudonym_that_a_challenge_gives_is_the_next_one_that_is_sent(self):
         packets = self.packets()
         given = {it.number: transcript.shown_in(it) for it in packets}
@@ -472,7 +463,7 @@ class Identities(unittest.TestCase):
             for answer in answers:
                 self.assertEqual(given[challenge], [f"AT_NEXT_PSEUDONYM {told[answer].decode().partition('@')[0]}"], answer)
 
-    @unittest.skipIf(transcript.Cipher is None, "Python's cryptography is missing")
+    @unittest.skipIf(ciphers.Cipher is None, "Python's cryptography is missing")
     def test_capture_tells_each_pseudonym_that_is_given(self):
         self.assertEqual([len(it.split(" ")[1]) for it in self.comments()], [33, 33, 33])
 
@@ -483,7 +474,7 @@ class Identities(unittest.TestCase):
             self.assertEqual((transcript.shown_in(challenge), transcript.marks_of(challenge)), ([], ["AT_ENCR_DATA"]))
 
     def test_without_cryptography_a_pseudonym_that_is_given_is_told_to_be_missing(self):
-        with mock.patch.object(transcript, "Cipher", None):
+        with mock.patch.object(ciphers, "Cipher", None):
             self.assertEqual(transcript.shown_in(self.packets()[0]), [])
             with self.assertRaisesRegex(Missing, "cryptography is missing: apt-get install python3-cryptography"):
                 self.comments()
@@ -514,7 +505,7 @@ class Reauthentications(unittest.TestCase):
         words = [row.words for row in ladders.ladder_of(session).rows if isinstance(row, ladders.Arrow)]
         self.assertIn("small 1", words)
 
-    @unittest.skipIf(transcript.Cipher is None, "Python's cryptography is missing")
+    @unittest.skipIf(ciphers.Cipher is None, "Python's cryptography is missing")
     def test_capture_tells_what_each_message_has_encrypted(self):
         shown = {it.number: [" ".join(text.split()[:2]) if "COUNTER" in text else text.split()[0]
                              for text in transcript.shown_in(it)] for it in self.packets()}
@@ -525,7 +516,7 @@ class Reauthentications(unittest.TestCase):
             20: ["AT_NEXT_REAUTH_ID"], 25: ["AT_COUNTER 1", "AT_NONCE_S"], 26: ["AT_COUNTER 1"],
         })
 
-    @unittest.skipIf(transcript.Cipher is None, "Python's cryptography is missing")
+    @unittest.skipIf(ciphers.Cipher is None, "Python's cryptography is missing")
     def test_identity_that_is_given_is_the_next_one_that_is_sent(self):
         packets = self.packets()
         given = {it.number: transcript.shown_in(it)[-1] for it in packets if transcript.shown_in(it)}

@@ -5,24 +5,21 @@
 
 The exit status is 0 only if each rule holds.
 """
-import subprocess
 import sys
-import tempfile
 from pathlib import Path
 
 from ends import run_main
+from trial import K, OPC, ran_in_new_folder
 
 TOP = Path(__file__).resolve().parent.parent
 A = "001010000000001"
-KEYS = "465b5ce8b199b49faa5f0a2ee238a6bc opc cd63cb71954a9f4e48a5994e37a02baf 8000"
+KEYS = f"{K} opc {OPC} 8000"
 
 
 def printed(program, *words, scenario=None):
     """The lines that the program prints, each as its words."""
-    with tempfile.TemporaryDirectory() as folder:
-        if scenario:
-            (Path(folder) / "scenario").write_text("".join(line + "\n" for line in scenario))
-        done = subprocess.run([program, *words], cwd=folder, capture_output=True, text=True, timeout=120)
+    files = {"scenario": "".join(line + "\n" for line in scenario or [])}
+    done = ran_in_new_folder([program, *words], files, text=True, timeout=120)
     assert done.returncode == 0 and not done.stderr, (words, done.returncode, done.stderr)
     return [line.split() for line in done.stdout.splitlines()]
 

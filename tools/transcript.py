@@ -7,12 +7,12 @@ import re
 import sys
 from dataclasses import dataclass, field
 
-from ends import missing
-
-try:
-    from cryptography.hazmat.primitives.ciphers import Cipher, algorithms, modes
-except ImportError:
-    Cipher = None
+from eap.attributes import (AT_COUNTER, AT_COUNTER_TOO_SMALL, AT_ENCR_DATA, AT_IDENTITY, AT_IV,
+                            AT_NEXT_PSEUDONYM, AT_NEXT_REAUTH_ID, AT_NONCE_S, AT_PADDING, ID_REQUESTS, NAMES,
+                            text_in, values_in)
+from eap.ciphers import decrypted
+from eap.messages import CODES, IDENTITY, METHODS, SUBTYPES
+from eap.names import username
 
 # How many words follow the first one of a note, and the ends that they come from.
 CENTRE_NOTES = {"moved": 2, "inrange": 2, "beyond": 2, "drew": 1, "exhausted": 1, "withheld": 2}
@@ -24,26 +24,16 @@ OTHER_LINES = {"restart", "vector", "withheld", "exhausted", "sync", "give"}
 EVENTS = {"start": 2, "repeat": 2, "giveup": 3, "deliver": 4}
 REFUSALS = {"nosuchpacket", "nosuchend", "started"}
 ENDS = ("server", "peer")
-CODES = {1: "Request", 2: "Response", 3: "Success", 4: "Failure"}
-SUBTYPES = {1: "Challenge", 2: "Authentication-Reject", 4: "Synchronization-Failure", 5: "Identity", 12: "Notification",
-            13: "Reauthentication", 14: "Client-Error"}
-IDENTITY = 1
-# The methods by the types of their packets.
-METHODS = {23: "AKA", 50: "AKA'"}
-# Attributes by their types (RFC 4187 §10).
-ASKED = {10: "AT_PERMANENT_ID_REQ", 13: "AT_ANY_ID_REQ", 17: "AT_FULLAUTH_ID_REQ"}
-AT_IDENTITY, AT_IV, AT_ENCR_DATA, AT_NEXT_PSEUDONYM = 14, 129, 130, 132
 # What an identity is, by the form of its username (RFC 4187 §4.1.1.6 to §4.1.1.8, RFC 9048 §5.1).
 FORMS = {"permanent": rb"[06][0-9]{6,15}", "pseudonym": rb"[27][0-9a-f]{32}", "re-authentication": rb"[48][0-9a-f]{32}"}
 # How the value of an encrypted attribute is shown.
 ENCRYPTED = {
-    19: lambda value: f"AT_COUNTER {int.from_bytes(value, 'big')}",
-    20: lambda value: "AT_COUNTER_TOO_SMALL",
-    21: lambda value: f"AT_NONCE_S {value[2:].hex()}",
+    AT_COUNTER: lambda value: f"AT_COUNTER {int.from_bytes(value, 'big')}",
+    AT_COUNTER_TOO_SMALL: lambda value: "AT_COUNTER_TOO_SMALL",
+    AT_NONCE_S: lambda value: f"AT_NONCE_S {value[2:].hex()}",
     AT_NEXT_PSEUDONYM: lambda value: f"AT_NEXT_PSEUDONYM {text_in(value).decode(errors='replace')}",
-    133: lambda value: f"AT_NEXT_REAUTH_ID {text_in(value).decode(errors='replace')}",
+    AT_NEXT_REAUTH_ID: lambda value: f"AT_NEXT_REAUTH_ID {text_in(value).decode(errors='replace')}",
 }
-AT_PADDING = 6
 
 
 class Unreadable(Exception):
@@ -119,26 +109,10 @@ def name_of(data):
     return f"{code}/Identity" if data[4] == IDENTITY else f"{code}/type {data[4]}"
 
 
-def attributes_in(data):
-    """The values of attributes by their types; none if they don't fill the bytes."""
-    found = {}
-    while data:
-        size = 4 * data[1] if len(data) > 1 else 0
-        if not 0 < size <= len(data):
-            return {}
-        found[data[0]], data = data[2:size], data[size:]
-    return found
-
-
 def attributes_of(packet):
     """Those of a message of a method."""
     data = packet.data or b""
-    return attributes_in(data[8:]) if len(data) > 8 and data[4] in METHODS else {}
-
-
-def text_in(value):
-    """The text in the value of an attribute: its length in two bytes stands before it."""
-    return value[2:2 + int.from_bytes(value[:2], "big")]
+    return values_in(data[8:]) if len(data) > 8 and data[4] in METHODS else {}
 
 
 def identity_in(packet):
@@ -150,21 +124,13 @@ def identity_in(packet):
     return None if value is None else text_in(value)
 
 
-def decrypted(key, iv, data):
-    """What AT_ENCR_DATA was before it was encrypted (RFC 4187 §10.12)."""
-    if Cipher is None:
-        raise missing("cryptography")
-    decryptor = Cipher(algorithms.AES(key), modes.CBC(iv)).decryptor()
-    return decryptor.update(data) + decryptor.finalize()
-
-
 def encrypted_in(packet):
-    """The attributes that a message has encrypted, as `attributes_in` has them, if their key is known. Under the key of another
+    """The attributes that a message has encrypted, as `values_in` has them, if their key is known. Under the key of another
     challenge they don't read as any."""
     found, key = attributes_of(packet), packet.session.k_encr
     if key is None or len(found.get(AT_IV, b"")) != 18 or len(found.get(AT_ENCR_DATA, b"")) % 16 != 2:
         return {}
-    inner = attributes_in(decrypted(key, found[AT_IV][2:], found[AT_ENCR_DATA][2:]))
+    inner = values_in(decrypted(key, found[AT_ENCR_DATA][2:], found[AT_IV][2:]))
     return inner if inner.keys() <= ENCRYPTED.keys() | {AT_PADDING} else {}
 
 
@@ -176,9 +142,9 @@ def shown_in(packet):
 def marks_of(packet):
     """What a message asks for, which kind of identity it tells, and that it has encrypted something; each if it is so."""
     found, identity = attributes_of(packet), identity_in(packet)
-    marks = [name for kind, name in ASKED.items() if kind in found]
+    marks = [NAMES[kind] for kind in ID_REQUESTS if kind in found]
     if identity is not None:
-        marks += [kind for kind, form in FORMS.items() if re.fullmatch(form, identity.partition(b"@")[0])]
+        marks += [kind for kind, form in FORMS.items() if re.fullmatch(form, username(identity))]
     return marks + (["AT_ENCR_DATA"] if AT_ENCR_DATA in found else [])
 
 
@@ -204,7 +170,7 @@ def subscriber_of(session):
     if "resumed" in notes and session.only_ever:
         return session.only_ever
     told = [identity_in(packet) or b"" for packet in session.packets if packet.sender == "peer"]
-    names = [identity.partition(b"@")[0] for identity in told]
+    names = [username(identity) for identity in told]
     permanent = [name for name in names if re.fullmatch(FORMS["permanent"], name)]
     return permanent[-1][1:].decode() if permanent else ""
 

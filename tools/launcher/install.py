@@ -23,7 +23,9 @@ PROGRAM = f"{HOME}/program"
 PAGES = "share/doc/auc"
 TOOLS = ("import", "chart", "pcap", "report", "transcript", "gateway", "usim", "seqs")
 MODULES = ("ends.py", "transcript.py", "transcript_lines.py", "report_numbers.py", "report_packets.py", "report_page.html",
-           "ladders.py", "picture.py", "aka_functions.py", "gateway_centre.py", "import_stores.py")
+           "ladders.py", "picture.py", "gateway_centre.py", "import_stores.py")
+# Folders of which each module is installed.
+PACKAGES = ("launcher", "eap")
 PLAIN, RUN = 0o644, 0o755
 
 
@@ -53,7 +55,8 @@ def pages():
 
 def tree_of_checkout(program, facts):
     """What is installed of these sources, with a program and what is known of it."""
-    modules = [*(f"tools/{it}" for it in MODULES), *(str(it.relative_to(TOP)) for it in TOP.glob("tools/launcher/*.py"))]
+    packages = [it for package in PACKAGES for it in TOP.glob(f"tools/{package}/*.py")]
+    modules = [*(f"tools/{it}" for it in MODULES), *(str(it.relative_to(TOP)) for it in packages)]
     tree = {
         PROGRAM: File(program, RUN),
         f"{HOME}/auc": file_of(TOP / "auc", RUN),

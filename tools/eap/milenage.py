@@ -1,12 +1,8 @@
-"""Milenage (TS 35.206 §4.1), what an AUTS says (TS 33.102 §6.3.3), a USIM (TS 33.102 Annex C), and a vector as a GSM
-triplet (TS 33.102 §6.8.1.2).
+"""Milenage (TS 35.206 §4.1), and AUTN and AUTS by it (TS 33.102 §6.3.2 and §6.3.3).
 
-It shares nothing with the crates. `Functions` takes the block cipher as a call, so that a script may bring its own. `Aes`
-needs no library, and is for a few blocks: it is slow, and the time that it takes depends on the key.
+`Functions` takes the block cipher as a call, so that a script may bring its own. `Aes` needs no library, and is for a few
+blocks: it is slow, and the time that it takes depends on the key.
 """
-
-# How far above the greatest SEQ that it has accepted a USIM accepts a SEQ.
-REACH = 2**28
 
 
 def xor(a, b):
@@ -16,6 +12,10 @@ def xor(a, b):
 
 def turned(block, bits):
     return block[bits // 8:] + block[:bits // 8]
+
+
+def opc_of(encrypt, op):
+    return xor(op, encrypt(op))
 
 
 class Functions:
@@ -38,40 +38,25 @@ class Functions:
         out = xor(self.encrypt(xor(self.temp, turned(xor(block, self.opc), 64))), self.opc)
         return out[:8], out[8:]
 
+    def autn(self, sqn, amf):
+        return xor(sqn, self.ak) + amf + self.f1(sqn, amf)[0]
+
+    def sqn_of(self, autn):
+        """SQN of an AUTN, whatever its MAC-A."""
+        return xor(autn[:6], self.ak)
+
+    def is_right(self, autn):
+        """Whether MAC-A of an AUTN is right."""
+        return self.f1(self.sqn_of(autn), autn[6:8])[0] == autn[8:]
+
+    def auts(self, sqn):
+        """AUTS of a USIM with this SQN_MS."""
+        return xor(sqn, self.ak_star) + self.f1(sqn, bytes(2))[1]
+
     def sqn_in(self, auts):
         """SQN_MS of an AUTS, or nothing if its MAC-S is wrong."""
         sqn = xor(auts[:6], self.ak_star)
         return sqn if self.f1(sqn, bytes(2))[1] == auts[6:] else None
-
-
-class Usim:
-    """A USIM with the index array of TS 33.102 Annex C, by a call that gives the functions of a RAND. It is opened at a
-    number: the numbers from 1 to it count as accepted."""
-
-    def __init__(self, functions, opening):
-        self.functions = functions
-        self.entries = [max((n for n in range(max(1, opening - 31), opening + 1) if n % 32 == i), default=0)
-                        for i in range(32)]
-
-    def challenge(self, rand, autn):
-        """The note's words; the functions if it accepts; AUTS if it doesn't synchronise."""
-        f = self.functions(rand)
-        sqn = xor(autn[:6], f.ak)
-        if f.f1(sqn, autn[6:8])[0] != autn[8:]:
-            return "wrongmac", None, None
-        value = int.from_bytes(sqn, "big")
-        seq, ind, greatest = value >> 5, value & 31, max(self.entries)
-        if seq <= self.entries[ind] or seq > greatest + REACH:
-            sqn_ms = (32 * greatest + self.entries.index(greatest)).to_bytes(6, "big")
-            return f"sync {sqn_ms.hex()}", None, xor(sqn_ms, f.ak_star) + f.f1(sqn_ms, bytes(2))[1]
-        self.entries[ind] = seq
-        return f"accepted {sqn.hex()}", f, None
-
-
-def triplet(res, ck, ik):
-    """SRES and Kc, by the conversion functions c2 and c3."""
-    kc = xor(xor(ck[:8], ck[8:]), xor(ik[:8], ik[8:]))
-    return xor(res[:4], res[4:]), kc
 
 
 # ---- AES-128 (FIPS 197)

@@ -1,6 +1,6 @@
-"""The keys of EAP-AKA (RFC 4187 section 7) and EAP-AKA' (RFC 9048 section 3.3), from what Milenage gives.
+"""The keys of EAP-AKA (RFC 4187 §7) and EAP-AKA' (RFC 9048 §3.3), from what Milenage gives. It needs no library.
 
-It shares nothing with the crates, and needs no library.
+A method is told by the type of its packets: 23 is EAP-AKA, and 50 is EAP-AKA'.
 """
 import copy
 import hashlib
@@ -43,7 +43,7 @@ def generated(seed):
 
 
 def expanded(key, text, size):
-    """The first bytes of PRF' (RFC 9048 section 3.4)."""
+    """The first bytes of PRF' (RFC 9048 §3.4)."""
     stream = block = b""
     while len(stream) < size:
         block = hmac.digest(key, block + text + bytes([len(stream) // 32 + 1]), "sha256")
@@ -51,31 +51,48 @@ def expanded(key, text, size):
     return stream[:size]
 
 
+def master_key(identity, ck, ik):
+    """MK (RFC 4187 §7)."""
+    return hashlib.sha1(identity + ik + ck).digest()
+
+
+def prime_keys(name, autn, f):
+    """CK' and IK' (RFC 9048 §3.3)."""
+    message = b"\x20" + name + len(name).to_bytes(2, "big") + autn[:6] + b"\0\6"
+    both = hmac.digest(f.ck + f.ik, message, "sha256")
+    return both[:16], both[16:]
+
+
+def renewed(kind, master, identity, counter, nonce):
+    """MSK and EMSK of a re-authentication, under MK or K_re (RFC 4187 §7, RFC 9048 §3.3)."""
+    given = identity + counter.to_bytes(2, "big") + nonce
+    if kind == 23:
+        pair = generated(hashlib.sha1(given + master).digest())
+    else:
+        pair = expanded(master, b"EAP-AKA' re-auth" + given, 128)
+    return [pair[:64], pair[64:128]]
+
+
 class Keys:
     """The keys by the method, whose type this is; the name is the network's."""
 
     def __init__(self, kind, name, identity, autn, f):
         self.kind = kind
+        self.pair = ck, ik = (f.ck, f.ik) if kind == 23 else prime_keys(name, autn, f)
         if kind == 23:
-            self.master = hashlib.sha1(identity + f.ik + f.ck).digest()
+            self.master = master_key(identity, ck, ik)
             stream = generated(self.master)
             stream = stream[:32] + bytes(48) + stream[32:]
         else:
-            message = b"\x20" + name + len(name).to_bytes(2, "big") + autn[:6] + b"\0\6"
-            both = hmac.digest(f.ck + f.ik, message, "sha256")
-            stream = expanded(both[16:] + both[:16], b"EAP-AKA'" + identity, 208)
+            stream = expanded(ik + ck, b"EAP-AKA'" + identity, 208)
             self.master = stream[48:80]
         self.encr, self.aut = stream[:16], stream[16:32] if kind == 23 else stream[16:48]
         self.words = [stream[:16], stream[16:48], stream[48:80], stream[80:144], stream[144:208]]
 
     def again(self, identity, counter, nonce):
-        """The keys of a re-authentication (RFC 4187 section 7, RFC 9048 section 3.3)."""
-        given, keys = identity + counter.to_bytes(2, "big") + nonce, copy.copy(self)
-        if self.kind == 23:
-            pair = generated(hashlib.sha1(given + self.master).digest())
-        else:
-            pair = expanded(self.master, b"EAP-AKA' re-auth" + given, 128)
-        keys.words = [*self.words[:3], pair[:64], pair[64:128]]
+        """The keys of a re-authentication."""
+        keys = copy.copy(self)
+        keys.words = [*self.words[:3], *renewed(self.kind, self.master, identity, counter, nonce)]
         return keys
 
     def text(self):

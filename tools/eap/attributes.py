@@ -1,0 +1,101 @@
+"""The attributes of EAP-AKA and EAP-AKA' (RFC 4187 §10, RFC 9048 §3): their types, one walk through them, and how their values
+are written and read. It needs no library."""
+
+AT_RAND, AT_AUTN, AT_RES, AT_AUTS, AT_PADDING, AT_PERMANENT_ID_REQ, AT_MAC, AT_NOTIFICATION = 1, 2, 3, 4, 6, 10, 11, 12
+AT_ANY_ID_REQ, AT_IDENTITY, AT_FULLAUTH_ID_REQ, AT_COUNTER, AT_COUNTER_TOO_SMALL, AT_NONCE_S = 13, 14, 17, 19, 20, 21
+AT_CLIENT_ERROR_CODE, AT_KDF_INPUT, AT_KDF, AT_IV, AT_ENCR_DATA = 22, 23, 24, 129, 130
+AT_NEXT_PSEUDONYM, AT_NEXT_REAUTH_ID, AT_CHECKCODE, AT_RESULT_IND, AT_BIDDING = 132, 133, 134, 135, 136
+# By which of them a server asks for an identity.
+ID_REQUESTS = AT_PERMANENT_ID_REQ, AT_ANY_ID_REQ, AT_FULLAUTH_ID_REQ
+NAMES = {1: "AT_RAND", 2: "AT_AUTN", 3: "AT_RES", 4: "AT_AUTS", 6: "AT_PADDING", 7: "AT_NONCE_MT", 10: "AT_PERMANENT_ID_REQ",
+         11: "AT_MAC", 12: "AT_NOTIFICATION", 13: "AT_ANY_ID_REQ", 14: "AT_IDENTITY", 17: "AT_FULLAUTH_ID_REQ", 19: "AT_COUNTER",
+         20: "AT_COUNTER_TOO_SMALL", 21: "AT_NONCE_S", 22: "AT_CLIENT_ERROR_CODE", 23: "AT_KDF_INPUT", 24: "AT_KDF", 129: "AT_IV",
+         130: "AT_ENCR_DATA", 132: "AT_NEXT_PSEUDONYM", 133: "AT_NEXT_REAUTH_ID", 134: "AT_CHECKCODE", 135: "AT_RESULT_IND",
+         136: "AT_BIDDING"}
+# The sizes of the values with a fixed size, and the others' allowed sizes.
+SIZES = {AT_RAND: {18}, AT_AUTN: {18}, AT_AUTS: {14}, AT_PADDING: {2, 6, 10}, AT_PERMANENT_ID_REQ: {2}, AT_MAC: {18},
+         AT_NOTIFICATION: {2}, AT_ANY_ID_REQ: {2}, AT_FULLAUTH_ID_REQ: {2}, AT_COUNTER: {2}, AT_COUNTER_TOO_SMALL: {2},
+         AT_NONCE_S: {18}, AT_CLIENT_ERROR_CODE: {2}, AT_KDF: {2}, AT_IV: {18}, AT_CHECKCODE: {2, 22, 34}, AT_RESULT_IND: {2},
+         AT_BIDDING: {2}}
+TEXTS = AT_IDENTITY, AT_KDF_INPUT, AT_NEXT_PSEUDONYM, AT_NEXT_REAUTH_ID
+KNOWN = {*SIZES, AT_RES, AT_ENCR_DATA, *TEXTS}
+
+
+class Fault(Exception):
+    """Bytes that are no packet, or no attributes that a message may have."""
+
+
+# ---- walking
+
+def places_in(data, start=0):
+    """The type, the first byte of the value, and the end of each attribute from a byte on. What fills no attribute comes last,
+    from its first byte, and has no type."""
+    while start < len(data):
+        size = 4 * data[start + 1] if start + 1 < len(data) else 0
+        if not 0 < size <= len(data) - start:
+            yield None, start, len(data)
+            return
+        yield data[start], start + 2, start + size
+        start += size
+
+
+def values_in(data):
+    """The values by their types; none if the attributes don't fill the bytes."""
+    places = list(places_in(data))
+    return {} if any(kind is None for kind, _, _ in places) else {kind: data[start:end] for kind, start, end in places}
+
+
+# ---- writing
+
+def attr(kind, value):
+    assert (len(value) + 2) % 4 == 0
+    return bytes([kind, (len(value) + 2) // 4]) + value
+
+
+def text_attr(kind, text):
+    return attr(kind, len(text).to_bytes(2, "big") + text + bytes(-len(text) % 4))
+
+
+def sixteen(kind, value):
+    return attr(kind, b"\0\0" + value)
+
+
+def number_attr(kind, number):
+    return attr(kind, number.to_bytes(2, "big"))
+
+
+def res_attr(res):
+    return attr(AT_RES, (8 * len(res)).to_bytes(2, "big") + res + bytes(-len(res) % 4))
+
+
+# ---- reading
+
+def number_in(value):
+    return int.from_bytes(value[:2], "big")
+
+
+def text_in(value):
+    """The text in the value of an attribute: its length in two bytes stands before it."""
+    return value[2:2 + number_in(value)]
+
+
+def sized(kind, value):
+    """AT_RES or a text without its length, which has to leave less than a unit of the value."""
+    size, rest = (number_in(value), 0) if kind in TEXTS else divmod(number_in(value), 8)
+    if rest or -size % 4 + size != len(value) - 2 or kind == AT_RES and not 4 <= size <= 16:
+        raise Fault
+    return value[2:2 + size]
+
+
+def read(data):
+    """The values by type, of AT_KDF the first. A type from 128 on that isn't known is left out."""
+    found = {}
+    for kind, start, end in places_in(data):
+        value = data[start:end]
+        if kind is None or kind < 128 and kind not in KNOWN or kind in found and kind != AT_KDF:
+            raise Fault
+        if kind in SIZES and len(value) not in SIZES[kind] or kind == AT_PADDING and any(value):
+            raise Fault
+        if kind in KNOWN:
+            found.setdefault(kind, sized(kind, value) if kind in (AT_RES, *TEXTS) else value)
+    return found

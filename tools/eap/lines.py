@@ -1,0 +1,41 @@
+"""Both ends in the lines that the program of crates/auc_ends_cli reads and prints, under its random bytes."""
+from .messages import AKA, PRIME
+from .peer import Peer
+from .server import Server
+from .session import Device, Home, Row, Subscriber, line_of
+
+RANDOM_KEY = bytes(range(32))
+
+
+class Ends:
+    """One end after the other, for one subscriber; sessions that follow share a home or a device."""
+
+    def __init__(self, subscriber=Subscriber()):
+        self.subscriber, self.end, self.shared, self.sessions = subscriber, None, None, 0
+
+    def tell(self, line):
+        """The line that answers a line."""
+        word, _, rest = line.partition(" ")
+        if word in ("server", "peer", "next"):
+            return self.begin(word, rest.split())
+        turns = {"bytes": lambda: self.end.deliver(bytes.fromhex(rest)), "repeat": lambda: self.end.repeat()}
+        return line_of(self.end, turns.get(word, lambda: self.end.give_up())())
+
+    def begin(self, word, words):
+        kind, name = AKA, ""
+        if "prime" in words[-2:-1]:
+            kind, name, words = PRIME, words[-1], words[:-2]
+        self.sessions += 1
+        if word != "next":
+            self.sessions, number = 1, int(words.pop(0))
+        if word == "server":
+            is_held = words.pop(0) == "held"
+            self.shared = Home(RANDOM_KEY, [Row(self.subscriber, number=number)] if is_held else [])
+        elif word == "peer":
+            self.shared = Device(self.subscriber, number, RANDOM_KEY)
+        if isinstance(self.shared, Home):
+            self.end = Server(self.shared, self.sessions, kind, name.encode(), words)
+            return line_of(self.end, self.end.repeat())
+        first = next((it for it in words if it == "permanent" or it.startswith("=")), "held")
+        self.end = Peer(self.shared, self.sessions, kind, None if name == "*" else name.encode(), words, first)
+        return "peer"

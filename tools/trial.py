@@ -1,0 +1,51 @@
+"""What trials of scripts and of the program share: a run in an empty folder, where two texts differ, a script without `.py` as a
+module, and a subscriber."""
+import subprocess
+import sys
+import tempfile
+from contextlib import contextmanager
+from importlib.machinery import SourceFileLoader
+from importlib.util import module_from_spec, spec_from_loader
+from itertools import zip_longest
+from pathlib import Path
+
+from eap.session import Subscriber
+from gateway_centre import HEADER as FIELDS
+
+TOOLS = Path(__file__).resolve().parent
+# The header of a file of subscribers, and the fields of one after its IMSI.
+HEADER, K, OPC = ",".join(FIELDS), Subscriber().k.hex(), Subscriber().opc.hex()
+KEYS = K, "opc", OPC, "8000", "0", "0"
+
+
+@contextmanager
+def folder_with(files=()):
+    """A new folder with some files, given by their names and texts, until the end of the block."""
+    with tempfile.TemporaryDirectory() as name:
+        for file, text in dict(files).items():
+            (Path(name) / file).write_bytes(text if isinstance(text, bytes) else text.encode())
+        yield Path(name)
+
+
+def ran_in_new_folder(words, files=(), **more):
+    """A run in a new folder with some files, so that it finds no journal of an earlier one: its status and what it wrote."""
+    with folder_with(files) as folder:
+        return subprocess.run(words, cwd=folder, capture_output=True, **more)
+
+
+def difference(ours, theirs):
+    """The number of the first line in which two texts differ, and what stands there in each, or None if nothing does; nothing if
+    they are the same."""
+    if ours == theirs:
+        return None
+    pairs = [*zip_longest(ours.splitlines(), theirs.splitlines()), (None, None)]
+    return next((number, *pair) for number, pair in enumerate(pairs, 1) if pair[0] != pair[1] or number == len(pairs))
+
+
+def loaded(name):
+    """A script of tools/ as a module."""
+    loader = SourceFileLoader(f"{name}_tool", str(TOOLS / name))
+    module = module_from_spec(spec_from_loader(loader.name, loader))
+    sys.modules[loader.name] = module
+    loader.exec_module(module)
+    return module
