@@ -7,8 +7,8 @@ Each pair has N sessions, 5 unless it is given. PROGRAM of our ends is crates/au
 on the PATH, unless they are given. --packets prints the packets of each session.
 
 Our ends are those of the program of crates/auc_ends_cli, which is kept running. The vectors for hostapd and the answers of
-wpa_supplicant's USIM are made by the Milenage of tools/eap, under the key of the program's subscriber. The USIM is ahead
-at first, so the first challenge ends in a resynchronisation. Pseudonyms and re-authentication identities are given.
+wpa_supplicant's USIM are made by tools/eap, under the key of the program's subscriber. The USIM is ahead at first, so the first
+challenge ends in a resynchronisation. Pseudonyms and re-authentication identities are given.
 
 Our peer with hostapd, of each five sessions: a full authentication; a re-authentication by the identity of EAP; one by that of
 an AKA-Identity round, after the permanent one. Then hostapd is started anew and knows no name: it asks for the others, and a full

@@ -3,10 +3,11 @@
 
     bench/foreign_keys.py
 
-By each method the two run a full authentication and two fast re-authentications with each other. The keys that hostapd
-writes into its log have to be those that tools/eap makes from the same master key, identity, counter and NONCE_S (RFC 4187 §7,
-RFC 9048 §3.3); tools/eap in its turn is compared with the program by bench/random_sessions.py. It needs
-Debian's packages hostapd and eapoltest, and Python's `cryptography`. The exit status is 0 only if all keys are equal.
+By each method the two run a full authentication and two fast re-authentications with each other. The keys
+that hostapd writes into its log have to be those that tools/eap makes from the same master key, identity,
+counter and NONCE_S (RFC 4187 §7, RFC 9048 §3.3); tools/eap in its turn is compared with the program by
+bench/random_sessions.py. It needs Debian's packages hostapd and eapoltest, and Python's `cryptography`. The
+exit status is 0 only if all keys are equal.
 """
 import re
 import sys

@@ -15,8 +15,8 @@ def program():
 
 
 def followed(words, read):
-    """Runs the program with these words in a new folder, and reads its lines while it runs: its own processor seconds, its
-    greatest resident bytes, its status, and what was read."""
+    """Runs the program with these words in a new folder, and reads its lines while it runs: its own
+    processor seconds, its greatest resident bytes, its status, and what was read."""
     with folder_with() as folder:
         child = subprocess.Popen([program(), *words], cwd=folder, stdout=subprocess.PIPE)
         found = read(child.stdout)

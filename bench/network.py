@@ -1,8 +1,8 @@
-"""The sessions of a scenario by an implementation of its own: the network of a job, over the centre, the ends and the USIMs of
-tools/eap. It shares nothing with the crates, and needs Python's `cryptography`.
+"""The sessions of a scenario by an implementation of its own: the network of a job, over the centre, the
+ends and the USIMs of tools/eap. It shares nothing with the crates, and needs Python's `cryptography`.
 
-`World(TEXT).output()` is what `run` prints of a scenario that `is_readable`: one job a round, and in it lines of sessions
-alone. No subscriber's last number may be drawn.
+`World(TEXT).output()` is what `run` prints of a scenario that `is_readable`: one job a round, and in it
+lines of sessions alone. No subscriber's last number may be drawn.
 """
 import sys
 from dataclasses import replace
@@ -17,7 +17,8 @@ from eap.session import Device, Home, Row, Subscriber
 TYPES = {"aka": 23, "prime": 50}
 # What each letter of a session's options is called at an end.
 OPTIONS = {"p": "pseudonym", "r": "reauth", "a": "any", "b": "bidding", "d": "hasprime"}
-HEADER, EVENTS = {"randkey", "print", "realm", "subscriber"}, {"session", "start", "deliver", "repeat", "giveup", "plain"}
+HEADER = {"randkey", "print", "realm", "subscriber"}
+EVENTS = {"session", "start", "deliver", "repeat", "giveup", "plain"}
 
 
 def lines_of(text):
@@ -28,8 +29,9 @@ def lines_of(text):
 def is_readable(text):
     lines = lines_of(text)
     words = [line[0] for line in lines]
-    has_known_words = set(words) <= HEADER | EVENTS | {"round", "job"} and words.count("job") == words.count("round")
-    return has_known_words and all(line[3] == "opc" for line in lines if line[0] == "subscriber")
+    has_known_words = set(words) <= HEADER | EVENTS | {"round", "job"}
+    has_opc = all(line[3] == "opc" for line in lines if line[0] == "subscriber")
+    return has_known_words and words.count("job") == words.count("round") and has_opc
 
 
 # ---- the network of a job, and the scenario
@@ -182,8 +184,9 @@ class World:
         job.run()
         for first, last in zip(opened, self.rows):
             if first.number != last.number:
+                numbers = f"{last.subscriber.imsi} {first.number} {last.number}"
                 drawn, skipped = last.drawn - first.drawn, last.skipped - first.skipped
-                self.say(f"closed {last.subscriber.imsi} {first.number} {last.number} {drawn} {skipped} {drawn} 0")
+                self.say(f"closed {numbers} {drawn} {skipped} {drawn} 0")
         for session in sorted(job.sessions.values(), key=lambda it: it.number):
             if session.has_verdict():
                 self.say(f"session {session.number} {session.verdict()}")

@@ -132,8 +132,9 @@ def compared(name, text, output):
     """Whether an output is that of network.py; the first line that it has otherwise is printed."""
     found = difference(output, World(text).output())
     if found:
-        lines = [(line or "")[:200] for line in found[1:]]
-        print(f"{name} differs: " + (f"{lines[0]!r}, and by network.py {lines[1]!r}" if any(lines) else "the end"))
+        ours, theirs = ((line or "")[:200] for line in found[1:])
+        where = f"{ours!r}, and by network.py {theirs!r}" if ours or theirs else "the end"
+        print(f"{name} differs: {where}")
     return not found
 
 

@@ -84,7 +84,8 @@ def judged(output, asked):
 
 def run(words, asked):
     began = time.monotonic()
-    spent, size, status, (fault, vectors) = followed(words, lambda lines: judged(io.TextIOWrapper(lines), asked))
+    read = lambda lines: judged(io.TextIOWrapper(lines), asked)
+    spent, size, status, (fault, vectors) = followed(words, read)
     seconds = time.monotonic() - began
     if status:
         fault = f"status {status}"

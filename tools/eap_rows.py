@@ -3,9 +3,10 @@
 
     tools/eap_rows.py stdin|stdout
 
-The ends are those of tools/eap, which shares nothing with the crates, with permanent identities, pseudonyms and
-re-authentications. The rows go through each state of a server and of a peer: first, in one session, each message that is
-ignored there; then each other message in a session of its own. It needs Python's `cryptography`.
+The ends are those of tools/eap, which shares nothing with the crates, with permanent identities, pseudonyms
+and re-authentications. The rows go through each state of a server and of a peer: first, in one session, each
+message that is ignored there; then each other message in a session of its own. It needs Python's
+`cryptography`.
 """
 import sys
 from types import SimpleNamespace
@@ -194,7 +195,8 @@ IDENTIFYING = [
     ("a pseudonym that wasn't given", identity(lambda kind: name_of(kind, 0))),
     ("the last pseudonym", identity(lambda kind: name_of(kind, LAST_ORDINAL))),
     ("a pseudonym of the other method", identity(lambda kind: name_of(73 - kind, 1))),
-    ("a pseudonym with the other method's digit", identity(lambda kind: DIGITS[PSEUDONYM][73 - kind] + NAMES.digits(kind, 0, 1))),
+    ("a pseudonym with the other method's digit",
+     identity(lambda kind: DIGITS[PSEUDONYM][73 - kind] + NAMES.digits(kind, 0, 1))),
     ("a pseudonym in upper case", identity(lambda kind: name_of(kind, 1).upper())),
     ("a pseudonym of one digit less", identity(lambda kind: name_of(kind, 1)[:32])),
     ("a pseudonym of one digit more", identity(lambda kind: name_of(kind, 1) + b"0")),

@@ -1,7 +1,7 @@
 """What a session with a foreign end was: its transcript, and a verdict, for tools/foreign.
 
-A verdict rests on what our end answered. Where it names a wrong field, a second implementation, tools/eap, computes what the
-field has to be, and tries which other input the foreign end may have used.
+A verdict rests on what our end answered. Where it names a wrong field, a second implementation, tools/eap,
+computes what the field has to be, and tries which other input the foreign end may have used.
 """
 from dataclasses import dataclass, field
 
@@ -194,7 +194,8 @@ class Judge:
         rand, autn = found[AT_RAND][2:], found[AT_AUTN][2:]
         told = [identity_of(it) for it in reversed(session.packets[:challenge.number])]
         identities = [it for it in told if it is not None] or [b""]
-        others = [self.subscriber.permanent(kind), self.subscriber.imsi.encode(), self.subscriber.permanent(AKA + PRIME - kind)]
+        others = [self.subscriber.permanent(kind), self.subscriber.imsi.encode()]
+        others.append(self.subscriber.permanent(AKA + PRIME - kind))
         others += [username(it) for it in identities if b"@" in it]
         names = [text_in(found[AT_KDF_INPUT]) if AT_KDF_INPUT in found else b"", *([self.network, b""] if kind == PRIME else [])]
         f = self.subscriber.functions(rand)

@@ -161,7 +161,8 @@ def inputs_of_challenge(it):
     if it.method != AKA:
         return rows + [["keys are", "PRF'(IK' | CK', \"EAP-AKA'\" | identity): K_encr, K_aut, K_re, MSK, EMSK"]]
     master = master_key(it.identity or b"", bytes.fromhex(ck), bytes.fromhex(ik))
-    return rows + [["MK = SHA-1(identity | IK | CK)", master.hex()], ["keys are", "PRF(MK): K_encr, K_aut, MSK, EMSK"]]
+    made = ["keys are", "PRF(MK): K_encr, K_aut, MSK, EMSK"]
+    return rows + [["MK = SHA-1(identity | IK | CK)", master.hex()], made]
 
 
 def shown_keys(it):

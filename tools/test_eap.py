@@ -1,7 +1,9 @@
 #!/usr/bin/env python3
-"""Tests of tools/eap by values from outside: the test sets of the standards, the rows of crates/auc_ends_cli, and the examples.
+"""Tests of tools/eap by values from outside: the test sets of the standards, the rows of crates/auc_ends_cli,
+and the examples.
 
-The rows and the examples are printed by the proved program, so they tell whether two implementations that share nothing agree.
+The rows and the examples are printed by the proved program, so they tell whether two implementations that
+share nothing agree.
 """
 import sys
 import unittest
@@ -55,7 +57,8 @@ ee6466bc96202c5a557abbeff8babf63 414b98222181 4464 078adfb488241a57 80246b8d0186
 # FIPS 186-2 with change notice 1: XKEY, and the first two words.
 XKEY, WORDS = "bd029bbe7f51960bcf9edb2b61f06f0feb5a38b6", ("2070b3223dba372fde1c0ffc7b2e3b498b260614"
                                                          "3c6c18bacb0f6c55babb13788e20d737a3275116")
-# RFC 5448 Appendix C, test cases 1 and 2, which differ in the network name: CK', IK', K_encr, K_aut, K_re, MSK, EMSK.
+# RFC 5448 Appendix C, test cases 1 and 2, which differ in the network name: CK', IK', K_encr, K_aut, K_re,
+# MSK and EMSK.
 IDENTITY, CK, IK = b"0555444333222111", "5349fbe098649f948f5d2e973a81c00f", "9744871ad32bf9bbd1dd5ce54e3e2e5a"
 AUTN = "bb52e91c747ac3ab2a5c23d15ee351d5"
 CASES = {
@@ -63,15 +66,19 @@ CASES = {
 0093962d0dd84aa5684b045c9edffa04 ccfc230ca74fcc96c0a5d61164f5a76c 766fa0a6c317174b812d52fbcd11a179
 0842ea722ff6835bfa2032499fc3ec23c2f0e388b4f07543ffc677f1696d71ea
 cf83aa8bc7e0aced892acc98e76a9b2095b558c7795c7094715cb3393aa7d17a
-67c42d9aa56c1b79e295e3459fc3d187d42be0bf818d3070e362c5e967a4d544e8ecfe19358ab3039aff03b7c930588c055babee58a02650b067ec4e9347c75a
-f861703cd775590e16c7679ea3874ada866311de290764d760cf76df647ea01c313f69924bdd7650ca9bac141ea075c4ef9e8029c0e290cdbad5638b63bc23fb
+67c42d9aa56c1b79e295e3459fc3d187d42be0bf818d3070e362c5e967a4d544
+e8ecfe19358ab3039aff03b7c930588c055babee58a02650b067ec4e9347c75a
+f861703cd775590e16c7679ea3874ada866311de290764d760cf76df647ea01c
+313f69924bdd7650ca9bac141ea075c4ef9e8029c0e290cdbad5638b63bc23fb
 """,
     b"HRPD": """
 3820f0277fa5f77732b1fb1d90c1a0da db94a0ab557ef6c9ab48619ca05b9a9f 05ad73ac915fce89ac77e1520d82187b
 5b4acaef62c6ebb8882b2f3d534c4b35277337a00184f20ff25d224c04be2afd
 3f90bf5c6e5ef325ff04eb5ef6539fa8cca8398194fbd00be425b3f40dba10ac
-87b321570117cd6c95ab6c436fb5073ff15cf85505d2bc5bb7355fc21ea8a75757e8f86a2b138002e05752913bb43b82f868a96117e91a2d95f526677d572900
-c891d5f20f148a1007553e2dea555c9cb672e9675f4a66b4bafa027379f93aee539a5979d0a0042b9d2ae28bed3b17a31dc8ab75072b80bd0c1da612466e402c
+87b321570117cd6c95ab6c436fb5073ff15cf85505d2bc5bb7355fc21ea8a757
+57e8f86a2b138002e05752913bb43b82f868a96117e91a2d95f526677d572900
+c891d5f20f148a1007553e2dea555c9cb672e9675f4a66b4bafa027379f93aee
+539a5979d0a0042b9d2ae28bed3b17a31dc8ab75072b80bd0c1da612466e402c
 """,
 }
 
@@ -96,7 +103,8 @@ class Standards(unittest.TestCase):
             f = Functions(encrypt, opc, rand)
             self.assertEqual(opc_of(encrypt, op), opc)
             self.assertEqual([*f.f1(sqn, amf), f.res, f.ck, f.ik, f.ak, f.ak_star], wanted)
-            self.assertEqual((f.sqn_of(f.autn(sqn, amf)), f.sqn_in(f.auts(sqn)), f.is_right(f.autn(sqn, amf))), (sqn, sqn, True))
+            autn = f.autn(sqn, amf)
+            self.assertEqual((f.sqn_of(autn), f.is_right(autn), f.sqn_in(f.auts(sqn))), (sqn, True, sqn))
 
     def test_triplet_is_that_of_the_test_set(self):
         # TS 55.205, test set 1.
@@ -111,7 +119,7 @@ class Standards(unittest.TestCase):
         f, autn = SimpleNamespace(ck=bytes.fromhex(CK), ik=bytes.fromhex(IK)), bytes.fromhex(AUTN)
         for name, wanted in CASES.items():
             found = keys.Keys(50, name, IDENTITY, autn, f)
-            self.assertEqual([it.hex() for it in (*found.pair, *found.words)], wanted.split())
+            self.assertEqual(b"".join((*found.pair, *found.words)).hex(), "".join(wanted.split()))
             self.assertEqual((found.encr, found.aut, found.master), tuple(found.words[:3]))
 
 
@@ -157,7 +165,8 @@ class Comparisons(unittest.TestCase):
         read = {path: text for path, text in texts.items() if network.is_readable(text)}
         self.assertGreater(len(read), 15)
         for path, text in read.items():
-            self.assertIsNone(difference(network.World(text).output(), path.with_suffix(".expected").read_text()), path.name)
+            wanted = path.with_suffix(".expected").read_text()
+            self.assertIsNone(difference(network.World(text).output(), wanted), path.name)
 
 
 if __name__ == "__main__":

@@ -1,5 +1,5 @@
-"""What trials of scripts and of the program share: a run in an empty folder, where two texts differ, a script without `.py` as a
-module, and a subscriber."""
+"""What trials of scripts and of the program share: a run in an empty folder, where two texts differ, a
+script without `.py` as a module, and a subscriber."""
 import subprocess
 import sys
 import tempfile
@@ -28,18 +28,21 @@ def folder_with(files=()):
 
 
 def ran_in_new_folder(words, files=(), **more):
-    """A run in a new folder with some files, so that it finds no journal of an earlier one: its status and what it wrote."""
+    """A run in a new folder with some files, so that it finds no journal of an earlier one: its status and
+    what it wrote."""
     with folder_with(files) as folder:
         return subprocess.run(words, cwd=folder, capture_output=True, **more)
 
 
 def difference(ours, theirs):
-    """The number of the first line in which two texts differ, and what stands there in each, or None if nothing does; nothing if
-    they are the same."""
+    """The number of the first line in which two texts differ, and what stands there in each, or None if
+    nothing does; nothing if they are the same."""
     if ours == theirs:
         return None
-    pairs = [*zip_longest(ours.splitlines(), theirs.splitlines()), (None, None)]
-    return next((number, *pair) for number, pair in enumerate(pairs, 1) if pair[0] != pair[1] or number == len(pairs))
+    pairs = list(zip_longest(ours.splitlines(), theirs.splitlines()))
+    places = (place for place, (mine, other) in enumerate(pairs) if mine != other)
+    place = next(places, len(pairs))
+    return place + 1, *(pairs[place] if place < len(pairs) else (None, None))
 
 
 def loaded(name):

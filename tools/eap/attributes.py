@@ -1,22 +1,20 @@
-"""The attributes of EAP-AKA and EAP-AKA' (RFC 4187 §10, RFC 9048 §3): their types, one walk through them, and how their values
-are written and read. It needs no library."""
+"""The attributes of EAP-AKA and EAP-AKA' (RFC 4187 §10, RFC 9048 §3): their types, one walk through them,
+and how their values are written and read. It needs no library."""
 
-AT_RAND, AT_AUTN, AT_RES, AT_AUTS, AT_PADDING, AT_PERMANENT_ID_REQ, AT_MAC, AT_NOTIFICATION = 1, 2, 3, 4, 6, 10, 11, 12
-AT_ANY_ID_REQ, AT_IDENTITY, AT_FULLAUTH_ID_REQ, AT_COUNTER, AT_COUNTER_TOO_SMALL, AT_NONCE_S = 13, 14, 17, 19, 20, 21
-AT_CLIENT_ERROR_CODE, AT_KDF_INPUT, AT_KDF, AT_IV, AT_ENCR_DATA = 22, 23, 24, 129, 130
-AT_NEXT_PSEUDONYM, AT_NEXT_REAUTH_ID, AT_CHECKCODE, AT_RESULT_IND, AT_BIDDING = 132, 133, 134, 135, 136
+AT_RAND, AT_AUTN, AT_RES, AT_AUTS, AT_PADDING, AT_NONCE_MT = 1, 2, 3, 4, 6, 7
+AT_PERMANENT_ID_REQ, AT_MAC, AT_NOTIFICATION, AT_ANY_ID_REQ, AT_IDENTITY = 10, 11, 12, 13, 14
+AT_FULLAUTH_ID_REQ, AT_COUNTER, AT_COUNTER_TOO_SMALL, AT_NONCE_S, AT_CLIENT_ERROR_CODE = 17, 19, 20, 21, 22
+AT_KDF_INPUT, AT_KDF = 23, 24
+AT_IV, AT_ENCR_DATA, AT_NEXT_PSEUDONYM, AT_NEXT_REAUTH_ID, AT_CHECKCODE = 129, 130, 132, 133, 134
+AT_RESULT_IND, AT_BIDDING = 135, 136
+NAMES = {kind: name for name, kind in globals().items() if name.startswith("AT_")}
 # By which of them a server asks for an identity.
 ID_REQUESTS = AT_PERMANENT_ID_REQ, AT_ANY_ID_REQ, AT_FULLAUTH_ID_REQ
-NAMES = {1: "AT_RAND", 2: "AT_AUTN", 3: "AT_RES", 4: "AT_AUTS", 6: "AT_PADDING", 7: "AT_NONCE_MT", 10: "AT_PERMANENT_ID_REQ",
-         11: "AT_MAC", 12: "AT_NOTIFICATION", 13: "AT_ANY_ID_REQ", 14: "AT_IDENTITY", 17: "AT_FULLAUTH_ID_REQ", 19: "AT_COUNTER",
-         20: "AT_COUNTER_TOO_SMALL", 21: "AT_NONCE_S", 22: "AT_CLIENT_ERROR_CODE", 23: "AT_KDF_INPUT", 24: "AT_KDF", 129: "AT_IV",
-         130: "AT_ENCR_DATA", 132: "AT_NEXT_PSEUDONYM", 133: "AT_NEXT_REAUTH_ID", 134: "AT_CHECKCODE", 135: "AT_RESULT_IND",
-         136: "AT_BIDDING"}
 # The sizes of the values with a fixed size, and the others' allowed sizes.
-SIZES = {AT_RAND: {18}, AT_AUTN: {18}, AT_AUTS: {14}, AT_PADDING: {2, 6, 10}, AT_PERMANENT_ID_REQ: {2}, AT_MAC: {18},
-         AT_NOTIFICATION: {2}, AT_ANY_ID_REQ: {2}, AT_FULLAUTH_ID_REQ: {2}, AT_COUNTER: {2}, AT_COUNTER_TOO_SMALL: {2},
-         AT_NONCE_S: {18}, AT_CLIENT_ERROR_CODE: {2}, AT_KDF: {2}, AT_IV: {18}, AT_CHECKCODE: {2, 22, 34}, AT_RESULT_IND: {2},
-         AT_BIDDING: {2}}
+SIZES = {**dict.fromkeys((AT_RAND, AT_AUTN, AT_MAC, AT_NONCE_S, AT_IV), {18}),
+         **dict.fromkeys((*ID_REQUESTS, AT_NOTIFICATION, AT_COUNTER, AT_COUNTER_TOO_SMALL), {2}),
+         **dict.fromkeys((AT_CLIENT_ERROR_CODE, AT_KDF, AT_RESULT_IND, AT_BIDDING), {2}),
+         AT_AUTS: {14}, AT_PADDING: {2, 6, 10}, AT_CHECKCODE: {2, 22, 34}}
 TEXTS = AT_IDENTITY, AT_KDF_INPUT, AT_NEXT_PSEUDONYM, AT_NEXT_REAUTH_ID
 KNOWN = {*SIZES, AT_RES, AT_ENCR_DATA, *TEXTS}
 
@@ -28,8 +26,8 @@ class Fault(Exception):
 # ---- walking
 
 def places_in(data, start=0):
-    """The type, the first byte of the value, and the end of each attribute from a byte on. What fills no attribute comes last,
-    from its first byte, and has no type."""
+    """The type, the first byte of the value, and the end of each attribute from a byte on. What fills no
+    attribute comes last, from its first byte, and has no type."""
     while start < len(data):
         size = 4 * data[start + 1] if start + 1 < len(data) else 0
         if not 0 < size <= len(data) - start:
@@ -42,7 +40,8 @@ def places_in(data, start=0):
 def values_in(data):
     """The values by their types; none if the attributes don't fill the bytes."""
     places = list(places_in(data))
-    return {} if any(kind is None for kind, _, _ in places) else {kind: data[start:end] for kind, start, end in places}
+    is_whole = all(kind is not None for kind, _, _ in places)
+    return {kind: data[start:end] for kind, start, end in places} if is_whole else {}
 
 
 # ---- writing

@@ -1,4 +1,5 @@
-"""The keys of EAP-AKA (RFC 4187 §7) and EAP-AKA' (RFC 9048 §3.3), from what Milenage gives. It needs no library.
+"""The keys of EAP-AKA (RFC 4187 §7) and EAP-AKA' (RFC 9048 §3.3), from what Milenage gives. It needs no
+library.
 
 A method is told by the type of its packets: 23 is EAP-AKA, and 50 is EAP-AKA'.
 """
@@ -13,7 +14,8 @@ def rotl(x, n):
 
 
 def g(value):
-    """The compression of SHA-1 of 20 bytes and 44 zero bytes, from its initial value (FIPS 186-2, Appendix 3.3)."""
+    """The compression of SHA-1 of 20 bytes and 44 zero bytes, from its initial value (FIPS 186-2,
+    Appendix 3.3)."""
     w = list(struct.unpack(">16I", value + bytes(44)))
     for t in range(16, 80):
         w.append(rotl(w[t - 3] ^ w[t - 8] ^ w[t - 14] ^ w[t - 16], 1))
@@ -33,7 +35,8 @@ def g(value):
 
 
 def generated(seed):
-    """The 160 bytes that a seed of 20 bytes gives (FIPS 186-2 with its first change notice; RFC 4187, Appendix A)."""
+    """The 160 bytes that a seed of 20 bytes gives (FIPS 186-2 with its first change notice; RFC 4187,
+    Appendix A)."""
     key, stream = int.from_bytes(seed, "big"), b""
     for _ in range(8):
         word = g(key.to_bytes(20, "big"))

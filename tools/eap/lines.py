@@ -37,5 +37,6 @@ class Ends:
             self.end = Server(self.shared, self.sessions, kind, name.encode(), words)
             return line_of(self.end, self.end.repeat())
         first = next((it for it in words if it == "permanent" or it.startswith("=")), "held")
-        self.end = Peer(self.shared, self.sessions, kind, None if name == "*" else name.encode(), words, first)
+        name = None if name == "*" else name.encode()
+        self.end = Peer(self.shared, self.sessions, kind, name, words, first)
         return "peer"

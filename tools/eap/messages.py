@@ -1,5 +1,6 @@
-"""The packets of EAP (RFC 3748), and the messages of EAP-AKA and EAP-AKA' in them, written and read, with what protects them:
-AT_MAC, AT_ENCR_DATA and AT_CHECKCODE (RFC 4187 §8 to §10, RFC 9048 §3). What is encrypted alone needs `cryptography`."""
+"""The packets of EAP (RFC 3748), and the messages of EAP-AKA and EAP-AKA' in them, written and read, with
+what protects them: AT_MAC, AT_ENCR_DATA and AT_CHECKCODE (RFC 4187 §8 to §10, RFC 9048 §3). What is
+encrypted alone needs `cryptography`."""
 import hashlib
 import hmac
 
@@ -14,19 +15,23 @@ CODES = {REQUEST: "Request", RESPONSE: "Response", SUCCESS: "Success", FAILURE: 
 IDENTITY, NAK, AKA, PRIME = 1, 3, 23, 50
 METHODS = {AKA: "AKA", PRIME: "AKA'"}
 CHALLENGE, REJECT, SYNC, AKA_IDENTITY, NOTIFICATION, REAUTHENTICATION, CLIENT_ERROR = 1, 2, 4, 5, 12, 13, 14
-SUBTYPES = {CHALLENGE: "Challenge", REJECT: "Authentication-Reject", SYNC: "Synchronization-Failure", AKA_IDENTITY: "Identity",
-            NOTIFICATION: "Notification", REAUTHENTICATION: "Reauthentication", CLIENT_ERROR: "Client-Error"}
-# Which attributes below 128 each message may have, by its subtype and whether it is a request; and those of EAP-AKA' alone.
-MAY = {(CHALLENGE, True): {AT_RAND, AT_AUTN, AT_MAC}, (CHALLENGE, False): {AT_RES, AT_MAC}, (REJECT, False): set(),
-       (SYNC, False): {AT_AUTS}, (AKA_IDENTITY, True): {*ID_REQUESTS},
-       (AKA_IDENTITY, False): {AT_IDENTITY}, (NOTIFICATION, True): {AT_NOTIFICATION, AT_MAC}, (NOTIFICATION, False): set(),
-       (REAUTHENTICATION, True): {AT_MAC}, (REAUTHENTICATION, False): {AT_MAC}, (CLIENT_ERROR, False): {AT_CLIENT_ERROR_CODE}}
+SUBTYPES = {CHALLENGE: "Challenge", REJECT: "Authentication-Reject", SYNC: "Synchronization-Failure",
+            AKA_IDENTITY: "Identity", NOTIFICATION: "Notification", REAUTHENTICATION: "Reauthentication",
+            CLIENT_ERROR: "Client-Error"}
+# Which attributes below 128 each message may have, by its subtype and whether it is a request; and those of
+# EAP-AKA' alone.
+MAY = {(CHALLENGE, True): {AT_RAND, AT_AUTN, AT_MAC}, (CHALLENGE, False): {AT_RES, AT_MAC},
+       (REJECT, False): set(), (SYNC, False): {AT_AUTS}, (CLIENT_ERROR, False): {AT_CLIENT_ERROR_CODE},
+       (AKA_IDENTITY, True): {*ID_REQUESTS}, (AKA_IDENTITY, False): {AT_IDENTITY},
+       (NOTIFICATION, True): {AT_NOTIFICATION, AT_MAC}, (NOTIFICATION, False): set(),
+       (REAUTHENTICATION, True): {AT_MAC}, (REAUTHENTICATION, False): {AT_MAC}}
 PRIME_MAY = {(CHALLENGE, True): {AT_KDF_INPUT, AT_KDF}, (SYNC, False): {AT_KDF}}
 # Which attributes each message needs.
-NEEDED = {(CHALLENGE, True): (AT_RAND, AT_AUTN, AT_MAC), (CHALLENGE, False): (AT_RES, AT_MAC), (SYNC, False): (AT_AUTS,),
+NEEDED = {(CHALLENGE, True): (AT_RAND, AT_AUTN, AT_MAC), (CHALLENGE, False): (AT_RES, AT_MAC),
+          (SYNC, False): (AT_AUTS,), (CLIENT_ERROR, False): (AT_CLIENT_ERROR_CODE,),
           (AKA_IDENTITY, False): (AT_IDENTITY,), (NOTIFICATION, True): (AT_NOTIFICATION,),
-          (REAUTHENTICATION, True): (AT_IV, AT_ENCR_DATA, AT_MAC), (REAUTHENTICATION, False): (AT_IV, AT_ENCR_DATA, AT_MAC),
-          (CLIENT_ERROR, False): (AT_CLIENT_ERROR_CODE,)}
+          (REAUTHENTICATION, True): (AT_IV, AT_ENCR_DATA, AT_MAC),
+          (REAUTHENTICATION, False): (AT_IV, AT_ENCR_DATA, AT_MAC)}
 
 
 # ---- packets

@@ -1,7 +1,7 @@
 """Milenage (TS 35.206 §4.1), and AUTN and AUTS by it (TS 33.102 §6.3.2 and §6.3.3).
 
-`Functions` takes the block cipher as a call, so that a script may bring its own. `Aes` needs no library, and is for a few
-blocks: it is slow, and the time that it takes depends on the key.
+`Functions` takes the block cipher as a call, so that a script may bring its own. `Aes` needs no library,
+and is for a few blocks: it is slow, and the time that it takes depends on the key.
 """
 
 
@@ -24,7 +24,8 @@ class Functions:
     def __init__(self, encrypt, opc, rand):
         self.encrypt, self.opc = encrypt, opc
         self.temp = encrypt(xor(rand, opc))
-        out2, out3, out4, out5 = (self.out(turn, number) for turn, number in ((0, 1), (32, 2), (64, 4), (96, 8)))
+        turns = (0, 1), (32, 2), (64, 4), (96, 8)
+        out2, out3, out4, out5 = (self.out(turn, number) for turn, number in turns)
         self.res, self.ak = out2[8:], out2[:6]
         self.ck, self.ik, self.ak_star = out3, out4, out5[:6]
 

@@ -1,9 +1,11 @@
-"""Identities: permanent ones, and the pseudonyms and re-authentication identities that a server gives (RFC 4187 §4.1,
-RFC 9048 §5.1). A given name is an encrypted block that tells its kind, its method, its subscriber and an ordinal."""
+"""Identities: permanent ones, and the pseudonyms and re-authentication identities that a server gives
+(RFC 4187 §4.1, RFC 9048 §5.1). A given name is an encrypted block that tells its kind, its method, its
+subscriber and an ordinal."""
 from .ciphers import decrypted, encrypted
 from .streams import NAMES_STREAM, sixteen_of
 
-# The leading digits of permanent identities, and by the kind of a name those of pseudonyms and re-authentication identities.
+# The leading digits of permanent identities, and by the kind of a name those of pseudonyms and
+# re-authentication identities.
 PERMANENT, PSEUDONYM, RENEWAL = {23: b"0", 50: b"6"}, 1, 2
 DIGITS = {PSEUDONYM: {23: b"2", 50: b"7"}, RENEWAL: {23: b"4", 50: b"8"}}
 LAST_ORDINAL, NAME_SIZE = 2**48 - 1, 33

@@ -13,8 +13,8 @@ from .session import LAST_COUNTER, Context, End
 
 
 class Peer(End):
-    """Its option is `hasprime`. A peer of EAP-AKA' has the network's name, or None to take any. Its first identity is `held`,
-    `permanent`, or a text after `=`."""
+    """Its option is `hasprime`. A peer of EAP-AKA' has the network's name, or None to take any. Its first
+    identity is `held`, `permanent`, or a text after `=`."""
 
     def __init__(self, device, session, kind, name=None, options=(), first="held"):
         super().__init__(device, session, 1, kind)
@@ -37,7 +37,9 @@ class Peer(End):
         return with_realm(context.identity, self.realm) if context else self.full()
 
     def first_identity(self):
-        return {"held": self.held, "permanent": self.permanent}.get(self.first, lambda: self.first[1:].encode())()
+        if self.first.startswith("="):
+            return self.first[1:].encode()
+        return self.permanent() if self.first == "permanent" else self.held()
 
     # ---- what is sent
 
@@ -81,8 +83,8 @@ class Peer(End):
         if head.kind == IDENTITY:
             self.identity = self.first_identity()
             return self.send(head, data, packet(RESPONSE, head.identifier, bytes([IDENTITY]) + self.identity))
-        rows = {AKA_IDENTITY: self.on_identity, CHALLENGE: self.on_challenge, NOTIFICATION: self.on_notification,
-                REAUTHENTICATION: self.on_renewal}
+        rows = {AKA_IDENTITY: self.on_identity, CHALLENGE: self.on_challenge,
+                NOTIFICATION: self.on_notification, REAUTHENTICATION: self.on_renewal}
         try:
             subtype, attrs = read_message(head)
             row = rows[subtype]
@@ -103,8 +105,9 @@ class Peer(End):
         asked = attrs.keys() & {*ID_REQUESTS}
         if len(asked) != 1:
             return self.refuse(head, data, "missing")
-        choose = {AT_PERMANENT_ID_REQ: self.permanent, AT_ANY_ID_REQ: self.held, AT_FULLAUTH_ID_REQ: self.full}
-        self.identity = choose[asked.pop()]()
+        chosen = {AT_PERMANENT_ID_REQ: self.permanent, AT_ANY_ID_REQ: self.held,
+                  AT_FULLAUTH_ID_REQ: self.full}
+        self.identity = chosen[asked.pop()]()
         answer = self.message(head, AKA_IDENTITY, text_attr(AT_IDENTITY, self.identity))
         self.count(head.data)
         self.count(answer)
@@ -162,7 +165,8 @@ class Peer(End):
         return self.send(head, data, answer, "answered")
 
     def adopt_later(self, inner, adopt_context):
-        """A success adopts the pseudonym that was given, if one was, and does what is to be done with the context."""
+        """A success adopts the pseudonym that was given, if one was, and does what is to be done with the
+        context."""
         pseudonym = name_in(inner, AT_NEXT_PSEUDONYM)
 
         def adopt():

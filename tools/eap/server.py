@@ -23,7 +23,8 @@ class Server(End):
         super().__init__(home, session, 0, kind)
         self.home, self.name, self.options = home, name, options
         self.state, self.identifier, self.last = "identity", 1, packet(REQUEST, 1, bytes([IDENTITY]))
-        # Of the last challenge: the row, RAND, what Milenage gives of it, and the keys. Of a re-authentication: its context and nonce.
+        # Of the last challenge: the row, RAND, what Milenage gives of it, and the keys. Of a
+        # re-authentication: its context and nonce.
         self.row = self.rand = self.f = self.challenged = self.context = self.nonce = None
         # The context that a success leaves, if an identity was given; and why the session fails.
         self.next, self.has_synced, self.why = None, False, ""
@@ -53,7 +54,8 @@ class Server(End):
         return self.win(keys, packet(SUCCESS, self.identifier))
 
     def ask(self, asked):
-        sent = self.send(ASKED[asked], lambda it: message(self.kind, REQUEST, it, AKA_IDENTITY, attr(asked, b"\0\0")))
+        attrs = number_attr(asked, 0)
+        sent = self.send(ASKED[asked], lambda it: message(self.kind, REQUEST, it, AKA_IDENTITY, attrs))
         self.count(self.last)
         return sent
 
@@ -75,7 +77,8 @@ class Server(End):
         return self.home.next_name(self.kind, self.row, of) if option in self.options else None
 
     def names(self):
-        """AT_IV and AT_ENCR_DATA with the next pseudonym and the next re-authentication identity, if one of them is given."""
+        """AT_IV and AT_ENCR_DATA with the next pseudonym and the next re-authentication identity, if one of
+        them is given."""
         pseudonym, identity = self.next_name("pseudonym", PSEUDONYM), self.next_name("reauth", RENEWAL)
         self.next = Context(identity, self.challenged, 1)
         attrs = (text_attr(AT_NEXT_PSEUDONYM, pseudonym) if pseudonym else b"") + self.identity_attr(identity)
@@ -113,9 +116,10 @@ class Server(End):
         iv, self.nonce = self.draws.next(), self.draws.next()
         identity = self.next_name("reauth", RENEWAL) if counter < LAST_COUNTER else None
         self.next = Context(identity, keys, counter + 1)
-        inner = number_attr(AT_COUNTER, counter) + sixteen(AT_NONCE_S, self.nonce) + self.identity_attr(identity)
-        attrs = hidden(keys.encr, iv, inner) + self.checkcode()
-        return self.send("renewal", lambda it: sealed(self.kind, keys.aut, REQUEST, it, REAUTHENTICATION, attrs))
+        inner = number_attr(AT_COUNTER, counter) + sixteen(AT_NONCE_S, self.nonce)
+        attrs = hidden(keys.encr, iv, inner + self.identity_attr(identity)) + self.checkcode()
+        return self.send(
+            "renewal", lambda it: sealed(self.kind, keys.aut, REQUEST, it, REAUTHENTICATION, attrs))
 
     # ---- what is received
 
@@ -144,7 +148,9 @@ class Server(End):
         if self.state == "challenge":
             return rows | {CHALLENGE: self.on_challenge, SYNC: self.on_sync,
                            REJECT: lambda attrs, data: self.reject("rejected")}
-        return rows | ({REAUTHENTICATION: self.on_renewal} if self.state == "renewal" else {AKA_IDENTITY: self.on_identity})
+        if self.state == "renewal":
+            return rows | {REAUTHENTICATION: self.on_renewal}
+        return rows | {AKA_IDENTITY: self.on_identity}
 
     def on_identity(self, attrs, data):
         self.identity = attrs[AT_IDENTITY]

@@ -1,7 +1,9 @@
-"""What the two ends of a session share, and what passes from session to session: a home with its subscribers, and a device.
+"""What the two ends of a session share, and what passes from session to session: a home with its
+subscribers, and a device.
 
-A turn of an end answers a pair: in words how the end ended or why it ignored what came, `ended success`, `ended failure CAUSE`,
-`ignored CAUSE` or nothing; and the packet that it sent, or None. What the turn left besides is in the end.
+A turn of an end answers a pair: in words how the end ended or why it ignored what came, `ended success`,
+`ended failure CAUSE`, `ignored CAUSE` or nothing; and the packet that it sent, or None. What the turn left
+besides is in the end.
 """
 from dataclasses import dataclass, field
 from typing import NamedTuple
@@ -35,7 +37,8 @@ class Subscriber:
 
 
 class Context(NamedTuple):
-    """What a re-authentication needs. The counter is a server's next one, and a peer's least one that is open."""
+    """What a re-authentication needs. The counter is a server's next one, and a peer's least one that is
+    open."""
     identity: bytes
     keys: Keys
     counter: int
@@ -49,7 +52,8 @@ class Context(NamedTuple):
 
 @dataclass
 class Row:
-    """A row of the centre: its last number, and what the home keeps of the subscriber's names, and of contexts by method."""
+    """A row of the centre: its last number, and what the home keeps of the subscriber's names, and of
+    contexts by method."""
     subscriber: Subscriber
     place: int = 0
     amf: bytes = b"\x80\0"
@@ -79,7 +83,8 @@ class Row:
 
 
 class Home:
-    """What the sessions of a server share: the rows that it holds, the key of random bytes, and the realm of its names."""
+    """What the sessions of a server share: the rows that it holds, the key of random bytes, and the realm
+    of its names."""
 
     def __init__(self, key, rows, realm=b""):
         self.key, self.rows, self.realm, self.names = key, rows, realm, Names(key)
@@ -123,7 +128,8 @@ class Device:
             self.contexts[kind] = context
 
     def adopt_renewed(self, kind, used, identity):
-        """After a re-authentication the context has the next identity, or is gone; if it is still the one that was used."""
+        """After a re-authentication the context has the next identity, or is gone; if it is still the one
+        that was used."""
         context = self.contexts.get(kind)
         if context and context.identity == used:
             del self.contexts[kind]

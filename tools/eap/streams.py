@@ -18,7 +18,8 @@ def rand_of(key, place, number):
 
 
 class Draws:
-    """The sixteen bytes at every second index of a session: the even ones for a server, the odd ones for a peer."""
+    """The sixteen bytes at every second index of a session: the even ones for a server, the odd ones for a
+    peer."""
 
     def __init__(self, key, session, index):
         self.key, self.stream, self.index = key, SESSIONS_STREAM + session, index

@@ -1,4 +1,5 @@
-"""A USIM (TS 33.102 Annex C), sequence numbers, and a vector as a GSM triplet (TS 33.102 §6.8.1.2). It needs no library."""
+"""A USIM (TS 33.102 Annex C), sequence numbers, and a vector as a GSM triplet (TS 33.102 §6.8.1.2). It
+needs no library."""
 from .milenage import xor
 
 # How far above the greatest SEQ that it has accepted a USIM accepts a SEQ; and the last number.
@@ -15,8 +16,8 @@ def seq_of(sqn):
 
 
 class Usim:
-    """A USIM with the index array of TS 33.102 Annex C, by a call that gives the functions of a RAND. It is opened at a
-    number: the numbers from 1 to it count as accepted."""
+    """A USIM with the index array of TS 33.102 Annex C, by a call that gives the functions of a RAND. It is
+    opened at a number: the numbers from 1 to it count as accepted."""
 
     def __init__(self, functions, opening):
         self.functions = functions
