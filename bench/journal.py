@@ -2,7 +2,7 @@
 import subprocess
 from pathlib import Path
 
-from measure import KEYS
+from measure import subscriber_line
 
 HEADER, MOST, MAX_SEQ, FRAME = b"AUC-SQN-JOURNAL1", 2**30, 8796093022207, 19
 NAME = "auc.journal"
@@ -49,7 +49,7 @@ def imsi(sub):
 
 
 def subscriber(sub):
-    return " ".join(["subscriber", imsi(sub), *KEYS])
+    return subscriber_line(imsi(sub))
 
 
 def write_scenario(folder, lines, name="scenario"):

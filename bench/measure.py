@@ -9,6 +9,11 @@ sys.path.append(str(TOP / "tools"))
 from trial import HEADER, KEYS, folder_with
 
 
+def subscriber_line(imsi):
+    """The line of a subscriber in a scenario."""
+    return " ".join(["subscriber", imsi, *KEYS])
+
+
 def program():
     """The program that the command line names, or the one that was built here."""
     return str(Path(sys.argv[1]).resolve()) if len(sys.argv) > 1 else str(TOP / "crates/auc_cli/out/auc_cli")

@@ -32,10 +32,11 @@ from concurrent.futures import ThreadPoolExecutor
 from pathlib import Path
 
 from journal import NAME, run, write_scenario
-from measure import KEYS, TOP
+from measure import KEYS, TOP, subscriber_line
 from rivals import IMSI, LAST, Library, OsmoHlr, Sqlite, TextFile, auts_of, sqns_of
 
 sys.path.append(str(TOP / "tools"))
+from eap import usim
 from ends import run_main
 
 PAGE = TOP / "README.md"
@@ -93,10 +94,10 @@ class Auc:
 
     def sqns(self, lines):
         # A vector of number n carries the SQN of n: SEQ n and the index n modulo 32.
-        return [32 * int(line[2]) + int(line[2]) % 32 for line in lines if line[0] == "vector"]
+        return [int.from_bytes(usim.sqn_of(int(line[2])), "big") for line in lines if line[0] == "vector"]
 
     def write_many_rounds(self):
-        write_scenario(self.folder, [" ".join(["subscriber", IMSI, *KEYS]), *["round", "job", f"draw {IMSI} 1"] * 1000])
+        write_scenario(self.folder, [subscriber_line(IMSI), *["round", "job", f"draw {IMSI} 1"] * 1000])
 
     def started(self):
         return subprocess.Popen([self.program, "run", "scenario"], cwd=self.folder, stdout=subprocess.PIPE, text=True)

@@ -14,7 +14,7 @@ import sys
 import tempfile
 from pathlib import Path
 
-from measure import HEADER, KEYS, TOP, measured, ratio
+from measure import HEADER, KEYS, TOP, measured, ratio, subscriber_line
 
 sys.path.append(str(TOP / "tools"))
 from ends import run_main
@@ -27,7 +27,7 @@ def subscribers(count):
 
 
 def jobs(count):
-    lines = [f"subscriber {i:015} {' '.join(KEYS)}" for i in range(SUBSCRIBERS)] + ["round"]
+    lines = [subscriber_line(f"{i:015}") for i in range(SUBSCRIBERS)] + ["round"]
     for job in range(count):
         lines += ["job", f"draw {job % SUBSCRIBERS:015} 1"]
         if job < SUBSCRIBERS:

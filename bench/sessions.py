@@ -22,7 +22,7 @@ import tempfile
 from pathlib import Path
 
 import hostapd
-from measure import KEYS, TOP, measured, ratio
+from measure import TOP, measured, ratio, subscriber_line
 
 sys.path.append(str(TOP / "tools"))
 from ends import run_main
@@ -49,7 +49,7 @@ def job_each(count):
 
 
 def scenario(lines, subscribers):
-    rows = [f"subscriber {sub:015} {' '.join(KEYS)}" for sub in range(subscribers)]
+    rows = [subscriber_line(f"{sub:015}") for sub in range(subscribers)]
     return "".join(line + "\n" for line in [*rows, "round", *lines])
 
 

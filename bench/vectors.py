@@ -16,7 +16,7 @@ import sys
 import tempfile
 from pathlib import Path
 
-from measure import KEYS, TOP, measured, ratio
+from measure import TOP, measured, ratio, subscriber_line
 
 sys.path.append(str(TOP / "tools"))
 from ends import run_main
@@ -26,7 +26,7 @@ MOST_BYTES = {"brief": 64, "full": 310}
 
 
 def scenario(count, print_):
-    lines = [f"print {print_}"] + [f"subscriber {i:015} {' '.join(KEYS)}" for i in range(SUBSCRIBERS)] + ["round"]
+    lines = [f"print {print_}"] + [subscriber_line(f"{i:015}") for i in range(SUBSCRIBERS)] + ["round"]
     for job in range(count // 1000):
         lines += ["job", f"draw {job % SUBSCRIBERS:015} 1000"]
     return "".join(line + "\n" for line in lines)

@@ -18,7 +18,7 @@ import unittest
 from pathlib import Path
 
 from eap.session import Subscriber
-from eap.usim import triplet
+from eap.usim import sqn_of, triplet
 from ends import run_main
 from gateway_centre import Centre, read_subscribers
 from trial import HEADER, K, OPC
@@ -60,7 +60,7 @@ def algorithm(rand, sqn):
 
 def auts(rand, seq):
     """AUTS of a USIM whose greatest accepted SEQ is this one (TS 33.102 §6.3.3)."""
-    sqn = 32 * seq + seq % 32
+    sqn = int.from_bytes(sqn_of(seq), "big")
     values = algorithm(rand, sqn)
     return f"{sqn ^ int(values['f5*'], 16):012x}" + values["f1*"]
 

@@ -10,6 +10,7 @@ import unittest
 from contextlib import closing
 from pathlib import Path
 
+from eap.usim import sqn_of
 from ends import run_main
 from trial import loaded
 
@@ -30,7 +31,7 @@ def ran(*words):
 
 
 def own_sqn(number):
-    return 32 * number + number % 32
+    return int.from_bytes(sqn_of(number), "big")
 
 
 def used_by_hostapd(sqn, handed_out, bits):
