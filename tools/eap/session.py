@@ -163,9 +163,10 @@ class End:
         if self.has_ended:
             return self.ignore("closed")
         try:
-            return self.take(Head(data), data)
+            head = Head(data)
         except Fault:
             return self.ignore("notforme")
+        return self.take(head, data)
 
     def give_up(self):
         self.begin_turn()
