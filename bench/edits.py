@@ -2,7 +2,7 @@
 """Tries must-fail edits, those of the gate (crates/NAME/must-fail) and the others (edits/NAME): the prover has to refuse
 each of them.
 
-    bench/edits.py [--jobs N] [--write] [--alone] [--anew] [--missing | NAME ..]
+    bench/edits.py [--jobs N] [--write] [--alone] [--anew] [--here] [--missing | NAME ..]
     bench/edits.py --released
     bench/edits.py --applies
 
@@ -12,8 +12,9 @@ different functions of a crate are tried together, in one check that tells of ea
 (bench/batches.py), and one `rt must-fail` a crate tries the others one by one, crates side by side. --alone tries each one by
 one. A line says of each edit what its try came to, its seconds of processor time (of a check of many, its share), and what
 the prover told. An edit that an earlier `rt must-fail` tried on the same files is kept by rt, and isn't tried again; --anew
-tries it too. --missing tries the crates that --released lists. --jobs says how many provers work side by side: RT_JOBS, or
-else one a processor, as far as each finds 5 GB of memory.
+tries it too. --here begins with what `rt check` kept in this checkout, and checks only the crates that are tried and not
+those below them. --missing tries the crates that --released lists. --jobs says how many provers work side by side: RT_JOBS,
+or else one a processor, as far as each finds 5 GB of memory.
 
 --write keeps what was seen in docs/EDITS.md, crate by crate as each ends. It leaves the rows of crates that weren't tried,
 drops those of edits that are gone, and has `not tried` for new ones.
@@ -58,6 +59,7 @@ def options():
     parser.add_argument("--write", action="store_true", help="keep what was seen in docs/EDITS.md")
     parser.add_argument("--alone", action="store_true", help="try no edits together")
     parser.add_argument("--anew", action="store_true", help="also try what an earlier run tried")
+    parser.add_argument("--here", action="store_true", help="begin with what rt check kept in this checkout")
     parser.add_argument("--missing", action="store_true", help="only the crates that --released lists")
     parser.add_argument("--released", action="store_true", help="only compare docs/EDITS.md with the files")
     parser.add_argument("--applies", action="store_true", help="only test that each edit can be applied")
@@ -163,6 +165,22 @@ def prove(clone, jobs):
     said = subprocess.run(["rt", "all", "check", "--jobs", str(jobs)], cwd=clone, check=False, **how).stdout
     proved = {*re.findall(r"(?m)^(\w+): ok$", said)}
     return {it.name for it in (clone / "crates").iterdir()} - proved, "\n".join(said.splitlines()[-20:])
+
+
+def prove_over_what_is_here(clone, names):
+    """Proves these crates of a clone over what `rt check` kept in this checkout: the names of those that aren't proved, and
+    the end of what rt said of them."""
+    unproved, told = set(), []
+    for name in names:
+        kept = TOP / "crates" / name / "out/incremental"
+        if kept.is_dir():
+            shutil.copytree(kept, clone / "crates" / name / "out/incremental")
+        how = {"stdin": subprocess.DEVNULL, "stdout": subprocess.PIPE, "stderr": subprocess.STDOUT, "errors": "replace"}
+        said = subprocess.run(["rt", "check", name], cwd=clone, check=False, **how).stdout
+        if not re.search(r"(?m)^logic=proved ", said):
+            unproved.add(name)
+            told += said.splitlines()[-20:]
+    return unproved, "\n".join(told)
 
 
 class Trial:
@@ -300,7 +318,7 @@ def names_to_try(given):
 def try_in(clone, names, given, began):
     """Proves the crates in a clone and tries their edits: the exit status."""
     keep_only(clone, with_those_below(names, uses_of(clone)))
-    unproved, said = prove(clone, given.jobs)
+    unproved, said = prove_over_what_is_here(clone, names) if given.here else prove(clone, given.jobs)
     lost = [it for it in names if it in unproved]
     if unproved:
         print(f"{said}\nnot proved as they stand, so their edits were not tried: {' '.join(lost)}", file=sys.stderr)
