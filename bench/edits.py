@@ -174,9 +174,9 @@ def prove_over_what_is_here(clone, names):
     for name in names:
         kept = TOP / "crates" / name / "out/incremental"
         if kept.is_dir():
-            shutil.copytree(kept, clone / "crates" / name / "out/incremental")
+            shutil.copytree(kept, clone / "crates" / name / "out/incremental", dirs_exist_ok=True)
         how = {"stdin": subprocess.DEVNULL, "stdout": subprocess.PIPE, "stderr": subprocess.STDOUT, "errors": "replace"}
-        said = subprocess.run(["rt", "check", name], cwd=clone, check=False, **how).stdout
+        said = subprocess.run(["rt", "check"], cwd=clone / "crates" / name, check=False, **how).stdout
         if not re.search(r"(?m)^logic=proved ", said):
             unproved.add(name)
             told += said.splitlines()[-20:]
