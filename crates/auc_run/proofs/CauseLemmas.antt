@@ -1,17 +1,19 @@
 -- For the top call: each cause comes to its refusal, if the shelf tells its files and the disk its bytes.
-use Rattle.std.proofs.Common.{◌≡◌, ℕ, ◌<◌, true, false, List, [], ◌∷◌, length, Option, Some, None, Result, Ok, Err, inl, inr, refl, sym, ◌∙◌, ap, subst, arith}
+use Rattle.std.proofs.Common.{◌≡◌, ℕ, ◌<◌, true, false, List, [], ◌∷◌, length, Option, Some, None, Result, Ok, Err, IfErr, ◌⊎◌, inl, inr, refl, sym, ◌∙◌, ap, subst, arith}
 use Rattle.auc_edge.specs.Shelf.{File, IsLonger, IsLongerFile, file_of}
 use Rattle.auc_forms.specs.Algorithm.{values_named}
 use Rattle.auc_forms.specs.Reserved.{asks_reserved}
+use Rattle.auc_forms.specs.declared.algorithm.AlgorithmWords.{AlgorithmWords}
 use Rattle.auc_journal.specs.Image.{read_image}
 use Rattle.auc_load.specs.Words.{load_named}
+use Rattle.auc_load.specs.declared.words.LoadWords.{LoadWords}
 use Rattle.auc_script.specs.Reading.{script_of}
 use Rattle.auc_script.specs.declared.refusal.ScriptRefusal.TheVariants.{Line}
 use Rattle.auc_subs.specs.File.{subscribers_in}
 use Rattle.auc_subs.specs.declared.refusal.SubsRefusal.{SubsRefusal}
 use Rattle.auc_subs.specs.declared.row.Row.{Row}
-use Rattle.auc_run.specs.Inner.{FilesLeave, FilesStop, Stops, Tells}
-use Rattle.auc_run.specs.Outcome.{AreRead, AreRight, AreWrong, BeginsWith, HasText, IsCause, IsReadNext, OpensJournal, max_file}
+use Rattle.auc_run.specs.Inner.{FilesLeave, FilesStop, IsBeforeJournal, Stops, Tells, status_in}
+use Rattle.auc_run.specs.Outcome.{AreRead, AreRight, AreUnknown, AreWrong, BeginsWith, HasText, IsCause, IsReadNext, NeedsNoJournal, OpensJournal, max_file}
 use Rattle.auc_run.specs.Refusal.{MayRefuse, MayStop, status_of}
 use Rattle.auc_run.specs.Words.{Files, files_named}
 use Rattle.auc_run.proofs.TopLemmas.{cause_of, full_files}
@@ -237,6 +239,37 @@ asks_unnamed (word ∷ next ∷ more) asks = absurd (apart asks)
   where
     apart : false ≡ true → ⊥
     apart same = cc
+
+-- words that name files have no other form
+named_alone : (words : List (List ℕ)) (files : Files) → files_named words ≡ Some files → (values_named words ≡ None) × (load_named words ≡ None)
+named_alone [] files is = absurd (some_none None files is refl)
+named_alone (word ∷ []) files is = absurd (some_none None files is refl)
+named_alone (word ∷ first ∷ []) files is = (refl, refl)
+named_alone (word ∷ first ∷ second ∷ []) files is = (refl, refl)
+named_alone (word ∷ first ∷ second ∷ next ∷ more) files is = absurd (some_none None files is refl)
+
+-- so a run of theirs that needs no journal ends before it is opened
+pub ends_before : (words : List (List ℕ)) (told : Option (List File)) (files : Files) (seen : Option (List ℕ)) (result : Result (Unit {0}) Refusal)
+    → files_named words ≡ Some files → IfErr result (FilesStop told files seen) → NeedsNoJournal words (status_in result) → IsBeforeJournal (status_in result)
+ends_before words told files seen result named stops needs = of_result result stops needs
+  where
+    no_other : ((values : AlgorithmWords) × (values_named words ≡ Some values)) ⊎ ((load : LoadWords) × (load_named words ≡ Some load)) ⊎ AreUnknown words → ⊥
+    no_other (inl (values, is)) = some_none (values_named words) values is (named_alone words files named).0
+    no_other (inr (inl (load, is))) = some_none (load_named words) load is (named_alone words files named).1
+    no_other (inr (inr unknown)) = some_none (files_named words) files named unknown.no_files
+
+    of_result : (result : Result (Unit {0}) Refusal) → IfErr result (FilesStop told files seen) → NeedsNoJournal words (status_in result) → IsBeforeJournal (status_in result)
+    of_result (Ok done) stops needs = absurd (no_other needs)
+    of_result (Err refused.Usage) stops needs = absurd stops
+    of_result (Err (refused.Subscribers row fault)) stops needs = tt
+    of_result (Err (refused.Scenario line fault)) stops needs = tt
+    of_result (Err refused.ReadFault) stops needs = tt
+    of_result (Err refused.TooLong) stops needs = tt
+    of_result (Err refused.WriteFault) stops needs = absurd (no_other needs)
+    of_result (Err refused.StoreFault) stops needs = absurd (no_other needs)
+    of_result (Err (refused.NotJournal place)) stops needs = absurd (no_other needs)
+    of_result (Err refused.StoreFull) stops needs = absurd (no_other needs)
+    of_result (Err refused.NoMemory) stops needs = absurd (no_other needs)
 
 -- a cause of the files
 comes_named : (words : List (List ℕ)) (there : List File) (seen : Option (List ℕ)) (cause refusal : Refusal) (ended : Status) (mid new : Option (List ℕ)) (files : Files) → files_named words ≡ Some files

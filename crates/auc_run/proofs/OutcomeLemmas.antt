@@ -1,8 +1,9 @@
 -- For the top call: what was written is the text of exactly one lawful transcript.
-use Rattle.std.proofs.Common.{◌≡◌, ℕ, List, [], ◌∷◌, ◌++◌, length, All, Option, refl, sym, subst}
+use Rattle.std.proofs.Common.{◌≡◌, ℕ, List, [], ◌∷◌, ◌++◌, length, All, Option, Some, refl, sym, subst}
 use Rattle.std.proofs.lemmas.List.Elements.{All-nil, All-cons, All-head, All-tail}
 use Rattle.auc_edge.specs.Shelf.{File}
 use Rattle.auc_edge.specs.declared.stop.Stop.{Stop}
+use Rattle.auc_edge.specs.declared.stop.Stop.TheVariants.{Full}
 use Rattle.auc_journal.specs.Journal.{JournalState, limits_of}
 use Rattle.auc_lines.specs.declared.part.Part.{Part}
 use Rattle.auc_print.specs.OneText.{AreAtTheirEnds, IsPrintable, PartFits}
@@ -22,10 +23,11 @@ use Rattle.auc_world.specs.Transcript.{Course, Leads, beginning}
 use Rattle.auc_world.specs.declared.record.PartRecord.{PartRecord}
 use Rattle.auc_run.specs.Crash.{IsKept, MayLeave, limits_in}
 use Rattle.auc_run.specs.Inner.{Begins, IsKnownPart, IsRead, RunsParts}
-use Rattle.auc_run.specs.Outcome.{RunsFiles}
+use Rattle.auc_run.specs.Outcome.{IsStopOf, IsWritten, RunsFiles, RunsFull}
 use Rattle.auc_run.specs.Output.{IsOutput, IsTranscript, setting_of, text_of}
 use Rattle.auc_run.specs.Words.{Files}
 use Rattle.auc_run.specs.declared.status.Status.{Status}
+use Rattle.auc_run.specs.declared.status.Status.TheVariants.{StoreFull}
 use Rattle.auc_run.proofs.HeldLemmas.{held_apart}
 use Rattle.auc_run.proofs.KnownLemmas.{Known}
 use Rattle.auc_run.proofs.PrintableLemmas.{parts_named}
@@ -145,4 +147,31 @@ files_run laws {D} seen may_leave faults told files script rows from disk journa
           (is_output laws rows script reserved runs.stop runs.served runs.records runs.end (front_fits rows script runs.served runs.left known runs.cut) runs.fits runs.leads);
       written = runs.written;
       kept = subst (λ (limits : List ℕ). (image : List ℕ) → MayLeave seen may_leave from disk image → IsKept ended rows limits runs.end image) is runs.kept;
+    }
+
+-- it was run until its journal was full
+pub files_full : {D : Type 0} (seen : D → Option (List ℕ)) (may_leave : D → List ℕ → Type 0) (faults : D → ℕ) (told : Option (List File)) (files : Files) (script : Script) (rows : List Row)
+    (from disk : D) (journal : JournalState D) (ended : Status) (old new : Option (List ℕ))
+    → IsRead told files rows script → Begins seen may_leave faults rows from journal
+    → RunsParts seen may_leave (setting_of rows script) script.full from (limits_of journal) (beginning rows (limits_of journal)) script.parts ended disk old new
+    → ended ≡ StoreFull → RunsFull seen may_leave told files from disk old new
+files_full seen may_leave faults told files script rows from disk journal ended old new read begins runs is =
+    let full : runs.stop ≡ Some Full = subst (λ (e : Status). IsStopOf e runs.stop) is runs.stopped in
+    record {
+      first = read.first;
+      text = read.text;
+      are_read = read.are_read;
+      script = script;
+      rows = rows;
+      is_script = read.is_script;
+      found = begins.found;
+      is_found = begins.is_found;
+      served = runs.served;
+      left = runs.left;
+      cut = runs.cut;
+      transcript = runs.records;
+      lawful = subst (λ (stop : Option Stop). IsTranscript rows script (limits_in rows begins.found) stop runs.served runs.records) full
+          (subst (λ (limits : List ℕ). IsTranscript rows script limits runs.stop runs.served runs.records) begins.limits (runs.end, runs.leads));
+      written = subst (λ (e : Status). IsWritten e old new (text_of rows script runs.records)) is runs.written;
+      ends = runs.ends_full is;
     }

@@ -12,13 +12,14 @@ use Rattle.auc_lines.specs.declared.part.Part.TheVariants.{Round, Restart}
 use Rattle.auc_print.specs.OneText.{PartFits}
 use Rattle.auc_print.specs.Text.{part_text, transcript_text}
 use Rattle.auc_transcript.proofs.Facts.{leads_more}
+use Rattle.auc_subs.specs.declared.row.Row.{Row}
 use Rattle.auc_world.specs.Setting.{Setting}
 use Rattle.auc_world.specs.Transcript.{Course, Leads, ServesPart, beginning}
 use Rattle.auc_world.specs.declared.record.PartRecord.{PartRecord}
 use Rattle.auc_world.specs.declared.record.PartRecord.TheVariants as record_of
 use Rattle.auc_run.specs.Crash.{IsFull}
 use Rattle.auc_run.specs.Inner.{Begins, Covers, EndsIn, GoesOn, IsPut, RunsParts, ServesLast, StandsOn, most_at}
-use Rattle.auc_run.specs.Outcome.{IsStopOf, IsWritten}
+use Rattle.auc_run.specs.Outcome.{EndsFull, IsStopOf, IsWritten}
 use Rattle.auc_run.specs.Refusal.{status_of}
 use Rattle.auc_run.specs.declared.refusal.Refusal.{Refusal}
 use Rattle.auc_run.specs.declared.refusal.Refusal.TheVariants as refused
@@ -240,7 +241,19 @@ Serving-all seen may_leave set full from reserved begin number state journal tex
   kept = kept_reserves seen may_leave ended set.rows from disk reserved serving.mid journal serving.on.reserves same;
   keeps = durable_keeps seen may_leave from disk (most_at reserved serving.mid) journal serving.on.reserves.durable same;
   full_at = λ is told. absurd (not_full is);
+  ends_full = λ is. absurd (not_full is);
 }
+
+-- a round that ends so stands behind others
+full_behind : {D : Type 0} (seen : D → Option (List ℕ)) (may_leave : D → List ℕ → Type 0) (rows : List Row) (from disk later : D) (records last : List PartRecord) → disk ≡ later
+    → EndsFull seen may_leave rows from last later → EndsFull seen may_leave rows from (records ++ last) disk
+full_behind {D} seen may_leave rows from disk later records last same ends = subst (λ (d : D). EndsFull seen may_leave rows from (records ++ last) d) (sym same) (record {
+  before = records ++ ends.before;
+  round = ends.round;
+  last = ap (λ (rs : List PartRecord). records ++ rs) ends.last ∙ sym (append_assoc records ends.before (record_of.Round ends.round ∷ []));
+  drew = ends.drew;
+  above = ends.above;
+})
 
 -- a run ends in a part that was served
 stops_served : {D : Type 0} (seen : D → Option (List ℕ)) (may_leave : D → List ℕ → Type 0) (set : Setting) (full : Bool) (from : D) (reserved : List ℕ) (begin : Course)
@@ -266,6 +279,7 @@ stops_served {D} seen may_leave set full from reserved begin number state journa
   kept = kept_reserves seen may_leave ended set.rows from disk reserved last.next later last.reserves same;
   keeps = durable_keeps seen may_leave from disk (most_at reserved last.next) later last.reserves.durable same;
   full_at = λ is told. subst (λ (d : D). IsFull (seen d)) (sym same) (last.full_at is told);
+  ends_full = λ is. full_behind seen may_leave set.rows from disk later.disk (serving.records ++ serving.waits) (last.made ∷ []) same (last.ends_full is);
 }
 
 -- a run ends in a part that memory was wanting for
@@ -289,6 +303,7 @@ stops_unserved {D} seen may_leave set full from reserved begin number state jour
       (subst (λ early. Covers seen may_leave set.rows from early later) serving.early covers) same;
   keeps = durable_keeps seen may_leave from disk covers.most later covers.durable same;
   full_at = λ is told. absurd (not_full is);
+  ends_full = λ is. absurd (not_full is);
 }
   where
     apart : status.NoMemory ≡ status.Done → ⊥
@@ -341,6 +356,7 @@ Serving-nothing seen may_leave faults set full from journal parts disk old begin
           (record { subscribers = begins.subscribers; released = λ sub inside. All-nil (λ n. n ≤ slice_index (limits_of journal) sub); most = λ sub. reserved_at journal sub; durable = begins.durable }) same;
       keeps = durable_keeps seen may_leave from disk (λ sub. reserved_at journal sub) journal begins.durable same;
       full_at = λ is told. absurd (not_full is);
+      ends_full = λ is. absurd (not_full is);
     }
   where
     apart : status.NoMemory ≡ status.Done → ⊥

@@ -1,15 +1,16 @@
 -- For a part of a scenario: where it begins, and where a round or a restart leads.
-use Rattle.std.proofs.Common.{◌≡◌, ◌≢◌, ℕ, ◌+◌, ◌<◌, ◌≤◌, max, List, [], ◌∷◌, ◌++◌, length, map, All, Option, refl, sym, ◌∙◌, ap, subst, arith}
+use Rattle.std.proofs.Common.{◌≡◌, ◌≢◌, ℕ, ◌+◌, ◌<◌, ◌≤◌, max, List, [], ◌∷◌, ◌++◌, length, map, All, Option, Some, refl, sym, ◌∙◌, ap, subst, arith}
 use Rattle.std.specs.Prelude.{slice_index}
 use Rattle.std.proofs.Math.ListN.{length-map}
 use Rattle.std.proofs.lemmas.List.Concat.{flat_map-append}
 use Rattle.std.proofs.lemmas.List.Elements.{All-nil, All-cons, All-head, All-tail, All-weaker}
 use Rattle.auc_edge.specs.declared.stop.Stop.{Stop}
+use Rattle.auc_edge.specs.declared.stop.Stop.TheVariants.{Full}
 use Rattle.auc_journal.specs.Durable.{IsDurable}
 use Rattle.auc_journal.specs.Image.{Frame, reserved_in}
 use Rattle.auc_journal.specs.Journal.{JournalState, imsi_at, limits_of, reserved_at}
 use Rattle.auc_journal.proofs.Facts.{durable_more, limits_at}
-use Rattle.auc_jobs.specs.Round.{LeavesMore, Serves}
+use Rattle.auc_jobs.specs.Round.{DrewFull, LeavesMore, Serves}
 use Rattle.auc_jobs.specs.State.{Standing, StandsAt}
 use Rattle.auc_lines.specs.declared.part.Line.{Line}
 use Rattle.auc_sqn.specs.Number.{max_seq}
@@ -187,6 +188,7 @@ pub record RoundLeads {D : Type 0} (seen : D → Option (List ℕ)) (may_leave :
   pub kept : state.kept ≡ next.kept
   pub opens : state.words ≡ next.openings
   pub reserves : Reserves seen may_leave set.rows from reserved next journal
+  pub needs : stop ≡ Some Full → (drew : DrewFull set.rows round) × (reserved_in journal.limits drew.row.imsi < drew.number)
 
 pub round_leads : {D : Type 0} (seen : D → Option (List ℕ)) (may_leave : D → List ℕ → Type 0) (set : Setting) (from : D) (reserved : List ℕ) (at : Course) (number : ℕ) (state next : Standing) (journal after : JournalState D)
     (jobs : List (List Line)) (round : RoundRecord) (stop : Option Stop)
@@ -216,4 +218,5 @@ round_leads seen may_leave set from reserved at number state next journal after 
             (λ i inside. let greatest = get_or-greater words at.highs i (omega (arith, inside, counts, count, sizes, size)) in omega (arith, greatest))
             (serves.durable from (most_at reserved at) on.reserves.durable);
       };
+      needs = serves.needs;
     }

@@ -1,10 +1,12 @@
 -- For a part of a scenario: what came of it, by what its calls answer.
-use Rattle.std.proofs.Common.{◌≡◌, ◌≢◌, ℕ, ◌+◌, ◌<◌, ◌^◌, Bool, true, false, List, [], ◌++◌, Option, Some, None, Result, Ok, Err, OnOk, IfErr, refl, sym, ◌∙◌, ap, subst, arith}
+use Rattle.std.proofs.Common.{◌≡◌, ◌≢◌, ℕ, ◌+◌, ◌<◌, ◌^◌, Bool, true, false, List, [], ◌∷◌, ◌++◌, Option, Some, None, Result, Ok, Err, OnOk, IfErr, refl, sym, ◌∙◌, ap, subst, arith}
 use Rattle.std.specs.Prelude.{◌↔◌}
 use Rattle.auc_edge.specs.declared.stop.Stop.{Stop}
 use Rattle.auc_edge.specs.declared.stop.Stop.TheVariants.{Fault, Full}
 use Rattle.auc_journal.specs.Durable.{IsTold}
+use Rattle.auc_journal.specs.Image.{reserved_as, reserved_in}
 use Rattle.auc_journal.specs.Journal.{JournalState, limits_of}
+use Rattle.auc_jobs.specs.Round.{DrewFull}
 use Rattle.auc_jobs.specs.State.{Standing, StandsAt}
 use Rattle.auc_lines.specs.declared.part.Line.{Line}
 use Rattle.auc_lines.specs.declared.part.Part.TheVariants.{Round, Restart}
@@ -19,7 +21,7 @@ use Rattle.auc_world.specs.declared.record.PartRecord.TheVariants as record_of
 use Rattle.auc_world.specs.declared.record.RoundRecord.{RoundRecord}
 use Rattle.auc_run.specs.Crash.{IsFull}
 use Rattle.auc_run.specs.Inner.{Covers, EndsIn, GoesOn, HasWritten, Reserves, ServesLast, StandsOn, status_in}
-use Rattle.auc_run.specs.Outcome.{IsQuiet, IsStopOf, IsWritten}
+use Rattle.auc_run.specs.Outcome.{EndsFull, IsQuiet, IsStopOf, IsWritten}
 use Rattle.auc_run.specs.Refusal.{status_of}
 use Rattle.auc_run.specs.declared.refusal.Refusal.{Refusal}
 use Rattle.auc_run.specs.declared.refusal.Refusal.TheVariants as refused
@@ -84,12 +86,29 @@ full_journal seen may_leave set from reserved end after reserves ready full told
     let at = reserves.durable.ready told ready in
     (record { frames = at.frames; end = after.place }, (at.settled.at_rest file is).read, omega (arith, full))
 
+-- a round that drew a number above what such a journal reserves for its subscriber
+ends_full : {D : Type 0} (seen : D → Option (List ℕ)) (may_leave : D → List ℕ → Type 0) (set : Setting) (from : D) (reserved : List ℕ) (end : Course) (round : RoundRecord) (after : JournalState D)
+    → Reserves seen may_leave set.rows from reserved end after → after.failed ≡ false → (drew : DrewFull set.rows round) × (reserved_in after.limits drew.row.imsi < drew.number)
+    → EndsFull seen may_leave set.rows from (record_of.Round round ∷ []) after.disk
+ends_full seen may_leave set from reserved end round after reserves ready (drew, above) = record {
+  before = [];
+  round = round;
+  last = refl;
+  drew = drew;
+  above = λ told file is.
+      let at = reserves.durable.ready told ready in
+      let same = at.same drew.row.imsi in
+      let read = ap (λ r. reserved_as r drew.row.imsi) (at.settled.at_rest file is).read in
+      omega (arith, same, read, above);
+}
+
 -- it was the last, and it was written
 last_round : {D : Type 0} (seen : D → Option (List ℕ)) (may_leave : D → List ℕ → Type 0) (set : Setting) (full : Bool) (from : D) (reserved : List ℕ) (at : Course) (next : Standing) (after : JournalState D)
     (jobs : List (List Line)) (round : RoundRecord) (stop : Option Stop) (waits : List ℕ) (old new : Option (List ℕ)) (ended : Status)
     → RoundLeads seen may_leave set from reserved at jobs round stop next after → IsStopOf ended stop → IsWritten ended old new (waits ++ round_text set full round) → RoundFits round
-    → (ended ≡ status.StoreFull → IsTold seen may_leave from → IsFull (seen after.disk)) → ServesLast seen may_leave set full from reserved at (Round jobs) ended after waits old new
-last_round seen may_leave set full from reserved at next after jobs round stop waits old new ended leads stopped written fits full_at = record {
+    → (ended ≡ status.StoreFull → IsTold seen may_leave from → IsFull (seen after.disk)) → (ended ≡ status.StoreFull → EndsFull seen may_leave set.rows from (record_of.Round round ∷ []) after.disk)
+    → ServesLast seen may_leave set full from reserved at (Round jobs) ended after waits old new
+last_round seen may_leave set full from reserved at next after jobs round stop waits old new ended leads stopped written fits full_at ends = record {
   stop = stop;
   stopped = stopped;
   made = record_of.Round round;
@@ -99,6 +118,7 @@ last_round seen may_leave set full from reserved at next after jobs round stop w
   reserves = leads.reserves;
   written = written;
   full_at = full_at;
+  ends_full = ends;
 }
 
 not_at : status.WriteFault ≡ status.StoreFull → ⊥
@@ -116,13 +136,14 @@ pub round_ends : {D : Type 0} (seen : D → Option (List ℕ)) (may_leave : D �
     → EndsIn seen may_leave set full from reserved at (Round jobs) (status_of refusal) after waits old new)
 round_ends seen may_leave set full number state next journal after jobs round stop (Ok done) waits old new failed is_full each writes = tt
 round_ends seen may_leave set full number state next journal after jobs round stop (Err refused.WriteFault) waits old new failed is_full each writes = λ from reserved at on.
-    last_round seen may_leave set full from reserved at next after jobs round stop waits old new status.WriteFault (each from reserved at on) tt writes.1 writes.2 (λ is told. absurd (not_at is))
+    last_round seen may_leave set full from reserved at next after jobs round stop waits old new status.WriteFault (each from reserved at on) tt writes.1 writes.2 (λ is told. absurd (not_at is)) (λ is. absurd (not_at is))
 round_ends seen may_leave set full number state next journal after jobs round stop (Err refused.StoreFault) waits old new failed is_full each writes = λ from reserved at on.
-    last_round seen may_leave set full from reserved at next after jobs round stop waits old new status.StoreFault (each from reserved at on) writes.0 writes.1 writes.2 (λ is told. absurd (fault_at is))
+    last_round seen may_leave set full from reserved at next after jobs round stop waits old new status.StoreFault (each from reserved at on) writes.0 writes.1 writes.2 (λ is told. absurd (fault_at is)) (λ is. absurd (fault_at is))
 round_ends seen may_leave set full number state next journal after jobs round stop (Err refused.StoreFull) waits old new failed is_full each writes = λ from reserved at on.
     let leads = each from reserved at on in
     last_round seen may_leave set full from reserved at next after jobs round stop waits old new status.StoreFull leads writes.0 writes.1 writes.2
     (λ is. full_journal seen may_leave set from reserved leads.next after leads.reserves (ready_if after.failed stop failed (not_full stop writes.0)) (is_full writes.0))
+    (λ is. ends_full seen may_leave set from reserved leads.next round after leads.reserves (ready_if after.failed stop failed (not_full stop writes.0)) (leads.needs writes.0))
 round_ends seen may_leave set full number state next journal after jobs round stop (Err refused.NoMemory) waits old new failed is_full each writes = λ from reserved at on.
     let leads = each from reserved at on in
     (covers_before seen may_leave set.rows from reserved at.early (all_lines round.jobs) leads.next after leads.early leads.reserves, writes)

@@ -4,7 +4,7 @@ use Rattle.auc_edge.specs.Shelf.{File}
 use Rattle.auc_edge.specs.Sink.{Appends, AppendsFront}
 use Rattle.auc_run.specs.Inner.{FilesLeave, IsSilent, JournalStops, ReservedStops, Stops, Tells, open_refusal}
 use Rattle.auc_load.specs.declared.words.LoadWords.{LoadWords}
-use Rattle.auc_run.specs.Outcome.{EndsLoad, IsCause, IsQuiet, IsStop, NeedsNoJournal, Refuses, RunsFiles, RunsScenario}
+use Rattle.auc_run.specs.Outcome.{EndsLoad, IsCause, IsQuiet, IsStop, NeedsNoJournal, Refuses, RunsFiles, RunsFull, RunsScenario}
 use Rattle.auc_run.specs.Refusal.{line_of, status_of}
 use Rattle.auc_forms.specs.Reserved.{IsReservedText}
 use Rattle.auc_journal.specs.Image.{Frame, reserved_in}
@@ -169,6 +169,20 @@ full_runs words told seen leaves refusal ended old mid new stops leave tells is 
         let files = full_files words told seen stops in
         (files.0, files.1, still_runs told files.0 seen leaves status.StoreFull status.StoreFull old mid new refl none (leave files.0 files.1))
     at_full stops leave (inr untold) = absurd untold
+
+-- and the round with which they end
+pub full_ends : {D : Type 0} (seen : D → Option (List ℕ)) (may_leave : D → List ℕ → Type 0) (words : List (List ℕ)) (told : Option (List File)) (from disk : D) (refusal : Refusal) (ended : Status) (old mid new : Option (List ℕ))
+    → Stops words told (seen from) refusal → ((files : Files) → files_named words ≡ Some files → RunsFull seen may_leave told files from disk old mid)
+    → Tells refusal ended mid new → refusal ≡ refused.StoreFull → (files : Files) × (files_named words ≡ Some files) × RunsFull seen may_leave told files from disk old new
+full_ends {D} seen may_leave words told from disk refusal ended old mid new stops runs tells is =
+    at_full (subst (λ (r : Refusal). Stops words told (seen from) r) is stops) (subst (λ (r : Refusal). Tells r ended mid new) is tells)
+  where
+    at_full : Stops words told (seen from) refused.StoreFull → Tells refused.StoreFull ended mid new
+        → (files : Files) × (files_named words ≡ Some files) × RunsFull seen may_leave told files from disk old new
+    at_full stops (inl (is, none)) =
+        let files = full_files words told (seen from) stops in
+        (files.0, files.1, subst (λ (o : Option (List ℕ)). RunsFull seen may_leave told files.0 from disk old o) (sym (Appends-nothing mid new none)) (runs files.0 files.1))
+    at_full stops (inr untold) = absurd untold
 
 -- ---- the limits of a journal
 

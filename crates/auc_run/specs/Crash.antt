@@ -1,7 +1,8 @@
 -- What a crash leaves of the journal after a run.
 use Rattle.std.specs.Prelude.{◌≡◌, ◌≢◌, ℕ, ◌+◌, ◌<◌, ◌≤◌, ◌^◌, max, List, length, map, All, slice_index, Option, Some, Ok, Err}
+use Rattle.auc_edge.specs.Identity.{Identity}
 use Rattle.auc_journal.specs.Durable.{IsTold}
-use Rattle.auc_journal.specs.Image.{Frame, Keeps, Reading, read_image, reserved_in}
+use Rattle.auc_journal.specs.Image.{Frame, Keeps, Reading, read_image, reserved_by, reserved_in}
 use Rattle.auc_journal.specs.Opening.{IsAsBefore}
 use Rattle.auc_journal.specs.Settled.{IsClosable}
 use Rattle.auc_subs.specs.declared.row.Row.{Row}
@@ -26,6 +27,10 @@ IsNoJournal seen place = (file : List ℕ) → seen ≡ Some file → read_image
 -- they are a journal, in which one more frame would end after the greatest length, if the disk reveals them
 abbrev pub IsFull : Option (List ℕ) → Type 0
 IsFull seen = (file : List ℕ) → seen ≡ Some file → (reading : Reading) × (read_image file ≡ Ok reading) × (2 ^ 30 < reading.end + 1 + 19)
+
+-- what they reserve for an identity is below a number, if the disk reveals them
+abbrev pub ReservesBelow : Option (List ℕ) → Identity → ℕ → Type 0
+ReservesBelow seen imsi number = (file : List ℕ) → seen ≡ Some file → reserved_by file imsi < number
 
 -- a crash may leave this image of a disk whose bytes were known and durable before
 abbrev pub MayLeave : {D : Type 0} → (D → Option (List ℕ)) → (D → List ℕ → Type 0) → D → D → List ℕ → Type 0

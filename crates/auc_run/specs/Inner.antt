@@ -1,5 +1,5 @@
 -- Inner facts: what only private contracts of this crate cite.
-use Rattle.std.specs.Prelude.{◌≡◌, ℕ, ◌+◌, ◌<◌, ◌≤◌, ◌⊎◌, ◌++◌, max, true, false, AllPairs, All, Bool, List, [], length, map, slice_index, Option, Some, None, Result, Ok, Err}
+use Rattle.std.specs.Prelude.{◌≡◌, ℕ, ◌+◌, ◌<◌, ◌≤◌, ◌⊎◌, ◌∷◌, ◌++◌, max, true, false, AllPairs, All, Bool, List, [], length, map, slice_index, Option, Some, None, Result, Ok, Err}
 use Rattle.std.specs.Option.{option_copied}
 use Rattle.auc_edge.specs.Shelf.{File, IsLongerFile}
 use Rattle.auc_edge.specs.Sink.{Appends, AppendsFront}
@@ -42,7 +42,7 @@ use Rattle.auc_world.specs.declared.record.LineRecord.{LineRecord}
 use Rattle.auc_world.specs.declared.record.PartRecord.{PartRecord}
 use Rattle.auc_world.specs.declared.record.RoundRecord.{RoundRecord}
 use Rattle.auc_run.specs.Crash.{IsFound, IsFull, IsKept, IsNoJournal, MayLeave, limits_in}
-use Rattle.auc_run.specs.Outcome.{HasText, AreLimitLines, AreRead, AreRight, AreWrong, IsStopOf, IsWritten, RunsFiles, max_file}
+use Rattle.auc_run.specs.Outcome.{HasText, AreLimitLines, AreRead, AreRight, AreWrong, EndsFull, IsStopOf, IsWritten, RunsFiles, max_file}
 use Rattle.auc_run.specs.Refusal.{status_of, line_of}
 use Rattle.auc_run.specs.Words.{Files, files_named}
 use Rattle.auc_run.specs.declared.forms.InputFiles.{InputFiles}
@@ -295,6 +295,7 @@ pub record ServesLast {D : Type 0} (seen : D → Option (List ℕ)) (may_leave :
   pub reserves : Reserves seen may_leave set.rows from reserved next journal
   pub written : IsWritten status old new (before ++ part_text set full made)
   pub full_at : status ≡ StoreFull → IsTold seen may_leave from → IsFull (seen journal.disk)
+  pub ends_full : status ≡ StoreFull → EndsFull seen may_leave set.rows from (made ∷ []) journal.disk
 
 -- a run ended in a part: if memory ran out, nothing of it was written
 abbrev pub EndsIn : {D : Type 0} → (D → Option (List ℕ)) → (D → List ℕ → Type 0) → Setting → Bool → D → List ℕ → Course → Part
@@ -325,3 +326,4 @@ pub record RunsParts {D : Type 0} (seen : D → Option (List ℕ)) (may_leave : 
   pub kept : (image : List ℕ) → MayLeave seen may_leave from disk image → IsKept status set.rows reserved end image
   pub keeps : (told : IsTold seen may_leave from) → (image : List ℕ) → may_leave disk image → Keeps told.0 image × IsClosable image
   pub full_at : status ≡ StoreFull → IsTold seen may_leave from → IsFull (seen disk)
+  pub ends_full : status ≡ StoreFull → EndsFull seen may_leave set.rows from records disk

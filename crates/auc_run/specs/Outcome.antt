@@ -1,5 +1,5 @@
 -- How a run ends: what each status says of the words, the shelf's files, the journal and the output.
-use Rattle.std.specs.Prelude.{◌≡◌, ℕ, ◌≤◌, ◌⊎◌, true, false, List, [], ◌++◌, length, Option, Some, None, Ok, Err}
+use Rattle.std.specs.Prelude.{◌≡◌, ℕ, ◌≤◌, ◌⊎◌, true, false, List, [], ◌∷◌, ◌++◌, length, Option, Some, None, Ok, Err}
 use Rattle.auc_edge.specs.Shelf.{File, IsFile, IsLongerFile}
 use Rattle.auc_edge.specs.Sink.{Appends, AppendsFront}
 use Rattle.auc_edge.specs.declared.stop.Stop.{Stop}
@@ -7,6 +7,8 @@ use Rattle.auc_edge.specs.declared.stop.Stop.TheVariants.{Fault, Full}
 use Rattle.auc_forms.specs.Algorithm.{values_named, algorithm_text}
 use Rattle.auc_forms.specs.Reserved.{IsReservedText, asks_reserved}
 use Rattle.auc_forms.specs.declared.algorithm.AlgorithmWords.{AlgorithmWords}
+use Rattle.auc_jobs.specs.Round.{DrewFull}
+use Rattle.auc_journal.specs.Durable.{IsTold}
 use Rattle.auc_journal.specs.Image.{Frame}
 use Rattle.auc_lines.specs.declared.part.Part.{Part}
 use Rattle.auc_load.specs.Summary.{load_text}
@@ -19,8 +21,11 @@ use Rattle.auc_subs.specs.File.{subscribers_in}
 use Rattle.auc_subs.specs.declared.refusal.SubsRefusal.TheVariants.{Row as wrong_row}
 use Rattle.auc_subs.specs.declared.row.Row.{Row}
 use Rattle.auc_world.specs.Transcript.{Course}
-use Rattle.auc_run.specs.Crash.{IsFound, IsKept, IsNoJournal, limits_in}
-use Rattle.auc_run.specs.Output.{IsOutput}
+use Rattle.auc_world.specs.declared.record.PartRecord.{PartRecord}
+use Rattle.auc_world.specs.declared.record.PartRecord.TheVariants as record_of
+use Rattle.auc_world.specs.declared.record.RoundRecord.{RoundRecord}
+use Rattle.auc_run.specs.Crash.{IsFound, IsKept, IsNoJournal, ReservesBelow, limits_in}
+use Rattle.auc_run.specs.Output.{IsOutput, IsTranscript, text_of}
 use Rattle.auc_run.specs.Refusal.{status_of, line_of}
 use Rattle.auc_run.specs.Words.{Files, files_named}
 use Rattle.auc_run.specs.declared.refusal.Refusal.{Refusal}
@@ -112,6 +117,34 @@ pub record RunsFiles (told : Option (List File)) (files : Files) (seen : Option 
 -- the words name the files of a scenario that was read and run
 abbrev pub RunsScenario : List (List ℕ) → Option (List File) → Option (List ℕ) → (List ℕ → Type 0) → Status → Option (List ℕ) → Option (List ℕ) → Type 0
 RunsScenario words told seen leaves status old new = (files : Files) × (files_named words ≡ Some files) × RunsFiles told files seen leaves status old new
+
+-- a transcript ends in a round that drew a number of a subscriber and withheld it because the journal is full; the journal
+-- that is left reserves less for this subscriber
+pub record EndsFull {D : Type 0} (seen : D → Option (List ℕ)) (may_leave : D → List ℕ → Type 0) (rows : List Row) (from : D) (records : List PartRecord) (disk : D) : Type 0 where
+  pub before : List PartRecord
+  pub round : RoundRecord
+  pub last : records ≡ before ++ record_of.Round round ∷ []
+  pub drew : DrewFull rows round
+  pub above : IsTold seen may_leave from → ReservesBelow (seen disk) drew.row.imsi drew.number
+
+-- the scenario of the files was read whole and the journal opened, and the text of the first of its parts was written: its
+-- one transcript ends so
+pub record RunsFull {D : Type 0} (seen : D → Option (List ℕ)) (may_leave : D → List ℕ → Type 0) (told : Option (List File)) (files : Files) (from disk : D) (old new : Option (List ℕ)) : Type 0 where
+  pub first : List Row
+  pub text : List ℕ
+  pub are_read : AreRead told files first text
+  pub script : Script
+  pub rows : List Row
+  pub is_script : script_of first text ≡ Ok (script, rows)
+  pub found : List Frame
+  pub is_found : IsFound (seen from) found
+  pub served : List Part
+  pub left : List Part
+  pub cut : script.parts ≡ served ++ left
+  pub transcript : List PartRecord
+  pub lawful : IsTranscript rows script (limits_in rows found) (Some Full) served transcript
+  pub written : Appends old new (text_of rows script transcript)
+  pub ends : EndsFull seen may_leave rows from transcript disk
 
 -- the words give the values of Milenage's functions, and these were written
 abbrev pub PrintsAlgorithm : List (List ℕ) → Option (List ℕ) → Option (List ℕ) → Type 0

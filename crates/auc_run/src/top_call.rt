@@ -18,7 +18,7 @@ ghost use Rattle.auc_subs.specs.declared.row.Row.{Row};
 ghost use Rattle.auc_world.specs.Agreement.{IsRealm};
 ghost use Rattle.auc_run.specs.Crash.{IsFound, IsFull, MayLeave, Remembers};
 ghost use Rattle.auc_run.specs.Inner.{FilesLeave, FilesStop, InputStops, IsBeforeJournal, IsRead, IsSilent, LimitsLeave, OutputStops, ReadingStops, ReservedStops, Stops, WritesLimits, files_seen, status_in};
-ghost use Rattle.auc_run.specs.Outcome.{AreRead, AreUnknown, AreWrong, EndsAlgorithm, EndsBefore, EndsLoad, EndsReserved, EndsUsage, IsCause, IsQuiet, IsReadNext, IsStop, MayPrint, MayRun, MayTell, NeedsNoJournal, PrintsAlgorithm, PrintsReserved, Refuses, RunsFiles, RunsLoad, RunsScenario};
+ghost use Rattle.auc_run.specs.Outcome.{AreRead, AreUnknown, AreWrong, EndsAlgorithm, EndsBefore, EndsLoad, EndsReserved, EndsUsage, IsCause, IsQuiet, IsReadNext, IsStop, MayPrint, MayRun, MayTell, NeedsNoJournal, PrintsAlgorithm, PrintsReserved, Refuses, RunsFiles, RunsFull, RunsLoad, RunsScenario};
 ghost use Rattle.auc_run.specs.Refusal.{MayRefuse};
 ghost use Rattle.auc_run.specs.Words.{Files, files_named};
 
@@ -88,6 +88,8 @@ pub fn run<R: Threads + Wait + Sync, H: Shelf, K: Sink, D: Disk + Drop + Send, G
         → RunsScenario words.now (H.files shelf.old) (D.seen disk) (MayLeave D.seen D.may_leave disk result.disk) Status.StoreFull
         (K.written out.old) (K.written out.new)
         × (IsTold D.seen D.may_leave disk → IsFull (D.seen result.disk)) }
+    ensures drew_full { result.status ≡ Status.StoreFull → (files : Files) × (files_named words.now ≡ Some files)
+        × RunsFull D.seen D.may_leave (H.files shelf.old) files disk result.disk (K.written out.old) (K.written out.new) }
 
     // A journal never forgets: however the run ends, a crash leaves for every identity at least what was reserved before.
     ensures remembers { Remembers D.seen D.may_leave result.status disk result.disk }
@@ -165,6 +167,8 @@ fn perform<R: Threads + Wait + Sync, H: Shelf, K: Sink, D: Disk + Drop + Send, G
     ensures silent { IfErr result.result (λ refusal. IsSilent refusal (K.written out.old) (K.written out.new)) }
     ensures store_full { IsErrOf result.result Refusal.StoreFull → IsTold D.seen D.may_leave disk
         → IsFull (D.seen result.disk) }
+    ensures drew_full { (files : Files) → files_named words.now ≡ Some files → IsErrOf result.result Refusal.StoreFull
+        → RunsFull D.seen D.may_leave (H.files shelf.old) files disk result.disk (K.written out.old) (K.written out.new) }
     ensures remembers { Remembers D.seen D.may_leave (status_in result.result) disk result.disk }
     ensures untouched { NeedsNoJournal words.now (status_in result.result) → result.disk ≡ disk }
     ensures unopened { (there : List File) (files : Files) (cause : Refusal) → H.files shelf.old ≡ Some there
@@ -218,6 +222,8 @@ fn run_files<R: Threads + Wait + Sync, H: Shelf, K: Sink, D: Disk + Drop + Send,
     ensures silent { IfErr result.result (λ refusal. IsSilent refusal (K.written out.old) (K.written out.new)) }
     ensures store_full { IsErrOf result.result Refusal.StoreFull → IsTold D.seen D.may_leave disk
         → IsFull (D.seen result.disk) }
+    ensures drew_full { IsErrOf result.result Refusal.StoreFull → RunsFull D.seen D.may_leave (H.files shelf.old)
+        (files_seen files.now) disk result.disk (K.written out.old) (K.written out.new) }
     ensures remembers { Remembers D.seen D.may_leave (status_in result.result) disk result.disk }
     ensures untouched { IsBeforeJournal (status_in result.result) → result.disk ≡ disk }
     ensures unopened { (there : List File) (cause : Refusal) → H.files shelf.old ≡ Some there
@@ -262,6 +268,9 @@ fn run_input<R: Threads + Wait + Sync, K: Sink, D: Disk + Drop + Send, G: Gate +
     ensures silent { IfErr result.result (λ refusal. IsSilent refusal (K.written out.old) (K.written out.new)) }
     ensures store_full { IsErrOf result.result Refusal.StoreFull → IsTold D.seen D.may_leave disk
         → IsFull (D.seen result.disk) }
+    ensures drew_full { (told : Option (List File)) (files : Files) → IsRead told files input.now.subs input.now.script
+        → IsErrOf result.result Refusal.StoreFull
+        → RunsFull D.seen D.may_leave told files disk result.disk (K.written out.old) (K.written out.new) }
 
     // A fault comes only with a risen count.
     ensures write_fault { IsErrOf result.result Refusal.WriteFault → Rose (K.faults out.old) (K.faults out.new) }

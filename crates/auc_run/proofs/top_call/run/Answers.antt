@@ -6,7 +6,7 @@ use Rattle.auc_run.proofs.CauseLemmas.{comes_at}
 use Rattle.auc_run.specs.Crash.{MayLeave}
 use Rattle.auc_run.proofs.EndLemmas.{algorithm_may, algorithm_told, ran_told, reserved_told, usage_told, write_told}
 use Rattle.auc_run.proofs.RememberLemmas.{remembers_told}
-use Rattle.auc_run.proofs.TopLemmas.{full_runs, full_told, load_told, read_told, refused_told}
+use Rattle.auc_run.proofs.TopLemmas.{full_ends, full_runs, full_told, load_told, read_told, refused_told}
 use Rattle.auc_run.proofs.top_call.run.Goals as goal
 
 pub returns-in-Ok-clause-ran : goal.returns-in-Ok-clause-ran
@@ -32,6 +32,13 @@ returns-in-Err-clause-store_full g c = λ full.
           (rw c.in-Err.is at c.perform-disk.ensures.refused) (rw c.in-Err.is at c.perform-disk.ensures.ran) c.tell.ensures.told is,
       (rw (c.in-Err.is, is) at c.perform-disk.ensures.store_full) refl,
     )
+
+pub returns-in-Err-clause-drew_full : goal.returns-in-Err-clause-drew_full
+returns-in-Err-clause-drew_full g c = λ full.
+    let is = full_told c.in-Err.refusal c.tell.result (g.K.Sink.written c.perform-disk.new.out) (g.K.Sink.written c.tell.new.out) c.tell.ensures.told full in
+    full_ends g.D.Disk.seen g.D.Disk.may_leave c.args.words.now (g.H.Shelf.files c.args.shelf.now) c.args.disk c.perform-disk.result.disk c.in-Err.refusal c.tell.result
+    (g.K.Sink.written c.args.out.now) (g.K.Sink.written c.perform-disk.new.out) (g.K.Sink.written c.tell.new.out)
+    (rw c.in-Err.is at c.perform-disk.ensures.refused) (λ files named. (rw (c.in-Err.is, is) at (c.perform-disk.ensures.drew_full files named)) refl) c.tell.ensures.told is
 
 pub returns-in-Ok-clause-load_ran : goal.returns-in-Ok-clause-load_ran
 returns-in-Ok-clause-load_ran g c = λ load named. rw c.in-Ok.is at (c.perform-disk.ensures.load_ran load named)

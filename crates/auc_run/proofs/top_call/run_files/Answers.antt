@@ -6,6 +6,9 @@ use Rattle.auc_run.proofs.CauseLemmas.{right_wrong}
 use Rattle.auc_run.proofs.RefusalLemmas.{right_read}
 use Rattle.auc_run.proofs.top_call.run_files.Goals as goal
 
+pub returns-in-Ok-clause-drew_full : goal.returns-in-Ok-clause-drew_full
+returns-in-Ok-clause-drew_full g c = c.run_input.ensures.drew_full (g.H.Shelf.files c.args.shelf.now) (files_seen c.args.files.now) c.in-Ok.ensures.read
+
 pub returns-in-Ok-clause-unopened : goal.returns-in-Ok-clause-unopened
 returns-in-Ok-clause-unopened g c = λ there cause told wrong.
     let files = files_seen c.args.files.now in

@@ -1,4 +1,4 @@
-use Rattle.std.proofs.Common.{inl, subst}
+use Rattle.std.proofs.Common.{ap, inl, subst}
 use Rattle.auc_world.specs.Agreement.{IsRealm}
 use Rattle.auc_run.specs.Crash.{MayLeave}
 use Rattle.auc_journal.specs.Journal.{limits_of}
@@ -6,7 +6,7 @@ use Rattle.auc_world.specs.Transcript.{beginning}
 use Rattle.auc_run.specs.Inner.{status_in}
 use Rattle.auc_run.specs.Output.{setting_of}
 use Rattle.auc_run.proofs.KnownLemmas.{known}
-use Rattle.auc_run.proofs.OutcomeLemmas.{Laws, files_run}
+use Rattle.auc_run.proofs.OutcomeLemmas.{Laws, files_full, files_run}
 use Rattle.auc_run.proofs.RefusalLemmas.{leave_runs}
 use Rattle.auc_run.proofs.RememberLemmas.{remembers_parts, remembers_unopened}
 use Rattle.auc_run.proofs.TopLemmas.{journal_stops}
@@ -35,6 +35,13 @@ returns-in-Ok-clause-ran g c = λ told files read.
     leave_runs told files (g.D.Disk.seen c.args.disk) (MayLeave g.D.Disk.seen g.D.Disk.may_leave c.args.disk c.serve_parts.result.disk) ended old new
     (files_run laws g.D.Disk.seen g.D.Disk.may_leave g.D.Disk.faults told files script rows c.args.disk c.serve_parts.result.disk c.in-Ok.journal ended old new
     read (known rows script c.requires realm) begins (c.serve_parts.ensures.ran c.args.disk begins))
+
+pub returns-in-Ok-clause-drew_full : goal.returns-in-Ok-clause-drew_full
+returns-in-Ok-clause-drew_full g c = λ told files read full.
+    let begins = c.in-Ok.ensures.opened in
+    files_full g.D.Disk.seen g.D.Disk.may_leave g.D.Disk.faults told files c.args.input.now.script c.args.input.now.subs c.args.disk c.serve_parts.result.disk c.in-Ok.journal
+    (status_in c.serve_parts.result.result) (g.K.Sink.written c.args.out.now) (g.K.Sink.written c.serve_parts.new.out)
+    read begins (c.serve_parts.ensures.ran c.args.disk begins) (ap status_in full)
 
 pub serve_parts-requires-clause-known : goal.serve_parts-requires-clause-known
 serve_parts-requires-clause-known g c = λ κs within.
