@@ -1,35 +1,24 @@
--- For on_bytes: what a row did, along the row's name in the table.
-use Rattle.std.proofs.Common.{◌≡◌, ℕ, List, None, Result, Ok, Err, IfOk, refl, sym, ap, ◌∙◌, subst}
+-- For on_row: what a row did, along the row's name in the table.
+use Rattle.std.proofs.Common.{◌≡◌, ℕ, List, Option, Some, None, Result, Ok, Err, IfOk, refl, sym, ap, ◌∙◌, subst}
 use Rattle.auc_packet.specs.Received.{Seen, IsReceived}
-use Rattle.auc_peer.specs.Identities.{asked_text}
 use Rattle.auc_peer.specs.Rows.{peer_row}
 use Rattle.auc_peer.specs.Subscription.{Subscription}
-use Rattle.auc_peer.specs.Table.{context_of, counted_up, identified, kept_by, peer_does, peer_step, reauthenticated}
-use Rattle.auc_peer.specs.Turn.{Asked, Decrypts, Steps, asked, decryption_made, decryption_resumed, inner_of}
+use Rattle.auc_peer.specs.Table.{again, challenged, context_of, counted_up, kept_by, peer_does, peer_step, reauthenticated, succeeded, taken_up}
+use Rattle.auc_peer.specs.Turn.{Asked, Decryption, Decrypts, Steps, asked, decryption_made, decryption_noted, decryption_resumed, inner_of}
+use Rattle.auc_peer.specs.declared.decrypted.Decrypted.{Decrypted}
+use Rattle.auc_peer.specs.declared.decrypted.Decrypted.TheVariants as decrypted
+use Rattle.auc_peer.specs.declared.peer.Challenge.{Challenge}
+use Rattle.auc_peer.specs.declared.peer.Last.{Last}
 use Rattle.auc_peer.specs.declared.peer.Peer.{Peer}
 use Rattle.auc_peer.specs.declared.rows.Row.{Row}
 use Rattle.auc_peer.specs.declared.rows.Row.TheVariants as row
 use Rattle.auc_peer.specs.declared.why.PeerWhy.{PeerWhy}
 use Rattle.auc_reauth.specs.Device.{Keeps}
-use Rattle.auc_request.specs.declared.identities.IdentityRequest.{IdentityRequest}
 use Rattle.auc_sqn.specs.Past.{Past, Remembers}
+use Rattle.auc_vector.specs.declared.notes.CounterNote.{CounterNote}
+use Rattle.auc_vector.specs.declared.notes.UsimNote.{UsimNote}
 use Rattle.auc_vector.specs.declared.turn.Turn.{Turn}
 use Rattle.auc_peer.proofs.ReauthLemmas.{reauth_asks_none}
-
--- a row that sends an identity within the method
-pub identity_steps : (key : List ℕ) (s : Subscription) (keeps : Keeps) (p : Peer) (seen : Seen) (request : IdentityRequest) (bytes before : List ℕ) (new : Peer) (turn : Turn PeerWhy)
-    → IsReceived seen → seen.bytes ≡ bytes → row.Identity request ≡ peer_row p seen
-    → ◌≡◌ {A = Peer × Turn PeerWhy} (new, turn) (identified p seen (asked_text p.options.method s keeps request))
-    → Steps key s keeps p bytes before new turn keeps before
-identity_steps key s keeps p seen request bytes before new turn is of e step = record {
-  seen = seen;
-  received = is;
-  of = of;
-  same = λ past remembers. subst (λ (r : Row). ◌≡◌ {A = Peer × Turn PeerWhy} (new, turn) (peer_does key s keeps p seen r turn.notes.usim (inner_of new))) e step;
-  usim = subst (λ (r : Row). Asked s (asked r) turn.notes.usim before before) e (ap (λ (t : Peer × Turn PeerWhy). t.1.notes.usim) step, refl);
-  decrypts = λ past remembers. subst (λ (r : Row). Decrypts (decryption_made s keeps p seen r turn.notes.usim) (inner_of new)) e tt;
-  stored = subst (λ (r : Row). keeps ≡ kept_by r p turn.notes.counter keeps) e refl;
-}
 
 -- a fast re-authentication
 pub reauth_steps : (key : List ℕ) (s : Subscription) (keeps : Keeps) (p : Peer) (seen : Seen) (bytes before : List ℕ) (new : Peer) (turn : Turn PeerWhy) (kept : Keeps)
@@ -60,7 +49,7 @@ reauth_returns key s keeps p seen bytes before after new kept (Ok turn) is of e 
     subst (λ (array : List ℕ). Steps key s keeps p bytes before new turn kept array) (sym same) (reauth_steps key s keeps p seen bytes before new turn kept is of e step decrypts stored)
 reauth_returns key s keeps p seen bytes before after new kept (Err other) is of e same step decrypts stored = tt
 
--- another row
+-- what a row did
 pub row_steps : (key : List ℕ) (s : Subscription) (keeps : Keeps) (p : Peer) (seen : Seen) (r : Row) (bytes before : List ℕ) (new : Peer) (turn : Turn PeerWhy) (kept : Keeps) (after : List ℕ)
     → IsReceived seen → seen.bytes ≡ bytes → r ≡ peer_row p seen
     → ((past : Past) → Remembers before past → ◌≡◌ {A = Peer × Turn PeerWhy} (new, turn) (peer_step key s keeps p seen turn.notes.usim (inner_of new)))
@@ -77,3 +66,73 @@ row_steps key s keeps p seen r bytes before new turn kept after is of e step usi
   decrypts = λ past remembers. subst (λ (x : Row). Decrypts (decryption_made s keeps p seen x turn.notes.usim) (inner_of new)) e (decrypts past remembers);
   stored = subst (λ (x : Row). kept ≡ kept_by x p turn.notes.counter keeps) e stored;
 }
+
+-- a row that asks no USIM, decrypts nothing and leaves what the device keeps
+abbrev IsQuiet : Row → Type 0
+IsQuiet (row.Challenged c) = ⊥
+IsQuiet row.Reauthentication = ⊥
+IsQuiet row.Success = ⊥
+IsQuiet other = Unit {0}
+
+-- the last answer is sent again without a note
+again_is_silent : (p : Peer) (last : Option Last) → (again p last).1.notes.usim ≡ None
+again_is_silent p None = refl
+again_is_silent p (Some last) = refl
+
+-- what such a row does, whatever the notes and what was decrypted
+quiet : (key : List ℕ) (s : Subscription) (keeps : Keeps) (p : Peer) (seen : Seen) (r : Row) (n : Option UsimNote) (m : Option CounterNote) (inner : Decrypted) → IsQuiet r
+    → (peer_does key s keeps p seen r None decrypted.Unreadable ≡ peer_does key s keeps p seen r n inner) × (asked r ≡ None) × (decryption_made s keeps p seen r n ≡ None)
+    × (kept_by r p m keeps ≡ keeps) × ((peer_does key s keeps p seen r None decrypted.Unreadable).1.notes.usim ≡ None)
+quiet key s keeps p seen (row.Ignore cause) n m inner is = (refl, refl, refl, refl, refl)
+quiet key s keeps p seen row.Again n m inner is = (refl, refl, refl, refl, again_is_silent p p.last)
+quiet key s keeps p seen row.First n m inner is = (refl, refl, refl, refl, refl)
+quiet key s keeps p seen (row.Identity request) n m inner is = (refl, refl, refl, refl, refl)
+quiet key s keeps p seen (row.Client cause) n m inner is = (refl, refl, refl, refl, refl)
+quiet key s keeps p seen (row.Reject cause) n m inner is = (refl, refl, refl, refl, refl)
+quiet key s keeps p seen (row.Notified code) n m inner is = (refl, refl, refl, refl, refl)
+quiet key s keeps p seen (row.Challenged c) n m inner is = absurd is
+quiet key s keeps p seen row.Reauthentication n m inner is = absurd is
+quiet key s keeps p seen row.Success n m inner is = absurd is
+quiet key s keeps p seen (row.Failure cause) n m inner is = (refl, refl, refl, refl, refl)
+
+-- a quiet row
+pub quiet_steps : (key : List ℕ) (s : Subscription) (keeps : Keeps) (p : Peer) (seen : Seen) (r : Row) (before : List ℕ) (new : Peer) (turn : Turn PeerWhy) → IsQuiet r
+    → IsReceived seen → r ≡ peer_row p seen → ◌≡◌ {A = Peer × Turn PeerWhy} (new, turn) (peer_does key s keeps p seen r None decrypted.Unreadable)
+    → Steps key s keeps p seen.bytes before new turn keeps before
+quiet_steps key s keeps p seen r before new turn q is e step =
+    let facts = quiet key s keeps p seen r turn.notes.usim turn.notes.counter (inner_of new) q in
+    let silent : turn.notes.usim ≡ None = ap (λ (t : Peer × Turn PeerWhy). t.1.notes.usim) step ∙ facts.4 in
+    row_steps key s keeps p seen r seen.bytes before new turn keeps before is refl e
+    (λ past remembers. subst (λ (x : Row). ◌≡◌ {A = Peer × Turn PeerWhy} (new, turn) (peer_does key s keeps p seen x turn.notes.usim (inner_of new))) e (step ∙ facts.0))
+    (subst (λ (o : Option Challenge). Asked s o turn.notes.usim before before) (sym facts.1) (silent, refl))
+    (λ past remembers. subst (λ (o : Option Decryption). Decrypts o (inner_of new)) (sym facts.2) tt)
+    (sym facts.3)
+
+-- the same of a call that may find no memory
+pub quiet_returns : {E : Type 0} (key : List ℕ) (s : Subscription) (keeps : Keeps) (p : Peer) (seen : Seen) (r : Row) (before : List ℕ) (new : Peer) (result : Result (Turn PeerWhy) E) → IsQuiet r
+    → IsReceived seen → r ≡ peer_row p seen → IfOk result (λ turn. ◌≡◌ {A = Peer × Turn PeerWhy} (new, turn) (peer_does key s keeps p seen r None decrypted.Unreadable))
+    → IfOk result (λ turn. Steps key s keeps p seen.bytes before new turn keeps before)
+quiet_returns key s keeps p seen r before new (Ok turn) q is e step = quiet_steps key s keeps p seen r before new turn q is e step
+quiet_returns key s keeps p seen r before new (Err other) q is e step = tt
+
+-- Success
+pub success_steps : (key : List ℕ) (s : Subscription) (keeps : Keeps) (p : Peer) (seen : Seen) (before after : List ℕ) (new : Peer) (turn : Turn PeerWhy) (kept : Keeps)
+    → IsReceived seen → row.Success ≡ peer_row p seen → after ≡ before → ◌≡◌ {A = Peer × Turn PeerWhy} (new, turn) (succeeded p p.state) → turn.notes.usim ≡ None → kept ≡ taken_up p.state p keeps
+    → Steps key s keeps p seen.bytes before new turn kept after
+success_steps key s keeps p seen before after new turn kept is e same step silent stored =
+    row_steps key s keeps p seen row.Success seen.bytes before new turn kept after is refl e
+    (λ past remembers. subst (λ (x : Row). ◌≡◌ {A = Peer × Turn PeerWhy} (new, turn) (peer_does key s keeps p seen x turn.notes.usim (inner_of new))) e step)
+    (silent, same) (λ past remembers. tt) stored
+
+-- a Challenge that was handed to the USIM, unless memory ran out
+pub challenged_returns : {E : Type 0} (key : List ℕ) (s : Subscription) (keeps : Keeps) (p : Peer) (seen : Seen) (c : Challenge) (before after : List ℕ) (new : Peer) (kept : Keeps) (result : Result (Turn PeerWhy) E)
+    → IsReceived seen → row.Challenged c ≡ peer_row p seen → kept ≡ keeps
+    → IfOk result (λ turn. (past : Past) → Remembers before past → ◌≡◌ {A = Peer × Turn PeerWhy} (new, turn) (challenged s p seen c turn.notes.usim (inner_of new)))
+    → IfOk result (λ turn. Asked s (Some c) turn.notes.usim before after)
+    → IfOk result (λ turn. (past : Past) → Remembers before past → Decrypts (decryption_noted s p seen (Some c) turn.notes.usim) (inner_of new))
+    → IfOk result (λ turn. Steps key s keeps p seen.bytes before new turn kept after)
+challenged_returns key s keeps p seen c before after new kept (Ok turn) is e same step usim decrypts =
+    row_steps key s keeps p seen (row.Challenged c) seen.bytes before new turn kept after is refl e
+    (λ past remembers. subst (λ (x : Row). ◌≡◌ {A = Peer × Turn PeerWhy} (new, turn) (peer_does key s keeps p seen x turn.notes.usim (inner_of new))) e (step past remembers))
+    usim decrypts same
+challenged_returns key s keeps p seen c before after new kept (Err other) is e same step usim decrypts = tt

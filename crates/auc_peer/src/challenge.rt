@@ -1,16 +1,16 @@
 //! A Challenge, as the USIM answers it (RFC 4187 §6.3.1 and §9.3, RFC 9048 §3).
 
-ghost use Rattle.std.specs.Prelude.{◌≡◌, ◌≤◌, ℕ, [], false, length, Some};
+ghost use Rattle.std.specs.Prelude.{◌≡◌, ◌≤◌, [], false, true, length, IfOk, OnErr, Some};
 ghost use Rattle.auc_packet.specs.Received.{IsReceived, seen_of};
 ghost use Rattle.auc_packet.specs.Spelling.{packet_text};
 ghost use Rattle.auc_seal.specs.Checkcode.{value_bytes};
 ghost use Rattle.auc_seal.specs.Encrypted.{ciphertext_of};
 ghost use Rattle.auc_sqn.specs.Past.{Past, Remembers};
 ghost use Rattle.auc_peer.specs.Asking.{note_of as note_by};
-ghost use Rattle.auc_peer.specs.Attributes.{attrs_in, id_of};
-ghost use Rattle.auc_peer.specs.Messages.{sync_failure};
+ghost use Rattle.auc_peer.specs.Attributes.{attrs_in, checkcode, id_of, is_there};
+ghost use Rattle.auc_peer.specs.Messages.{response_bytes, sync_failure};
 ghost use Rattle.auc_peer.specs.Subscription.{subscription_of};
-ghost use Rattle.auc_peer.specs.Table.{accepted, answered, by_answer, challenged, context_from, keys_for, network_in, opened, origin_of, own_code, text_or_none};
+ghost use Rattle.auc_peer.specs.Table.{accepted, answered, by_answer, challenged, context_from, keys_for, network_in, opened, origin_of, own_code, text_or_none, with_next};
 ghost use Rattle.auc_vector.specs.Keys.{ck_by, ik_by, master_of as master_by_method};
 ghost use Rattle.auc_peer.specs.Turn.{Asked, Decrypts, IsInner, decryption_by, decryption_noted, decryption_under, inner_of};
 
@@ -20,17 +20,18 @@ use crate::device::Device;
 use crate::messages::{challenge_response, sync_failure, value};
 use crate::next::NextContext;
 use crate::peer::{Challenge, Peer, PeerState};
-use crate::reading::{differs, has_checkcode, id_of, inner_in};
-use crate::rooms::{Copies, Rooms, let_go};
+use crate::reading::{ciphertext_in, differs, has_checkcode, id_of, inner_in, network_in};
+use crate::rooms::{ChallengeRooms, Parts, Reply, Sent, give_back};
 use crate::turns::noted;
 use crate::why::PeerWhy;
-use auc_edge::{Octets, Room};
-use auc_hmac::{KeySet, Master, Method};
+use auc_edge::{NoMemory, Octets, Room};
+use auc_hmac::{KeySet, Master};
 use auc_packet::{Received, is_sealed};
 use auc_reauth::Context;
 use auc_seal::CheckValue;
 use auc_usim::Answer;
 use auc_vector::{Turn, UsimNote, keys_by, keys_of, master_of};
+use std::alloc::Global;
 
 /// The identity that was sent last, or the empty text.
 pub(crate) fn text_of(identity: &Option<Octets>) -> &[u8]
@@ -73,6 +74,15 @@ fn context_from(
     }
 }
 
+/// What a Challenge that the USIM accepted gives: RES, the SQN, and the keys.
+#[derive(Clone, Copy)]
+struct Granted {
+    res: [u8; 8],
+    sqn: [u8; 6],
+    keys: KeySet,
+    master: Master,
+}
+
 impl Peer {
     /// The keys of a received challenge, under the identity that was sent last or the empty text.
     fn keys_at(&self, network: &[u8], challenge: Challenge, ik: [u8; 16], ck: [u8; 16]) -> KeySet
@@ -96,62 +106,61 @@ impl Peer {
         master_of(method, text_of(&self.identity), ik, ck)
     }
 
-    /// Hands a Challenge to the USIM, and does what its answer says.
+    /// A copy of the network's name in a received Challenge.
+    fn network_copy(&self, alloc: Global, received: &Received) -> Result<Octets, NoMemory>
+        requires { IsReceived (seen_of received.now) }
+        ensures name { IfOk result (λ copy. copy ≡ network_in self.now (seen_of received.now)) }
+        ensures size { IfOk result (λ copy. length copy ≤ 1016) }
+    {
+        Octets::copied_from(alloc, network_in(self.options.method, received))
+    }
+
+    /// Hands a Challenge to the USIM, and does what its answer says. If memory runs out, peer and device stay as they were.
     pub(crate) fn on_challenge(
         &mut self,
+        alloc: Global,
         device: &mut Device,
         received: &Received,
-        copies: Copies,
         challenge: Challenge,
-        rooms: Rooms,
-    ) -> Turn<PeerWhy>
-        requires is { IsReceived (seen_of received.now) }
-        requires request { copies.request ≡ (seen_of received.now).bytes }
-        requires network { copies.network ≡ network_in self.old (seen_of received.now) }
-        requires name { length copies.network ≤ 65535 }
-        requires rooms { 76 ≤ rooms }
-        requires empty { copies.inner.written ≡ [] }
-        requires room { length (ciphertext_of (attrs_in received.now.reading)) ≤ copies.inner.left }
+    ) -> Result<Turn<PeerWhy>, NoMemory>
+        requires { IsReceived (seen_of received.now) }
 
-        ensures step { (past : Past) → Remembers device.old.usim.array past
-            → (self.new, result) ≡ challenged (subscription_of device.old) self.old (seen_of received.now)
-            challenge result.notes.usim (inner_of self.new) }
-        ensures usim { Asked (subscription_of device.old) (Some challenge) result.notes.usim
-            device.old.usim.array device.new.usim.array }
-        ensures decrypts { (past : Past) → Remembers device.old.usim.array past
+        ensures step { IfOk result (λ turn. (past : Past) → Remembers device.old.usim.array past
+            → (self.new, turn) ≡ challenged (subscription_of device.old) self.old (seen_of received.now)
+            challenge turn.notes.usim (inner_of self.new)) }
+        ensures usim { IfOk result (λ turn. Asked (subscription_of device.old) (Some challenge) turn.notes.usim
+            device.old.usim.array device.new.usim.array) }
+        ensures decrypts { IfOk result (λ turn. (past : Past) → Remembers device.old.usim.array past
             → Decrypts (decryption_noted (subscription_of device.old) self.old (seen_of received.now) (Some challenge)
-            result.notes.usim) (inner_of self.new) }
+            turn.notes.usim) (inner_of self.new)) }
         ensures store { device.new.store ≡ device.old.store }
         ensures subscription { subscription_of device.new ≡ subscription_of device.old }
+        ensures peer { OnErr result (self.new ≡ self.old) }
+        ensures device { OnErr result (device.new ≡ device.old) }
     {
-        let Copies {
-            request,
-            network,
-            inner,
-            ..
-        } = copies;
+        let network = self.network_copy(alloc, received)?;
+        let inner = Room::new(alloc, ciphertext_in(&received.reading))?;
+        let rooms = ChallengeRooms::new(alloc, received)?;
+        let parts = Parts { network, inner };
         let answer = ask(&mut device.usim, challenge);
-        self.on_answer(received, request, network, inner, challenge, answer, rooms)
+        Ok(self.on_answer(received, parts, challenge, answer, rooms))
     }
 
     /// Does what the USIM's answer to a Challenge says.
     fn on_answer(
         &mut self,
         received: &Received,
-        request: Octets,
-        network: Octets,
-        inner: Room,
+        parts: Parts,
         challenge: Challenge,
         answer: Answer,
-        rooms: Rooms,
+        rooms: ChallengeRooms,
     ) -> Turn<PeerWhy>
         requires is { IsReceived (seen_of received.now) }
-        requires request { request ≡ (seen_of received.now).bytes }
-        requires network { network ≡ network_in self.old (seen_of received.now) }
-        requires name { length network ≤ 65535 }
-        requires rooms { 76 ≤ rooms }
-        requires empty { inner.written ≡ [] }
-        requires room { length (ciphertext_of (attrs_in received.now.reading)) ≤ inner.left }
+        requires request { rooms ≡ (seen_of received.now).bytes }
+        requires network { parts.network ≡ network_in self.old (seen_of received.now) }
+        requires name { length parts.network ≤ 65535 }
+        requires empty { parts.inner.written ≡ [] }
+        requires room { length (ciphertext_of (attrs_in received.now.reading)) ≤ parts.inner.left }
 
         ensures step { (self.new, result) ≡ by_answer self.old (seen_of received.now) challenge answer
             (inner_of self.new) }
@@ -160,13 +169,13 @@ impl Peer {
     {
         match answer {
             Answer::WrongMac => {
-                let_go(network, inner);
+                give_back(parts);
                 let note = Some(UsimNote::WrongMac);
-                self.reject(received, request, PeerWhy::WrongAutn, note, rooms)
+                self.reject(received, PeerWhy::WrongAutn, note, rooms.into_reply())
             }
             Answer::SyncFailure { auts, sqn } => {
-                let_go(network, inner);
-                self.on_sync_failure(received, request, auts, sqn, rooms)
+                give_back(parts);
+                self.on_sync_failure(received, auts, sqn, rooms.into_reply())
             }
             Answer::Accepted {
                 res,
@@ -175,11 +184,15 @@ impl Peer {
                 sqn,
                 ..
             } => {
-                let keys = self.keys_at(network.as_slice(), challenge, ik, ck);
-                let master = self.master_at(network.as_slice(), challenge, ik, ck);
-                self.on_accepted(
-                    received, request, network, inner, challenge, res, sqn, keys, master, rooms,
-                )
+                let keys = self.keys_at(parts.network.as_slice(), challenge, ik, ck);
+                let master = self.master_at(parts.network.as_slice(), challenge, ik, ck);
+                let granted = Granted {
+                    res,
+                    sqn,
+                    keys,
+                    master,
+                };
+                self.on_accepted(received, parts, challenge, granted, rooms)
             }
         }
     }
@@ -188,116 +201,134 @@ impl Peer {
     fn on_sync_failure(
         &mut self,
         received: &Received,
-        request: Octets,
         auts: [u8; 14],
         sqn: [u8; 6],
-        rooms: Rooms,
+        reply: Reply,
     ) -> Turn<PeerWhy>
-        requires request { request ≡ (seen_of received.now).bytes }
-        requires rooms { 76 ≤ rooms }
+        requires { reply ≡ (seen_of received.now).bytes }
         ensures { (self.new, result) ≡ answered self.old (seen_of received.now) PeerState.Waiting
             (packet_text (sync_failure self.old.options.method (id_of (seen_of received.now)) auts)) (Some (UsimNote.Sync sqn)) false }
     {
-        let Rooms {
+        let Reply {
+            request,
             places,
             bytes,
             kept,
-            ..
-        } = rooms;
+        } = reply;
         let bytes = sync_failure(self.options.method, id_of(received), auts, places, bytes);
-        let state = PeerState::Waiting;
+        let sent = Sent {
+            request,
+            bytes,
+            kept,
+        };
         let notes = noted(Some(UsimNote::Sync(sqn)));
-        self.answer(received, request, state, bytes, kept, notes, false)
+        self.answer(received, PeerState::Waiting, sent, notes, false)
     }
 
     /// Takes a Challenge that the USIM accepted. AT_MAC is tested first, before RES is sent.
     fn on_accepted(
         &mut self,
         received: &Received,
-        request: Octets,
-        network: Octets,
-        inner: Room,
+        parts: Parts,
         challenge: Challenge,
-        res: [u8; 8],
-        sqn: [u8; 6],
-        keys: KeySet,
-        master: Master,
-        rooms: Rooms,
+        granted: Granted,
+        rooms: ChallengeRooms,
     ) -> Turn<PeerWhy>
         requires is { IsReceived (seen_of received.now) }
-        requires request { request ≡ (seen_of received.now).bytes }
-        requires network { network ≡ network_in self.old (seen_of received.now) }
-        requires rooms { 76 ≤ rooms }
-        requires empty { inner.written ≡ [] }
-        requires room { length (ciphertext_of (attrs_in received.now.reading)) ≤ inner.left }
+        requires request { rooms ≡ (seen_of received.now).bytes }
+        requires network { parts.network ≡ network_in self.old (seen_of received.now) }
+        requires empty { parts.inner.written ≡ [] }
+        requires room { length (ciphertext_of (attrs_in received.now.reading)) ≤ parts.inner.left }
 
-        ensures step { (self.new, result) ≡ accepted self.old (seen_of received.now) challenge res sqn keys
-            master (inner_of self.new) }
-        ensures note { result.notes.usim ≡ Some (UsimNote.Accepted sqn) }
-        ensures decrypts { Decrypts (decryption_under self.old (seen_of received.now) keys) (inner_of self.new) }
+        ensures step { (self.new, result) ≡ accepted self.old (seen_of received.now) challenge granted.res granted.sqn
+            granted.keys granted.master (inner_of self.new) }
+        ensures note { result.notes.usim ≡ Some (UsimNote.Accepted granted.sqn) }
+        ensures decrypts { Decrypts (decryption_under self.old (seen_of received.now) granted.keys) (inner_of self.new) }
     {
-        let note = Some(UsimNote::Accepted(sqn));
-        if !is_sealed(received, self.options.method, &keys.k_aut, &[]) {
-            return self.client(received, request, PeerWhy::WrongMac, note, false, rooms);
+        let Parts { network, inner } = parts;
+        let note = Some(UsimNote::Accepted(granted.sqn));
+        if !is_sealed(received, self.options.method, &granted.keys.k_aut, &[]) {
+            return self.client(received, PeerWhy::WrongMac, note, false, rooms.into_reply());
         }
         self.accepted = Some(challenge);
         self.network = network;
         self.resumed = None;
         if differs(self.own_code().as_slice(), &received.reading) {
-            return self.client(
-                received,
-                request,
-                PeerWhy::WrongCheckcode,
-                note,
-                true,
-                rooms,
-            );
+            let why = PeerWhy::WrongCheckcode;
+            return self.client(received, why, note, true, rooms.into_reply());
         }
-        self.opened(received, request, inner, res, sqn, keys, master, rooms)
+        self.opened(received, inner, granted, rooms)
     }
 
     /// Takes a Challenge whose AT_MAC and AT_CHECKCODE are right.
     fn opened(
         &mut self,
         received: &Received,
-        request: Octets,
         inner: Room,
-        res: [u8; 8],
-        sqn: [u8; 6],
-        keys: KeySet,
-        master: Master,
-        rooms: Rooms,
+        granted: Granted,
+        rooms: ChallengeRooms,
     ) -> Turn<PeerWhy>
-        requires request { request ≡ (seen_of received.now).bytes }
-        requires rooms { 76 ≤ rooms }
+        requires request { rooms ≡ (seen_of received.now).bytes }
         requires empty { inner.written ≡ [] }
         requires room { length (ciphertext_of (attrs_in received.now.reading)) ≤ inner.left }
 
-        ensures step { (self.new, result) ≡ opened self.old (seen_of received.now) res sqn keys
-            master (inner_of self.new) }
-        ensures note { result.notes.usim ≡ Some (UsimNote.Accepted sqn) }
-        ensures decrypts { IsInner keys.k_encr (attrs_in received.now.reading) (inner_of self.new) }
+        ensures step { (self.new, result) ≡ opened self.old (seen_of received.now) granted.res granted.sqn granted.keys
+            granted.master (inner_of self.new) }
+        ensures note { result.notes.usim ≡ Some (UsimNote.Accepted granted.sqn) }
+        ensures decrypts { IsInner granted.keys.k_encr (attrs_in received.now.reading) (inner_of self.new) }
     {
-        let note = Some(UsimNote::Accepted(sqn));
-        let decrypted = inner_in(keys.k_encr, &received.reading, &rooms.no_attrs, inner);
+        let reading = &received.reading;
+        let decrypted = inner_in(granted.keys.k_encr, reading, &rooms.no_attrs, inner);
         self.inner = decrypted;
-        let given = match decrypted {
-            Decrypted::Attributes(given) => given,
-            Decrypted::Unreadable => {
-                return self.client(received, request, PeerWhy::Undecryptable, note, true, rooms);
+        match decrypted {
+            Decrypted::Attributes(given) => {
+                self.respond(received, granted, given.identity, rooms)
             }
-        };
-        let Rooms {
+            Decrypted::Unreadable => {
+                let note = Some(UsimNote::Accepted(granted.sqn));
+                let why = PeerWhy::Undecryptable;
+                self.client(received, why, note, true, rooms.into_reply())
+            }
+        }
+    }
+
+    /// Sends RES, and keeps the context that a Challenge leaves if it gives this next identity.
+    fn respond(
+        &mut self,
+        received: &Received,
+        granted: Granted,
+        identity: Option<[u8; 33]>,
+        rooms: ChallengeRooms,
+    ) -> Turn<PeerWhy>
+        requires { rooms ≡ (seen_of received.now).bytes }
+        ensures { (self.new, result) ≡ answered
+            (with_next self.old (context_from granted.keys granted.master granted.sqn identity))
+            (seen_of received.now) (PeerState.Answered granted.keys)
+            (response_bytes self.old.options.method (id_of (seen_of received.now)) granted.keys.k_aut granted.res
+            (is_there (checkcode (seen_of received.now))) (own_code self.old))
+            (Some (UsimNote.Accepted granted.sqn)) true }
+    {
+        let ChallengeRooms {
+            res,
+            code,
+            reply,
+            ..
+        } = rooms;
+        let Reply {
+            request,
             places,
             bytes,
             kept,
-            res: own_res,
-            code,
-            ..
-        } = rooms;
+        } = reply;
         let has = has_checkcode(&received.reading);
-        let res = value(&res, own_res);
+        let res = value(&granted.res, res);
         let own = value(self.own_code().as_slice(), code);
+        let Granted {
+            sqn,
+            keys,
+            master,
+            ..
+        } = granted;
         let method = self.options.method;
         let bytes = challenge_response(
             method,
@@ -309,9 +340,14 @@ impl Peer {
             places,
             bytes,
         );
-        self.next = context_from(keys, master, sqn, given.identity);
-        let state = PeerState::Answered(keys);
-        self.answer(received, request, state, bytes, kept, noted(note), true)
+        self.next = context_from(keys, master, sqn, identity);
+        let sent = Sent {
+            request,
+            bytes,
+            kept,
+        };
+        let notes = noted(Some(UsimNote::Accepted(sqn)));
+        self.answer(received, PeerState::Answered(keys), sent, notes, true)
     }
 
     /// The value of AT_CHECKCODE for the AKA-Identity packets that the peer has counted.

@@ -13,6 +13,7 @@ use crate::device::Device;
 use crate::messages::identified;
 use crate::peer::{Peer, PeerState};
 use crate::reading::{id_of, packet_in};
+use crate::rooms::Sent;
 use crate::turns::noted;
 use crate::why::PeerWhy;
 use auc_edge::{NoMemory, Octets, Places, Room};
@@ -36,15 +37,12 @@ impl Peer {
             (asked_text self.old.options.method (subscription_of device.now) device.now.store asked)) }
         ensures kept { OnErr result (self.new ≡ self.old) }
     {
-        let said = self.identity_answer(alloc, device, received, asked)?;
-        let request = Octets::copied_from(alloc, received.bytes)?;
-        let kept = Room::new(alloc, said.bytes.len())?;
+        let IdentityAnswer { text, bytes } = self.identity_answer(alloc, device, received, asked)?;
+        let sent = Sent::new(alloc, received, bytes)?;
         self.packets
-            .add_both(alloc, packet_in(received.bytes), said.bytes.as_slice())?;
-        let IdentityAnswer { text, bytes } = said;
+            .add_both(alloc, packet_in(received.bytes), sent.bytes.as_slice())?;
         self.identity = Some(text);
-        let state = PeerState::Waiting;
-        Ok(self.answer(received, request, state, bytes, kept, noted(None), false))
+        Ok(self.answer(received, PeerState::Waiting, sent, noted(None), false))
     }
 
     /// The response with the identity that an AKA-Identity request asks for.

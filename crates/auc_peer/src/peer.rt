@@ -9,8 +9,6 @@ use crate::decrypted::Decrypted;
 use crate::device::Device;
 use crate::next::NextContext;
 use crate::options::PeerOptions;
-use crate::rooms::{Rooms, room_for};
-use crate::rows::Row;
 use crate::why::PeerWhy;
 use auc_edge::{NoMemory, Octets};
 use auc_hmac::KeySet;
@@ -123,16 +121,7 @@ impl Peer {
     {
         let received = receive(alloc, bytes)?;
         let row = self.row(&received);
-        if let Row::Identity(asked) = row {
-            return self.on_identity(alloc, device, &received, asked);
-        }
-        if let Row::Reauthentication = row {
-            return self.on_reauthentication(alloc, rands, device, &received);
-        }
-        let copies = self.copies(alloc, device, &received)?;
-        // The value of the most parts is taken last: no early return has to give it back.
-        let rooms = Rooms::new(alloc, room_for(row, copies.identity.len()))?;
-        Ok(self.on_row(row, device, &received, copies, rooms))
+        self.on_row(alloc, rands, device, &received, row)
     }
 
     /// Ends the session in failure, unless it has ended. It sends nothing.

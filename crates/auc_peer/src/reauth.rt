@@ -1,6 +1,6 @@
 //! A fast re-authentication (RFC 4187 §5 and §9.7, RFC 9048 §3.3).
 
-ghost use Rattle.std.specs.Prelude.{◌≡◌, ◌≤◌, [], length, None, Some, IfOk, OnErr};
+ghost use Rattle.std.specs.Prelude.{◌≡◌, ◌≤◌, [], false, true, length, None, Some, IfOk, OnErr};
 ghost use Rattle.auc_packet.specs.Received.{IsReceived, seen_of};
 ghost use Rattle.auc_seal.specs.Encrypted.{ciphertext_of};
 ghost use Rattle.auc_reauth.specs.Server.{if_named};
@@ -18,14 +18,13 @@ use crate::peer::{Peer, PeerState};
 use crate::reading::{
     ciphertext_in, differs, has_checkcode, id_of, inner_in, lacks_reauthentication,
 };
-use crate::rooms::{ReauthRooms, Rooms};
+use crate::rooms::{ReauthRooms, Reply, Sent};
 use crate::why::PeerWhy;
 use auc_edge::{NoMemory, Octets, Room};
 use auc_ident::username;
 use auc_packet::{Received, is_sealed};
 use auc_random::Rands;
 use auc_reauth::Context;
-use auc_request::Enclosed;
 use auc_vector::{CounterNote, Notes, Reason, Turn, reauth_keys};
 use std::alloc::Global;
 
@@ -103,10 +102,9 @@ impl Peer {
         let Some(context) = self.context_of(device) else {
             return Ok(self.ignore(Reason::NoContext));
         };
-        let request = Octets::copied_from(alloc, received.bytes)?;
         let inner = Room::new(alloc, ciphertext_in(&received.reading))?;
-        let rooms = ReauthRooms::new(alloc)?;
-        Ok(self.resume(rands, device, received, request, inner, context, rooms))
+        let rooms = ReauthRooms::new(alloc, received)?;
+        Ok(self.resume(rands, device, received, context, inner, rooms))
     }
 
     /// Looks for what a Reauthentication must have, and tests AT_MAC.
@@ -115,13 +113,12 @@ impl Peer {
         rands: &Rands,
         device: &mut Device,
         received: &Received,
-        request: Octets,
-        inner: Room,
         context: Context,
+        inner: Room,
         rooms: ReauthRooms,
     ) -> Turn<PeerWhy>
         requires is { IsReceived (seen_of received.now) }
-        requires request { request ≡ (seen_of received.now).bytes }
+        requires request { rooms ≡ (seen_of received.now).bytes }
         requires empty { inner.written ≡ [] }
         requires room { length (ciphertext_of (attrs_in received.now.reading)) ≤ inner.left }
 
@@ -133,39 +130,32 @@ impl Peer {
         ensures usim { device.new.usim ≡ device.old.usim }
     {
         if lacks_reauthentication(&received.reading) {
-            return self.refuse(received, request, inner, PeerWhy::Missing, false, rooms);
+            return self.refuse(received, inner, PeerWhy::Missing, false, rooms);
         }
         if !is_sealed(received, self.options.method, &context.k_aut, &[]) {
-            return self.refuse(received, request, inner, PeerWhy::WrongMac, false, rooms);
+            return self.refuse(received, inner, PeerWhy::WrongMac, false, rooms);
         }
         self.resumed = Some(context);
         if differs(self.own_code().as_slice(), &received.reading) {
-            let why = PeerWhy::WrongCheckcode;
-            return self.refuse(received, request, inner, why, true, rooms);
+            return self.refuse(received, inner, PeerWhy::WrongCheckcode, true, rooms);
         }
-        self.inner = inner_in(
-            context.k_encr,
-            &received.reading,
-            &rooms.rooms.no_attrs,
-            inner,
-        );
-        self.on_disclosed(rands, device, received, request, context, rooms)
+        self.inner = inner_in(context.k_encr, &received.reading, &rooms.no_attrs, inner);
+        self.on_disclosed(rands, device, received, context, rooms)
     }
 
     /// Refuses a Reauthentication by Client-Error, before anything is decrypted.
     fn refuse(
         &mut self,
         received: &Received,
-        request: Octets,
         _inner: Room,
         why: PeerWhy,
         checked: bool,
         rooms: ReauthRooms,
     ) -> Turn<PeerWhy>
-        requires { request ≡ (seen_of received.now).bytes }
+        requires { rooms ≡ (seen_of received.now).bytes }
         ensures { (self.new, result) ≡ client self.old (seen_of received.now) why None checked }
     {
-        self.client(received, request, why, None, checked, rooms.into_rooms())
+        self.client(received, why, None, checked, rooms.into_reply())
     }
 
     /// Looks for the counter and NONCE_S in what was decrypted.
@@ -174,11 +164,10 @@ impl Peer {
         rands: &Rands,
         device: &mut Device,
         received: &Received,
-        request: Octets,
         context: Context,
         rooms: ReauthRooms,
     ) -> Turn<PeerWhy>
-        requires request { request ≡ (seen_of received.now).bytes }
+        requires request { rooms ≡ (seen_of received.now).bytes }
 
         ensures step { (self.new, result)
             ≡ disclosed rands.now device.old.store self.old (seen_of received.now) context self.old.inner }
@@ -187,22 +176,36 @@ impl Peer {
         ensures subscription { subscription_of device.new ≡ subscription_of device.old }
         ensures usim { device.new.usim ≡ device.old.usim }
     {
-        match self.inner {
-            Decrypted::Attributes(
-                Enclosed {
-                    counter: Some(counter),
-                    nonce: Some(nonce),
-                    identity,
-                    ..
-                },
-            ) => self.on_counter(
-                rands, device, received, request, context, identity, counter, nonce, rooms,
-            ),
-            _ => {
-                let why = PeerWhy::Undecryptable;
-                self.client(received, request, why, None, true, rooms.into_rooms())
-            }
-        }
+        let Decrypted::Attributes(given) = self.inner else {
+            return self.hidden(received, rooms);
+        };
+        let Some(counter) = given.counter else {
+            return self.hidden(received, rooms);
+        };
+        let Some(nonce) = given.nonce else {
+            return self.hidden(received, rooms);
+        };
+        let offer = Offer {
+            context,
+            identity: given.identity,
+            counter,
+            nonce,
+        };
+        self.on_counter(rands, device, received, offer, rooms)
+    }
+
+    /// Refuses a Reauthentication that doesn't give AT_COUNTER and AT_NONCE_S.
+    fn hidden(&mut self, received: &Received, rooms: ReauthRooms) -> Turn<PeerWhy>
+        requires { rooms ≡ (seen_of received.now).bytes }
+        ensures { (self.new, result) ≡ client self.old (seen_of received.now) PeerWhy.Undecryptable None true }
+    {
+        self.client(
+            received,
+            PeerWhy::Undecryptable,
+            None,
+            true,
+            rooms.into_reply(),
+        )
     }
 
     /// Accepts the counter, if it is open, and answers.
@@ -211,28 +214,22 @@ impl Peer {
         rands: &Rands,
         device: &mut Device,
         received: &Received,
-        request: Octets,
-        context: Context,
-        identity: Option<[u8; 33]>,
-        counter: u16,
-        nonce: [u8; 16],
+        offer: Offer,
         rooms: ReauthRooms,
     ) -> Turn<PeerWhy>
-        requires request { request ≡ (seen_of received.now).bytes }
+        requires request { rooms ≡ (seen_of received.now).bytes }
 
-        ensures step { (self.new, result)
-            ≡ by_counter rands.now device.old.store self.old (seen_of received.now) context identity (Some counter) (Some nonce) }
+        ensures step { (self.new, result) ≡ by_counter rands.now device.old.store self.old (seen_of received.now)
+            offer.context offer.identity (Some offer.counter) (Some offer.nonce) }
         ensures inner { self.new.inner ≡ self.old.inner }
         ensures stored { device.new.store ≡ counted_up self.old.options.method result.notes.counter device.old.store }
         ensures subscription { subscription_of device.new ≡ subscription_of device.old }
         ensures usim { device.new.usim ≡ device.old.usim }
     {
-        if device.count(self.options.method, counter) {
-            self.taken(
-                rands, received, request, context, identity, counter, nonce, rooms,
-            )
+        if device.count(self.options.method, offer.counter) {
+            self.taken(rands, received, offer, rooms)
         } else {
-            self.small(rands, received, request, context, counter, nonce, rooms)
+            self.small(rands, received, offer, rooms)
         }
     }
 
@@ -241,26 +238,22 @@ impl Peer {
         &mut self,
         rands: &Rands,
         received: &Received,
-        request: Octets,
-        context: Context,
-        identity: Option<[u8; 33]>,
-        counter: u16,
-        nonce: [u8; 16],
+        offer: Offer,
         rooms: ReauthRooms,
     ) -> Turn<PeerWhy>
-        requires request { request ≡ (seen_of received.now).bytes }
+        requires request { rooms ≡ (seen_of received.now).bytes }
         ensures step { (self.new, result)
-            ≡ taken rands.now self.old (seen_of received.now) context identity counter nonce }
+            ≡ taken rands.now self.old (seen_of received.now) offer.context offer.identity offer.counter offer.nonce }
         ensures inner { self.new.inner ≡ self.old.inner }
-        ensures note { result.notes.counter ≡ Some (CounterNote.Taken counter) }
+        ensures note { result.notes.counter ≡ Some (CounterNote.Taken offer.counter) }
     {
-        let said = Said {
+        let sent = self.counter_answer(rands, received, &offer, false, rooms);
+        let Offer {
+            context,
+            identity,
             counter,
-            small: false,
-        };
-        let Answer { bytes, kept } = self.counter_answer(
-            rands, received, &context, &nonce, said, rooms,
-        );
+            nonce,
+        } = offer;
         let keys = reauth_keys(
             context.k_encr,
             context.k_aut,
@@ -272,8 +265,7 @@ impl Peer {
         self.next_iv = iv_after(self.next_iv);
         self.next = NextContext::Renamed(context.identity, identity);
         let notes = counter_noted(CounterNote::Taken(counter));
-        let state = PeerState::Answered(keys);
-        self.answer(received, request, state, bytes, kept, notes, true)
+        self.answer(received, PeerState::Answered(keys), sent, notes, true)
     }
 
     /// Answers a counter that is too small. The peer waits for a Challenge (RFC 4187 §5.5).
@@ -281,63 +273,56 @@ impl Peer {
         &mut self,
         rands: &Rands,
         received: &Received,
-        request: Octets,
-        context: Context,
-        counter: u16,
-        nonce: [u8; 16],
+        offer: Offer,
         rooms: ReauthRooms,
     ) -> Turn<PeerWhy>
-        requires request { request ≡ (seen_of received.now).bytes }
+        requires request { rooms ≡ (seen_of received.now).bytes }
         ensures step { (self.new, result)
-            ≡ small rands.now self.old (seen_of received.now) context counter nonce }
+            ≡ small rands.now self.old (seen_of received.now) offer.context offer.counter offer.nonce }
         ensures inner { self.new.inner ≡ self.old.inner }
-        ensures note { result.notes.counter ≡ Some (CounterNote.Small counter) }
+        ensures note { result.notes.counter ≡ Some (CounterNote.Small offer.counter) }
     {
-        let said = Said {
-            counter,
-            small: true,
-        };
-        let Answer { bytes, kept } = self.counter_answer(
-            rands, received, &context, &nonce, said, rooms,
-        );
+        let sent = self.counter_answer(rands, received, &offer, true, rooms);
         self.next_iv = iv_after(self.next_iv);
-        let notes = counter_noted(CounterNote::Small(counter));
-        let state = PeerState::Waiting;
-        self.answer(received, request, state, bytes, kept, notes, true)
+        let notes = counter_noted(CounterNote::Small(offer.counter));
+        self.answer(received, PeerState::Waiting, sent, notes, true)
     }
 
-    /// The response to a counter, with memory for a copy of it.
+    /// The response to a counter, which may be too small.
     fn counter_answer(
         &self,
         rands: &Rands,
         received: &Received,
-        context: &Context,
-        nonce: &[u8; 16],
-        said: Said,
+        offer: &Offer,
+        too_small: bool,
         rooms: ReauthRooms,
-    ) -> Answer
-        ensures bytes { result.bytes ≡ counter_bytes rands.now self.now (seen_of received.now) context.now nonce.now
-            said.counter said.small }
+    ) -> Sent
+        requires { rooms ≡ (seen_of received.now).bytes }
+        ensures request { result.request ≡ (seen_of received.now).bytes }
+        ensures bytes { result.bytes ≡ counter_bytes rands.now self.now (seen_of received.now) offer.now.context
+            offer.now.nonce offer.now.counter too_small }
         ensures empty { result.kept.written ≡ [] }
         ensures left { length result.bytes ≤ result.kept.left }
     {
         let ReauthRooms {
-            rooms,
             places,
             counter,
             encryption,
-        } = rooms;
-        let Rooms {
-            bytes,
-            kept,
             code,
+            reply,
             ..
         } = rooms;
+        let Reply {
+            request,
+            bytes,
+            kept,
+            ..
+        } = reply;
         let hidden = Hidden {
-            k_encr: context.k_encr,
+            k_encr: offer.context.k_encr,
             iv: rands.nonce_of(self.options.session, self.next_iv),
-            counter: said.counter,
-            small: said.small,
+            counter: offer.counter,
+            small: too_small,
         };
         let has = has_checkcode(&received.reading);
         let own = value(self.own_code().as_slice(), code);
@@ -346,8 +331,8 @@ impl Peer {
             method,
             id_of(received),
             hidden,
-            &context.k_aut,
-            nonce,
+            &offer.context.k_aut,
+            &offer.nonce,
             has,
             own,
             places,
@@ -355,20 +340,19 @@ impl Peer {
             encryption,
             bytes,
         );
-        Answer { bytes, kept }
+        Sent {
+            request,
+            bytes,
+            kept,
+        }
     }
 }
 
-/// What a response says of a counter.
+/// The counter and NONCE_S of a Reauthentication under a context, and the next identity if it gives one.
 #[derive(Clone, Copy)]
-struct Said {
+struct Offer {
+    context: Context,
+    identity: Option<[u8; 33]>,
     counter: u16,
-    small: bool,
-}
-
-/// A response, and memory for a copy of it.
-#[derive(Drop)]
-struct Answer {
-    bytes: Octets,
-    kept: Room,
+    nonce: [u8; 16],
 }

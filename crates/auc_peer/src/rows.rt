@@ -1,9 +1,9 @@
 //! The rows of the table: which one a packet falls into.
 
-ghost use Rattle.std.specs.Prelude.{◌≡◌};
+ghost use Rattle.std.specs.Prelude.{◌≡◌, ◌==◌, ◌||◌};
 ghost use Rattle.auc_packet.specs.Packet.{method_type};
 ghost use Rattle.auc_packet.specs.Received.{seen_of};
-ghost use Rattle.auc_peer.specs.Rows.{peer_row, of_kind, ended_by, on_success, on_failure, waiting, late, on_message, on_sound, on_notification, late_notification, notified_row, on_challenge, on_identity, repeats, is_last, is_response, method_row, aka_row, prime_row};
+ghost use Rattle.auc_peer.specs.Rows.{peer_row, of_kind, requested, ended_by, on_success, on_failure, waiting, late, on_message, on_sound, on_notification, late_notification, notified_row, on_challenge, on_identity, repeats, is_last, is_response, method_row, aka_row, prime_row};
 
 use crate::options::PeerOptions;
 use crate::peer::{Challenge, Last, Peer, PeerState};
@@ -72,12 +72,20 @@ impl Peer {
         let Some(kind) = head.kind else {
             return self.ended_by(head);
         };
-        if !(kind == 1 || kind == type_of(self.options.method)) {
-            return Row::Ignore(Reason::OtherType);
+        if is_type_of(self.options.method, kind) {
+            self.requested(&received.reading)
+        } else {
+            Row::Ignore(Reason::OtherType)
         }
+    }
+
+    /// A request of a type that the method takes, by the peer's state.
+    fn requested(&self, reading: &Reading) -> Row
+        ensures { result ≡ requested self.now.options self.now.state reading.now }
+    {
         match self.state {
-            PeerState::Waiting => waiting(&self.options, &received.reading),
-            PeerState::Answered(_) => late(self.options.method, &received.reading),
+            PeerState::Waiting => waiting(&self.options, reading),
+            PeerState::Answered(_) => late(self.options.method, reading),
             _ => Row::Ignore(Reason::Unexpected),
         }
     }
@@ -97,13 +105,13 @@ impl Peer {
     }
 }
 
-/// The EAP type of a method.
-fn type_of(method: Method) -> u8
-    ensures { result ≡ method_type method }
+/// Whether a method takes packets of an EAP type: those of type 1, Identity, and those of its own type.
+fn is_type_of(method: Method, kind: u8) -> bool
+    ensures { result ≡ (kind == 1 || kind == method_type method) }
 {
     match method {
-        Method::Aka => 23,
-        Method::Prime => 50,
+        Method::Aka => kind == 1 || kind == 23,
+        Method::Prime => kind == 1 || kind == 50,
     }
 }
 

@@ -1,29 +1,26 @@
-//! What each row does without the USIM.
+//! What each row of the table does. Challenges, identities and fast re-authentications have files of their own.
 
-ghost use Rattle.std.specs.Prelude.{◌≡◌, ◌≢◌, ◌≤◌, ◌+◌, ℕ, List, [], length, None};
+ghost use Rattle.std.specs.Prelude.{◌≡◌, ◌≤◌, ◌+◌, [], length, None, IfOk, OnErr};
 ghost use Rattle.auc_packet.specs.Received.{IsReceived, seen_of};
-ghost use Rattle.auc_seal.specs.Encrypted.{ciphertext_of};
-ghost use Rattle.auc_sqn.specs.Past.{Past, Remembers};
-ghost use Rattle.auc_peer.specs.Attributes.{attrs_in};
-ghost use Rattle.auc_peer.specs.InnerRooms.{room_for};
 ghost use Rattle.auc_peer.specs.Rows.{peer_row};
-ghost use Rattle.auc_request.specs.declared.identities.IdentityRequest.{IdentityRequest};
 ghost use Rattle.auc_peer.specs.Identities.{first_text};
 ghost use Rattle.auc_peer.specs.Subscription.{subscription_of};
-ghost use Rattle.auc_peer.specs.Table.{again, answer_or_none, answered_noting, client, ended, first, ignored, kept_by, network_in, noted, notify, peer_step, pseudonym_given, rejected, succeeded, taken_up};
-ghost use Rattle.auc_peer.specs.Turn.{Asked, Decrypts, asked, decryption_made, inner_of};
+ghost use Rattle.auc_peer.specs.Table.{again, answered_noting, client, ended, first, ignored, noted, notify, pseudonym_given, rejected, succeeded, taken_up};
+ghost use Rattle.auc_peer.specs.Turn.{Steps};
 
 use crate::decrypted::Decrypted;
 use crate::device::Device;
 use crate::messages::{client_error, identity_response, notified, reject};
 use crate::peer::{Last, Peer, PeerState};
 use crate::reading::id_of;
-use crate::rooms::{Copies, Rooms, give_back, give_rooms_back, none_of};
+use crate::rooms::{Reply, Sent};
 use crate::rows::Row;
 use crate::why::PeerWhy;
-use auc_edge::{Octets, Room};
+use auc_edge::{NoMemory, Octets, Room};
 use auc_packet::Received;
+use auc_random::Rands;
 use auc_vector::{Notes, Outcome, Reason, Step, Turn, UsimNote};
+use std::alloc::Global;
 
 /// The notes of a turn in which the USIM answered so, or wasn't asked.
 pub(crate) fn noted(usim: Option<UsimNote>) -> Notes
@@ -49,63 +46,46 @@ fn pseudonym_given(inner: Decrypted) -> Option<[u8; 33]>
 }
 
 impl Peer {
-    /// Does what the row of a received packet says.
+    /// Does what the row of a received packet says. If memory runs out, peer and device stay as they were.
     pub(crate) fn on_row(
         &mut self,
-        row: Row,
+        alloc: Global,
+        rands: &Rands,
         device: &mut Device,
         received: &Received,
-        copies: Copies,
-        rooms: Rooms,
-    ) -> Turn<PeerWhy>
+        row: Row,
+    ) -> Result<Turn<PeerWhy>, NoMemory>
         requires is { IsReceived (seen_of received.now) }
         requires row { row ≡ peer_row self.old (seen_of received.now) }
-        requires size { length copies.identity ≤ 289 }
-        requires rooms { room_for row (length copies.identity) ≤ rooms }
-        requires request { copies.request ≡ (seen_of received.now).bytes }
-        requires identity { copies.identity ≡ first_text self.old.options.method (subscription_of device.old) device.old.store
-            self.old.options.first }
-        requires other { (asked : IdentityRequest) → row ≢ Row.Identity asked }
-        requires full { row ≢ Row.Reauthentication }
-        requires again { copies.again ≡ answer_or_none self.old.last }
-        requires network { copies.network ≡ network_in self.old (seen_of received.now) }
-        requires name { length copies.network ≤ 65535 }
-        requires empty { copies.inner.written ≡ [] }
-        requires room { length (ciphertext_of (attrs_in received.now.reading)) ≤ copies.inner.left }
+        requires realm { length device.old.realm ≤ 255 }
 
-        ensures step { (key : List ℕ) (past : Past) → Remembers device.old.usim.array past
-            → (self.new, result) ≡ peer_step key (subscription_of device.old) device.old.store self.old (seen_of received.now)
-            result.notes.usim (inner_of self.new) }
-        ensures usim { Asked (subscription_of device.old) (asked row) result.notes.usim
-            device.old.usim.array device.new.usim.array }
-        ensures decrypts { (past : Past) → Remembers device.old.usim.array past
-            → Decrypts (decryption_made (subscription_of device.old) device.old.store self.old (seen_of received.now) row
-            result.notes.usim) (inner_of self.new) }
-        ensures stored { device.new.store ≡ kept_by row self.old result.notes.counter device.old.store }
+        ensures step { IfOk result (λ turn. Steps rands.now (subscription_of device.old) device.old.store self.old
+            (seen_of received.now).bytes device.old.usim.array self.new turn device.new.store device.new.usim.array) }
         ensures subscription { subscription_of device.new ≡ subscription_of device.old }
+        ensures peer { OnErr result (self.new ≡ self.old) }
+        ensures device { OnErr result (device.new ≡ device.old) }
     {
         match row {
-            Row::Ignore(why) => {
-                give_back(copies, rooms);
-                self.ignore(why)
-            }
-            Row::Again => {
-                give_rooms_back(rooms);
-                self.again(copies.into_again())
-            }
-            Row::First => self.first(received, copies, rooms),
+            Row::Ignore(why) => Ok(self.ignore(why)),
+            Row::Again => self.again(alloc),
+            Row::First => self.first(alloc, device, received),
+            Row::Identity(asked) => self.on_identity(alloc, device, received, asked),
             Row::Client(why) => {
-                self.client(received, copies.into_request(), why, None, false, rooms)
+                let reply = Reply::new(alloc, received)?;
+                Ok(self.client(received, why, None, false, reply))
             }
-            Row::Reject(why) => self.reject(received, copies.into_request(), why, None, rooms),
-            Row::Notified(code) => self.notify(received, copies.into_request(), code, rooms),
-            Row::Challenged(challenge) => {
-                self.on_challenge(device, received, copies, challenge, rooms)
+            Row::Reject(why) => {
+                let reply = Reply::new(alloc, received)?;
+                Ok(self.reject(received, why, None, reply))
             }
-            Row::Identity(_) => unreachable!(),
-            Row::Reauthentication => unreachable!(),
-            Row::Success => self.succeed(device, none_of(copies, rooms)),
-            Row::Failure(why) => self.end(Outcome::Failure(why), none_of(copies, rooms)),
+            Row::Notified(code) => {
+                let reply = Reply::new(alloc, received)?;
+                Ok(self.notify(received, code, reply))
+            }
+            Row::Challenged(challenge) => self.on_challenge(alloc, device, received, challenge),
+            Row::Reauthentication => self.on_reauthentication(alloc, rands, device, received),
+            Row::Success => Ok(self.succeed(device, Octets::new(alloc))),
+            Row::Failure(why) => Ok(self.end(Outcome::Failure(why), Octets::new(alloc))),
         }
     }
 
@@ -155,19 +135,21 @@ impl Peer {
     pub(crate) fn answer(
         &mut self,
         received: &Received,
-        request: Octets,
         state: PeerState,
-        bytes: Octets,
-        kept: Room,
+        sent: Sent,
         notes: Notes,
         checked: bool,
     ) -> Turn<PeerWhy>
-        requires request { request ≡ (seen_of received.now).bytes }
-        requires empty { kept.written ≡ [] }
-        requires left { length bytes ≤ kept.left }
-        ensures { (self.new, result) ≡ answered_noting self.old (seen_of received.now) state bytes notes checked }
+        requires request { sent.request ≡ (seen_of received.now).bytes }
+        requires empty { sent.kept.written ≡ [] }
+        requires left { length sent.bytes ≤ sent.kept.left }
+        ensures { (self.new, result) ≡ answered_noting self.old (seen_of received.now) state sent.bytes notes checked }
     {
-        let mut kept = kept;
+        let Sent {
+            request,
+            bytes,
+            mut kept,
+        } = sent;
         kept.put(bytes.as_slice());
         self.state = state;
         self.last = Some(Last {
@@ -186,119 +168,116 @@ impl Peer {
     pub(crate) fn client(
         &mut self,
         received: &Received,
-        request: Octets,
         why: PeerWhy,
         usim: Option<UsimNote>,
         checked: bool,
-        rooms: Rooms,
+        reply: Reply,
     ) -> Turn<PeerWhy>
-        requires request { request ≡ (seen_of received.now).bytes }
-        requires rooms { 76 ≤ rooms }
+        requires { reply ≡ (seen_of received.now).bytes }
         ensures { (self.new, result) ≡ client self.old (seen_of received.now) why usim checked }
     {
-        let Rooms {
+        let Reply {
+            request,
             places,
             bytes,
             kept,
-            ..
-        } = rooms;
+        } = reply;
         let bytes = client_error(self.options.method, id_of(received), places, bytes);
-        let state = PeerState::Refusing(why);
-        self.answer(received, request, state, bytes, kept, noted(usim), checked)
+        let sent = Sent {
+            request,
+            bytes,
+            kept,
+        };
+        self.answer(
+            received,
+            PeerState::Refusing(why),
+            sent,
+            noted(usim),
+            checked,
+        )
     }
 
     /// Refuses by Authentication-Reject.
     pub(crate) fn reject(
         &mut self,
         received: &Received,
-        request: Octets,
         why: PeerWhy,
         usim: Option<UsimNote>,
-        rooms: Rooms,
+        reply: Reply,
     ) -> Turn<PeerWhy>
-        requires request { request ≡ (seen_of received.now).bytes }
-        requires rooms { 76 ≤ rooms }
+        requires { reply ≡ (seen_of received.now).bytes }
         ensures { (self.new, result) ≡ rejected self.old (seen_of received.now) why usim }
     {
-        let Rooms {
+        let Reply {
+            request,
             places,
             bytes,
             kept,
-            ..
-        } = rooms;
+        } = reply;
         let bytes = reject(self.options.method, id_of(received), places, bytes);
-        let state = PeerState::Refusing(why);
-        self.answer(received, request, state, bytes, kept, noted(usim), false)
+        let sent = Sent {
+            request,
+            bytes,
+            kept,
+        };
+        self.answer(received, PeerState::Refusing(why), sent, noted(usim), false)
     }
 
     /// Answers a notification of failure.
-    fn notify(
-        &mut self,
-        received: &Received,
-        request: Octets,
-        code: u16,
-        rooms: Rooms,
-    ) -> Turn<PeerWhy>
-        requires request { request ≡ (seen_of received.now).bytes }
-        requires rooms { 76 ≤ rooms }
+    fn notify(&mut self, received: &Received, code: u16, reply: Reply) -> Turn<PeerWhy>
+        requires { reply ≡ (seen_of received.now).bytes }
         ensures { (self.new, result) ≡ notify self.old (seen_of received.now) code }
     {
-        let Rooms {
+        let Reply {
+            request,
             places,
             bytes,
             kept,
-            ..
-        } = rooms;
+        } = reply;
         let bytes = notified(self.options.method, id_of(received), places, bytes);
+        let sent = Sent {
+            request,
+            bytes,
+            kept,
+        };
         let state = PeerState::Refusing(PeerWhy::Notified(code));
-        self.answer(received, request, state, bytes, kept, noted(None), false)
+        self.answer(received, state, sent, noted(None), false)
     }
 
     /// Sends the last answer again.
-    fn again(&self, bytes: Octets) -> Turn<PeerWhy>
-        requires { bytes ≡ answer_or_none self.now.last }
-        ensures { (self.now, result) ≡ again self.now self.now.last }
+    fn again(&self, alloc: Global) -> Result<Turn<PeerWhy>, NoMemory>
+        ensures { IfOk result (λ turn. (self.now, turn) ≡ again self.now self.now.last) }
     {
-        match &self.last {
-            None => self.ignore(Reason::Unexpected),
-            Some(_) => Turn {
-                notes: noted(None),
-                step: Step::Sent(bytes),
-                checked: false,
-            },
-        }
+        let Some(last) = &self.last else {
+            return Ok(self.ignore(Reason::Unexpected));
+        };
+        let bytes = Octets::copied_from(alloc, last.answer.as_slice())?;
+        Ok(Turn {
+            notes: noted(None),
+            step: Step::Sent(bytes),
+            checked: false,
+        })
     }
 
-    /// Sends the first identity.
-    fn first(&mut self, received: &Received, copies: Copies, rooms: Rooms) -> Turn<PeerWhy>
-        requires request { copies.request ≡ (seen_of received.now).bytes }
-        requires size { length copies.identity ≤ 289 }
-        requires rooms { 5 + length copies.identity ≤ rooms }
-        ensures { (self.new, result) ≡ first self.old (seen_of received.now) copies.identity }
+    /// Sends the first identity. If memory runs out, the peer stays as it was.
+    fn first(
+        &mut self,
+        alloc: Global,
+        device: &Device,
+        received: &Received,
+    ) -> Result<Turn<PeerWhy>, NoMemory>
+        requires { length device.now.realm ≤ 255 }
+
+        ensures step { IfOk result (λ turn. (self.new, turn) ≡ first self.old (seen_of received.now)
+            (first_text self.old.options.method (subscription_of device.now) device.now.store self.old.options.first)) }
+        ensures kept { OnErr result (self.new ≡ self.old) }
     {
-        let Copies {
-            request,
-            identity: text,
-            ..
-        } = copies;
-        let Rooms {
-            plain,
-            bytes,
-            kept,
-            ..
-        } = rooms;
-        let mut own = plain;
-        own.put(text.as_slice());
-        self.identity = Some(own.into_octets());
-        let bytes = identity_response(id_of(received), text, bytes);
-        self.answer(
-            received,
-            request,
-            PeerState::Waiting,
-            bytes,
-            kept,
-            noted(None),
-            false,
-        )
+        let text = device.first_identity(alloc, &self.options)?;
+        let own = Octets::copied_from(alloc, text.as_slice())?;
+        let room = Room::new(alloc, 5 + text.len())?;
+        let bytes = identity_response(id_of(received), text, room);
+        let sent = Sent::new(alloc, received, bytes)?;
+        self.identity = Some(own);
+        Ok(self.answer(received, PeerState::Waiting, sent, noted(None), false))
     }
 }
