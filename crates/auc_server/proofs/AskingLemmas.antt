@@ -1,5 +1,5 @@
 -- What a turn asks a centre for: a resynchronisation and then a number, or nothing.
-use Rattle.std.proofs.Common.{◌≡◌, ◌≢◌, ◌≤◌, ℕ, Bool, false, List, [], ◌++◌, Option, Some, None, is_some, refl, sym, ap, ◌∙◌, subst}
+use Rattle.std.proofs.Common.{◌≡◌, ◌≢◌, ◌≤◌, ℕ, Bool, false, true, List, [], ◌++◌, Option, Some, None, is_some, refl, sym, ap, ◌∙◌, subst}
 use Rattle.auc_edge.specs.declared.stop.Stop.{Stop}
 use Rattle.auc_history.specs.declared.entry.Entry.{Entry}
 use Rattle.auc_vector.specs.Notes.{AnswersNote, AnswersNumber, AnswersReport, AskedOf, entries_noted, entries_resynced, kept_noted, withheld_noted}
@@ -7,15 +7,19 @@ use Rattle.auc_vector.specs.declared.notes.Notes.{Notes}
 use Rattle.auc_vector.specs.declared.notes.NumberNote.{NumberNote}
 use Rattle.auc_vector.specs.declared.notes.NumberNote.TheVariants as number
 use Rattle.auc_vector.specs.declared.notes.ResyncNote.{ResyncNote}
+use Rattle.auc_vector.specs.declared.notes.ResyncNote.TheVariants as resync
 use Rattle.auc_vector.specs.declared.turn.Turn.{Turn}
 use Rattle.auc_reauth.specs.declared.context.Context.{Context}
 use Rattle.auc_sqn.specs.Number.{max_seq}
 use Rattle.auc_server.specs.Contexts.{context_in, homes_left}
+use Rattle.auc_server.specs.InnerAsking.{IsRedrawn, number_noted, resync_noted}
 use Rattle.auc_server.specs.InnerServer.{IsNumbered}
 use Rattle.auc_server.specs.Server.{ServerEnd}
 use Rattle.auc_server.specs.Setting.{Setting}
-use Rattle.auc_server.specs.Steps.{AsksAsNeeded, asking}
-use Rattle.auc_server.specs.Table.{reauthenticated, resumed_with, server_does, succeeded}
+use Rattle.auc_server.specs.Steps.{AsksAsNeeded, asking, challenges_again}
+use Rattle.auc_server.specs.Table.{challenged, noted, reauthenticated, resumed_with, resynchronised, resynchronising, server_does, succeeded}
+use Rattle.auc_server.specs.declared.asking.Redrawn.{Redrawn}
+use Rattle.auc_server.specs.declared.asking.Redrawn.TheVariants as redrawn
 use Rattle.auc_server.specs.declared.rows.Row.{Row}
 use Rattle.auc_server.specs.declared.rows.Row.TheVariants as row
 use Rattle.auc_server.specs.declared.server.Challenged.{Challenged}
@@ -28,6 +32,38 @@ pub numbered : (top : ℕ) (kept : Option ℕ) (drawn : NumberNote) → top ≡ 
 numbered top kept (number.Drew n) greatest answer = (answer.1, subst (λ (t : ℕ). n ≤ t) greatest answer.2)
 numbered top kept (number.Exhausted w) greatest answer = tt
 numbered top kept (number.Withheld n stop) greatest answer = tt
+
+-- an answer to a SEQ lets the USIM be challenged again, unless the number is too far above the SEQ
+pub again_unless : (kept : Option ℕ) (seq : ℕ) (r : ResyncNote) → AnswersReport kept (Some seq) (Some r) → ((seen at : ℕ) → r ≡ resync.Beyond seen at → ⊥)
+    → challenges_again (Some r) ≡ true
+again_unless kept seq (resync.Moved seen at) answer beyond = refl
+again_unless kept seq (resync.InRange seen at) answer beyond = refl
+again_unless kept seq (resync.Beyond seen at) answer beyond = absurd (beyond seen at refl)
+again_unless kept seq resync.BadAuts answer beyond = absurd answer
+
+again_step : (set : Setting) (homes : List HomeRow) (s : ServerEnd) (sub : ℕ) (r : ResyncNote) (d : NumberNote) → challenges_again (Some r) ≡ true
+    → challenged set homes (resynchronising s) sub false (Some r) (Some d) ≡ resynchronised set homes s sub (Some r) (Some d)
+again_step set homes s sub (resync.Moved seen at) d again = refl
+again_step set homes s sub (resync.InRange seen at) d again = refl
+again_step set homes s sub (resync.Beyond seen at) d again = absurd cc
+again_step set homes s sub resync.BadAuts d again = absurd cc
+
+-- a challenge after a resynchronisation is the table's
+pub challenged_again : (set : Setting) (homes : List HomeRow) (s new : ServerEnd) (turn : Turn ServerWhy) (sub : ℕ) (answered : Redrawn) (r : ResyncNote) (d : NumberNote)
+    → answered ≡ redrawn.Again r d → IsRedrawn answered → (new, turn) ≡ challenged set homes (resynchronising s) sub false (Some r) (Some d)
+    → (new, turn) ≡ resynchronised set homes s sub (resync_noted answered) (number_noted answered)
+challenged_again set homes s new turn sub answered r d is own step =
+    subst (λ (a : Redrawn). (new, turn) ≡ resynchronised set homes s sub (resync_noted a) (number_noted a)) (sym is)
+    (step ∙ again_step set homes s sub r d (subst IsRedrawn is own).0)
+
+-- a number was asked for exactly if the USIM is challenged again
+pub draws_again : (answered : Redrawn) → IsRedrawn answered → is_some (number_noted answered) ≡ challenges_again (resync_noted answered)
+draws_again (redrawn.Again r d) own = sym own.0
+draws_again (redrawn.Beyond seen at) own = refl
+
+-- what holds of a row and of notes holds of equal ones
+pub as_noted : (P : Row → Notes → Type 0) (r is : Row) (notes are : Notes) → r ≡ is → notes ≡ are → P is are → P r notes
+as_noted P r is notes are same alike holds = subst (λ (x : Row). P x notes) (sym same) (subst (λ (n : Notes). P is n) (sym alike) holds)
 
 -- a row asks for nothing unless it is one of three
 pub asks_alone : (r : Row) → ((sub : ℕ) → r ≡ row.Challenge sub → ⊥) → ((sub : ℕ) → r ≡ row.TooSmall sub → ⊥) → ((sub seq : ℕ) → r ≡ row.Resynchronise sub seq → ⊥)
@@ -65,6 +101,21 @@ draws_alone set homes s new turn text packets (row.Resume sub) alone step =
 draws_alone set homes s new turn text packets row.Success alone step = ap draws step ∙ succeeded_draws s s.challenged
 draws_alone set homes s new turn text packets row.Reauthenticated alone step = ap draws step ∙ renewed_draws s s.resumed
 draws_alone set homes s new turn text packets other alone step = ap draws step
+
+module _ {S : Type 0} (goes : S → ℕ → List Entry → List (ℕ × Stop) → S → Type 0) (kept : S → ℕ → Option ℕ) (top : S → ℕ → ℕ) where
+  -- a number alone was asked for
+  pub asked_once : (a b : S) (sub : ℕ) (d : NumberNote) → AnswersNote (top a sub) (kept a sub) d
+      → goes a sub (entries_noted (kept a sub) (Some d)) (withheld_noted (Some d)) b → ((i : ℕ) → i ≢ sub → goes a i [] [] b)
+      → kept b sub ≡ kept_noted (kept a sub) (Some d) → ((i : ℕ) → i ≢ sub → kept b i ≡ kept a i)
+      → AskedOf goes kept top (record { sub = sub; reported = None }) (noted None (Some d)) a b
+  asked_once a b sub d answer own others keeps still = record {
+    own = own;
+    others = others;
+    resynced = tt;
+    number = answer;
+    keeps = keeps;
+    still = still;
+  }
 
 module _ {S : Type 0} (goes : S → ℕ → List Entry → List (ℕ × Stop) → S → Type 0) (kept : S → ℕ → Option ℕ) (top : S → ℕ → ℕ)
     (joins : (a b c : S) (i : ℕ) (es fs : List Entry) (ws vs : List (ℕ × Stop)) → goes a i es ws b → goes b i fs vs c → goes a i (es ++ fs) (ws ++ vs) c) where

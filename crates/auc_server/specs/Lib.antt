@@ -2,6 +2,7 @@ pub mod Asked
 pub mod Attributes
 pub mod Contexts
 pub mod Ending
+pub mod InnerAsking
 pub mod InnerMessages
 pub mod InnerPlan
 pub mod InnerRooms

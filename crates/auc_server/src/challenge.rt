@@ -1,31 +1,27 @@
-//! A challenge: a number of the centre, its vector, and the message.
+//! A challenge: the vector of a number that the centre gave, and the message.
 
-ghost use Rattle.std.specs.Prelude.{◌≡◌, ◌≢◌, ◌≤◌, ◌<◌, ℕ, true, [], length, None, Some};
-ghost use Rattle.std.specs.Option.{is_some};
+ghost use Rattle.std.specs.Prelude.{◌≡◌, ◌≤◌, ◌<◌, length, None, Some};
 ghost use Rattle.auc_sqn.specs.Number.{max_seq};
-ghost use Rattle.auc_vector.specs.Notes.{AnswersNumber, AskedOf, entries_noted, kept_noted, withheld_noted};
+ghost use Rattle.auc_server.specs.InnerAsking.{IsRedrawn, number_noted, redrawn_noted, resync_noted};
 ghost use Rattle.auc_server.specs.InnerServer.{IsNumbered};
-ghost use Rattle.auc_server.specs.Steps.{IsHome, bytes_of, challenges_again};
+ghost use Rattle.auc_server.specs.Steps.{bytes_of};
 ghost use Rattle.auc_reauth.specs.Store.{method_of};
 ghost use Rattle.auc_vector.specs.Keys.{master_of};
 ghost use Rattle.auc_server.specs.Table.{challenge_of, challenged, first_challenge, homes_challenged, noted, resynchronised, sent_with, vector_at};
 
+use crate::asking::Redrawn;
 use crate::messages::challenge;
 use crate::naming::{GivenNames, iv_after, next_given};
 use crate::options::ServerOptions;
+use crate::receiving::Plan;
 use crate::rooms::{RequestRooms, Rooms};
 use crate::rounds::checkcode;
 use crate::server::{Challenged, Server, ServerState};
 use crate::setting::{HomeRow, Setting};
 use crate::turns::noted;
 use crate::why::ServerWhy;
-use auc_edge::Octets;
 use auc_hmac::{Master, Method};
-use auc_seal::IdentityPackets;
-use auc_vector::{
-    Centre, Notes, NumberNote, ResyncNote, Turn, Vector, ask, keys_of, master_of, report, vector,
-};
-use std::sync::Wait;
+use auc_vector::{Notes, NumberNote, ResyncNote, Turn, Vector, keys_of, master_of, vector};
 
 /// The vector of a subscriber's number, by a session's method and network name.
 fn vector_at(set: &Setting, options: &ServerOptions, sub: u32, n: u64) -> Vector
@@ -90,8 +86,7 @@ impl Server {
             &self.options,
             realm,
             id,
-            &sent.vector,
-            &sent.keys,
+            &sent,
             given,
             name,
             names,
@@ -128,8 +123,8 @@ impl Server {
         }
     }
 
-    /// Challenges a subscriber by what the centre answered.
-    fn challenge_by(
+    /// Challenges a subscriber, if the centre gave a number.
+    pub(crate) fn challenge(
         &mut self,
         set: &Setting,
         homes: &mut [HomeRow],
@@ -168,161 +163,64 @@ impl Server {
         }
     }
 
-    /// Challenges a subscriber, if the centre gives a number.
-    pub(crate) fn challenge<C: Centre, R: Wait>(
-        &mut self,
-        rt: &R,
-        set: &Setting,
-        homes: &mut [HomeRow],
-        centre: &mut C,
-        sub: u32,
-        checked: bool,
-        resynced: Option<ResyncNote>,
-        rooms: Rooms,
-    ) -> Turn<ServerWhy>
-        requires home { IsHome set.now.rows (C.subs centre.old) (C.top centre.old) sub }
-        requires named { rooms ≡ self.old.options.name }
-        requires realm { length set.now.realm ≤ 255 }
-
-        ensures step { (self.new, result) ≡ challenged set.now homes.old self.old sub checked resynced result.notes.number }
-        ensures homes { homes.new ≡ homes_challenged self.old.options homes.old sub result.notes.number }
-        ensures small { length (bytes_of result.step) ≤ 728 }
-        ensures resync { result.notes.resync ≡ resynced }
-        ensures drawn { is_some result.notes.number ≡ true }
-
-        ensures number { AnswersNumber (C.top centre.old sub) (C.kept centre.old sub) result.notes.number }
-        ensures goes { C.goes centre.old sub (entries_noted (C.kept centre.old sub) result.notes.number)
-            (withheld_noted result.notes.number) centre.new }
-        ensures others { (i : ℕ) → i ≢ sub → C.goes centre.old i [] [] centre.new }
-
-        ensures kept { C.kept centre.new sub ≡ kept_noted (C.kept centre.old sub) result.notes.number }
-        ensures still { (i : ℕ) → i ≢ sub → C.kept centre.new i ≡ C.kept centre.old i }
-
-        ensures subs { C.subs centre.new ≡ C.subs centre.old }
-        ensures top { (i : ℕ) → C.top centre.new i ≡ C.top centre.old i }
-        ensures name { C.name centre.new ≡ C.name centre.old }
-    {
-        let drawn = ask(rt, centre, sub);
-        self.challenge_by(set, homes, sub, checked, resynced, drawn, rooms)
-    }
-}
-
-impl Server {
     /// Challenges the subscriber of an identity.
-    pub(crate) fn challenge_first<C: Centre, R: Wait>(
+    pub(crate) fn challenge_first(
         &mut self,
-        rt: &R,
         set: &Setting,
         homes: &mut [HomeRow],
-        centre: &mut C,
         sub: u32,
-        text: Octets,
-        packets: IdentityPackets,
-        rooms: Rooms,
+        drawn: NumberNote,
+        plan: Plan,
     ) -> Turn<ServerWhy>
-        requires home { IsHome set.now.rows (C.subs centre.old) (C.top centre.old) sub }
-        requires named { rooms ≡ self.old.options.name }
+        requires listed { sub < length set.now.rows }
+        requires number { IsNumbered drawn }
+        requires named { plan.rooms ≡ self.old.options.name }
         requires realm { length set.now.realm ≤ 255 }
 
-        ensures step { (self.new, result) ≡ first_challenge set.now homes.old self.old text packets sub result.notes.number }
-        ensures homes { homes.new ≡ homes_challenged self.old.options homes.old sub result.notes.number }
+        ensures step { (self.new, result) ≡ first_challenge set.now homes.old self.old plan.text plan.packets sub (Some drawn) }
+        ensures homes { homes.new ≡ homes_challenged self.old.options homes.old sub (Some drawn) }
         ensures small { length (bytes_of result.step) ≤ 728 }
-        ensures asked { AskedOf C.goes C.kept C.top (record { sub = sub; reported = None }) result.notes centre.old centre.new }
-        ensures drawn { is_some result.notes.number ≡ true }
-
-        ensures subs { C.subs centre.new ≡ C.subs centre.old }
-        ensures top { (i : ℕ) → C.top centre.new i ≡ C.top centre.old i }
-        ensures name { C.name centre.new ≡ C.name centre.old }
+        ensures notes { result.notes ≡ noted None (Some drawn) }
     {
+        let Plan {
+            text,
+            packets,
+            rooms,
+            ..
+        } = plan;
         self.identify(text, packets);
-        self.challenge(rt, set, homes, centre, sub, false, None, rooms)
+        self.challenge(set, homes, sub, false, None, drawn, rooms)
     }
 
-    /// Challenges the subscriber of a re-authentication whose counter was too small (RFC 4187 §5.5). The identity stays.
-    pub(crate) fn challenge_instead<C: Centre, R: Wait>(
-        &mut self,
-        rt: &R,
-        set: &Setting,
-        homes: &mut [HomeRow],
-        centre: &mut C,
-        sub: u32,
-        rooms: Rooms,
-    ) -> Turn<ServerWhy>
-        requires home { IsHome set.now.rows (C.subs centre.old) (C.top centre.old) sub }
-        requires named { rooms ≡ self.old.options.name }
-        requires realm { length set.now.realm ≤ 255 }
-
-        ensures step { (self.new, result) ≡ challenged set.now homes.old self.old sub true None result.notes.number }
-        ensures homes { homes.new ≡ homes_challenged self.old.options homes.old sub result.notes.number }
-        ensures small { length (bytes_of result.step) ≤ 728 }
-        ensures asked { AskedOf C.goes C.kept C.top (record { sub = sub; reported = None }) result.notes centre.old centre.new }
-        ensures drawn { is_some result.notes.number ≡ true }
-
-        ensures subs { C.subs centre.new ≡ C.subs centre.old }
-        ensures top { (i : ℕ) → C.top centre.new i ≡ C.top centre.old i }
-        ensures name { C.name centre.new ≡ C.name centre.old }
-    {
-        self.challenge(rt, set, homes, centre, sub, true, None, rooms)
-    }
-
-    /// Resynchronises with the SEQ that a USIM reported, and challenges it again unless the number is too far above
+    /// Challenges the subscriber of a USIM that reported a SEQ again, unless the number at the centre is too far above
     /// (RFC 4187 §9.6, TS 33.102 §6.3.5).
-    pub(crate) fn resynchronise<C: Centre, R: Wait>(
+    pub(crate) fn resynchronise(
         &mut self,
-        rt: &R,
         set: &Setting,
         homes: &mut [HomeRow],
-        centre: &mut C,
         sub: u32,
-        seq: u64,
+        answered: Redrawn,
         rooms: Rooms,
     ) -> Turn<ServerWhy>
-        requires home { IsHome set.now.rows (C.subs centre.old) (C.top centre.old) sub }
-        requires number { seq ≤ max_seq }
+        requires listed { sub < length set.now.rows }
+        requires own { IsRedrawn answered }
         requires named { rooms ≡ self.old.options.name }
         requires realm { length set.now.realm ≤ 255 }
 
-        ensures step { (self.new, result) ≡ resynchronised set.now homes.old self.old sub result.notes.resync result.notes.number }
-        ensures homes { homes.new ≡ homes_challenged self.old.options homes.old sub result.notes.number }
+        ensures step { (self.new, result) ≡ resynchronised set.now homes.old self.old sub (resync_noted answered) (number_noted answered) }
+        ensures homes { homes.new ≡ homes_challenged self.old.options homes.old sub (number_noted answered) }
         ensures small { length (bytes_of result.step) ≤ 728 }
-        ensures asked { AskedOf C.goes C.kept C.top (record { sub = sub; reported = Some seq }) result.notes centre.old centre.new }
-        ensures drawn { is_some result.notes.number ≡ challenges_again result.notes.resync }
-
-        ensures subs { C.subs centre.new ≡ C.subs centre.old }
-        ensures top { (i : ℕ) → C.top centre.new i ≡ C.top centre.old i }
-        ensures name { C.name centre.new ≡ C.name centre.old }
+        ensures notes { result.notes ≡ redrawn_noted answered }
     {
         self.synced = true;
-        match report(rt, centre, sub, seq) {
-            ResyncNote::Moved(seen, to) => {
-                self.challenge(
-                    rt,
-                    set,
-                    homes,
-                    centre,
-                    sub,
-                    false,
-                    Some(ResyncNote::Moved(seen, to)),
-                    rooms,
-                )
+        match answered {
+            Redrawn::Again(resynced, drawn) => {
+                self.challenge(set, homes, sub, false, Some(resynced), drawn, rooms)
             }
-            ResyncNote::InRange(seen, at) => {
-                self.challenge(
-                    rt,
-                    set,
-                    homes,
-                    centre,
-                    sub,
-                    false,
-                    Some(ResyncNote::InRange(seen, at)),
-                    rooms,
-                )
-            }
-            ResyncNote::Beyond(seen, at) => {
+            Redrawn::Beyond(seen, at) => {
                 let notes = noted(Some(ResyncNote::Beyond(seen, at)), None);
                 self.notify(ServerWhy::Beyond(seen, at), notes, false, rooms)
             }
-            ResyncNote::BadAuts => unreachable!(),
         }
     }
 }

@@ -12,6 +12,7 @@
 //! the centre does.
 #![tactic(auto)]
 
+mod asking;
 mod attributes;
 mod challenge;
 mod contexts;

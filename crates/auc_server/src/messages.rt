@@ -4,7 +4,6 @@ ghost use Rattle.std.specs.Prelude.{◌≡◌, ◌+◌, ◌≤◌, [], ◌∷◌
 ghost use Rattle.auc_aes.specs.Bytes.{IsBlock};
 ghost use Rattle.auc_attr.specs.Laws.{AreBytes};
 ghost use Rattle.auc_attr.specs.declared.attr.Attr.TheVariants as attr;
-ghost use Rattle.auc_packet.specs.Sealed.{sealed};
 ghost use Rattle.auc_packet.specs.Spelling.{MayBeWritten, packet_text};
 ghost use Rattle.auc_seal.specs.Checkcode.{IsHash};
 ghost use Rattle.auc_seal.specs.Encrypted.{HasNoneEncrypted};
@@ -15,7 +14,7 @@ ghost use Rattle.auc_server.specs.Messages.{aka_identity, attrs_before, attrs_by
 use crate::naming::{GivenNames, NewNames};
 use crate::options::ServerOptions;
 use crate::rooms::NameRooms;
-use crate::server::Resumed;
+use crate::server::{Challenged, Resumed};
 use auc_attr::{Attr, AttrList};
 use auc_edge::{Octets, Places, Room};
 use auc_hmac::{KeySet, Method};
@@ -237,7 +236,7 @@ fn challenge_draft(
     }
 }
 
-/// A key and an initialisation vector are bytes.
+/// A key and an initialisation vector are 16 bytes each, and so are RAND and AUTN.
 fn are_blocks(k_encr: [u8; 16], iv: [u8; 16])
     ensures key { IsBlock k_encr }
     ensures iv { IsBlock iv }
@@ -327,47 +326,12 @@ fn reauth_is_small(realm: &[u8], iv: [u8; 16], sent: &Resumed)
     encrypted_attributes_may_be_written();
 }
 
-/// A Challenge with AT_MAC under K_aut.
-fn sealed_challenge(
-    options: &ServerOptions,
-    realm: &[u8],
-    id: u8,
-    rand: [u8; 16],
-    autn: [u8; 16],
-    k_aut: &[u8; 32],
-    hidden: Hidden,
-    name: Octets,
-    names: NameRooms,
-    check: Octets,
-    places: Places<Attr>,
-    room: Room,
-) -> Octets
-    requires short { length options.now.name ≤ 255 }
-    requires named { name ≡ options.now.name }
-    requires realm { length realm.now ≤ 255 }
-    requires check { IsHash check }
-    requires places { HasPlaces places }
-    requires fresh { IsFresh room }
-    ensures bytes { result ≡ sealed k_aut.now [] (challenge_draft options.now realm.now id rand autn hidden.k_encr hidden.given check) }
-    ensures size { length result ≤ 728 }
-{
-    given_is_small(realm, hidden.k_encr, hidden.given);
-    let draft = challenge_draft(
-        options, realm, id, rand, autn, hidden, name, names, check, places,
-    );
-    let mut room = room;
-    put_sealed(&draft, k_aut, &[], &mut room);
-    room.into_octets()
-}
-
-/// The Challenge of a vector (RFC 4187 §9.3, RFC 9048 §3).
-#[tactic(auto, unfolding(crate::specs::Messages::challenge_bytes))]
+/// A Challenge, with AT_MAC under K_aut (RFC 4187 §9.3, RFC 9048 §3).
 pub(crate) fn challenge(
     options: &ServerOptions,
     realm: &[u8],
     id: u8,
-    vector: &Vector,
-    keys: &KeySet,
+    sent: &Challenged,
     given: Option<GivenNames>,
     name: Octets,
     names: NameRooms,
@@ -381,28 +345,20 @@ pub(crate) fn challenge(
     requires check { IsHash check }
     requires places { HasPlaces places }
     requires fresh { IsFresh room }
-    ensures bytes { result ≡ challenge_bytes options.now realm.now id vector.now keys.now given check }
+    ensures bytes { result ≡ challenge_bytes options.now realm.now id sent.now.vector sent.now.keys given check }
     ensures size { length result ≤ 728 }
 {
-    let Vector { rand, autn, .. } = *vector;
-    let hidden = Hidden {
-        k_encr: keys.k_encr,
-        given,
-    };
-    sealed_challenge(
-        options,
-        realm,
-        id,
-        rand,
-        autn,
-        &keys.k_aut,
-        hidden,
-        name,
-        names,
-        check,
-        places,
-        room,
-    )
+    let Vector { rand, autn, .. } = sent.vector;
+    let KeySet { k_encr, k_aut, .. } = sent.keys;
+    are_blocks(rand, autn);
+    given_is_small(realm, k_encr, given);
+    let hidden = Hidden { k_encr, given };
+    let draft = challenge_draft(
+        options, realm, id, rand, autn, hidden, name, names, check, places,
+    );
+    let mut room = room;
+    put_sealed(&draft, &k_aut, &[], &mut room);
+    room.into_octets()
 }
 
 /// A Reauthentication request, but for its AT_MAC.
@@ -440,34 +396,7 @@ fn reauth_draft(
     }
 }
 
-/// A Reauthentication request with AT_MAC under K_aut.
-fn sealed_reauth(
-    method: Method,
-    realm: &[u8],
-    id: u8,
-    iv: [u8; 16],
-    sent: &Resumed,
-    names: NameRooms,
-    check: Octets,
-    places: Places<Attr>,
-    room: Room,
-) -> Octets
-    requires realm { length realm.now ≤ 255 }
-    requires check { IsHash check }
-    requires places { HasPlaces places }
-    requires fresh { IsFresh room }
-    ensures bytes { result ≡ sealed sent.now.context.k_aut [] (reauth_draft method realm.now id iv sent.now check) }
-    ensures size { length result ≤ 728 }
-{
-    reauth_is_small(realm, iv, sent);
-    let draft = reauth_draft(method, realm, id, iv, sent, names, check, places);
-    let mut room = room;
-    put_sealed(&draft, &sent.context.k_aut, &[], &mut room);
-    room.into_octets()
-}
-
-/// A Reauthentication request (RFC 4187 §9.7).
-#[tactic(auto, unfolding(crate::specs::Messages::reauth_bytes))]
+/// A Reauthentication request, with AT_MAC under K_aut (RFC 4187 §9.7).
 pub(crate) fn reauthentication(
     method: Method,
     realm: &[u8],
@@ -486,7 +415,11 @@ pub(crate) fn reauthentication(
     ensures bytes { result ≡ reauth_bytes method realm.now id iv sent.now check }
     ensures size { length result ≤ 728 }
 {
-    sealed_reauth(method, realm, id, iv, sent, names, check, places, room)
+    reauth_is_small(realm, iv, sent);
+    let draft = reauth_draft(method, realm, id, iv, sent, names, check, places);
+    let mut room = room;
+    put_sealed(&draft, &sent.context.k_aut, &[], &mut room);
+    room.into_octets()
 }
 
 /// A list of one attribute.

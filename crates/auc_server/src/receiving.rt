@@ -8,8 +8,9 @@ ghost use Rattle.auc_server.specs.InnerRows.{IsHeldRow};
 ghost use Rattle.auc_server.specs.Steps.{AsksAsNeeded, IsHeld, IsHeldToo, IsServed, Steps, asking, bytes_of};
 ghost use Rattle.auc_server.specs.Table.{homes_done, server_does};
 
+use crate::asking::{draw, redraw};
 use crate::reply::{Reply, ciphertext_in};
-use crate::rooms::{Rooms, give_back, let_go};
+use crate::rooms::Rooms;
 use crate::rows::{Row, text_in};
 use crate::server::Server;
 use crate::setting::{HomeRow, Setting};
@@ -24,12 +25,27 @@ use std::sync::Wait;
 
 /// What a turn does, by the reply to a re-authentication, and the memory for it.
 #[derive(Drop)]
-struct Plan {
-    reply: Reply,
-    row: Row,
-    text: Octets,
-    packets: IdentityPackets,
-    rooms: Rooms,
+pub(crate) struct Plan {
+    pub(crate) reply: Reply,
+    pub(crate) row: Row,
+    pub(crate) text: Octets,
+    pub(crate) packets: IdentityPackets,
+    pub(crate) rooms: Rooms,
+}
+
+/// Gives the memory of a turn back.
+pub(crate) fn let_go(plan: Plan) {
+    plan.into_rooms().into_message();
+}
+
+impl Plan {
+    /// The memory for what is sent. The rest is given back.
+    pub(crate) fn into_rooms(self) -> Rooms
+        ensures { result ≡ self.rooms }
+    {
+        let Plan { rooms, .. } = self;
+        rooms
+    }
 }
 
 impl Server {
@@ -88,7 +104,7 @@ impl Server {
         ensures centre { OnErr result (centre.new ≡ centre.old) }
     {
         let plan = self.plan(alloc, set, homes, received)?;
-        Ok(self.carry_out(rt, set, homes, centre, received, plan))
+        Ok(self.take(rt, set, homes, centre, plan))
     }
 
     /// What a turn does, with the memory for it.
@@ -122,149 +138,82 @@ impl Server {
     }
 
     /// Does what was planned.
-    fn carry_out<C: Centre, R: Wait>(
-        &mut self,
-        rt: &R,
-        set: &Setting,
-        homes: &mut [HomeRow],
-        centre: &mut C,
-        received: &Received,
-        plan: Plan,
-    ) -> Turn<ServerWhy>
-        requires received { IsReceived (seen_of received.now) }
-        requires plan { IsPlan set.now homes.old self.old (seen_of received.now) plan }
-        requires served { IsServed set.now.rows (C.subs centre.old) (C.top centre.old) homes.old self.old }
-        requires realm { length set.now.realm ≤ 255 }
-
-        ensures step { Steps C.goes C.kept C.top set.now homes.old self.old (seen_of received.now).bytes centre.old self.new result homes.new centre.new }
-        ensures small { length (bytes_of result.step) ≤ 728 }
-        ensures served { IsServed set.now.rows (C.subs centre.new) (C.top centre.new) homes.new self.new }
-        ensures subs { C.subs centre.new ≡ C.subs centre.old }
-        ensures top { (i : ℕ) → C.top centre.new i ≡ C.top centre.old i }
-        ensures name { C.name centre.new ≡ C.name centre.old }
-    {
-        let Plan {
-            row,
-            text,
-            packets,
-            rooms,
-            ..
-        } = plan;
-        self.take(rt, set, homes, centre, row, text, packets, rooms)
-    }
-
-    /// Does what a row says.
     fn take<C: Centre, R: Wait>(
         &mut self,
         rt: &R,
         set: &Setting,
         homes: &mut [HomeRow],
         centre: &mut C,
-        row: Row,
-        text: Octets,
-        packets: IdentityPackets,
-        rooms: Rooms,
+        plan: Plan,
     ) -> Turn<ServerWhy>
-        requires held { IsHeldRow homes.old row }
+        requires held { IsHeldRow homes.old plan.row }
         requires served { IsServed set.now.rows (C.subs centre.old) (C.top centre.old) homes.old self.old }
-        requires named { rooms ≡ self.old.options.name }
+        requires named { plan.rooms ≡ self.old.options.name }
         requires realm { length set.now.realm ≤ 255 }
 
-        ensures step { (self.new, result) ≡ server_does set.now homes.old self.old text packets row result.notes }
-        ensures homes { homes.new ≡ homes_done homes.old self.old text row result.notes }
+        ensures step { (self.new, result) ≡ server_does set.now homes.old self.old plan.text plan.packets plan.row result.notes }
+        ensures homes { homes.new ≡ homes_done homes.old self.old plan.text plan.row result.notes }
         ensures small { length (bytes_of result.step) ≤ 728 }
-        ensures asked { Asked C.goes C.kept C.top (asking row) result.notes centre.old centre.new }
-        ensures drawn { AsksAsNeeded row result.notes }
+        ensures asked { Asked C.goes C.kept C.top (asking plan.row) result.notes centre.old centre.new }
+        ensures drawn { AsksAsNeeded plan.row result.notes }
         ensures subs { C.subs centre.new ≡ C.subs centre.old }
         ensures top { (i : ℕ) → C.top centre.new i ≡ C.top centre.old i }
         ensures name { C.name centre.new ≡ C.name centre.old }
     {
-        match row {
+        match plan.row {
             Row::Challenge(sub) => {
-                self.challenge_first(rt, set, homes, centre, sub, text, packets, rooms)
+                let drawn = draw(rt, centre, sub);
+                self.challenge_first(set, homes, sub, drawn, plan)
             }
             Row::TooSmall(sub) => {
-                let_go(text, packets);
-                self.challenge_instead(rt, set, homes, centre, sub, rooms)
+                let drawn = draw(rt, centre, sub);
+                self.challenge(set, homes, sub, true, None, drawn, plan.into_rooms())
             }
             Row::Resynchronise(sub, seq) => {
-                let_go(text, packets);
-                self.resynchronise(rt, set, homes, centre, sub, seq, rooms)
+                let answered = redraw(rt, centre, sub, seq);
+                self.resynchronise(set, homes, sub, answered, plan.into_rooms())
             }
-            _ => self.take_alone(set, homes, row, text, packets, rooms),
+            _ => self.take_alone(set, homes, plan),
         }
     }
 
-    /// Does what a row says that asks the centre for nothing.
-    fn take_alone(
-        &mut self,
-        set: &Setting,
-        homes: &mut [HomeRow],
-        row: Row,
-        text: Octets,
-        packets: IdentityPackets,
-        rooms: Rooms,
-    ) -> Turn<ServerWhy>
-        requires alone { asking row ≡ None }
+    /// Does what was planned, if that asks the centre for nothing.
+    fn take_alone(&mut self, set: &Setting, homes: &mut [HomeRow], plan: Plan) -> Turn<ServerWhy>
+        requires alone { asking plan.row ≡ None }
         requires realm { length set.now.realm ≤ 255 }
 
-        ensures step { (self.new, result) ≡ server_does set.now homes.old self.old text packets row result.notes }
-        ensures homes { homes.new ≡ homes_done homes.old self.old text row result.notes }
+        ensures step { (self.new, result) ≡ server_does set.now homes.old self.old plan.text plan.packets plan.row result.notes }
+        ensures homes { homes.new ≡ homes_done homes.old self.old plan.text plan.row result.notes }
         ensures small { length (bytes_of result.step) ≤ 728 }
     {
-        match row {
+        match plan.row {
             Row::Ignore(why) => {
-                give_back(text, packets, rooms);
+                let_go(plan);
                 self.ignore(why)
             }
-            Row::Ask(kind) => self.ask(kind, text, packets, rooms),
-            Row::UnknownIdentity => self.refuse_identity(text, packets, rooms),
-            Row::Resume(sub) => self.resume(set, homes, sub, text, packets, rooms),
+            Row::Ask(kind) => self.ask(kind, plan),
+            Row::UnknownIdentity => self.refuse_identity(plan),
+            Row::Resume(sub) => self.resume(set, homes, sub, plan),
             Row::WrongCounter => {
-                let_go(text, packets);
-                self.notify(ServerWhy::WrongCounter, silent(), true, rooms)
+                self.notify(ServerWhy::WrongCounter, silent(), true, plan.into_rooms())
             }
-            Row::Reauthenticated => {
-                let_go(text, packets);
-                self.succeed_again(homes, rooms)
-            }
-            Row::WrongMac => {
-                let_go(text, packets);
-                self.notify(ServerWhy::WrongMac, silent(), false, rooms)
-            }
-            Row::WrongRes => {
-                let_go(text, packets);
-                self.notify(ServerWhy::WrongRes, silent(), true, rooms)
-            }
+            Row::Reauthenticated => self.succeed_again(homes, plan.into_rooms()),
+            Row::WrongMac => self.notify(ServerWhy::WrongMac, silent(), false, plan.into_rooms()),
+            Row::WrongRes => self.notify(ServerWhy::WrongRes, silent(), true, plan.into_rooms()),
             Row::WrongCheckcode => {
-                let_go(text, packets);
-                self.notify(ServerWhy::WrongCheckcode, silent(), true, rooms)
+                self.notify(ServerWhy::WrongCheckcode, silent(), true, plan.into_rooms())
             }
-            Row::Success => {
-                let_go(text, packets);
-                self.succeed(homes, rooms)
-            }
+            Row::Success => self.succeed(homes, plan.into_rooms()),
             Row::SecondSync => {
-                let_go(text, packets);
-                self.notify(ServerWhy::SecondSync, silent(), false, rooms)
+                self.notify(ServerWhy::SecondSync, silent(), false, plan.into_rooms())
             }
             Row::BadAuts => {
-                let_go(text, packets);
                 let notes = noted(Some(ResyncNote::BadAuts), None);
-                self.notify(ServerWhy::BadAuts, notes, false, rooms)
+                self.notify(ServerWhy::BadAuts, notes, false, plan.into_rooms())
             }
-            Row::Rejected => {
-                let_go(text, packets);
-                self.fail(ServerWhy::Rejected, rooms)
-            }
-            Row::ClientError(code) => {
-                let_go(text, packets);
-                self.fail(ServerWhy::ClientError(code), rooms)
-            }
-            Row::Notified(why) => {
-                let_go(text, packets);
-                self.fail(why, rooms)
-            }
+            Row::Rejected => self.fail(ServerWhy::Rejected, plan.into_rooms()),
+            Row::ClientError(code) => self.fail(ServerWhy::ClientError(code), plan.into_rooms()),
+            Row::Notified(why) => self.fail(why, plan.into_rooms()),
             Row::Challenge(_) | Row::TooSmall(_) | Row::Resynchronise(_, _) => unreachable!(),
         }
     }

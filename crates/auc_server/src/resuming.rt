@@ -11,17 +11,16 @@ ghost use Rattle.auc_server.specs.Table.{reauthenticated, resent, resumed, resum
 use crate::contexts::{context_after, gives_next, keep_context, take_context};
 use crate::messages::{message, reauthentication};
 use crate::naming::index_after;
-use crate::rooms::{RequestRooms, Rooms, give_back};
+use crate::receiving::{Plan, let_go};
+use crate::rooms::{RequestRooms, Rooms};
 use crate::rounds::checkcode;
 use crate::server::{Resumed, Server, ServerState};
 use crate::setting::{HomeRow, Setting};
 use crate::why::ServerWhy;
-use auc_edge::Octets;
 use auc_hmac::KeySet;
 use auc_ident::NameKind;
 use auc_packet::Packet;
 use auc_reauth::Context;
-use auc_seal::IdentityPackets;
 use auc_vector::{Notes, Outcome, Reason, Turn, reauth_keys};
 
 /// The counter of a context that was taken up again is noted.
@@ -98,23 +97,27 @@ impl Server {
         set: &Setting,
         homes: &mut [HomeRow],
         sub: u32,
-        text: Octets,
-        packets: IdentityPackets,
-        rooms: Rooms,
+        plan: Plan,
     ) -> Turn<ServerWhy>
         requires realm { length set.now.realm ≤ 255 }
-        ensures step { (self.new, result) ≡ resumed set.now homes.old self.old text packets sub }
+        ensures step { (self.new, result) ≡ resumed set.now homes.old self.old plan.text plan.packets sub }
         ensures homes { homes.new
-            ≡ homes_resumed self.old.options text homes.old sub (context_in self.old.options.method text homes.old sub) }
+            ≡ homes_resumed self.old.options plan.text homes.old sub (context_in self.old.options.method plan.text homes.old sub) }
         ensures small { length (bytes_of result.step) ≤ 728 }
     {
-        match take_context(self.options.method, text.as_slice(), homes, sub) {
+        match take_context(self.options.method, plan.text.as_slice(), homes, sub) {
             None => {
-                give_back(text, packets, rooms);
+                let_go(plan);
                 self.ignore(Reason::Unexpected)
             }
             Some(c) => {
                 let sent = self.resumption(set, homes, sub, c);
+                let Plan {
+                    text,
+                    packets,
+                    rooms,
+                    ..
+                } = plan;
                 self.identify(text, packets);
                 self.send_reauth(set, sent, rooms)
             }

@@ -5,7 +5,7 @@ ghost use Rattle.auc_server.specs.InnerRooms.{HasPlaces, IsFresh};
 
 use auc_attr::Attr;
 use auc_edge::{NoMemory, Octets, Places, Room};
-use auc_seal::{EncryptionRoom, IdentityPackets};
+use auc_seal::EncryptionRoom;
 use std::alloc::Global;
 use std::marker::Model;
 
@@ -122,12 +122,6 @@ pub(crate) fn attr_places(alloc: Global) -> Result<Places<Attr>, NoMemory>
 {
     Places::new(alloc, ATTRIBUTES)
 }
-
-/// Gives back what most rows don't need.
-pub(crate) fn let_go(_text: Octets, _packets: IdentityPackets) {}
-
-/// Gives all memory of a turn back.
-pub(crate) fn give_back(_text: Octets, _packets: IdentityPackets, _rooms: Rooms) {}
 
 impl Rooms {
     /// The memory for a request. The rest is given back.

@@ -11,6 +11,7 @@ ghost use Rattle.auc_server.specs.Table.{asked, awaiting, ended, failed, gave_up
 use crate::contexts::{keep_context, won_context};
 use crate::messages::{aka_identity, message, notification};
 use crate::options::ServerOptions;
+use crate::receiving::Plan;
 use crate::rooms::{RequestRooms, Rooms, message_room};
 use crate::server::{Challenged, Resumed, Server, ServerState};
 use crate::setting::HomeRow;
@@ -166,16 +167,16 @@ impl Server {
     }
 
     /// Asks for another identity (RFC 4187 §4.1.4).
-    pub(crate) fn ask(
-        &mut self,
-        kind: IdentityRequest,
-        text: Octets,
-        packets: IdentityPackets,
-        rooms: Rooms,
-    ) -> Turn<ServerWhy>
-        ensures step { (self.new, result) ≡ asked self.old text packets kind }
+    pub(crate) fn ask(&mut self, kind: IdentityRequest, plan: Plan) -> Turn<ServerWhy>
+        ensures step { (self.new, result) ≡ asked self.old plan.text plan.packets kind }
         ensures small { length (bytes_of result.step) ≤ 728 }
     {
+        let Plan {
+            text,
+            packets,
+            rooms,
+            ..
+        } = plan;
         let RequestRooms {
             message,
             kept,
@@ -188,15 +189,16 @@ impl Server {
     }
 
     /// Notifies the peer that its identity is unknown.
-    pub(crate) fn refuse_identity(
-        &mut self,
-        text: Octets,
-        packets: IdentityPackets,
-        rooms: Rooms,
-    ) -> Turn<ServerWhy>
-        ensures step { (self.new, result) ≡ unknown self.old text packets }
+    pub(crate) fn refuse_identity(&mut self, plan: Plan) -> Turn<ServerWhy>
+        ensures step { (self.new, result) ≡ unknown self.old plan.text plan.packets }
         ensures small { length (bytes_of result.step) ≤ 728 }
     {
+        let Plan {
+            text,
+            packets,
+            rooms,
+            ..
+        } = plan;
         self.identify(text, packets);
         self.notify(ServerWhy::UnknownIdentity, silent(), false, rooms)
     }

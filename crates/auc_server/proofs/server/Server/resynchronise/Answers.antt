@@ -1,16 +1,13 @@
-use Rattle.auc_server.proofs.AskingLemmas.{asked_twice}
+use Rattle.std.proofs.Common.{false, Some, ap, ◌∙◌}
+use Rattle.auc_server.specs.Server.{ServerEnd}
+use Rattle.auc_server.specs.Table.{challenged, resynchronising}
+use Rattle.auc_server.proofs.AskingLemmas.{challenged_again}
 use Rattle.auc_server.proofs.server.Server.resynchronise.Goals as goal
 
-pub returns-in-Moved-clause-asked : goal.returns-in-Moved-clause-asked
-returns-in-Moved-clause-asked g c =
-    asked_twice g.C.Centre.goes g.C.Centre.kept g.C.Centre.top g.met.C.Centre.joins _ _ _ c.args.sub c.args.seq c.challenge.result.notes _ c.challenge.ensures.resync
-    c.in-Moved.ensures.kept c.in-Moved.ensures.top c.in-Moved.ensures.answer c.in-Moved.ensures.goes c.in-Moved.ensures.others
-    c.challenge.ensures.number c.challenge.ensures.goes c.challenge.ensures.others
-    c.challenge.ensures.kept c.challenge.ensures.still
-
-pub returns-in-InRange-clause-asked : goal.returns-in-InRange-clause-asked
-returns-in-InRange-clause-asked g c =
-    asked_twice g.C.Centre.goes g.C.Centre.kept g.C.Centre.top g.met.C.Centre.joins _ _ _ c.args.sub c.args.seq c.challenge-in-InRange.result.notes _
-    c.challenge-in-InRange.ensures.resync c.in-InRange.ensures.kept c.in-InRange.ensures.top c.in-InRange.ensures.answer c.in-InRange.ensures.goes
-    c.in-InRange.ensures.others c.challenge-in-InRange.ensures.number c.challenge-in-InRange.ensures.goes c.challenge-in-InRange.ensures.others
-    c.challenge-in-InRange.ensures.kept c.challenge-in-InRange.ensures.still
+pub returns-in-Again-clause-step : goal.returns-in-Again-clause-step
+returns-in-Again-clause-step c =
+    challenged_again c.args.set.now c.args.homes.now c.args.self.now _ c.challenge.result c.args.sub c.args.answered c.in-Again.resynced c.in-Again.drawn
+    c.in-Again.is c.requires.own
+    (c.challenge.ensures.step
+    ∙ ap (λ (s : ServerEnd). challenged c.args.set.now c.args.homes.now (resynchronising s) c.args.sub false (Some c.in-Again.resynced) (Some c.in-Again.drawn))
+    c.self.view_is)

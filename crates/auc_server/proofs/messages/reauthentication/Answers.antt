@@ -4,9 +4,9 @@ use Rattle.auc_hmac.specs.Mac.{no_mac}
 use Rattle.auc_packet.specs.declared.sealing.Draft.{Draft}
 use Rattle.auc_packet.specs.Sealed.{MayBeSealed, sealed, with_mac}
 use Rattle.auc_packet.specs.Spelling.{packet_text}
-use Rattle.auc_server.specs.Messages.{reauth_draft}
+use Rattle.auc_server.specs.Messages.{reauth_bytes, reauth_draft}
 use Rattle.auc_server.proofs.MessageLemmas.{reauth_may, reauth_size, resealed_size}
-use Rattle.auc_server.proofs.messages.sealed_reauth.Goals as goal
+use Rattle.auc_server.proofs.messages.reauthentication.Goals as goal
 
 pub put_sealed-requires-clause-writable : goal.put_sealed-requires-clause-writable
 put_sealed-requires-clause-writable c =
@@ -17,6 +17,13 @@ put_sealed-requires-clause-room c =
     subst (λ (n : ℕ). length (packet_text (with_mac c.reauth_draft-draft.result no_mac)) ≤ n) (sym c.requires.fresh.size)
     (subst (λ (d : Draft). length (packet_text (with_mac d no_mac)) ≤ 728) (sym c.reauth_draft-draft.ensures)
     (reauth_size c.args.method c.args.realm.now c.args.id c.args.iv c.args.sent.now c.args.check c.reauth_is_small.ensures c.requires.check))
+
+pub returns-clause-bytes : goal.returns-clause-bytes
+unfolding reauth_bytes
+returns-clause-bytes c =
+    c.into_octets.ensures ∙ ap (λ (r : Reserved ℕ). r.written) c.put_sealed.ensures
+    ∙ ap (λ (t : List ℕ). t ++ sealed c.args.sent.now.context.k_aut [] c.reauth_draft-draft.result) c.requires.fresh.empty
+    ∙ ap (λ (d : Draft). sealed c.args.sent.now.context.k_aut [] d) c.reauth_draft-draft.ensures
 
 pub returns-clause-size : goal.returns-clause-size
 returns-clause-size c =
