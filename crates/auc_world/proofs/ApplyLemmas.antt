@@ -1,20 +1,22 @@
 -- For `World::apply`: an event, by what its kind comes to.
 use Rattle.std.proofs.Common.{◌≡◌, ◌<◌, ℕ, zero, suc, List, [], ◌∷◌, length, Option, Some, None, Result, Ok, Err, refl, sym, ap, ◌∙◌, subst, arith}
-use Rattle.std.specs.Prelude.{IfOk, slice_get}
+use Rattle.std.specs.Prelude.{IfOk, OnErr, map, slice_get}
 use Rattle.auc_edge.specs.declared.stop.Stop.{Stop}
 use Rattle.auc_history.specs.declared.entry.Entry.{Entry}
 use Rattle.auc_lines.specs.declared.part.SessionLine.{SessionLine}
 use Rattle.auc_lines.specs.declared.part.End.{End}
 use Rattle.auc_lines.specs.declared.part.End.TheVariants as end
+use Rattle.auc_peer.specs.Subscription.{Subscription}
 use Rattle.auc_server.specs.Server.{ServerEnd}
 use Rattle.auc_server.specs.Setting.{Setting}
+use Rattle.auc_server.specs.declared.setting.HomeRow.{HomeRow}
 use Rattle.auc_vector.specs.Notes.{Asked}
 use Rattle.auc_world.proofs.ServingLemmas.{delivery_to, has_packet, nothing_told, unjudged}
 use Rattle.auc_world.specs.Came.{AreReceived, Came, AsksIn, RepliesIn, TellsNotes, asking_in, came, came_delivered, came_in, came_opened, came_repeated, came_started, presented_in, received_at, server_came_to_give_up, session_of}
 use Rattle.auc_world.specs.Happened.{Delivery, Told, at_place, at_session, delivered, delivery_at, delivery_in, found_by, happened, in_session, opened, repeat, server_gives_up, start}
 use Rattle.auc_world.specs.InnerWorld.{Answers, IsReached, IsUnreached, Serves, came_of, net_of, refusal_of}
 use Rattle.auc_world.specs.Net.{Net, device_place, judged, packet_at, session_place}
-use Rattle.auc_world.specs.World.{Applies, AreHanded, WorldState}
+use Rattle.auc_world.specs.World.{Applies, AreHanded, AreOfSame, WorldState}
 use Rattle.auc_world.specs.declared.acting.Deed.{Deed}
 use Rattle.auc_world.specs.declared.acting.Deed.TheVariants as deed
 use Rattle.auc_world.specs.declared.event.Event.TheVariants as event
@@ -30,6 +32,50 @@ each_ok (Err e) P Q then p = tt
 pub both_ok : {A E : Type 0} (r : Result A E) (P R Q : A → Type 0) → ((a : A) → P a → R a → Q a) → IfOk r P → IfOk r R → IfOk r Q
 both_ok (Ok a) P R Q then p q = then a p q
 both_ok (Err e) P R Q then p q = tt
+
+-- ---- homes and devices
+
+abbrev ends : Net → List HomeRow × List Subscription
+ends w = (w.homes, w.devices)
+
+-- an event that an end does by itself changes neither
+pub opened_ends : (w : Net) (opening : SessionLine) (found place : Option ℕ) → ends (opened w opening found place) ≡ ends w
+opened_ends w opening (Some other) place = refl
+opened_ends w opening None None = refl
+opened_ends w opening None (Some place) = refl
+
+server_ends : (w : Net) (place : ℕ) (session : Session) (s : Option ServerEnd) (what : Deed) → session.server ≡ s → ends (net_of w what place session) ≡ ends w
+server_ends w place session None deed.Start is = ap (λ (o : Option ServerEnd). ends (start w place session o)) is
+server_ends w place session (Some s) deed.Start is = ap (λ (o : Option ServerEnd). ends (start w place session o)) is
+server_ends w place session None deed.Repeat is = ap (λ (o : Option ServerEnd). ends (repeat w place session o)) is
+server_ends w place session (Some s) deed.Repeat is = ap (λ (o : Option ServerEnd). ends (repeat w place session o)) is
+server_ends w place session None (deed.GiveUp end.Server) is = ap (λ (o : Option ServerEnd). ends (server_gives_up w place session o)) is
+server_ends w place session (Some s) (deed.GiveUp end.Server) is = ap (λ (o : Option ServerEnd). ends (server_gives_up w place session o)) is
+server_ends w place session s (deed.GiveUp end.Peer) is = refl
+
+place_ends : (w : Net) (what : Deed) (place : ℕ) (s : Option Session) → ends (in_session w (net_of w what) place s) ≡ ends w
+place_ends w what place None = refl
+place_ends w what place (Some session) = server_ends w place session session.server what refl
+
+found_ends : (w : Net) (what : Deed) (place : Option ℕ) → ends (at_place w (net_of w what) place) ≡ ends w
+found_ends w what None = refl
+found_ends w what (Some place) = place_ends w what place (slice_get w.sessions place)
+
+pub acted_ends : (w : Net) (what : Deed) (number : ℕ) → ends (at_session w number (net_of w what)) ≡ ends w
+acted_ends w what number = found_ends w what (session_place w.sessions number)
+
+either_ends : {A E : Type 0} (r : Result A E) (old new : WorldState) (net : Net) → ends net ≡ ends old.net → IfOk r (λ _. new ≡ record old { net = net }) → OnErr r (new ≡ old)
+    → ends new.net ≡ ends old.net
+either_ends (Ok a) old new net same leads kept = ap (λ (w : WorldState). ends w.net) leads ∙ same
+either_ends (Err e) old new net same leads kept = ap (λ (w : WorldState). ends w.net) kept
+
+-- so they are the same after it, and after a lack of memory
+module _ {A E : Type 0} (r : Result A E) (old new : WorldState) (net : Net) (same : ends net ≡ ends old.net) (leads : IfOk r (λ _. new ≡ record old { net = net })) (kept : OnErr r (new ≡ old)) where
+  pub same_homes : AreOfSame old.net.homes new.net.homes
+  same_homes = ap (λ (e : List HomeRow × List Subscription). map (λ (home : HomeRow). home.sub) e.0) (either_ends r old new net same leads kept)
+
+  pub same_devices : new.net.devices ≡ old.net.devices
+  same_devices = ap (λ (e : List HomeRow × List Subscription). e.1) (either_ends r old new net same leads kept)
 
 -- ---- an event in which nothing is found
 

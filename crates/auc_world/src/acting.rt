@@ -69,6 +69,9 @@ fn copy_options(alloc: Global, options: &ServerOptions) -> Result<ServerOptions,
     })
 }
 
+/// Gives a server and the bytes of its first request back.
+fn give_back(_server: Server, _bytes: Octets) {}
+
 /// A server that starts with a copy of these options, its first request, and a copy of that.
 fn started(alloc: Global, options: &ServerOptions) -> Result<(Server, Octets, Octets), NoMemory>
     requires { IsName options.now.name }
@@ -78,8 +81,13 @@ fn started(alloc: Global, options: &ServerOptions) -> Result<(Server, Octets, Oc
 {
     let options = copy_options(alloc, options)?;
     let (server, bytes) = Server::start(options, alloc)?;
-    let copy = copy_of(alloc, &bytes)?;
-    Ok((server, bytes, copy))
+    match copy_of(alloc, &bytes) {
+        Ok(copy) => Ok((server, bytes, copy)),
+        Err(error) => {
+            give_back(server, bytes);
+            Err(error)
+        }
+    }
 }
 
 /// Starts a session's server (RFC 3748 §5.1).

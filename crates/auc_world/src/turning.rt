@@ -1,15 +1,15 @@
 //! A turn of an end, with what its packet keeps: all memory is there before the centre is asked, or before a device changes.
 
-ghost use Rattle.std.specs.Prelude.{◌≡◌, ◌≤◌, ℕ, length, IfOk, OnErr};
+ghost use Rattle.std.specs.Prelude.{◌≡◌, ◌≤◌, ℕ, [], length, max, IfOk, OnErr};
 ghost use Rattle.auc_peer.specs.Subscription.{subscription_of};
 ghost use Rattle.auc_peer.specs.Turn.{Steps as StepsPeer};
-ghost use Rattle.auc_server.specs.Steps.{IsHeld, IsHeldToo, IsServed, Steps as StepsServer};
+ghost use Rattle.auc_server.specs.Steps.{IsHeld, IsHeldToo, IsServed, Steps as StepsServer, bytes_of};
 ghost use Rattle.auc_world.specs.Happened.{keys_won, sent_by};
 ghost use Rattle.auc_world.specs.Net.{inputs_of_peer, inputs_of_server};
 ghost use Rattle.auc_world.specs.World.{AreOfSame};
 
 use crate::copying::{copy_if_any, copy_of};
-use crate::inputs::{network_of, peer_inputs, put_server_inputs};
+use crate::inputs::{network_of, peer_inputs, put_server_inputs, server_inputs};
 use crate::net::Inputs;
 use crate::posting::{copy_sent, put_sent};
 use auc_edge::{NoMemory, Octets, Room};
@@ -19,20 +19,92 @@ use auc_random::Rands;
 use auc_server::{HomeRow, Server, ServerWhy, Setting};
 use auc_vector::{Centre, Outcome, Step, Turn};
 use std::alloc::Global;
+use std::mem::replace;
 use std::sync::Wait;
 
 /// The greatest message that a server sends, the Challenge with a name of 255 bytes, a checkcode, a pseudonym and a
 /// re-authentication identity with a realm of 255 bytes: 728 bytes.
 const MOST: usize = 728;
 
-/// A turn of an end.
+/// A turn of a server.
 #[derive(Drop)]
-pub(crate) struct Taken<W> {
-    pub(crate) turn: Turn<W>,
-    /// What the end derives its keys from afterwards.
+pub(crate) struct Served {
+    pub(crate) turn: Turn<ServerWhy>,
+    /// What the server derives its keys from afterwards.
     pub(crate) inputs: Option<Inputs>,
     /// A copy of what it sent.
     pub(crate) sent: Option<Octets>,
+    /// What it derived its keys from before.
+    pub(crate) before: Option<Inputs>,
+}
+
+/// A turn of a peer.
+#[derive(Drop)]
+pub(crate) struct Taken {
+    pub(crate) turn: Turn<PeerWhy>,
+    /// What the peer derives its keys from afterwards.
+    pub(crate) inputs: Option<Inputs>,
+    /// A copy of what it sent.
+    pub(crate) sent: Option<Octets>,
+}
+
+/// What a server's turn keeps, or memory for it.
+#[derive(Drop)]
+struct ServeRooms {
+    /// For a copy of what the server sends.
+    message: Room,
+    /// For the identity that it derives its keys from afterwards.
+    identity: Room,
+    /// A copy of its network's name.
+    name: Octets,
+    /// What it derives its keys from before the turn.
+    before: Option<Inputs>,
+}
+
+/// Takes the memory for what a server's turn with some bytes keeps.
+fn serve_rooms(alloc: Global, server: &Server, bytes: &[u8]) -> Result<ServeRooms, NoMemory>
+    ensures message { IfOk result (λ rooms. rooms.message ≡ record { written = []; left = 728 }) }
+    ensures identity { IfOk result (λ rooms. rooms.identity
+        ≡ record { written = []; left = max (length server.now.identity) (length bytes.now) }) }
+    ensures name { IfOk result (λ rooms. rooms.name ≡ server.now.options.name) }
+    ensures before { IfOk result (λ rooms. rooms.before ≡ inputs_of_server server.now) }
+{
+    Ok(ServeRooms {
+        message: Room::new(alloc, MOST)?,
+        identity: Room::new(alloc, server.identity().len().max(bytes.len()))?,
+        name: network_of(alloc, server)?,
+        before: server_inputs(alloc, server)?,
+    })
+}
+
+/// Gives the memory of a turn back.
+fn give_rooms_back(_rooms: ServeRooms) {}
+
+/// A server's turn, with what it keeps in memory that was taken before.
+fn put_served(rooms: ServeRooms, server: &Server, turn: Turn<ServerWhy>) -> Served
+    requires message { rooms.message.written ≡ [] }
+    requires enough { length (bytes_of turn.step) ≤ rooms.message.left }
+    requires identity { rooms.identity.written ≡ [] }
+    requires left { length server.now.identity ≤ rooms.identity.left }
+    requires name { rooms.name ≡ server.now.options.name }
+    ensures turn { result.turn ≡ turn }
+    ensures inputs { result.inputs ≡ inputs_of_server server.now }
+    ensures sent { result.sent ≡ sent_by turn.step }
+    ensures before { result.before ≡ rooms.before }
+{
+    let ServeRooms {
+        message,
+        identity,
+        name,
+        before,
+    } = rooms;
+    let sent = put_sent(message, &turn.step);
+    Served {
+        turn,
+        inputs: put_server_inputs(identity, name, server),
+        sent,
+        before,
+    }
 }
 
 /// A server takes received bytes.
@@ -44,13 +116,14 @@ pub(crate) fn serve<C: Centre, R: Wait>(
     centre: &mut C,
     server: &mut Server,
     bytes: &[u8],
-) -> Result<Taken<ServerWhy>, NoMemory>
+) -> Result<Served, NoMemory>
     requires served { IsServed set.now.rows (C.subs centre.old) (C.top centre.old) homes.old.items server.old }
     requires realm { length set.now.realm ≤ 255 }
 
     ensures step { IfOk result (λ t. StepsServer C.goes C.kept C.top set.now homes.old.items server.old bytes.now centre.old server.new t.turn homes.new.items centre.new) }
     ensures inputs { IfOk result (λ t. t.inputs ≡ inputs_of_server server.new) }
     ensures sent { IfOk result (λ t. t.sent ≡ sent_by t.turn.step) }
+    ensures before { IfOk result (λ t. t.before ≡ inputs_of_server server.old) }
     ensures held { IsHeld homes.new.items server.new.challenged }
     ensures resumed { IsHeldToo homes.new.items server.new.resumed }
     ensures same { AreOfSame homes.old.items homes.new.items }
@@ -62,13 +135,14 @@ pub(crate) fn serve<C: Centre, R: Wait>(
     ensures homes { OnErr result (homes.new.items ≡ homes.old.items) }
     ensures centre { OnErr result (centre.new ≡ centre.old) }
 {
-    let text = Room::new(alloc, server.identity().len().max(bytes.len()))?;
-    let name = network_of(alloc, server)?;
-    let message = Room::new(alloc, MOST)?;
-    let turn = server.on_bytes(rt, alloc, set, homes.as_mut_slice(), centre, bytes)?;
-    let inputs = put_server_inputs(text, name, server);
-    let sent = put_sent(message, &turn.step);
-    Ok(Taken { turn, inputs, sent })
+    let rooms = serve_rooms(alloc, server, bytes)?;
+    match server.on_bytes(rt, alloc, set, homes.as_mut_slice(), centre, bytes) {
+        Ok(turn) => Ok(put_served(rooms, server, turn)),
+        Err(error) => {
+            give_rooms_back(rooms);
+            Err(error)
+        }
+    }
 }
 
 /// A copy of the last request that a peer answered.
@@ -136,8 +210,25 @@ fn copy(alloc: Global, peer: &Peer) -> Result<Peer, NoMemory>
     })
 }
 
-/// Gives the copies of a peer and of its device back.
-fn give_back(_own: Peer, _card: Device) {}
+/// Gives a peer and its device back.
+fn give_back(_peer: Peer, _device: Device) {}
+
+/// Gives a turn back.
+fn give_turn_back(_turn: Turn<PeerWhy>) {}
+
+/// Copies of what a subscriber's peer derives its keys from, and of what a step of it sends.
+fn copies_of(
+    alloc: Global,
+    sub: u32,
+    peer: &Peer,
+    step: &Step<PeerWhy>,
+) -> Result<(Option<Inputs>, Option<Octets>), NoMemory>
+    ensures inputs { IfOk result (λ copies. copies.0 ≡ inputs_of_peer sub peer.now) }
+    ensures sent { IfOk result (λ copies. copies.1 ≡ sent_by step.now) }
+{
+    let sent = copy_sent(alloc, step)?;
+    Ok((peer_inputs(alloc, sub, peer)?, sent))
+}
 
 /// The turn of a subscriber's peer at its device. If memory runs out, both may have changed.
 fn turn_of(
@@ -147,7 +238,7 @@ fn turn_of(
     sub: u32,
     peer: &mut Peer,
     bytes: &[u8],
-) -> Result<Taken<PeerWhy>, NoMemory>
+) -> Result<Taken, NoMemory>
     requires { length device.old.realm ≤ 255 }
 
     ensures step { IfOk result (λ t. StepsPeer rands.now (subscription_of device.old) device.old.store peer.old bytes.now
@@ -157,9 +248,13 @@ fn turn_of(
     ensures subscription { subscription_of device.new ≡ subscription_of device.old }
 {
     let turn = peer.on_bytes(alloc, rands, device, bytes)?;
-    let inputs = peer_inputs(alloc, sub, peer)?;
-    let sent = copy_sent(alloc, &turn.step)?;
-    Ok(Taken { turn, inputs, sent })
+    match copies_of(alloc, sub, peer, &turn.step) {
+        Ok((inputs, sent)) => Ok(Taken { turn, inputs, sent }),
+        Err(error) => {
+            give_turn_back(turn);
+            Err(error)
+        }
+    }
 }
 
 /// A subscriber's peer takes received bytes at its device: copies of both do, which are put in their places once all memory
@@ -171,7 +266,7 @@ pub(crate) fn answer(
     sub: u32,
     peer: &mut Peer,
     bytes: &[u8],
-) -> Result<Taken<PeerWhy>, NoMemory>
+) -> Result<Taken, NoMemory>
     requires { length device.old.realm ≤ 255 }
 
     ensures step { IfOk result (λ t. StepsPeer rands.now (subscription_of device.old) device.old.store peer.old bytes.now
@@ -186,8 +281,9 @@ pub(crate) fn answer(
     let mut own = copy(alloc, peer)?;
     match turn_of(alloc, rands, &mut card, sub, &mut own, bytes) {
         Ok(taken) => {
-            *peer = own;
-            *device = card;
+            let last = replace(peer, own);
+            let left = replace(device, card);
+            give_back(last, left);
             Ok(taken)
         }
         Err(error) => {

@@ -14,13 +14,13 @@ ghost use Rattle.auc_world.specs.World.{Applies, AreHomes, AreOfSame, Challenges
 
 use crate::acting::{Came, Deed, act, note};
 use crate::event::{Event, Note, NoteStep, WorldRefusal};
-use crate::inputs::{judged, server_inputs};
+use crate::inputs::judged;
 use crate::net::{Breach, SentPacket, Session};
 use crate::opening::{add_session, new_session};
 use crate::places::{DevicePlaces, key, places};
 use crate::posting::{make_place, post};
 use crate::record::JobSessions;
-use crate::turning::{Taken, answer, keys_won, serve};
+use crate::turning::{Served, Taken, answer, keys_won, serve};
 use crate::verdicts::job_verdicts;
 use auc_edge::NoMemory;
 use auc_lines::{End, SessionLine};
@@ -277,9 +277,13 @@ impl World {
         };
         let near = packet as usize - 1;
         let bytes = self.packets[near].bytes.as_slice();
-        let before = server_inputs(alloc, server)?;
         let homes = &mut self.homes;
-        let Taken { turn, inputs, sent } = serve(rt, alloc, set, homes, centre, server, bytes)?;
+        let Served {
+            turn,
+            inputs,
+            sent,
+            before,
+        } = serve(rt, alloc, set, homes, centre, server, bytes)?;
         let asked = server.asked(set, self.homes.as_slice(), turn.notes);
         let vector = vector_sent(turn.notes.number, server.challenged());
         let checked = turn.checked;

@@ -1,11 +1,13 @@
-use Rattle.std.proofs.Common.{Err, ◌∙◌, ap, sym, subst}
-use Rattle.auc_world.proofs.ApplyLemmas.{answered_applies, both_ok, each_ok, give_up_applies, open_applies, repeat_applies, served_applies, start_applies, unreached_applies}
+use Rattle.std.proofs.Common.{Err, ◌∙◌, ap, map, refl, sym, subst}
+use Rattle.auc_world.proofs.ApplyLemmas.{acted_ends, answered_applies, both_ok, each_ok, give_up_applies, open_applies, opened_ends, repeat_applies, same_devices, same_homes, served_applies, start_applies, unreached_applies}
 use Rattle.auc_world.proofs.AskedLemmas.{acted_asks_nobody, asks_nobody, opened_asks_nobody}
 use Rattle.auc_world.specs.Came.{session_of}
 use Rattle.auc_world.specs.Event.{asked_in}
 use Rattle.auc_world.specs.declared.acting.Deed.TheVariants as deed
 use Rattle.auc_world.specs.World.{Applies}
 use Rattle.auc_lines.specs.declared.part.End.{End}
+use Rattle.auc_server.specs.declared.setting.HomeRow.{HomeRow}
+use Rattle.auc_world.proofs.WorldLemmas.{on_error}
 use Rattle.auc_world.specs.declared.event.Event.{Event}
 use Rattle.auc_world.specs.declared.event.Event.TheVariants as event
 use Rattle.auc_world.proofs.world.World.apply.Goals as goal
@@ -99,3 +101,89 @@ returns-in-GiveUp-clause-asked g c =
 
 pub returns-in-Ok-Peer-clause-asked : goal.returns-in-Ok-Peer-clause-asked
 returns-in-Ok-Peer-clause-asked g c = each_ok c.to_peer.result _ _ (λ came is. asks_nobody _ _ is) c.to_peer.ensures.asked
+
+-- ---- what stays
+
+pub returns-in-Open-clause-homes : goal.returns-in-Open-clause-homes
+returns-in-Open-clause-homes g c = same_homes c.open.result c.args.self.now c.open.new.self _ (opened_ends c.args.self.now.net c.in-Open.opening _ _) c.open.ensures.opened c.open.ensures.kept
+
+pub returns-in-Open-clause-devices : goal.returns-in-Open-clause-devices
+returns-in-Open-clause-devices g c = same_devices c.open.result c.args.self.now c.open.new.self _ (opened_ends c.args.self.now.net c.in-Open.opening _ _) c.open.ensures.opened c.open.ensures.kept
+
+pub returns-in-Open-clause-world : goal.returns-in-Open-clause-world
+returns-in-Open-clause-world g c = c.open.ensures.kept
+
+pub returns-in-Open-clause-centre : goal.returns-in-Open-clause-centre
+returns-in-Open-clause-centre g c = on_error c.open.result _ refl
+
+pub returns-in-Start-clause-homes : goal.returns-in-Start-clause-homes
+returns-in-Start-clause-homes g c = same_homes c.act.result c.args.self.now c.act.new.self _ (acted_ends c.args.self.now.net deed.Start c.in-Start.session) c.act.ensures.acted c.act.ensures.kept
+
+pub returns-in-Start-clause-devices : goal.returns-in-Start-clause-devices
+returns-in-Start-clause-devices g c = same_devices c.act.result c.args.self.now c.act.new.self _ (acted_ends c.args.self.now.net deed.Start c.in-Start.session) c.act.ensures.acted c.act.ensures.kept
+
+pub returns-in-Start-clause-world : goal.returns-in-Start-clause-world
+returns-in-Start-clause-world g c = c.act.ensures.kept
+
+pub returns-in-Start-clause-centre : goal.returns-in-Start-clause-centre
+returns-in-Start-clause-centre g c = on_error c.act.result _ refl
+
+pub returns-in-Repeat-clause-homes : goal.returns-in-Repeat-clause-homes
+returns-in-Repeat-clause-homes g c = same_homes c.act-in-Repeat.result c.args.self.now c.act-in-Repeat.new.self _ (acted_ends c.args.self.now.net deed.Repeat c.in-Repeat.session) c.act-in-Repeat.ensures.acted c.act-in-Repeat.ensures.kept
+
+pub returns-in-Repeat-clause-devices : goal.returns-in-Repeat-clause-devices
+returns-in-Repeat-clause-devices g c = same_devices c.act-in-Repeat.result c.args.self.now c.act-in-Repeat.new.self _ (acted_ends c.args.self.now.net deed.Repeat c.in-Repeat.session) c.act-in-Repeat.ensures.acted c.act-in-Repeat.ensures.kept
+
+pub returns-in-Repeat-clause-world : goal.returns-in-Repeat-clause-world
+returns-in-Repeat-clause-world g c = c.act-in-Repeat.ensures.kept
+
+pub returns-in-Repeat-clause-centre : goal.returns-in-Repeat-clause-centre
+returns-in-Repeat-clause-centre g c = on_error c.act-in-Repeat.result _ refl
+
+pub returns-in-GiveUp-clause-homes : goal.returns-in-GiveUp-clause-homes
+returns-in-GiveUp-clause-homes g c = same_homes c.act-in-GiveUp.result c.args.self.now c.act-in-GiveUp.new.self _ (acted_ends c.args.self.now.net (deed.GiveUp c.in-GiveUp.end) c.in-GiveUp.session) c.act-in-GiveUp.ensures.acted c.act-in-GiveUp.ensures.kept
+
+pub returns-in-GiveUp-clause-devices : goal.returns-in-GiveUp-clause-devices
+returns-in-GiveUp-clause-devices g c = same_devices c.act-in-GiveUp.result c.args.self.now c.act-in-GiveUp.new.self _ (acted_ends c.args.self.now.net (deed.GiveUp c.in-GiveUp.end) c.in-GiveUp.session) c.act-in-GiveUp.ensures.acted c.act-in-GiveUp.ensures.kept
+
+pub returns-in-GiveUp-clause-world : goal.returns-in-GiveUp-clause-world
+returns-in-GiveUp-clause-world g c = c.act-in-GiveUp.ensures.kept
+
+pub returns-in-GiveUp-clause-centre : goal.returns-in-GiveUp-clause-centre
+returns-in-GiveUp-clause-centre g c = on_error c.act-in-GiveUp.result _ refl
+
+pub returns-in-Ok-Server-clause-homes : goal.returns-in-Ok-Server-clause-homes
+returns-in-Ok-Server-clause-homes g c = c.to_server.ensures.homes
+
+pub returns-in-Ok-Server-clause-devices : goal.returns-in-Ok-Server-clause-devices
+returns-in-Ok-Server-clause-devices g c = c.to_server.ensures.devices
+
+pub returns-in-Ok-Server-clause-world : goal.returns-in-Ok-Server-clause-world
+returns-in-Ok-Server-clause-world g c = c.to_server.ensures.world
+
+pub returns-in-Ok-Server-clause-centre : goal.returns-in-Ok-Server-clause-centre
+returns-in-Ok-Server-clause-centre g c = c.to_server.ensures.centre
+
+pub returns-in-Ok-Server-clause-asked : goal.returns-in-Ok-Server-clause-asked
+returns-in-Ok-Server-clause-asked g c = c.to_server.ensures.asked
+
+pub returns-in-Ok-Server-clause-subs : goal.returns-in-Ok-Server-clause-subs
+returns-in-Ok-Server-clause-subs g c = c.to_server.ensures.subs
+
+pub returns-in-Ok-Server-clause-top : goal.returns-in-Ok-Server-clause-top
+returns-in-Ok-Server-clause-top g c = c.to_server.ensures.top
+
+pub returns-in-Ok-Server-clause-name : goal.returns-in-Ok-Server-clause-name
+returns-in-Ok-Server-clause-name g c = c.to_server.ensures.name
+
+pub returns-in-Ok-Peer-clause-homes : goal.returns-in-Ok-Peer-clause-homes
+returns-in-Ok-Peer-clause-homes g c = ap (map (λ (home : HomeRow). home.sub)) c.to_peer.ensures.homes
+
+pub returns-in-Ok-Peer-clause-devices : goal.returns-in-Ok-Peer-clause-devices
+returns-in-Ok-Peer-clause-devices g c = c.to_peer.ensures.devices
+
+pub returns-in-Ok-Peer-clause-world : goal.returns-in-Ok-Peer-clause-world
+returns-in-Ok-Peer-clause-world g c = c.to_peer.ensures.world
+
+pub returns-in-Ok-Peer-clause-centre : goal.returns-in-Ok-Peer-clause-centre
+returns-in-Ok-Peer-clause-centre g c = on_error c.to_peer.result _ refl

@@ -11,8 +11,9 @@ use Rattle.auc_server.specs.Setting.{Setting}
 use Rattle.auc_world.proofs.AnsweringLemmas.{answers, answers_nobody, answers_now}
 use Rattle.auc_world.proofs.ServingLemmas.{has_packet, packet_read}
 use Rattle.auc_world.proofs.WorldLemmas.{answered_states, kept_device, kept_session, map_same, of_all, on_error, set_same, values_set}
-use Rattle.auc_world.specs.InnerWorld.{is_key, state_of}
+use Rattle.auc_world.specs.InnerWorld.{IsKept, is_key, state_of}
 use Rattle.auc_world.specs.World.{HasHeld, WorldState}
+use Rattle.auc_world.specs.declared.net.SentPacket.{SentPacket}
 use Rattle.auc_world.specs.declared.net.Session.{Session}
 use Rattle.auc_world.proofs.world.World.to_peer.Goals as goal
 
@@ -109,3 +110,42 @@ returns-clause-devices c =
     let device = c.in-Some.device.now in
     let there = slice_get_read inside.devices.items (length inside.devices.items) session.device device refl c.in-Some.ensures.item.3.0 c.in-Some.ensures.value in
     map_same subscription_of inside.devices.items session.device device c.answer.new.device there c.in_ok-turn.ensures.subscription ∙ ap (λ (w : WorldState). w.net.devices) c.self.view_is
+
+-- ---- the parts that stay
+
+pub invariant_of-self : goal.invariant_of-self
+invariant_of-self c =
+    let inside = c.self.inside in
+    subst (λ (packets : List SentPacket). IsKept (keys inside.sessions) (get is_key inside.places) (state_of packets (values inside.sessions) inside.released.items inside.homes.items inside.broken inside.devices.items))
+    (sym c.in_err-make_place.ensures.same) c.self.invariant
+
+pub returns-in_err-make_place-clause-homes : goal.returns-in_err-make_place-clause-homes
+returns-in_err-make_place-clause-homes c = ap (λ (w : WorldState). w.net.homes) c.self.view_is
+
+pub returns-in_err-make_place-clause-devices : goal.returns-in_err-make_place-clause-devices
+returns-in_err-make_place-clause-devices c = ap (λ (w : WorldState). w.net.devices) c.self.view_is
+
+pub returns-in_err-make_place-clause-world : goal.returns-in_err-make_place-clause-world
+returns-in_err-make_place-clause-world c =
+    let inside = c.self.inside in
+    on_error _ _ (answered_states _ inside.packets.items _ (values inside.sessions) inside.released.items inside.homes.items inside.broken _ inside.devices.items c.in_err-make_place.ensures.same refl refl ∙ c.self.view_is)
+
+pub returns-in_default-clause-homes : goal.returns-in_default-clause-homes
+returns-in_default-clause-homes c = ap (λ (w : WorldState). w.net.homes) c.self.view_is
+
+pub returns-in_default-clause-devices : goal.returns-in_default-clause-devices
+returns-in_default-clause-devices c = ap (λ (w : WorldState). w.net.devices) c.self.view_is
+
+pub returns-in_err-turn-clause-homes : goal.returns-in_err-turn-clause-homes
+returns-in_err-turn-clause-homes c = ap (λ (w : WorldState). w.net.homes) c.self.view_is
+
+pub returns-in_err-turn-clause-devices : goal.returns-in_err-turn-clause-devices
+returns-in_err-turn-clause-devices c =
+    let inside = c.self.inside in
+    let session = c.index_mut-session.result.now in
+    let device = c.in-Some.device.now in
+    let there = slice_get_read inside.devices.items (length inside.devices.items) session.device device refl c.in-Some.ensures.item.3.0 c.in-Some.ensures.value in
+    map_same subscription_of inside.devices.items session.device device c.answer.new.device there c.in_err-turn.ensures.subscription ∙ ap (λ (w : WorldState). w.net.devices) c.self.view_is
+
+pub returns-clause-homes : goal.returns-clause-homes
+returns-clause-homes c = ap (λ (w : WorldState). w.net.homes) c.self.view_is

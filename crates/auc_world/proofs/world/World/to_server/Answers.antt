@@ -11,8 +11,9 @@ use Rattle.indexmap.specs.IndexMap.{get, keys, values}
 use Rattle.auc_world.proofs.ServingLemmas.{has_packet, packet_read, serves, serves_nobody, serves_now}
 use Rattle.auc_world.proofs.WorldLemmas.{kept_alike, kept_homes, kept_session, of_all, on_error, same_session, served_states, served_there, set_same, values_set}
 use Rattle.auc_world.specs.Came.{vector_sent}
-use Rattle.auc_world.specs.InnerWorld.{is_key, state_of}
+use Rattle.auc_world.specs.InnerWorld.{IsKept, is_key, state_of}
 use Rattle.auc_world.specs.World.{AreHomes, HasHeld, WorldState}
+use Rattle.auc_world.specs.declared.net.SentPacket.{SentPacket}
 use Rattle.auc_world.specs.declared.net.Session.{Session}
 use Rattle.auc_world.proofs.world.World.to_server.Goals as goal
 
@@ -39,26 +40,6 @@ returns-in_default-clause-served g c =
     c.args.place c.args.packet session there.sent c.index_mut-session.ensures.value there.of_number c.args.self.now c.self.view_is _ c.args.centre.now c.args.centre.now _
     (serves_nobody g.C.Centre.goes g.C.Centre.kept g.C.Centre.top c.args.set.now inside.packets.items (values inside.sessions) inside.released.items inside.homes.items inside.broken inside.devices.items
     c.args.place c.args.packet session there.sent c.args.centre.now g.met.C.Centre.stays c.in_default.is _ same)
-
-pub invariant_of-self-in_err-before : goal.invariant_of-self-in_err-before
-invariant_of-self-in_err-before g c =
-    let inside = c.self.inside in
-    let session = c.index_mut-session.result.now in
-    let same : Session = record session { server = Some c.in-Some.server } in
-    kept_session (keys inside.sessions) (get is_key inside.places) inside.packets.items (values inside.sessions) inside.released.items inside.homes.items inside.broken inside.devices.items c.self.invariant
-    _ _ _ _ _ c.args.place session same (keys-with_value_at inside.sessions c.args.place same) (values_set inside.sessions.entries c.args.place same) c.index_mut-session.ensures.value refl refl
-    (subst (HasHeld inside.homes.items) c.in-Some.is (of_all (λ (s : Session). HasHeld inside.homes.items s.server) (values inside.sessions) c.args.place session c.self.invariant.world.held c.index_mut-session.ensures.value))
-
-pub returns-in_err-before-clause-world : goal.returns-in_err-before-clause-world
-returns-in_err-before-clause-world g c =
-    let inside = c.self.inside in
-    let session = c.index_mut-session.result.now in
-    let same : Session = record session { server = Some c.in-Some.server } in
-    on_error _ _ (served_states _ inside.packets.items _ (values inside.sessions) _ inside.released.items _ inside.homes.items inside.broken inside.devices.items
-    c.in_ok-make_place.ensures.same
-    (values_set inside.sessions.entries c.args.place same ∙ ap (slice_set (values inside.sessions) c.args.place) (same_session session c.in-Some.server c.in-Some.server c.in-Some.is refl)
-    ∙ set_same (values inside.sessions) c.args.place session c.index_mut-session.ensures.value)
-    c.in_ok-reserve.ensures.items refl ∙ c.self.view_is)
 
 pub serve-requires-clause-served : goal.serve-requires-clause-served
 serve-requires-clause-served g c =
@@ -119,9 +100,9 @@ returns-clause-served g c =
     c.args.place c.args.packet session c.index.result.now c.in-Some.server c.serve.new.server c.in_ok-turn.field-0.turn c.args.centre.now c.serve.new.centre c.as_slice-bytes.result.now
     c.in-Some.is c.as_slice-bytes.ensures c.serve.new.homes.items c.in_ok-turn.ensures.step c.in_ok-turn.ensures.same held_before.2
     c.make_place.new.packets.items c.deref.result.now c.post.new.packets.items _ c.reserve.new.self.items c.release.new.released.items c.as_slice.result.now c.serve.new.homes.items
-    c.judged-self-inside.result c.in_ok-turn.field-0.inputs c.in_ok-before.before c.in_ok-turn.field-0.sent c.asked-asked.result c.post.result
+    c.judged-self-inside.result c.in_ok-turn.field-0.inputs c.in_ok-turn.field-0.before c.in_ok-turn.field-0.sent c.asked-asked.result c.post.result
     c.in_ok-make_place.ensures.same (c.deref.ensures.value ∙ c.in_ok-make_place.ensures.same) c.in_ok-reserve.ensures.items c.as_slice.ensures.value refl
-    c.in_ok-before.ensures c.in_ok-turn.ensures.inputs c.in_ok-turn.ensures.sent c.post.ensures.posted c.post.ensures.number c.asked-asked.ensures c.release.ensures c.judged-self-inside.ensures
+    c.in_ok-turn.ensures.before c.in_ok-turn.ensures.inputs c.in_ok-turn.ensures.sent c.post.ensures.posted c.post.ensures.number c.asked-asked.ensures c.release.ensures c.judged-self-inside.ensures
     (values_set inside.sessions.entries c.args.place new) c.vector_sent-vector.result (c.vector_sent-vector.ensures ∙ ap (vector_sent c.in_ok-turn.field-0.turn.notes.number) c.challenged.ensures))
 
 pub returns-clause-asked : goal.returns-clause-asked
@@ -142,3 +123,50 @@ pub returns-clause-homes : goal.returns-clause-homes
 returns-clause-homes g c =
     let inside = c.self.inside in
     c.in_ok-turn.ensures.same ∙ ap (λ (w : WorldState). map (λ (home : HomeRow). home.sub) w.net.homes) c.self.view_is
+
+-- ---- the parts that stay
+
+pub invariant_of-self : goal.invariant_of-self
+invariant_of-self g c =
+    let inside = c.self.inside in
+    subst (λ (packets : List SentPacket). IsKept (keys inside.sessions) (get is_key inside.places) (state_of packets (values inside.sessions) inside.released.items inside.homes.items inside.broken inside.devices.items))
+    (sym c.in_err-make_place.ensures.same) c.self.invariant
+
+pub returns-in_err-make_place-clause-homes : goal.returns-in_err-make_place-clause-homes
+returns-in_err-make_place-clause-homes g c = ap (λ (w : WorldState). map (λ (home : HomeRow). home.sub) w.net.homes) c.self.view_is
+
+pub returns-in_err-make_place-clause-devices : goal.returns-in_err-make_place-clause-devices
+returns-in_err-make_place-clause-devices g c = ap (λ (w : WorldState). w.net.devices) c.self.view_is
+
+pub returns-in_err-reserve-clause-homes : goal.returns-in_err-reserve-clause-homes
+returns-in_err-reserve-clause-homes g c = ap (λ (w : WorldState). map (λ (home : HomeRow). home.sub) w.net.homes) c.self.view_is
+
+pub returns-in_err-reserve-clause-devices : goal.returns-in_err-reserve-clause-devices
+returns-in_err-reserve-clause-devices g c = ap (λ (w : WorldState). w.net.devices) c.self.view_is
+
+pub returns-in_default-clause-homes : goal.returns-in_default-clause-homes
+returns-in_default-clause-homes g c = ap (λ (w : WorldState). map (λ (home : HomeRow). home.sub) w.net.homes) c.self.view_is
+
+pub returns-in_default-clause-devices : goal.returns-in_default-clause-devices
+returns-in_default-clause-devices g c = ap (λ (w : WorldState). w.net.devices) c.self.view_is
+
+pub returns-in_err-turn-clause-devices : goal.returns-in_err-turn-clause-devices
+returns-in_err-turn-clause-devices g c = ap (λ (w : WorldState). w.net.devices) c.self.view_is
+
+pub returns-clause-devices : goal.returns-clause-devices
+returns-clause-devices g c = ap (λ (w : WorldState). w.net.devices) c.self.view_is
+
+pub returns-in_err-turn-clause-homes : goal.returns-in_err-turn-clause-homes
+returns-in_err-turn-clause-homes g c =
+    ap (map (λ (home : HomeRow). home.sub)) c.in_err-turn.ensures.homes ∙ ap (λ (w : WorldState). map (λ (home : HomeRow). home.sub) w.net.homes) c.self.view_is
+
+pub returns-in_err-make_place-clause-world : goal.returns-in_err-make_place-clause-world
+returns-in_err-make_place-clause-world g c =
+    let inside = c.self.inside in
+    on_error _ _ (served_states _ inside.packets.items _ (values inside.sessions) _ inside.released.items _ inside.homes.items inside.broken inside.devices.items c.in_err-make_place.ensures.same refl refl refl ∙ c.self.view_is)
+
+pub returns-in_err-reserve-clause-world : goal.returns-in_err-reserve-clause-world
+returns-in_err-reserve-clause-world g c =
+    let inside = c.self.inside in
+    on_error _ _ (served_states _ inside.packets.items _ (values inside.sessions) _ inside.released.items _ inside.homes.items inside.broken inside.devices.items
+    c.in_ok-make_place.ensures.same refl c.reserve.ensures.items refl ∙ c.self.view_is)
