@@ -118,9 +118,9 @@ module _ (packets : List SentPacket) (sessions : List Session) (released : List 
         → keys ≡ keys_won session.peer_keys turn.step
         → broken' ≡ judged looked broken (Some (record { checked = turn.checked; inputs = inputs; bytes = bytes; delivery = breach_at d0 end.Peer }))
         → sessions' ≡ slice_set sessions place (record session { peer = new; peer_keys = keys })
-        → Answers set old d0 (state_of packets' sessions' released homes broken' (slice_set devices session.device card))
-        (Ok (record { notes = turn.notes; step = did.Peer turn.step; packet = posted_as; asked = None; device = Some session.sub; vector = None }))
-    answers read looked packets' sessions' broken' inputs sent posted_as keys is_read is_looked is_inputs is_sent is_packets is_posted is_keys is_broken is_sessions =
+        → (note : Note) → note ≡ record { notes = turn.notes; step = did.Peer turn.step; packet = posted_as; asked = None; device = Some session.sub; vector = None }
+        → Answers set old d0 (state_of packets' sessions' released homes broken' (slice_set devices session.device card)) (Ok note)
+    answers read looked packets' sessions' broken' inputs sent posted_as keys is_read is_looked is_inputs is_sent is_packets is_posted is_keys is_broken is_sessions note is_note =
         let here : slice_get old.net.devices session.device ≡ Some (subscription_of device) = subscription_at devices session.device device there in
         let post : posted read end.Peer inputs sent ≡ posted packets end.Peer (inputs_of_peer session.sub new) (sent_by turn.step) = λ j. posted (is_read j) end.Peer (is_inputs j) (is_sent j) in
         let put : packets' ≡ posted packets end.Peer (inputs_of_peer session.sub new) (sent_by turn.step) = is_packets ∙ post in
@@ -143,11 +143,11 @@ module _ (packets : List SentPacket) (sessions : List Session) (released : List 
         λ j. record { notes = turn.notes; step = did.Peer turn.step; packet = number_is j; asked = None; device = Some session.sub; vector = None } in
         record {
           told = told;
-          is = ap (λ (n : Note). Ok n) note_is ∙ ap (λ (x : Peer × Turn PeerWhy). Ok (by_peer old.net x.1.notes x.1.step (Some session.sub))) turn_is ∙ ap (came_at_peer set old.net d0 told) (sym here);
+          is = ap (λ (n : Note). Ok n) (is_note ∙ note_is) ∙ ap (λ (x : Peer × Turn PeerWhy). Ok (by_peer old.net x.1.notes x.1.step (Some session.sub))) turn_is ∙ ap (came_at_peer set old.net d0 told) (sym here);
           leads = net_is ∙ ap after_turn turn_is
               ∙ ap (λ (o : Option Subscription). record (to_peer set old.net d0 told o) { broken = judged packets broken (peer_finds set old.net d0 told o) }) (sym here);
           received = subst (λ (o : Option Subscription). AreReceived (received_by sent_packet.bytes o) steps.seen) (sym here) (steps.received, steps.of ∙ of_packet);
-          notes = refl;
+          notes = sym (ap (λ (n : Note). n.notes) is_note);
           usims = subst (λ (o : Option Subscription). AreHanded (presented_at old.net d0 told o) told devices (slice_set devices session.device card)) (sym here) (record {
             before = device;
             there = there;

@@ -164,9 +164,9 @@ module _ {S : Type 0} (goes : S → ℕ → List Entry → List (ℕ × Stop) �
         → broken' ≡ judged looked broken (Some (record { checked = turn.checked; inputs = inputs_before; bytes = bytes; delivery = breach_at d0 end.Server }))
         → sessions' ≡ slice_set sessions place (record session { server = Some new })
         → (vector : Option Vector) → vector ≡ vector_sent turn.notes.number new.challenged
-        → Serves goes kept top set old d0 before (state_of packets' sessions' released' homes' broken' devices)
-        (Ok (record { notes = turn.notes; step = did.Server turn.step; packet = posted_as; asked = asked; device = None; vector = vector })) after
-    serves read looked packets' sessions' noted released' served homes' broken' inputs inputs_before sent asked posted_as is_read is_looked is_noted is_served is_homes is_before is_inputs is_sent is_packets is_posted is_asked is_released is_broken is_sessions vector is_vector =
+        → (note : Note) → note ≡ record { notes = turn.notes; step = did.Server turn.step; packet = posted_as; asked = asked; device = None; vector = vector }
+        → Serves goes kept top set old d0 before (state_of packets' sessions' released' homes' broken' devices) (Ok note) after
+    serves read looked packets' sessions' noted released' served homes' broken' inputs inputs_before sent asked posted_as is_read is_looked is_noted is_served is_homes is_before is_inputs is_sent is_packets is_posted is_asked is_released is_broken is_sessions vector is_vector note is_note =
         let for_whom : asked ≡ asked_sub asks = is_asked ∙ ap (λ (h : List HomeRow). asked_after set h new turn.notes.resync turn.notes.number) is_served
         ∙ asked_same set homes later new turn.notes.resync turn.notes.number alike ∙ asked_for in
         let post : posted read end.Server inputs sent ≡ posted packets end.Server (inputs_of_server new) (sent_by turn.step) = λ j. posted (is_read j) end.Server (is_inputs j) (is_sent j) in
@@ -188,11 +188,11 @@ module _ {S : Type 0} (goes : S → ℕ → List Entry → List (ℕ × Stop) �
         λ j. record { notes = turn.notes; step = did.Server turn.step; packet = number_is j; asked = for_whom j; device = None; vector = is_vector j } in
         record {
           told = told;
-          is = ap (λ (n : Note). Ok n) note_is ∙ ap (λ (x : ServerEnd × Turn ServerWhy). Ok (by_server old.net x.1.notes x.1.step asks (vector_sent x.1.notes.number x.0.challenged))) steps.same ∙ ap (came_at_server set old.net told) (sym is);
+          is = ap (λ (n : Note). Ok n) (is_note ∙ note_is) ∙ ap (λ (x : ServerEnd × Turn ServerWhy). Ok (by_server old.net x.1.notes x.1.step asks (vector_sent x.1.notes.number x.0.challenged))) steps.same ∙ ap (came_at_server set old.net told) (sym is);
           leads = net_is ∙ ap after_turn steps.same
               ∙ ap (λ (o : Option ServerEnd). record (to_server set old.net d0 told o) { broken = judged packets broken (server_finds set old.net d0 told o) }) (sym is);
           received = subst (λ (o : Option ServerEnd). AreReceived (received_by sent_packet.bytes o) steps.seen) (sym is) (steps.received, steps.of ∙ of_packet);
-          notes = refl;
+          notes = sym (ap (λ (n : Note). n.notes) is_note);
           replies = subst (RepliesAt told) (sym is) steps.replies;
           centre = subst (λ (o : Option ServerEnd). Asked goes kept top (asking_at set old.net told o) turn.notes before after) (sym is) steps.asked;
           drawn = subst (AsksAt set old.net told) (sym is) steps.drawn;

@@ -4,12 +4,14 @@ ghost use Rattle.std.specs.Prelude.{◌≡◌, ◌≤◌, ◌<◌, ◌++◌, ℕ
 ghost use Rattle.auc_world.specs.Came.{came_in, came_opened, session_of, vector_sent};
 ghost use Rattle.auc_world.specs.Event.{asked_in};
 ghost use Rattle.auc_world.specs.Happened.{Delivery, at_session, delivery_at, opened};
-ghost use Rattle.auc_world.specs.InnerWorld.{Answers, IsReached, IsUnreached, Serves, came_of, net_of, released_for};
-ghost use Rattle.auc_world.specs.Net.{device_place, session_place};
+ghost use Rattle.auc_world.specs.InnerWorld.{Answers, HasPlace, IsReached, IsUnreached, Serves, came_of, net_of, number_after, released_for};
+ghost use Rattle.auc_world.specs.Net.{device_place, posted, session_place};
 ghost use Rattle.auc_lines.specs.Part.{IsShortIdentity};
+ghost use Rattle.auc_lines.specs.declared.part.End.TheVariants as end;
 ghost use Rattle.auc_peer.specs.Subscription.{subscription_of};
 ghost use Rattle.auc_subs.specs.Subscriber.{AreSubscribers};
 ghost use Rattle.auc_world.specs.Sessions.{job_sessions};
+ghost use Rattle.auc_world.specs.declared.event.NoteStep.TheVariants as did;
 ghost use Rattle.auc_world.specs.World.{Applies, AreHomes, AreOfSame, Challenges, IsKnownEvent, IsName, RememberPasts, usim_of};
 
 use crate::acting::{Came, Deed, act, note};
@@ -278,33 +280,21 @@ impl World {
         let near = packet as usize - 1;
         let bytes = self.packets[near].bytes.as_slice();
         let homes = &mut self.homes;
-        let Served {
-            turn,
-            inputs,
-            sent,
-            before,
-        } = serve(rt, alloc, set, homes, centre, server, bytes)?;
-        let asked = server.asked(set, self.homes.as_slice(), turn.notes);
-        let vector = vector_sent(turn.notes.number, server.challenged());
-        let checked = turn.checked;
+        let served = serve(rt, alloc, set, homes, centre, server, bytes)?;
+        let notes = served.turn.notes;
+        let asked = server.asked(set, self.homes.as_slice(), notes);
+        let vector = vector_sent(notes.number, server.challenged());
         self.broken = judged(
             &self.packets,
             near,
             self.broken,
-            checked,
-            &before,
+            served.turn.checked,
+            &served.before,
             bytes,
             delivery,
         );
-        release(&mut self.released, asked, turn.notes.number);
-        Ok(Ok(Note {
-            notes: turn.notes,
-            step: NoteStep::Server(turn.step),
-            packet: post(&mut self.packets, End::Server, inputs, sent),
-            asked,
-            device: None,
-            vector,
-        }))
+        release(&mut self.released, asked, notes.number);
+        Ok(Ok(post_served(&mut self.packets, served, asked, vector)))
     }
 
     /// Delivers a packet to the peer of the session at a place, at its subscriber's device.
@@ -337,26 +327,18 @@ impl World {
         let bytes = self.packets[near].bytes.as_slice();
         let sub = session.sub;
         let peer = &mut session.peer;
-        let Taken { turn, inputs, sent } = answer(alloc, set.rands, device, sub, peer, bytes)?;
-        session.peer_keys = keys_won(session.peer_keys, &turn.step);
-        let checked = turn.checked;
+        let taken = answer(alloc, set.rands, device, sub, peer, bytes)?;
+        session.peer_keys = keys_won(session.peer_keys, &taken.turn.step);
         self.broken = judged(
             &self.packets,
             near,
             self.broken,
-            checked,
-            &inputs,
+            taken.turn.checked,
+            &taken.inputs,
             bytes,
             delivery,
         );
-        Ok(Ok(Note {
-            notes: turn.notes,
-            step: NoteStep::Peer(turn.step),
-            packet: post(&mut self.packets, End::Peer, inputs, sent),
-            asked: None,
-            device: Some(sub),
-            vector: None,
-        }))
+        Ok(Ok(post_taken(&mut self.packets, taken, sub)))
     }
 }
 
@@ -367,6 +349,50 @@ fn vector_sent(drawn: Option<NumberNote>, challenged: Option<Challenged>) -> Opt
     match (drawn, challenged) {
         (Some(NumberNote::Drew(_)), Some(sent)) => Some(sent.vector),
         _ => None,
+    }
+}
+
+/// Posts what a server's turn sent, and notes the turn. There is a place for the packet.
+fn post_served(
+    packets: &mut Vec<SentPacket>,
+    served: Served,
+    asked: Option<u32>,
+    vector: Option<Vector>,
+) -> Note
+    requires { HasPlace packets.old }
+    ensures posted { packets.new.items ≡ posted packets.old.items end.Server served.inputs served.sent }
+    ensures note { result ≡ record { notes = served.turn.notes; step = did.Server served.turn.step; packet = number_after packets.old.items served.sent; asked = asked; device = None; vector = vector } }
+{
+    let Served {
+        turn,
+        inputs,
+        sent,
+        ..
+    } = served;
+    Note {
+        notes: turn.notes,
+        step: NoteStep::Server(turn.step),
+        packet: post(packets, End::Server, inputs, sent),
+        asked,
+        device: None,
+        vector,
+    }
+}
+
+/// Posts what a peer's turn sent, and notes the turn. There is a place for the packet.
+fn post_taken(packets: &mut Vec<SentPacket>, taken: Taken, sub: u32) -> Note
+    requires { HasPlace packets.old }
+    ensures posted { packets.new.items ≡ posted packets.old.items end.Peer taken.inputs taken.sent }
+    ensures note { result ≡ record { notes = taken.turn.notes; step = did.Peer taken.turn.step; packet = number_after packets.old.items taken.sent; asked = None; device = Some sub; vector = None } }
+{
+    let Taken { turn, inputs, sent } = taken;
+    Note {
+        notes: turn.notes,
+        step: NoteStep::Peer(turn.step),
+        packet: post(packets, End::Peer, inputs, sent),
+        asked: None,
+        device: Some(sub),
+        vector: None,
     }
 }
 

@@ -1,8 +1,10 @@
 use Rattle.std.proofs.Common.{◌∙◌, List, ap, map, refl, subst, sym}
 use Rattle.std.specs.Prelude.{ℕ}
 use Rattle.auc_edge.specs.Reserved.{Reserved}
-use Rattle.auc_server.specs.Steps.{IsHeld, IsHeldToo}
+use Rattle.auc_server.specs.Steps.{IsHeld, IsHeldToo, IsServed, Steps}
 use Rattle.auc_server.specs.declared.setting.HomeRow.{HomeRow}
+use Rattle.auc_server.specs.declared.why.ServerWhy.{ServerWhy}
+use Rattle.auc_vector.specs.declared.turn.Turn.{Turn}
 use Rattle.auc_world.proofs.TurningLemmas.{identity_left, name_stays, turn_subs, written_back}
 use Rattle.auc_world.proofs.turning.serve.Goals as goal
 
@@ -16,6 +18,21 @@ pub put_served-requires-clause-name : goal.put_served-requires-clause-name
 put_served-requires-clause-name g c =
     let step = c.in-Ok.ensures.step in
     name_stays c.args.set.now _ c.args.server.now c.on_bytes.new.self step.seen step.reply c.in-Ok.turn c.in_ok-rooms.rooms.name step.same c.in_ok-rooms.ensures.name
+
+pub on_bytes-requires-clause-served : goal.on_bytes-requires-clause-served
+on_bytes-requires-clause-served g c =
+    subst (λ (hs : List HomeRow). IsServed c.args.set.now.rows (g.C.Centre.subs c.args.centre.now) (g.C.Centre.top c.args.centre.now) hs c.args.server.now)
+    (sym c.as_mut_slice.ensures.value) c.requires.served
+
+pub returns-in-Ok-clause-step : goal.returns-in-Ok-clause-step
+returns-in-Ok-clause-step g c =
+    let back = written_back c.args.homes.now.items c.on_bytes.new.homes _ (c.on_bytes.auto.homes ∙ c.as_mut_slice.ensures.len) in
+    subst (λ (hs : List HomeRow). Steps g.C.Centre.goes g.C.Centre.kept g.C.Centre.top c.args.set.now c.args.homes.now.items c.args.server.now c.args.bytes.now c.args.centre.now c.on_bytes.new.self c.put_served.result.turn hs c.on_bytes.new.centre)
+    (sym back)
+    (subst (λ (t : Turn ServerWhy). Steps g.C.Centre.goes g.C.Centre.kept g.C.Centre.top c.args.set.now c.args.homes.now.items c.args.server.now c.args.bytes.now c.args.centre.now c.on_bytes.new.self t c.on_bytes.new.homes c.on_bytes.new.centre)
+    (sym c.put_served.ensures.turn)
+    (subst (λ (hs : List HomeRow). Steps g.C.Centre.goes g.C.Centre.kept g.C.Centre.top c.args.set.now hs c.args.server.now c.args.bytes.now c.args.centre.now c.on_bytes.new.self c.in-Ok.turn c.on_bytes.new.homes c.on_bytes.new.centre)
+    c.as_mut_slice.ensures.value c.in-Ok.ensures.step))
 
 -- the homes are of the same subscribers after a turn
 pub returns-in-Ok-clause-same : goal.returns-in-Ok-clause-same
