@@ -703,3 +703,10 @@ pub closed_within : (book : BookValue) (lists : List (List Deed)) (keeper : Keep
 closed_within book lists keeper closed words closes is =
     subst (λ (ws : List ℕ). All (λ word. word ≤ max_seq + 64) ws) (sym is)
     (bounded_words closed.words (max_seq + 64) (λ sub known. closes.bounded sub (omega (arith, known, closes.many))))
+
+-- a closed book, by the words that were read of it and the lists of its passes
+pub closes_at : (book : BookValue) (lists : List (List Deed)) (keeper : KeeperValue) (closed : ClosedValue) (words : List ℕ) → Closes book lists keeper closed → words ≡ closed.words
+    → Closes book lists keeper (record { words = words; lists = lists })
+closes_at book lists keeper closed words closes is =
+    subst (λ (ws : List ℕ). Closes book lists keeper (record { words = ws; lists = lists })) (sym is)
+    (subst (λ (ls : List (List Deed)). Closes book lists keeper (record { words = closed.words; lists = ls })) closes.same closes)

@@ -4,6 +4,7 @@ use Rattle.std.specs.Prelude.{IfOk, OnOk}
 use Rattle.std.specs.Result.{result_and}
 use Rattle.std.proofs.lemmas.Option.{slice_get_within}
 use Rattle.std.proofs.lemmas.List.Elements.{All-contains, All-map}
+use Rattle.atomic_table.specs.Seated.{TableId}
 use Rattle.auc_draw.specs.Book.{Opens}
 use Rattle.auc_draw.specs.Values.{BookValue, KeeperValue, PassValue}
 use Rattle.auc_edge.specs.Identity.{Identity}
@@ -28,10 +29,13 @@ use Rattle.auc_world.specs.Lines.{all_lines, held_of, withheld_of}
 use Rattle.auc_world.specs.Setting.{Setting}
 use Rattle.auc_world.specs.Transcript.{reopened}
 use Rattle.auc_world.proofs.Facts.{withheld_of-held_of}
+use Rattle.auc_jobs.specs.declared.claiming.WorkerJobs.{WorkerJobs}
 use Rattle.auc_jobs.specs.declared.round.Ran.{Ran}
 use Rattle.auc_jobs.specs.declared.workers.RoundPieces.{RoundPieces}
+use Rattle.auc_jobs.specs.InnerClaims.{IsDone}
 use Rattle.auc_jobs.specs.InnerKeeping.{CanKeep, StaysNear, TellsStop, told_stop}
 use Rattle.auc_jobs.specs.InnerRound.{GoesByLimits, LeadsOn}
+use Rattle.auc_jobs.specs.InnerSharing.{Shared}
 use Rattle.auc_jobs.specs.Round.{DrewFull, IsJournalOf, Serves}
 use Rattle.auc_jobs.specs.State.{Standing, StandsAt}
 use Rattle.auc_jobs.proofs.LineLemmas.{some_at}
@@ -102,6 +106,13 @@ can_keep rows openings workers journal book passes pass subscribers is opens = r
   limits = opens.reserved;
   running = opens.running;
 }
+
+-- what the workers of a round came to is of all its passes
+pub all_worked : (id : TableId) (shared : Shared) (openings limits : List ℕ) (workers : ℕ) (book : BookValue) (passes : List PassValue) (before after : KeeperValue) (all : List WorkerJobs)
+    → Opens openings limits workers book passes before → 1 ≤ workers → after.passes ≡ before.passes → (length all ≡ length passes) × All (IsDone id shared) all
+    → (1 ≤ length all) × (after.passes ≡ length all) × All (IsDone id shared) all
+all_worked id shared openings limits workers book passes before after all opens some kept done =
+    (omega (arith, done.0, opens.many, some), kept ∙ opens.all ∙ sym opens.many ∙ sym done.0, done.1)
 
 -- the limit at a row's place is what is reserved for its identity
 limit_of_row : {D : Type 0} (rows : List Row) (journal : JournalState D) (sub : ℕ) (row : Row) → journal.imsis ≡ map (λ row. row.imsi) rows → slice_get rows sub ≡ Some row

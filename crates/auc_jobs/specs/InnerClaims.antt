@@ -1,12 +1,13 @@
 -- Inner facts: what only private contracts of this crate cite. Here: the jobs that a worker claims and serves, and those of
 -- all workers of a round.
-use Rattle.std.specs.Prelude.{◌≡◌, ◌⊎◌, ℕ, ◌+◌, ◌<◌, ◌≤◌, Bool, true, false, List, [], ◌∷◌, ◌++◌, length, map, flat_map, All, AllPairs, Any, Contains, Option, Some, None, slice_get, if◌then◌else◌}
+use Rattle.std.specs.Prelude.{◌≡◌, ◌⊎◌, ℕ, ◌+◌, ◌<◌, ◌≤◌, Bool, true, false, List, [], ◌∷◌, ◌++◌, length, map, flat_map, All, AllPairs, Any, Contains, Option, Some, None, slice_get, slice_index, if◌then◌else◌}
 use Rattle.atomic_table.specs.Seated.{TableId}
 use Rattle.auc_draw.specs.Deeds.{entries_of, claims_of, kept_of, released_of, held_of as pass_held}
-use Rattle.auc_draw.specs.Values.{PassValue}
+use Rattle.auc_draw.specs.Values.{BookValue, KeeperValue, PassValue}
 use Rattle.auc_history.specs.declared.entry.Entry.{Entry}
 use Rattle.auc_history.specs.History.{IsInOrder}
 use Rattle.auc_lines.specs.declared.part.Line.{Line}
+use Rattle.auc_sqn.specs.Number.{max_seq}
 use Rattle.auc_world.specs.declared.record.LineRecord.{LineRecord}
 use Rattle.auc_world.specs.Entries.{entries_of_lines}
 use Rattle.auc_world.specs.Given.{JobGives}
@@ -18,7 +19,9 @@ use Rattle.auc_world.specs.Vectors.{vectors_in}
 use Rattle.auc_jobs.specs.declared.claiming.ClaimedJob.{ClaimedJob}
 use Rattle.auc_jobs.specs.declared.claiming.WorkerJobs.{WorkerJobs}
 use Rattle.auc_jobs.specs.declared.jobs.ServedJob.{ServedJob}
-use Rattle.auc_jobs.specs.InnerRound.{IsSettled, left_in, left_on}
+use Rattle.auc_jobs.specs.declared.workers.RoundPieces.{RoundPieces}
+use Rattle.auc_jobs.specs.InnerKeeping.{told_stop}
+use Rattle.auc_jobs.specs.InnerRound.{AreServed, GoesByLimits, IsSettled, left_in, left_on}
 use Rattle.auc_jobs.specs.InnerServing.{before_at, AreTold}
 use Rattle.auc_jobs.specs.InnerSharing.{Shared, Begins}
 use Rattle.auc_jobs.specs.InnerUsims.{usim_in}
@@ -115,3 +118,13 @@ pub record AreCollected (all : List WorkerJobs) (passes : List PassValue) (done 
   pub passed : passes ≡ map (λ d. d.pass) all
   pub served : done ≡ flat_map (λ d. d.jobs.items) all
   pub whole : All (λ d. d.is_whole ≡ true) all
+
+-- what the closing of a round's book gives: pieces that go by the openings and the limits of the book, and by the keeper's pass
+pub record ClosesAs (shared : Shared) (book : BookValue) (keeper : KeeperValue) (done : RoundPieces) : Type 0 where
+  pub served : (early : List LineRecord) → Begins shared early
+      → AreServed shared.set early shared.stores book.openings shared.jobs done.jobs.records done.jobs.devices done.jobs.sessions done.words
+  pub limits : GoesByLimits shared.set done.stop done.jobs.records book.limits done.words keeper.limits
+  pub looked : (i : ℕ) → i < length book.openings → slice_index keeper.seen i ≤ slice_index done.words i
+  pub vectors : done.jobs.vectors ≡ (if shared.full then map (vectors_in shared.set) done.jobs.records else [])
+  pub bound : All (λ word. word ≤ max_seq + 64) done.words
+  pub stop : done.stop ≡ told_stop keeper.stop done.jobs.records

@@ -58,14 +58,29 @@ impl ServedJobs {
         ensures sessions { OnOk result (self.new.sessions ≡ self.old.sessions ++ job.sessions ∷ []) }
         ensures vectors { OnOk result (self.new.vectors ≡ (if full then self.old.vectors ++ job.vectors ∷ [] else self.old.vectors)) }
     {
-        self.records.push(job.lines)?;
-        self.devices.push(job.devices)?;
-        self.sessions.push(job.sessions)?;
-        if full {
-            self.vectors.push(job.vectors)?;
-        }
+        let ServedJob {
+            lines,
+            devices,
+            sessions,
+            vectors,
+        } = job;
+        let records = self.records.push(lines);
+        let devices = self.devices.push(devices);
+        let sessions = self.sessions.push(sessions);
+        let vectors = push_if(full, &mut self.vectors, vectors);
+        records?;
+        devices?;
+        sessions?;
+        vectors?;
         Ok(())
     }
+}
+
+/// Adds the vectors of a job in a full print.
+fn push_if(full: bool, all: &mut Items<JobVectors>, vectors: JobVectors) -> Result<(), NoMemory>
+    ensures { OnOk result (all.new ≡ (if full then all.old ++ vectors ∷ [] else all.old)) }
+{
+    if full { all.push(vectors) } else { Ok(()) }
 }
 
 impl<C: Centre> Worker<'_, C> {

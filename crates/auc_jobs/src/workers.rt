@@ -2,14 +2,14 @@
 
 ghost use Rattle.std.specs.Prelude.{◌≡◌, ◌≤◌, ◌<◌, ◌+◌, ℕ, [], All, AllPairs, IsPermutation, List, length, map, slice_index, IfOk, if◌then◌else◌};
 ghost use Rattle.auc_centre.specs.Kept.{subs_of};
-ghost use Rattle.auc_draw.specs.Book.{IsNew, Opens};
+ghost use Rattle.auc_draw.specs.Book.{Closes, IsNew, IsOf, Opens};
 ghost use Rattle.auc_journal.specs.Journal.{limits_of};
 ghost use Rattle.auc_keeper.specs.Keeper.{Since};
 ghost use Rattle.auc_sqn.specs.Number.{max_seq};
 ghost use Rattle.auc_subs.specs.Subscriber.{AreSubscribers};
 ghost use Rattle.auc_world.specs.declared.record.LineRecord.{LineRecord};
 ghost use Rattle.auc_world.specs.Vectors.{vectors_in};
-ghost use Rattle.auc_jobs.specs.InnerClaims.{AreCollected, IsDone};
+ghost use Rattle.auc_jobs.specs.InnerClaims.{AreCollected, ClosesAs, IsDone};
 ghost use Rattle.auc_jobs.specs.InnerKeeping.{CanKeep, StaysNear, TellsStop, told_stop};
 ghost use Rattle.auc_jobs.specs.InnerRound.{AreServed, GoesByLimits};
 ghost use Rattle.auc_jobs.specs.InnerSharing.{Begins, IsBookOf, IsServable};
@@ -26,7 +26,7 @@ use auc_edge::{Gate, Items, NoMemory, Stop};
 use auc_history::recut_split_is_a_split;
 use auc_journal::Journal;
 use auc_keeper::Keeper;
-use std::alloc::Global;
+use std::alloc::{AllocError, Global};
 use std::marker::Brand;
 use std::sync::{Mutex, Wait};
 use std::thread::{self, Threads};
@@ -49,7 +49,7 @@ pub(crate) struct Pieces<D: Disk + Drop> {
 /// What the workers of a round come to, and the parts of its keeper after them.
 #[derive(Drop)]
 struct Worked<D: Disk + Drop> {
-    all: Result<Vec<WorkerJobs>, NoMemory>,
+    all: Result<Vec<WorkerJobs>, AllocError>,
     journal: Journal<D>,
     keeper: KeeperPass,
     stop: Option<Stop>,
@@ -69,7 +69,7 @@ fn run_workers<
     keeper: &Mutex<Kept<L, D>>,
     gate: &G,
     passes: Vec<Pass>,
-) -> Result<Vec<WorkerJobs>, NoMemory>
+) -> Result<Vec<WorkerJobs>, AllocError>
     requires round { IsServable round.now }
     requires book { IsBookOf L.table (subs_of L.opening) (length round.now.set.rows) book.now }
     requires new { All (IsNew L.table) passes.items }
@@ -82,7 +82,7 @@ fn run_workers<
             × IsNew L.table pass }
         ensures { IsDone L.table round.entry.now result }
     { work(rt, alloc, round, book, keeper, gate, pass) };
-    Ok(thread::map_vec(rt, passes, &one)?)
+    thread::map_vec(rt, passes, &one)
 }
 
 /// Runs a worker for each pass, over the keeper of a journal in a lock. The parts of the keeper are handed back.
@@ -214,6 +214,24 @@ fn words(alloc: Global, closed: &Closed, subs: u32) -> Result<Items<u64>, NoMemo
     Ok(words)
 }
 
+/// The word of each subscriber, from a book that is closed with these passes.
+fn last_words(
+    alloc: Global,
+    book: Book,
+    passes: Vec<Pass>,
+    keeper: KeeperPass,
+    subs: u32,
+) -> Result<Items<u64>, NoMemory>
+    requires own { All (IsOf book.id) passes.items }
+    requires keeper { (keeper.id ≡ book.id) × (keeper.passes ≡ length passes.items) }
+    requires subs { length book.openings ≡ subs }
+    ensures { IfOk result (λ words. Closes book (map (λ p. p.deeds) passes.items) keeper
+        (record { words = words; lists = map (λ p. p.deeds) passes.items })) }
+{
+    let closed = book.close(passes, keeper);
+    words(alloc, &closed, subs)
+}
+
 /// Closes the book of a round, of which these are the workers and the keeper's pass, and puts what they served in the
 /// order of the jobs.
 fn close(
@@ -229,24 +247,18 @@ fn close(
     requires all { (1 ≤ length all.items) × All (IsDone book.id round.now) all.items }
     requires keeper { (keeper.id ≡ book.id) × (keeper.passes ≡ length all.items) }
     requires stop { stop ≡ keeper.stop }
-    ensures served { IfOk result (λ done. (early : List LineRecord) → Begins round.now early
-        → AreServed round.now.set early round.now.stores book.openings round.now.jobs done.jobs.records done.jobs.devices
-        done.jobs.sessions done.words) }
-    ensures limits { IfOk result (λ done.
-        GoesByLimits round.now.set done.stop done.jobs.records book.limits done.words keeper.limits) }
-    ensures looked { IfOk result (λ done. (i : ℕ) → i < length book.openings
-        → slice_index keeper.seen i ≤ slice_index done.words i) }
-    ensures vectors { IfOk result (λ done. done.jobs.vectors
-        ≡ (if round.now.full then map (vectors_in round.now.set) done.jobs.records else [])) }
-    ensures bound { IfOk result (λ done. All (λ word. word ≤ max_seq + 64) done.words) }
-    ensures stop { IfOk result (λ done. done.stop ≡ told_stop stop done.jobs.records) }
+    ensures { IfOk result (λ done. ClosesAs round.now book keeper done) }
 {
     recut_split_is_a_split();
-    let (passes, done) = collect(alloc, all)?;
+    let (passes, done) = match collect(alloc, all) {
+        Ok(both) => both,
+        Err(error) => {
+            give_back(book, keeper);
+            return Err(error);
+        }
+    };
     let set = round.set;
-    let subs = set.subs.len();
-    let closed = book.close(passes, keeper);
-    let words = words(alloc, &closed, subs)?;
+    let words = last_words(alloc, book, passes, keeper, set.subs.len())?;
     let jobs = served_jobs(alloc, in_order(done)?, round.full)?;
     let stop = told_stop(stop, jobs.records.as_slice());
     Ok(RoundPieces { jobs, words, stop })
@@ -254,6 +266,43 @@ fn close(
 
 /// Gives the book of a round and its keeper's pass back.
 fn give_back(_book: Book, _keeper: KeeperPass) {}
+
+/// What a round came to whose workers came to this: its pieces, if each worker had the memory, and the journal.
+fn settle<D: Disk + Drop>(
+    alloc: Global,
+    round: &RoundJobs,
+    book: Book,
+    worked: Worked<D>,
+) -> Pieces<D>
+    requires round { IsServable round.now }
+    requires book { length book.openings ≡ length round.now.set.rows }
+    requires all { IfOk worked.all (λ all. (1 ≤ length all.items) × (worked.keeper.passes ≡ length all.items)
+        × All (IsDone book.id round.now) all.items) }
+    requires keeper { worked.keeper.id ≡ book.id }
+    requires stop { worked.stop ≡ worked.keeper.stop }
+    ensures closes { IfOk result.result (λ done. ClosesAs round.now book worked.keeper done) }
+    ensures journal { result.journal ≡ worked.journal }
+{
+    let Worked {
+        all,
+        journal,
+        keeper,
+        stop,
+    } = worked;
+    match all {
+        Ok(all) => Pieces {
+            journal,
+            result: close(alloc, round, book, all, keeper, stop),
+        },
+        Err(AllocError) => {
+            give_back(book, keeper);
+            Pieces {
+                journal,
+                result: Err(NoMemory),
+            }
+        }
+    }
+}
 
 /// Serves the jobs of a round by so many workers, with a journal, which is handed back.
 pub(crate) fn serve_pieces<D: Disk + Drop + Send, G: Gate + Sync, R: Threads + Wait + Sync>(
@@ -286,28 +335,17 @@ pub(crate) fn serve_pieces<D: Disk + Drop + Send, G: Gate + Sync, R: Threads + W
     ensures near { IfOk result.result (λ done. StaysNear D.seen D.may_leave journal done.words result.journal) }
     ensures stop { IfOk result.result (λ done. TellsStop D.faults journal done.stop result.journal) }
 {
-    let (book, passes, keeper) = match open_book(alloc, openings, &journal, workers) {
-        Ok(opened) => opened,
-        Err(error) => {
-            return Pieces {
-                journal,
-                result: Err(error),
-            };
+    match open_book(alloc, openings, &journal, workers) {
+        Ok(opened) => {
+            let (book, passes, keeper) = opened;
+            let worked = work_all::<Brand, D, G, R>(
+                rt, alloc, round, &book, gate, passes, journal, keeper,
+            );
+            settle(alloc, round, book, worked)
         }
-    };
-    let worked = work_all::<Brand, D, G, R>(rt, alloc, round, &book, gate, passes, journal, keeper);
-    let Worked {
-        all,
-        journal,
-        keeper,
-        stop,
-    } = worked;
-    let result = match all {
-        Ok(all) => close(alloc, round, book, all, keeper, stop),
-        Err(error) => {
-            give_back(book, keeper);
-            Err(error)
-        }
-    };
-    Pieces { journal, result }
+        Err(error) => Pieces {
+            journal,
+            result: Err(error),
+        },
+    }
 }
