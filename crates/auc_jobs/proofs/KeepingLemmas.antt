@@ -1,7 +1,6 @@
 -- For the keeper of a round: the journal after it.
 use Rattle.std.proofs.Common.{◌≡◌, ◌≢◌, ℕ, zero, suc, ◌+◌, ◌<◌, ◌≤◌, List, [], ◌∷◌, length, map, max, slice_get, slice_index, All, AllPairs, Contains, Option, Some, Result, Ok, Err, arith, refl, sym, ap, ◌∙◌, subst}
-use Rattle.std.specs.Prelude.{IfOk, OnOk}
-use Rattle.std.specs.Result.{result_and}
+use Rattle.std.specs.Prelude.{IfOk, IsOk, OnOk}
 use Rattle.std.proofs.lemmas.Option.{slice_get_within}
 use Rattle.std.proofs.lemmas.List.Elements.{All-contains, All-map}
 use Rattle.atomic_table.specs.Seated.{TableId}
@@ -57,15 +56,10 @@ pub if_ok_map : {A E : Type 0} (P Q : A → Type 0) (result : Result A E) → ((
 if_ok_map P Q (Ok x) f holds = f x holds
 if_ok_map P Q (Err e) f holds = tt
 
--- what holds where two results are both Ok: of the first, and of the second
-pub first_ok : {A B : Type 0} (first : Result A NoMemory) (second : Result B NoMemory) (value : B) (P : Type 0) → result_and first second ≡ Ok value → OnOk first P → P
-first_ok (Ok a) second value P is holds = holds
-first_ok (Err e) second value P is holds = cc
-
-pub second_ok : {A B : Type 0} (first : Result A NoMemory) (second : Result B NoMemory) (value : B) (Q : B → Type 0) → result_and first second ≡ Ok value → IfOk second Q → Q value
-second_ok (Ok a) (Ok b) value Q is holds = let same : b ≡ value = cc in subst Q same holds
-second_ok (Ok a) (Err e) value Q is holds = cc
-second_ok (Err e) second value Q is holds = cc
+-- what holds where a result is Ok, of one that is
+pub served_ok : {A : Type 0} (served : Result A NoMemory) (P : Type 0) → IsOk served → OnOk served P → P
+served_ok (Ok a) P is holds = holds
+served_ok (Err e) P is holds = cc
 
 -- a crash leaves nothing above the words, if the keeper saw nothing above them
 pub stays_near : {D : Type 0} (seen : D → Option (List ℕ)) (may_leave : D → List ℕ → Type 0) (faults : D → ℕ) (journal after : JournalState D) (pass : KeeperValue) (words openings : List ℕ)

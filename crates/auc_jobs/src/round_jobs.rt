@@ -83,9 +83,9 @@ impl RoundJobs<'_> {
         let world = job_world(alloc, self.set, self.usims, self.stores, asked)?;
         let mut worker = Worker::new(alloc, centre, self.set, self.released, world);
         let served = worker.serve_lines(rt, alloc, asked);
-        let ended = worker.end(alloc);
+        let ended = worker.end(alloc, served);
         let _centre = worker.into_centre();
-        let (lines, world) = served.and(ended)?;
+        let (lines, world) = ended?;
         served_job(alloc, self.set, self.full, lines, world)
     }
 

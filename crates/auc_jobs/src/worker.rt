@@ -1,6 +1,6 @@
 //! What serves a job.
 
-ghost use Rattle.std.specs.Prelude.{◌≡◌, ◌≤◌, [], length, IfOk};
+ghost use Rattle.std.specs.Prelude.{◌≡◌, ◌≤◌, [], length, IfOk, IsOk, OnOk};
 ghost use Rattle.auc_jobs.specs.InnerUsims.{usim_of};
 ghost use Rattle.auc_jobs.specs.InnerWorker.{WorkerState, AreForRows};
 ghost use Rattle.auc_jobs.specs.Usims.{HaveSecrets};
@@ -75,14 +75,20 @@ impl<'a, C: Centre> Worker<'a, C> {
         }
     }
 
-    /// Ends the job: takes its lines and its network.
-    pub(crate) fn end(&mut self, alloc: Global) -> Result<(JobRecord, World), NoMemory>
+    /// Ends the job: takes its lines and its network, if all of it was served.
+    pub(crate) fn end(
+        &mut self,
+        alloc: Global,
+        served: Result<(), NoMemory>,
+    ) -> Result<(JobRecord, World), NoMemory>
+        ensures served { OnOk result (IsOk served) }
         ensures lines { IfOk result (λ taken. taken.0 ≡ self.old.lines) }
         ensures world { IfOk result (λ taken. taken.1 ≡ self.old.world) }
         ensures secrets { IfOk result (λ taken. HaveSecrets self.old.set.rows (usim_of self.old.set.rows taken.1)) }
         ensures centre { self.new.centre ≡ self.old.centre }
         ensures lent { self.new.lent ≡ self.old.lent }
     {
+        served?;
         let empty = World::new(alloc, Vec::new(alloc), Vec::new(alloc))?;
         let lines = mem::replace(&mut self.lines, JobLines::new(alloc));
         let world = mem::replace(&mut self.world, empty);

@@ -1,6 +1,6 @@
 //! The workers of a round, and what they served in the order of the jobs.
 
-ghost use Rattle.std.specs.Prelude.{◌≡◌, ◌≤◌, ◌<◌, ◌+◌, ℕ, [], All, AllPairs, IsPermutation, List, length, map, slice_index, IfOk, if◌then◌else◌};
+ghost use Rattle.std.specs.Prelude.{◌≡◌, ◌≤◌, ◌+◌, [], All, AllPairs, IsPermutation, List, length, map, IfOk, if◌then◌else◌};
 ghost use Rattle.auc_centre.specs.Kept.{subs_of};
 ghost use Rattle.auc_draw.specs.Book.{Closes, IsNew, IsOf, Opens};
 ghost use Rattle.auc_journal.specs.Journal.{limits_of};
@@ -10,7 +10,7 @@ ghost use Rattle.auc_subs.specs.Subscriber.{AreSubscribers};
 ghost use Rattle.auc_world.specs.declared.record.LineRecord.{LineRecord};
 ghost use Rattle.auc_world.specs.Vectors.{vectors_in};
 ghost use Rattle.auc_jobs.specs.InnerClaims.{AreCollected, ClosesAs, IsDone};
-ghost use Rattle.auc_jobs.specs.InnerKeeping.{CanKeep, StaysNear, TellsStop, told_stop};
+ghost use Rattle.auc_jobs.specs.InnerKeeping.{CanKeep, StaysNear, TellsStop};
 ghost use Rattle.auc_jobs.specs.InnerRound.{AreServed, GoesByLimits};
 ghost use Rattle.auc_jobs.specs.InnerSharing.{Begins, IsBookOf, IsServable};
 ghost use Rattle.auc_jobs.specs.Round.{IsJournalOf, LeavesMore};

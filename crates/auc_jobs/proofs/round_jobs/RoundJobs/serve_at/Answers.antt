@@ -1,16 +1,13 @@
-use Rattle.std.proofs.Common.{◌≡◌, ◌∙◌, ap, sym, subst, rules, length, true, ℕ, List, Ok}
-use Rattle.std.specs.Result.{result_and}
+use Rattle.std.proofs.Common.{◌≡◌, ◌∙◌, ap, sym, subst, rules, length, true, ℕ}
 use Rattle.auc_lines.specs.Part.{holds}
 use Rattle.auc_world.specs.Setting.{Setting}
-use Rattle.auc_world.specs.World.{WorldState}
-use Rattle.auc_world.specs.declared.record.LineRecord.{LineRecord}
 use Rattle.auc_jobs.specs.InnerSharing.{IsServable, Shared}
 use Rattle.auc_jobs.specs.InnerUsims.{has_usim, usim_of}
 use Rattle.auc_jobs.specs.InnerWorker.{AreForRows, IsCentreOf, WorkerServesLines, WorkerState, start_world}
 use Rattle.auc_jobs.specs.Serving.{AreKnown}
-use Rattle.auc_jobs.specs.Usims.{AreOfRows, HaveSecrets}
+use Rattle.auc_jobs.specs.Usims.{AreOfRows}
 use Rattle.auc_subs.specs.Subscriber.{AreSubscribers}
-use Rattle.auc_jobs.proofs.KeepingLemmas.{first_ok, second_ok}
+use Rattle.auc_jobs.proofs.KeepingLemmas.{served_ok}
 use Rattle.auc_jobs.proofs.SharingLemmas.{job_at, job_begins_at, known_at, served_result}
 use Rattle.auc_jobs.proofs.WorkerLemmas.{Does, does_hold, does_releasable, starts_for_rows}
 use Rattle.auc_jobs.proofs.round_jobs.RoundJobs.serve_at.Goals as goal
@@ -65,7 +62,6 @@ served_job-requires g c =
     let worker : WorkerState g.row.C.Denot = c.new-worker.result in
     let set_is : worker.set ≡ inside.set = ap (λ (w : WorkerState g.row.C.Denot). w.set) c.new-worker.ensures in
     let released_is : worker.released ≡ inside.released = ap (λ (w : WorkerState g.row.C.Denot). w.released) c.new-worker.ensures in
-    let is : result_and c.serve_lines-served.result c.end-ended.result ≡ Ok (c.in_ok-lines.lines, c.in_ok-lines.world) = sym c.in_ok-lines.ensures in
     let does : Does g.C.Centre.kept g.C.Centre.goes (g.C.Centre.name worker.centre) (g.C.Centre.name c.serve_lines-served.new.self.centre) worker c.serve_lines-served.new.self inside.usims inside.stores c.as_slice-asked.result.now = record {
       rows = subst (λ (s : Setting). AreOfRows s.rows inside.usims) (sym set_is) servable.rows;
       subscribers = subst (λ (s : Setting). AreSubscribers s.rows) (sym set_is) servable.subscribers;
@@ -73,12 +69,12 @@ served_job-requires g c =
       none = ap (λ (w : WorkerState g.row.C.Denot). w.lines) c.new-worker.ensures;
       begins = ap (λ (w : WorkerState g.row.C.Denot). w.world) c.new-worker.ensures ∙ c.in_ok-world.ensures
           ∙ ap (λ (s : Setting). start_world s inside.usims inside.stores c.as_slice-asked.result.now) (sym set_is);
-      serves = first_ok c.serve_lines-served.result c.end-ended.result (c.in_ok-lines.lines, c.in_ok-lines.world) (WorkerServesLines g.C.Centre.kept g.C.Centre.goes worker c.serve_lines-served.new.self c.as_slice-asked.result.now) is c.serve_lines-served.ensures.served;
+      serves = served_ok c.serve_lines-served.result (WorkerServesLines g.C.Centre.kept g.C.Centre.goes worker c.serve_lines-served.new.self c.as_slice-asked.result.now) c.in_ok-lines.ensures.served c.serve_lines-served.ensures.served;
       goes_on = c.serve_lines-served.ensures.same;
     } in
     let (early, beside, begins) = c.requires.begins in
     does_releasable g.C.Centre.kept g.C.Centre.goes (g.C.Centre.name worker.centre) (g.C.Centre.name c.serve_lines-served.new.self.centre) worker c.serve_lines-served.new.self inside.usims inside.stores
-    c.as_slice-asked.result.now inside.set c.in_ok-lines.lines (sym set_is) (second_ok c.serve_lines-served.result c.end-ended.result (c.in_ok-lines.lines, c.in_ok-lines.world) (λ (taken : List LineRecord × WorldState). taken.0 ≡ c.serve_lines-served.new.self.lines) is c.end-ended.ensures.lines) does (
+    c.as_slice-asked.result.now inside.set c.in_ok-lines.lines (sym set_is) c.in_ok-lines.ensures.lines does (
       early,
       beside,
       job_begins_at inside c.args.self.now early beside (g.C.Centre.kept c.args.centre.now) (g.C.Centre.kept worker.centre) c.args.job worker.set worker.released c.as_slice-asked.result.now
@@ -94,7 +90,6 @@ returns-clause-served g c =
     let worker : WorkerState g.row.C.Denot = c.new-worker.result in
     let set_is : worker.set ≡ inside.set = ap (λ (w : WorkerState g.row.C.Denot). w.set) c.new-worker.ensures in
     let released_is : worker.released ≡ inside.released = ap (λ (w : WorkerState g.row.C.Denot). w.released) c.new-worker.ensures in
-    let is : result_and c.serve_lines-served.result c.end-ended.result ≡ Ok (c.in_ok-lines.lines, c.in_ok-lines.world) = sym c.in_ok-lines.ensures in
     let does : Does g.C.Centre.kept g.C.Centre.goes (g.C.Centre.name worker.centre) (g.C.Centre.name c.serve_lines-served.new.self.centre) worker c.serve_lines-served.new.self inside.usims inside.stores c.as_slice-asked.result.now = record {
       rows = subst (λ (s : Setting). AreOfRows s.rows inside.usims) (sym set_is) servable.rows;
       subscribers = subst (λ (s : Setting). AreSubscribers s.rows) (sym set_is) servable.subscribers;
@@ -102,12 +97,12 @@ returns-clause-served g c =
       none = ap (λ (w : WorkerState g.row.C.Denot). w.lines) c.new-worker.ensures;
       begins = ap (λ (w : WorkerState g.row.C.Denot). w.world) c.new-worker.ensures ∙ c.in_ok-world.ensures
           ∙ ap (λ (s : Setting). start_world s inside.usims inside.stores c.as_slice-asked.result.now) (sym set_is);
-      serves = first_ok c.serve_lines-served.result c.end-ended.result (c.in_ok-lines.lines, c.in_ok-lines.world) (WorkerServesLines g.C.Centre.kept g.C.Centre.goes worker c.serve_lines-served.new.self c.as_slice-asked.result.now) is c.serve_lines-served.ensures.served;
+      serves = served_ok c.serve_lines-served.result (WorkerServesLines g.C.Centre.kept g.C.Centre.goes worker c.serve_lines-served.new.self c.as_slice-asked.result.now) c.in_ok-lines.ensures.served c.serve_lines-served.ensures.served;
       goes_on = c.serve_lines-served.ensures.same;
     } in
     served_result g.C.Centre.kept g.C.Centre.goes inside c.args.self.now worker c.serve_lines-served.new.self (g.C.Centre.name worker.centre) (g.C.Centre.name c.serve_lines-served.new.self.centre)
     c.args.centre.now _ c.args.job c.as_slice-asked.result.now c.in_ok-lines.lines c.in_ok-lines.world c.served_job.result c.self.view_is set_is released_is (ap (λ (w : WorkerState g.row.C.Denot). w.centre) c.new-worker.ensures) (search rules) there does
-    (second_ok c.serve_lines-served.result c.end-ended.result (c.in_ok-lines.lines, c.in_ok-lines.world) (λ (taken : List LineRecord × WorldState). taken.0 ≡ c.serve_lines-served.new.self.lines) is c.end-ended.ensures.lines)
-    (second_ok c.serve_lines-served.result c.end-ended.result (c.in_ok-lines.lines, c.in_ok-lines.world) (λ (taken : List LineRecord × WorldState). taken.1 ≡ c.serve_lines-served.new.self.world) is c.end-ended.ensures.world)
-    (second_ok c.serve_lines-served.result c.end-ended.result (c.in_ok-lines.lines, c.in_ok-lines.world) (λ (taken : List LineRecord × WorldState). HaveSecrets c.serve_lines-served.new.self.set.rows (usim_of c.serve_lines-served.new.self.set.rows taken.1)) is c.end-ended.ensures.secrets)
+    c.in_ok-lines.ensures.lines
+    c.in_ok-lines.ensures.world
+    c.in_ok-lines.ensures.secrets
     c.served_job.ensures.lines c.served_job.ensures.homes c.served_job.ensures.devices c.served_job.ensures.stores c.served_job.ensures.sessions c.served_job.ensures.vectors
