@@ -4,6 +4,7 @@ use Rattle.std.proofs.lemmas.List.{take_at, drop_at, drop-drop, take_all, append
 use Rattle.auc_aes.specs.Bytes.{xor}
 use Rattle.auc_aes.specs.Cipher.{aes, aes_inverse}
 use Rattle.auc_aes.specs.Cbc.{encrypted_blocks, decrypted_blocks, cbc_encrypted, cbc_decrypted}
+use Rattle.auc_aes.specs.Inner.{decrypted_from}
 
 module _ (bytes block new : List ℕ) (at : ℕ) (fits : at + 16 ≤ length bytes) (size : length block ≡ 16)
     (is : new ≡ take at bytes ++ (block ++ drop (at + 16) bytes)) where
@@ -55,6 +56,26 @@ module _ (bytes block new : List ℕ) (at : ℕ) (fits : at + 16 ≤ length byte
       ∙ append_assoc (take at bytes) block (decrypted_blocks key old left (drop 16 (drop at bytes)))
       ∙ ap (λ b. take at bytes ++ (b ++ decrypted_blocks key old left (drop 16 (drop at bytes)))) e
       ∙ ap (λ n. take at bytes ++ decrypted_blocks key last n (drop at bytes)) (sym one_less)
+
+-- ---- a group of blocks
+
+-- what is still ahead after one more block, if it was the same as in another string before
+pub ahead_more : (bytes old block new : List ℕ) (at next : ℕ) → at + 16 ≤ length bytes → length block ≡ 16
+    → new ≡ take at bytes ++ (block ++ drop (at + 16) bytes) → next ≡ at + 16 → drop at bytes ≡ drop at old → drop next new ≡ drop next old
+ahead_more bytes old block new at next fits size is e ahead =
+    ap (λ n. drop n new) e ∙ written_rest bytes block new at fits size is ∙ ap (drop 16) ahead ∙ drop-drop 16 at old ∙ sym (ap (λ n. drop n old) e)
+
+-- one more block decrypted leaves what is decrypted of the whole as it was
+pub chain_more : (key bytes block plain new last : List ℕ) (at next : ℕ) → at + 16 ≤ length bytes → length plain ≡ 16
+    → new ≡ take at bytes ++ (plain ++ drop (at + 16) bytes) → length new ≡ length bytes → next ≡ at + 16 → block ≡ take 16 (drop at bytes)
+    → plain ≡ xor (aes_inverse key (take 16 (drop at bytes))) last → decrypted_from key block new next ≡ decrypted_from key last bytes at
+chain_more key bytes block plain new last at next fits size is same e eb ep =
+    ap (decrypted_from key block new) e
+    ∙ ap (λ n. take (at + 16) new ++ decrypted_blocks key block ((n - (at + 16)) / 16) (drop (at + 16) new)) same
+    ∙ ap (λ b. take (at + 16) new ++ decrypted_blocks key b ((length bytes - (at + 16)) / 16) (drop (at + 16) new)) eb
+    ∙ decrypted_more bytes plain new at fits size is key last ep
+
+-- ---- the ends
 
 -- before the first block
 pub encrypted_first : (key iv bytes : List ℕ)

@@ -7,6 +7,7 @@ ghost use Rattle.auc_aes.specs.Lanes.{IsDone, IsLaneKeys};
 ghost use Rattle.auc_aes.specs.Cbc.{cbc_encrypted, cbc_decrypted};
 
 use crate::block::{block_at, put_block, xor};
+use crate::cbc::{chain, read_blocks};
 use crate::inverse_round::{undo_final_round, undo_full_round};
 use crate::lane_keys::lane_keys;
 use crate::lanes::encrypt_groups;
@@ -16,6 +17,9 @@ use std::marker::Model;
 
 /// From how many blocks on it pays to make the round keys as lanes for one call.
 const LEAST_FOR_LANES: usize = 8;
+
+/// How many blocks of a longer string are decrypted together.
+const GROUP: usize = 16;
 
 /// A key of 128 bits, with its key schedule. Contracts see its 16 bytes.
 #[derive(Drop)]
@@ -150,10 +154,14 @@ impl Key {
         let mut last = iv;
         let mut at = 0;
         while at < bytes.len() {
-            let block = block_at(bytes, at);
-            put_block(bytes, at, xor(self.decrypt(block), last));
-            last = block;
-            at += 16;
+            let count = ((bytes.len() - at) / 16).min(GROUP);
+            let mut group = [[0; 16]; GROUP];
+            let blocks = &mut group[..count];
+            read_blocks(bytes, at, blocks);
+            self.decrypt_many(blocks);
+            let previous = chain(bytes, at, last, blocks);
+            last = previous;
+            at += 16 * count;
         }
     }
 }

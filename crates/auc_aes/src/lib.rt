@@ -12,6 +12,7 @@
 #![tactic(auto)]
 
 mod block;
+mod cbc;
 mod coordinates;
 mod inverse_round;
 mod key;

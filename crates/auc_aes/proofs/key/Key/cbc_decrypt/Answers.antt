@@ -1,8 +1,5 @@
-use Rattle.std.proofs.Common.{rules, ◌≡◌, ◌+◌, ◌-◌, ◌/◌, ◌++◌, length, take, drop, refl, sym, ap, ◌∙◌, arith}
-use Rattle.auc_aes.specs.Bytes.{xor}
-use Rattle.auc_aes.specs.Cipher.{aes_inverse}
-use Rattle.auc_aes.specs.Cbc.{decrypted_blocks}
-use Rattle.auc_aes.proofs.CbcLemmas.{decrypted_first, decrypted_more, decrypted_last}
+use Rattle.std.proofs.Common.{refl, sym, ◌∙◌, arith}
+use Rattle.auc_aes.proofs.CbcLemmas.{decrypted_first, decrypted_last}
 use Rattle.auc_aes.proofs.key.Key.cbc_decrypt.Goals as goal
 
 pub loop-at-init : goal.loop-at-init
@@ -12,25 +9,6 @@ loop-at-init c = record {
   within = omega arith;
   so_far = decrypted_first c.args.self.now c.args.iv c.args.bytes.now;
 }
-
-pub loop-at-preserved : goal.loop-at-preserved
-loop-at-preserved c =
-    let size : length c.put_block.new.bytes ≡ length c.loop-at.bytes = c.put_block.auto.bytes in
-    record {
-      aligned = omega arith;
-      whole = omega arith;
-      within = omega arith;
-      so_far =
-          ap (λ n. take (c.loop-at.at + 16) c.put_block.new.bytes
-          ++ decrypted_blocks c.args.self.now c.block_at-block.result ((n - (c.loop-at.at + 16)) / 16) (drop (c.loop-at.at + 16) c.put_block.new.bytes)) size
-          ∙ ap (λ b. take (c.loop-at.at + 16) c.put_block.new.bytes
-          ++ decrypted_blocks c.args.self.now b ((length c.loop-at.bytes - (c.loop-at.at + 16)) / 16) (drop (c.loop-at.at + 16) c.put_block.new.bytes))
-          c.block_at-block.ensures
-          ∙ decrypted_more c.loop-at.bytes c.xor.result c.put_block.new.bytes c.loop-at.at (omega arith) (search rules) c.put_block.ensures
-          c.args.self.now c.loop-at.last
-          (c.xor.ensures ∙ ap (λ b. xor b c.loop-at.last) (c.decrypt.ensures ∙ ap (aes_inverse c.args.self.now) c.block_at-block.ensures))
-          ∙ c.loop-at.invariant.so_far;
-    }
 
 pub returns : goal.returns
 returns c =

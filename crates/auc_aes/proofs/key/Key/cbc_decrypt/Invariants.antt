@@ -1,5 +1,6 @@
-use Rattle.std.proofs.Common.{◌≡◌, ◌-◌, ◌/◌, ◌%◌, ◌≤◌, ◌++◌, length, take, drop}
-use Rattle.auc_aes.specs.Cbc.{decrypted_blocks, cbc_decrypted}
+use Rattle.std.proofs.Common.{◌≡◌, ◌-◌, ◌%◌, ◌≤◌, length}
+use Rattle.auc_aes.specs.Cbc.{cbc_decrypted}
+use Rattle.auc_aes.specs.Inner.{decrypted_from}
 use Rattle.auc_aes.proofs.key.Key.cbc_decrypt.Given as goal
 
 abbrev pub invariant-loop-at : goal.invariant-loop-at
@@ -7,8 +8,7 @@ invariant-loop-at l = record {
   aligned : l.at % 16 ≡ 0;
   whole : length l.bytes % 16 ≡ 0;
   within : l.at ≤ length l.bytes;
-  so_far : take l.at l.bytes ++ decrypted_blocks l.self l.last ((length l.bytes - l.at) / 16) (drop l.at l.bytes)
-      ≡ cbc_decrypted l.self l.fn.iv l.initial.bytes;
+  so_far : decrypted_from l.self l.last l.bytes l.at ≡ cbc_decrypted l.self l.fn.iv l.initial.bytes;
 }
 
 abbrev pub decreases-loop-at : goal.decreases-loop-at
