@@ -1,6 +1,6 @@
 //! Values from other implementations, and a centre by hand.
 
-ghost use Rattle.std.specs.Prelude.{◌≡◌, ◌<◌};
+ghost use Rattle.std.specs.Prelude.{◌≡◌, ◌≤◌, ◌<◌};
 
 use auc_core::Core;
 use auc_hmac::{KeySet, Method};
@@ -9,10 +9,20 @@ use auc_random::Rands;
 use auc_sqn::{MAX_SEQ, sqn_of};
 use auc_vector::{
     Auts, Centre, CentreRefusal, CoreCentre, NumberNote, ResyncNote, Resynced, Vector, Vectors,
-    ask, keys_by, keys_of, read_auts, report, vector,
+    ask, keys_by, keys_of, read_auts, report, vector, vectors,
 };
 use std::sync::Wait;
 use std::test::Fail;
+
+/// What stands in the place of a vector that isn't made.
+const BLANK: Vector = Vector {
+    n: 0,
+    rand: [0; 16],
+    autn: [0; 16],
+    xres: [0; 8],
+    ck: [0; 16],
+    ik: [0; 16],
+};
 
 /// The key of the 32 bytes from 0 to 31.
 fn rands() -> Rands {
@@ -77,6 +87,100 @@ fn each_part_of_a_vector_is_that_of_another_implementation(rt: HostRuntime) {
             ik: ik.to_be_bytes(),
         };
         assert_eq!(rt; made, expected, "at {n}");
+    }
+}
+
+/// The RAND of each of 33 vectors: that of TS 35.208, test set 1, and those after it.
+fn rand_at(place: usize) -> [u8; 16]
+    requires { place < 33 }
+{
+    (0x23553cbe9637a89d218ae64dae47bf35 + place as u128).to_be_bytes()
+}
+
+/// 33 vectors, of which the first `count` are made together, of the numbers from 490 on; the others are blank.
+fn together(method: Method, count: usize) -> [Vector; 33]
+    requires { count ≤ 33 }
+{
+    let mut rands = [[0; 16]; 33];
+    for i in 0..33 {
+        rands[i] = rand_at(i);
+    }
+    let mut made = [BLANK; 33];
+    vectors(
+        &secret(),
+        method,
+        [0xb9, 0xb9],
+        b"WLAN",
+        490,
+        &rands[..count],
+        &mut made[..count],
+    );
+    made
+}
+
+// The equations of TS 35.206 over the AES of Python's `cryptography` 48: place, AUTN, XRES, CK and IK. The first has the
+// XRES, CK and IK of TS 35.208, test set 1.
+#[test]
+fn vectors_made_together_are_those_of_another_implementation(rt: HostRuntime) {
+    let cases: [(usize, u128, u64, u128, u128); 4] = [
+        (
+            0,
+            0xaa689c64be3ab9b91d244ec89ec23f36,
+            0xa54211d5e3ba50bf,
+            0xb40ba9a3c58b2a05bbf0d987b21bf8cb,
+            0xf769bcd751044604127672711c6d3441,
+        ),
+        (
+            15,
+            0x6878657c2376b9b9c3e3189e5439d79b,
+            0x221bb02264e057d1,
+            0x9a141b6656e60791c7d03083791ded7d,
+            0x95b3c9d1fd593f534147bcc166cee444,
+        ),
+        (
+            16,
+            0xef8f59de60c8b9b977030500029a518a,
+            0xbccb118810c0da1b,
+            0xbaea32f954fb4e5fa180095c232fb6e8,
+            0xe3810ac42c25038b2c04d221511d649c,
+        ),
+        (
+            32,
+            0x84b00495fe05b9b9a363828a29f7deef,
+            0x406efecc08aa8e93,
+            0xd4d0b92c6739cf3196cfb85d884cf839,
+            0x7f2ac05fe20ccaaf269edb669eedcb13,
+        ),
+    ];
+    let made = together(Method::Aka, 33);
+    for (place, autn, xres, ck, ik) in cases {
+        let expected = Vector {
+            n: 490 + place as u64,
+            rand: rand_at(place),
+            autn: autn.to_be_bytes(),
+            xres: xres.to_be_bytes(),
+            ck: ck.to_be_bytes(),
+            ik: ik.to_be_bytes(),
+        };
+        assert_eq!(rt; made[place], expected, "at {place}");
+    }
+}
+
+// The vectors that are made alone are compared with another implementation above.
+#[test]
+fn each_vector_made_together_is_that_of_its_number(rt: HostRuntime) {
+    for count in [0, 1, 16, 17, 33] {
+        for method in [Method::Aka, Method::Prime] {
+            let mut expected = [BLANK; 33];
+            for i in 0..count {
+                let n = 490 + i as u64;
+                expected[i] = vector(&secret(), method, [0xb9, 0xb9], b"WLAN", n, rand_at(i));
+            }
+            assert!(rt;
+                together(method, count) == expected,
+                "{count} by {method:?}"
+            );
+        }
     }
 }
 
