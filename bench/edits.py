@@ -172,9 +172,9 @@ def prove_over_what_is_here(clone, names):
     the end of what rt said of them."""
     unproved, told = set(), []
     for name in names:
-        kept = TOP / "crates" / name / "out/incremental"
-        if kept.is_dir():
-            shutil.copytree(kept, clone / "crates" / name / "out/incremental", dirs_exist_ok=True)
+        kept, there = (top / "crates" / name / "out/incremental" for top in (TOP, clone))
+        if kept.is_dir() and not there.exists():
+            shutil.copytree(kept, there)
         how = {"stdin": subprocess.DEVNULL, "stdout": subprocess.PIPE, "stderr": subprocess.STDOUT, "errors": "replace"}
         said = subprocess.run(["rt", "check"], cwd=clone / "crates" / name, check=False, **how).stdout
         if not re.search(r"(?m)^logic=proved ", said):
