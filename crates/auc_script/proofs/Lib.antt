@@ -1,4 +1,6 @@
+mod FieldLemmas
 mod LawLemmas
+mod LineLemmas
 mod NameLemmas
 mod ReadingLemmas
 mod SessionLemmas

@@ -1,7 +1,7 @@
 -- What is kept while lines are read, for `SoFar`.
-use Rattle.std.proofs.Common.{ℕ, ◌≡◌, ◌≢◌, ◌<◌, ◌≤◌, ◌+◌, ◌*◌, ◌∙◌, ◌&&◌, ◌||◌, nat_eq, nat_le, nat_lt, Bool, true, false, List, ◌∷◌, ◌++◌, [], length, get_or, slice_index, slice_set, Option, Some, None, is_some, slice_get, Result, Ok, Err, arith, ap, sym, refl, append-nil, append_assoc, length-append, length-set, replicate}
+use Rattle.std.proofs.Common.{ℕ, ◌≡◌, ◌≢◌, ◌<◌, ◌≤◌, ◌+◌, ◌*◌, ◌∙◌, ◌&&◌, ◌||◌, nat_eq, nat_le, nat_lt, Bool, true, false, List, ◌∷◌, ◌++◌, [], length, get_or, slice_index, slice_set, Option, Some, None, IfSome, is_some, slice_get, Result, Ok, Err, arith, ap, sym, refl, append-nil, append_assoc, length-append, length-set, replicate}
 use Rattle.std.specs.Prelude.{◌==◌, not}
-use Rattle.std.specs.List.{All, AllPairs, list_any, sum_by}
+use Rattle.std.specs.List.{All, AllPairs, join_with_byte, list_any, sum_by}
 use Rattle.std.specs.Option.{option_to_list}
 use Rattle.std.proofs.lemmas.Bool.Decides.{nat_tests}
 use Rattle.std.proofs.lemmas.List.{get_or_append_left, length-replicate, get_or-set_same, get_or-set_other}
@@ -13,25 +13,28 @@ use Rattle.std.proofs.lemmas.List.Quantifiers.{all_pairs_push}
 use Rattle.std.proofs.lemmas.List.Sums.{sum_by-append}
 use Rattle.std.proofs.lemmas.Option.{slice_get_within}
 use Rattle.auc_subs.specs.declared.row.Row.{Row}
+use Rattle.auc_subs.specs.declared.refusal.SubsWhy.{SubsWhy}
+use Rattle.auc_subs.specs.Subscriber.{rows_after}
 use Rattle.auc_script.specs.declared.holders.Holders.{Holders}
 use Rattle.auc_script.specs.declared.sessions.Sessions.{Sessions}
 use Rattle.auc_script.specs.declared.so_far.SoFar.{SoFar}
 use Rattle.auc_lines.specs.declared.part.Line.{Line}
+use Rattle.auc_lines.specs.declared.part.Line.TheVariants.{Draw, Give, Sync, Session, Start, Deliver, Repeat, GiveUp, Plain}
 use Rattle.auc_lines.specs.declared.part.Part.{Part}
 use Rattle.auc_lines.specs.declared.part.Part.TheVariants.{Round, Restart}
-use Rattle.auc_script.specs.Numbers.{most_jobs, most_packets, most_rounds, most_sessions, most_vectors}
+use Rattle.auc_script.specs.Numbers.{most_count, most_jobs, most_packets, most_rounds, most_sessions, most_vectors}
 use Rattle.auc_script.specs.declared.round_so_far.RoundSoFar.{RoundSoFar}
 use Rattle.auc_script.specs.declared.word.JobWord.{JobWord}
 use Rattle.auc_script.specs.Limits.{AreJobs, AreWithin, IsLine, IsOpened, IsPart, SessionsAreOpened}
 use Rattle.auc_lines.specs.Part.{AreApart}
-use Rattle.auc_script.specs.Scenario.{Scenario, in_order, is_busy, jobs_in, job_line, line_of, no_jobs, of_job_line, parts_of, restart_line, round_line, rounds_of, with_round}
+use Rattle.auc_script.specs.Scenario.{Scenario, by_subs, in_order, is_busy, jobs_in, job_line, line_of, no_jobs, of_job_line, parts_of, restart_line, round_line, rounds_of, subscriber_line, with_round}
 use Rattle.auc_lines.specs.Part.{asked, asked_by, held_by, holds, is_held_by, jobs_of}
 use Rattle.auc_script.specs.Session.{has_fit_texts, is_among, named_by, opened, opened_by, packets, packets_by, sessions_of}
 use Rattle.auc_script.specs.declared.refusal.ScriptWhy.{ScriptWhy}
 use Rattle.auc_script.specs.declared.refusal.ScriptWhy.TheVariants.{Limit, UsimBusy}
 use Rattle.auc_subs.specs.Steps.{◌>>=◌}
 use Rattle.auc_script.specs.Field.{no_field, require}
-use Rattle.auc_script.specs.InnerSoFar.{AreMarks, AreOfJob, IsBetween, IsMark, IsSoFar, marked, noted, of_new_job, scenario, with_line}
+use Rattle.auc_script.specs.InnerSoFar.{AreMarks, AreOfJob, IsBetween, IsMark, IsReady, IsSoFar, asked_with, marked, noted, of_new_job, room_for, scenario, with_line}
 use Rattle.auc_script.proofs.SessionLemmas.{fresh, known, not_last, numbers_push, of_job_more, opened_more, packets_push, sessions_job, sessions_last, sessions_line}
 
 -- the jobs of parts with one more round
@@ -413,18 +416,28 @@ pub marks_bound : (rows : List Row) (s : SoFar) (round : RoundSoFar) → IsSoFar
 marks_bound rows s round kept = All-from_get_or (λ mark. mark ≤ s.jobs) s.holders.marks.items 0
     (λ sub inside. omega (arith, (kept.round.marks sub inside).bound, kept.round.before, kept.jobs, length-jobs s.ended (jobs_in round)))
 
+-- a test that had to hold holds
+pub must_hold : (b : Bool) (cause : ScriptWhy) (done : Unit {0}) → Ok done ≡ require b cause → b ≡ true
+must_hold true cause done is = refl
+must_hold false cause done is = cc
+
 -- where no round has begun
-pub not_begun : (round : Option RoundSoFar) (ended : List Part) → (is_some round || not (length ended == 0)) ≡ false → (round ≡ None) × (ended ≡ [])
-not_begun None [] begun = (refl, refl)
-not_begun None (part ∷ more) begun = let some : nat_eq (length (part ∷ more)) 0 ≡ false = grind (arith, nat_tests) in absurd (apart (nat_eq (length (part ∷ more)) 0) begun some)
+pub not_begun : (round : Option RoundSoFar) (ended : List Part) → (not (is_some round) && (length ended == 0)) ≡ true → (round ≡ None) × (ended ≡ [])
+not_begun None [] before = (refl, refl)
+not_begun None (part ∷ more) before = let some : nat_eq (length (part ∷ more)) 0 ≡ false = grind (arith, nat_tests) in absurd (apart (nat_eq (length (part ∷ more)) 0) before some)
   where
-    apart : (b : Bool) → not b ≡ false → b ≡ false → ⊥
+    apart : (b : Bool) → b ≡ true → b ≡ false → ⊥
     apart true is same = cc
     apart false is same = cc
-not_begun (Some round) ended begun = absurd (apart begun)
+not_begun (Some round) ended before = absurd (apart before)
   where
-    apart : true ≡ false → ⊥
+    apart : false ≡ true → ⊥
     apart same = cc
+
+-- what a subscriber's line makes of the scenario, by what it makes of the rows
+pub subscriber_is : (s : Scenario) (fields : List (List ℕ)) (line : List ℕ) (rows : Result (List Row) SubsWhy) → (not (is_some s.round) && (length s.ended == 0)) ≡ true
+    → (length fields == 7) ≡ true → line ≡ join_with_byte 32 fields → rows_after s.rows line ≡ rows → subscriber_line s fields ≡ (by_subs rows >>= λ rows. Ok (record s { rows = rows }))
+subscriber_is s fields line rows place seven joined is = rw (place, seven, ← joined, is) refl
 
 -- what is kept when a restart comes
 pub kept_restart : (rows : List Row) (old s : SoFar) (parts : List Part) (round : RoundSoFar) → IsSoFar rows old → old.round ≡ Some round → IsBetween rows old s
@@ -507,9 +520,9 @@ present_round s round job is has = is ∙ ap (λ (job : Option (List Line)). Som
 
 -- what is kept when a line of a job comes, by what the calls say
 pub kept_line_at : (rows : List Row) (s : SoFar) (round : RoundSoFar) (job : List Line) (line : Line) (after : Option RoundSoFar) (count : ℕ) (holders : Holders) (sessions : Sessions) → IsSoFar rows s
-    → s.round ≡ Some round → round.job ≡ Some job → Passes rows s round.jobs line → count ≡ asked_by line → holders.before ≡ s.holders.before
+    → s.round ≡ Some round → round.job ≡ Some job → Passes rows s round.jobs line → count ≡ s.asked + asked_by line → holders.before ≡ s.holders.before
     → holders.marks.items ≡ marked s.holders.marks.items (s.holders.before + length round.jobs + 1) (held_by line) → sessions ≡ noted s.sessions line → after ≡ with_line s.round line
-    → IsSoFar rows (record s { round = after; asked = s.asked + count; holders = holders; sessions = sessions })
+    → IsSoFar rows (record s { round = after; asked = count; holders = holders; sessions = sessions })
 kept_line_at rows s round job line after count holders sessions kept is has passes counted before marks noting made =
     let present = present_round s round job is has in
     let made_of : after ≡ Some (record { jobs = round.jobs; job = Some (job ++ line ∷ []) }) = rw (made, present) refl in
@@ -527,13 +540,6 @@ none_opened rows s round job kept is has n none =
 abbrev pub tested : Result (Unit {0}) ScriptWhy → Bool → Bool → Scenario → Result Scenario ScriptWhy
 tested order busy room next = order >>= λ known. require (not busy) UsimBusy >>= λ free. require room Limit >>= λ within. Ok next
 
--- whether a line is within the limits, by what is counted
-abbrev pub room_for : SoFar → Line → Bool
-room_for s line =
-    nat_le (s.asked + asked_by line) most_vectors && nat_le (length (s.sessions.all ++ option_to_list (opened_by line))) most_sessions
-    && nat_le (s.sessions.packets + packets_by line) most_packets
-    && has_fit_texts line
-
 -- the sessions of the present job
 of_present : (rows : List Row) (s : SoFar) (round : RoundSoFar) (job : List Line) → IsSoFar rows s → s.round ≡ Some round → round.job ≡ Some job → AreOfJob s.sessions job
 of_present rows s round job kept is has = let at = at_round rows s (Some round) is kept in rw has at at.round.job
@@ -542,18 +548,14 @@ of_present rows s round job kept is has = let at = at_round rows s (Some round) 
 pub line_is : (rows : List Row) (s : SoFar) (which : JobWord) (fields : List (List ℕ)) (round : RoundSoFar) (job : List Line) (line : Line) → IsSoFar rows s
     → s.round ≡ Some round → round.job ≡ Some job → line_of rows which fields ≡ Ok line
     → of_job_line (scenario rows s) which fields
-    ≡ tested (in_order s.sessions.all s.sessions.opened s.sessions.started line) (is_busy round.jobs (held_by line)) (room_for s line) (record (scenario rows s) { round = with_line s.round line })
+    ≡ tested (in_order s.sessions.all s.sessions.opened s.sessions.started line) (is_busy round.jobs (held_by line)) (room_for s.sessions s.asked line) (record (scenario rows s) { round = with_line s.round line })
 line_is rows s which fields round job line kept is has says =
     let present = of_present rows s round job kept is has in
     rw (kept.sessions, present.opened, present.started, present.packets, kept.asked) (rw (says, is, has) refl)
 
--- two limits that are kept together
-pub both : (a b c d : ℕ) → (nat_le a b && nat_le c d) ≡ true → (a ≤ b) × (c ≤ d)
-both a b c d kept = (grind (arith, nat_tests), grind (arith, nat_tests))
-
 -- the tests that a line passes
 pub all_pass : (rows : List Row) (s : SoFar) (jobs : List (List Line)) (line : Line) (next : Scenario) → Passes rows s jobs line
-    → tested (in_order s.sessions.all s.sessions.opened s.sessions.started line) (is_busy jobs (held_by line)) (room_for s line) next ≡ Ok next
+    → tested (in_order s.sessions.all s.sessions.opened s.sessions.started line) (is_busy jobs (held_by line)) (room_for s.sessions s.asked line) next ≡ Ok next
 all_pass rows s jobs line next passes =
     let vectors = fits_in (s.asked + asked_by line) most_vectors passes.vectors in
     let sessions = fits_in (length (s.sessions.all ++ option_to_list (opened_by line))) most_sessions passes.sessions in
@@ -562,6 +564,108 @@ all_pass rows s jobs line next passes =
   where
     fits_in : (n limit : ℕ) → n ≤ limit → nat_le n limit ≡ true
     fits_in n limit within = grind (arith, nat_tests)
+
+-- the same tests, where they answer a number
+abbrev tests : Result (Unit {0}) ScriptWhy → Bool → Bool → ℕ → Result ℕ ScriptWhy
+tests order busy room n = order >>= λ known. require (not busy) UsimBusy >>= λ free. require room Limit >>= λ within. Ok n
+
+-- what holds where the tests pass, and what a test that fails makes of a scenario
+tests_pass : (order : Result (Unit {0}) ScriptWhy) (busy room : Bool) (n asked : ℕ) → tests order busy room n ≡ Ok asked
+    → (order ≡ Ok tt) × (busy ≡ false) × (room ≡ true) × (asked ≡ n)
+tests_pass (Ok done) false true n asked is = (refl, refl, refl, cc)
+tests_pass (Ok done) false false n asked is = cc
+tests_pass (Ok done) true room n asked is = cc
+tests_pass (Err why) busy room n asked is = cc
+
+test_fails : (order : Result (Unit {0}) ScriptWhy) (busy room : Bool) (n : ℕ) (next : Scenario) (why : ScriptWhy) → tests order busy room n ≡ Err why
+    → tested order busy room next ≡ Err why
+test_fails (Ok done) false true n next why is = cc
+test_fails (Ok done) false false n next why is = cc
+test_fails (Ok done) true room n next why is = cc
+test_fails (Err other) busy room n next why is = cc
+
+-- each of four tests
+four : (a b c d : Bool) → (a && b && c && d) ≡ true → (a ≡ true) × (b ≡ true) × (c ≡ true) × (d ≡ true)
+four true true true true is = (refl, refl, refl, refl)
+four true true true false is = cc
+four true true false d is = cc
+four true false c d is = cc
+four false b c d is = cc
+
+-- a line asks for few vectors
+few_asked : (rows : List Row) (line : Line) → (has_fit_texts line ≡ true → IsLine rows line) → asked_by line ≤ most_count
+few_asked rows (Draw sub count) is = (is refl).2
+few_asked rows (Sync sub seq bit count) is = (is refl).3
+few_asked rows (Session line) is = omega arith
+few_asked rows (Give sub number) is = omega arith
+few_asked rows (Start session) is = omega arith
+few_asked rows (Deliver session end packet) is = omega arith
+few_asked rows (Repeat session) is = omega arith
+few_asked rows (GiveUp session end) is = omega arith
+few_asked rows (Plain session) is = omega arith
+
+-- a line of the present job can be tested
+pub ready : (rows : List Row) (s : SoFar) (round : RoundSoFar) (job : List Line) (line : Line) → IsSoFar rows s → s.round ≡ Some round → round.job ≡ Some job
+    → IfSome (held_by line) (λ sub. sub < length rows) → (has_fit_texts line ≡ true → IsLine rows line) → IsReady s.sessions s.holders s.asked round line
+ready rows s round job line kept is has inside is_line =
+    let at = at_round rows s (Some round) is kept in
+    let present = at_round rows s (Some (record { jobs = round.jobs; job = Some job })) (present_round s round job is has) kept in
+    let jobs = present_jobs rows s.ended (round.jobs ++ job ∷ []) present.parts in
+    let counts = All-pop (λ job. packets job ≤ most_packets) (round.jobs ++ job ∷ []) round.jobs (Some job) refl jobs.packets in
+    record {
+      known = rw at.round.each inside;
+      marks = at.round.marks;
+      room = omega (arith, job_room rows s round is kept);
+      vectors = omega (arith, few_asked rows line is_line, kept.asked, kept.parts.vectors);
+      opened = rw kept.sessions kept.parts.sessions;
+      packets = omega (arith, present.round.job.packets, counts.1);
+    }
+
+-- a line that passes the tests, and how many vectors are then asked for
+pub passes_with : (rows : List Row) (s : SoFar) (round : RoundSoFar) (line : Line) (asked : ℕ) → (has_fit_texts line ≡ true → IsLine rows line)
+    → Ok asked ≡ asked_with s.sessions s.asked round line → Passes rows s round.jobs line × (asked ≡ s.asked + asked_by line)
+passes_with rows s round line asked is_line is =
+    let all = tests_pass (in_order s.sessions.all s.sessions.opened s.sessions.started line) (is_busy round.jobs (held_by line)) (room_for s.sessions s.asked line) (s.asked + asked_by line) asked (sym is) in
+    let room = four (nat_le (s.asked + asked_by line) most_vectors) (nat_le (length (s.sessions.all ++ option_to_list (opened_by line))) most_sessions) (nat_le (s.sessions.packets + packets_by line) most_packets) (has_fit_texts line) all.2 in (
+      record {
+        is_line = is_line room.3;
+        order = all.0;
+        free = all.1;
+        vectors = least (s.asked + asked_by line) most_vectors room.0;
+        sessions = least (length (s.sessions.all ++ option_to_list (opened_by line))) most_sessions room.1;
+        packets = least (s.sessions.packets + packets_by line) most_packets room.2;
+        names = room.3;
+      },
+      all.3,
+    )
+  where
+    least : (n limit : ℕ) → nat_le n limit ≡ true → n ≤ limit
+    least n limit is = grind (arith, nat_tests)
+
+-- how many vectors are asked for with a line that passes each test
+pub has_asked : (s : Sessions) (asked : ℕ) (round : RoundSoFar) (line : Line) → Ok tt ≡ in_order s.all s.opened s.started line
+    → is_busy round.jobs (held_by line) ≡ false
+    → (nat_le (length (s.all ++ option_to_list (opened_by line))) most_sessions && nat_le (s.packets + packets_by line) most_packets) ≡ true
+    → has_fit_texts line ≡ true → asked + asked_by line ≤ most_vectors → Ok (asked + asked_by line) ≡ asked_with s asked round line
+has_asked s asked round line order free room names vectors =
+    let two = two_tests (nat_le (length (s.all ++ option_to_list (opened_by line))) most_sessions) (nat_le (s.packets + packets_by line) most_packets) room in
+    let few : nat_le (asked + asked_by line) most_vectors ≡ true = least (asked + asked_by line) most_vectors vectors in
+    rw (sym order, free, few, two.0, two.1, names) refl
+  where
+    least : (n limit : ℕ) → n ≤ limit → nat_le n limit ≡ true
+    least n limit within = grind (arith, nat_tests)
+
+    two_tests : (a b : Bool) → (a && b) ≡ true → (a ≡ true) × (b ≡ true)
+    two_tests true true is = (refl, refl)
+    two_tests true false is = cc
+    two_tests false b is = cc
+
+-- a line that a test refuses
+pub refused_line : (rows : List Row) (s : SoFar) (which : JobWord) (fields : List (List ℕ)) (round : RoundSoFar) (job : List Line) (line : Line) (why : ScriptWhy) → IsSoFar rows s
+    → s.round ≡ Some round → round.job ≡ Some job → line_of rows which fields ≡ Ok line → Err why ≡ asked_with s.sessions s.asked round line → of_job_line (scenario rows s) which fields ≡ Err why
+refused_line rows s which fields round job line why kept is has says fails =
+    line_is rows s which fields round job line kept is has says
+    ∙ test_fails (in_order s.sessions.all s.sessions.opened s.sessions.started line) (is_busy round.jobs (held_by line)) (room_for s.sessions s.asked line) (s.asked + asked_by line) (record (scenario rows s) { round = with_line s.round line }) why (sym fails)
 
 -- tests of a count
 fits : (n limit : ℕ) → n < limit → nat_lt n limit ≡ true

@@ -18,6 +18,11 @@ Says expected (Ok part) = expected ≡ Ok part
 Says expected (Err (line.Why why)) = expected ≡ Err why
 Says expected (Err line.NoMemory) = Unit {0}
 
+-- what was read without memory, where memory may lack
+abbrev pub as_said : {A : Type 0} → Result A ScriptWhy → Result A LineRefusal
+as_said (Ok part) = Ok part
+as_said (Err why) = Err (line.Why why)
+
 -- how a line was taken: what should be after it, the answer, and what is after it
 abbrev pub Becomes : {A : Type 0} → Result A ScriptWhy → Result (Unit {0}) LineRefusal → A → Type 0
 Becomes expected (Ok done) new = expected ≡ Ok new

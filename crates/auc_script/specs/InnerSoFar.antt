@@ -1,18 +1,23 @@
 -- Inner facts: what only private contracts of this crate cite. What is kept while lines are read.
-use Rattle.std.specs.Prelude.{ℕ, ◌≡◌, ◌<◌, ◌≤◌, ◌+◌, ◌*◌, ◌++◌, ◌&&◌, nat_eq, nat_le, nat_lt, All, List, [], ◌∷◌, length, Option, Some, None, IfSome, slice_index, slice_set}
+use Rattle.std.specs.Prelude.{ℕ, ◌≡◌, ◌<◌, ◌≤◌, ◌+◌, ◌*◌, ◌^◌, ◌++◌, ◌&&◌, nat_eq, nat_le, nat_lt, not, All, Bool, List, [], ◌∷◌, length, Option, Some, None, IfSome, Result, Ok, slice_index, slice_set}
 use Rattle.std.specs.List.{list_any}
 use Rattle.std.specs.Option.{option_to_list}
 use Rattle.auc_subs.specs.declared.row.Row.{Row}
 use Rattle.auc_script.specs.declared.header.Header.{Header}
+use Rattle.auc_script.specs.declared.holders.Holders.{Holders}
 use Rattle.auc_lines.specs.declared.part.Line.{Line}
 use Rattle.auc_script.specs.declared.round_so_far.RoundSoFar.{RoundSoFar}
 use Rattle.auc_script.specs.declared.sessions.Sessions.{Sessions}
 use Rattle.auc_script.specs.declared.so_far.SoFar.{SoFar}
-use Rattle.auc_script.specs.Scenario.{Scenario, jobs_in, rounds_of, with_round}
-use Rattle.auc_lines.specs.Part.{asked, holds, jobs_of}
+use Rattle.auc_script.specs.declared.refusal.ScriptWhy.{ScriptWhy}
+use Rattle.auc_script.specs.declared.refusal.ScriptWhy.TheVariants as why
+use Rattle.auc_script.specs.Field.{require}
+use Rattle.auc_script.specs.Scenario.{Scenario, in_order, is_busy, jobs_in, rounds_of, with_round}
+use Rattle.auc_lines.specs.Part.{asked, asked_by, held_by, holds, jobs_of}
+use Rattle.auc_subs.specs.Steps.{◌>>=◌}
 use Rattle.auc_script.specs.Limits.{AreWithin}
-use Rattle.auc_script.specs.Numbers.{longest_realm, most_workers}
-use Rattle.auc_script.specs.Session.{opened, opened_by, packets, packets_by, sessions_of, started, started_by}
+use Rattle.auc_script.specs.Numbers.{longest_realm, most_packets, most_sessions, most_vectors, most_workers}
+use Rattle.auc_script.specs.Session.{has_fit_texts, opened, opened_by, packets, packets_by, sessions_of, started, started_by}
 
 -- a header within its limits
 pub record IsHeader (header : Header) : Type 0 where
@@ -105,3 +110,28 @@ pub record IsBetween (rows : List Row) (old new : SoFar) : Type 0 where
   pub before : new.holders.before ≡ old.jobs
   pub each : length new.holders.marks.items ≡ length rows
   pub marks : All (λ mark. mark ≤ old.jobs) new.holders.marks.items
+
+-- what the tests of a line of the present round rest on: a mark of the USIM that it holds, and counts that stay small
+pub record IsReady (sessions : Sessions) (holders : Holders) (asked : ℕ) (round : RoundSoFar) (line : Line) : Type 0 where
+  pub known : IfSome (held_by line) (λ sub. sub < length holders.marks.items)
+  pub marks : AreMarks holders.before holders.marks.items round
+  pub room : holders.before + length round.jobs < 2 ^ 32
+  pub vectors : asked + asked_by line < 2 ^ 32
+  pub opened : length sessions.all ≤ most_sessions
+  pub packets : sessions.packets ≤ most_packets
+
+-- whether a line is within the limits, by what is counted
+abbrev pub room_for : Sessions → ℕ → Line → Bool
+room_for s asked line =
+    nat_le (asked + asked_by line) most_vectors && nat_le (length (s.all ++ option_to_list (opened_by line))) most_sessions
+    && nat_le (s.packets + packets_by line) most_packets
+    && has_fit_texts line
+
+-- how many vectors are asked for with a line more of the present job, if it passes the tests behind its form: the order
+-- of its session, whether its USIM is held, and whether there is room
+abbrev pub asked_with : Sessions → ℕ → RoundSoFar → Line → Result ℕ ScriptWhy
+asked_with s asked round line = do
+  known ← in_order s.all s.opened s.started line
+  free ← require (not (is_busy round.jobs (held_by line))) why.UsimBusy
+  within ← require (room_for s asked line) why.Limit
+  Ok (asked + asked_by line)

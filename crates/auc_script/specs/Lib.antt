@@ -1,4 +1,5 @@
 pub mod Field
+pub mod InnerFields
 pub mod InnerRefusal
 pub mod InnerSoFar
 pub mod Law

@@ -2,7 +2,7 @@
 
 ghost use Rattle.std.specs.Prelude.{◌≡◌, ◌≤◌, [], ◌∷◌, ◌<◌, nat_le, MatchResult, IfOk, IfSome};
 ghost use Rattle.auc_edge.specs.Identity.{number_of};
-ghost use Rattle.auc_text.specs.Text.{words_of};
+ghost use Rattle.auc_text.specs.Text.{is_text, words_of};
 ghost use Rattle.auc_script.specs.Field.{bit_in, end_in, four_fields, full_in, is_number, no_field, number_between, one_field, three_fields, two_fields};
 ghost use Rattle.auc_lines.specs.Part.{IsBit};
 ghost use Rattle.auc_script.specs.declared.refusal.ScriptWhy.TheVariants as cause;
@@ -53,11 +53,7 @@ pub fn two_fields(fields: &[u8]) -> Result<(&[u8], &[u8]), ScriptWhy>
         (λ why. two_fields (words_of fields.now) ≡ Err why) }
 {
     let (first, rest) = first_field(fields)?;
-    let (second, rest) = first_field(rest)?;
-    match next_word(rest) {
-        None => Ok((first, second)),
-        Some(_) => Err(ScriptWhy::Fields),
-    }
+    Ok((first, one_field(rest)?))
 }
 
 /// The three fields of a line.
@@ -67,12 +63,8 @@ pub fn three_fields(fields: &[u8]) -> Result<(&[u8], &[u8], &[u8]), ScriptWhy>
         (λ why. three_fields (words_of fields.now) ≡ Err why) }
 {
     let (first, rest) = first_field(fields)?;
-    let (second, rest) = first_field(rest)?;
-    let (third, rest) = first_field(rest)?;
-    match next_word(rest) {
-        None => Ok((first, second, third)),
-        Some(_) => Err(ScriptWhy::Fields),
-    }
+    let (second, third) = two_fields(rest)?;
+    Ok((first, second, third))
 }
 
 /// The four fields of a line.
@@ -82,13 +74,15 @@ pub fn four_fields(fields: &[u8]) -> Result<(&[u8], &[u8], &[u8], &[u8]), Script
         (λ why. four_fields (words_of fields.now) ≡ Err why) }
 {
     let (first, rest) = first_field(fields)?;
-    let (second, rest) = first_field(rest)?;
-    let (third, rest) = first_field(rest)?;
-    let (fourth, rest) = first_field(rest)?;
-    match next_word(rest) {
-        None => Ok((first, second, third, fourth)),
-        Some(_) => Err(ScriptWhy::Fields),
-    }
+    let (second, third, fourth) = three_fields(rest)?;
+    Ok((first, second, third, fourth))
+}
+
+/// Whether a text is these bytes.
+pub fn is_text(text: &[u8], bytes: &[u8]) -> bool
+    ensures { result ≡ is_text text.now bytes.now }
+{
+    text == bytes
 }
 
 /// Whether a field is 1 to 20 decimal digits.
@@ -118,21 +112,20 @@ pub fn read_bit(text: &[u8]) -> Result<Option<u8>, ScriptWhy>
     ensures value { result ≡ bit_in text.now }
     ensures bit { IfOk result IsBit }
 {
-    if text == b"-".as_slice() {
+    if is_text(text, b"-") {
         return Ok(None);
     }
-    let bit = read_number(text, 0, 111)?;
-    Ok(Some(bit as u8))
+    Ok(Some(read_number(text, 0, 111)? as u8))
 }
 
 /// The end of a session that a field is.
 pub fn read_end(text: &[u8]) -> Result<End, ScriptWhy>
     ensures { result ≡ end_in text.now }
 {
-    if text == b"server".as_slice() {
+    if is_text(text, b"server") {
         return Ok(End::Server);
     }
-    if text == b"peer".as_slice() {
+    if is_text(text, b"peer") {
         return Ok(End::Peer);
     }
     Err(ScriptWhy::Fields)
@@ -142,10 +135,10 @@ pub fn read_end(text: &[u8]) -> Result<End, ScriptWhy>
 pub fn read_full(text: &[u8]) -> Result<bool, ScriptWhy>
     ensures { result ≡ full_in text.now }
 {
-    if text == b"brief".as_slice() {
+    if is_text(text, b"brief") {
         return Ok(false);
     }
-    if text == b"full".as_slice() {
+    if is_text(text, b"full") {
         return Ok(true);
     }
     Err(ScriptWhy::Fields)

@@ -8,7 +8,7 @@ ghost use Rattle.auc_script.specs.Scenario.{header_with, key_line, print_line, r
 
 use crate::field::{one_field, read_full, read_number};
 use crate::limits::{MAX_REALM, MAX_WORKERS};
-use crate::refusal::{LineRefusal, ScriptWhy};
+use crate::refusal::{LineRefusal, ScriptWhy, require};
 use crate::word::HeaderWord;
 use auc_edge::Octets;
 use auc_text::read_octets;
@@ -50,9 +50,7 @@ impl Header {
     {
         let text = one_field(fields)?;
         let key = read_octets::<32>(text).ok_or(ScriptWhy::Hex)?;
-        if self.key.is_some() {
-            return Err(LineRefusal::Why(ScriptWhy::Twice));
-        }
+        require(self.key.is_none(), ScriptWhy::Twice)?;
         self.key = Some(key);
         Ok(())
     }
@@ -65,9 +63,7 @@ impl Header {
     {
         let text = one_field(fields)?;
         let workers = read_number(text, 1, MAX_WORKERS)?;
-        if self.workers.is_some() {
-            return Err(LineRefusal::Why(ScriptWhy::Twice));
-        }
+        require(self.workers.is_none(), ScriptWhy::Twice)?;
         self.workers = Some(workers as u32);
         Ok(())
     }
@@ -78,11 +74,8 @@ impl Header {
         ensures becomes { Becomes (print_line self.old (words_of fields.now)) result self.new }
         ensures kept { OnOk result (IsHeader self.new) }
     {
-        let text = one_field(fields)?;
-        let full = read_full(text)?;
-        if self.full.is_some() {
-            return Err(LineRefusal::Why(ScriptWhy::Twice));
-        }
+        let full = read_full(one_field(fields)?)?;
+        require(self.full.is_none(), ScriptWhy::Twice)?;
         self.full = Some(full);
         Ok(())
     }

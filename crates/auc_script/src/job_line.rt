@@ -3,7 +3,7 @@
 ghost use Rattle.std.specs.Prelude.{◌≡◌, ◌<◌, true, length, IfOk, IfSome};
 ghost use Rattle.auc_lines.specs.Part.{held_by};
 ghost use Rattle.auc_text.specs.Text.{words_of};
-ghost use Rattle.auc_script.specs.InnerRefusal.{Says};
+ghost use Rattle.auc_script.specs.InnerRefusal.{Says, as_said};
 ghost use Rattle.auc_script.specs.Limits.{IsLine};
 ghost use Rattle.auc_script.specs.Scenario.{draw_of, give_of, line_of, sync_of};
 ghost use Rattle.auc_script.specs.Session.{has_fit_texts};
@@ -31,16 +31,23 @@ pub fn read_line(
     ensures line { IfOk result (λ line. has_fit_texts line ≡ true → IsLine subs.now line) }
 {
     match word {
-        JobWord::Draw => Ok(read_draw(subs, fields)?),
-        JobWord::Sync => Ok(read_sync(subs, fields)?),
-        JobWord::Give => Ok(read_give(subs, fields)?),
+        JobWord::Draw => said(read_draw(subs, fields)),
+        JobWord::Sync => said(read_sync(subs, fields)),
+        JobWord::Give => said(read_give(subs, fields)),
         JobWord::Session => read_session(alloc, subs, fields),
         JobWord::Start => Ok(Line::Start(read_one_number(fields)?)),
-        JobWord::Deliver => Ok(read_deliver(fields)?),
+        JobWord::Deliver => said(read_deliver(fields)),
         JobWord::Repeat => Ok(Line::Repeat(read_one_number(fields)?)),
-        JobWord::GiveUp => Ok(read_give_up(fields)?),
+        JobWord::GiveUp => said(read_give_up(fields)),
         JobWord::Plain => Ok(Line::Plain(read_one_number(fields)?)),
     }
+}
+
+/// What a line says that takes no memory, for a caller that may lack memory.
+fn said(read: Result<Line, ScriptWhy>) -> Result<Line, LineRefusal>
+    ensures { result ≡ as_said read }
+{
+    Ok(read?)
 }
 
 /// What the fields `IMSI COUNT` say.

@@ -35,7 +35,10 @@ impl RoundSoFar {
     {
         match &mut self.job {
             Some(job) => job.push(line),
-            None => Ok(()),
+            None => {
+                drop(line);
+                Ok(())
+            }
         }
     }
 

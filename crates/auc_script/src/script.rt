@@ -55,7 +55,7 @@ impl Script {
                 Ok(so_far.script(alloc)?)
             }
             Err(refusal) => {
-                give_back(so_far);
+                drop(so_far);
                 Err(refusal)
             }
         }
@@ -95,9 +95,6 @@ fn put_lines(
     }
     Ok(())
 }
-
-/// Gives what the lines said back.
-fn give_back(_so_far: SoFar) {}
 
 /// Brings the clauses that hold of all lists of subscribers.
 fn attest(subs: &Subscribers)

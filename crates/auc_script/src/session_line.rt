@@ -4,6 +4,7 @@ ghost use Rattle.std.specs.Prelude.{◌≡◌, ◌<◌, ◌≤◌, true, List, O
 ghost use Rattle.auc_lines.specs.Part.{held_by};
 ghost use Rattle.auc_subs.specs.declared.row.Row.{Row};
 ghost use Rattle.auc_text.specs.Text.{words_of};
+ghost use Rattle.auc_script.specs.InnerFields.{all_seven};
 ghost use Rattle.auc_script.specs.InnerRefusal.{Says};
 ghost use Rattle.auc_script.specs.Limits.{IsLine, IsSession};
 ghost use Rattle.auc_script.specs.Numbers.{last_session};
@@ -13,7 +14,7 @@ ghost use Rattle.auc_script.specs.Scenario.{deliver_of, give_up_of, number_of_se
 ghost use Rattle.auc_script.specs.Session.{has_fit_texts, is_first, is_short};
 
 use crate::field::{
-    first_field, four_fields, one_field, read_end, read_number, three_fields, two_fields,
+    first_field, four_fields, is_text, one_field, read_end, read_number, three_fields, two_fields,
 };
 use crate::limits::{LAST_PACKET, LAST_SESSION, MAX_NAME, MAX_TEXT};
 use crate::refusal::{LineRefusal, ScriptWhy, require};
@@ -48,15 +49,7 @@ fn seven_fields(
     fields: &[u8],
 ) -> Result<(&[u8], &[u8], &[u8], &[u8], &[u8], &[u8], &[u8]), ScriptWhy>
     ensures { MatchResult result
-        (λ f. seven_fields (words_of fields.now) ≡ Ok (record {
-          session = f.0.now;
-          imsi = f.1.now;
-          method = f.2.now;
-          sname = f.3.now;
-          pname = f.4.now;
-          options = f.5.now;
-          identity = f.6.now;
-        }))
+        (λ f. seven_fields (words_of fields.now) ≡ Ok (all_seven f.0.now f.1.now f.2.now f.3.now f.4.now f.5.now f.6.now))
         (λ why. seven_fields (words_of fields.now) ≡ Err why) }
 {
     let (session, rest) = first_field(fields)?;
@@ -80,57 +73,47 @@ pub fn read_session(alloc: Global, subs: &Subscribers, fields: &[u8]) -> Result<
     require(are_options(options), ScriptWhy::Fields)?;
     require(is_identity(identity), ScriptWhy::Fields)?;
     let sub = subs.find(imsi).ok_or(ScriptWhy::UnknownSubscriber)?;
-    let texts = read_texts(alloc, method, sname, pname, identity)?;
+    let (name, peer_name, identity) = read_texts(alloc, method, sname, pname, identity)?;
     Ok(Line::Session(SessionLine {
         session,
         sub,
         method,
-        name: texts.name,
-        peer_name: texts.peer_name,
+        name,
+        peer_name,
         pseudonym: options.contains(&b'p'),
         reauth: options.contains(&b'r'),
         bidding: options.contains(&b'b'),
         any: options.contains(&b'a'),
         has_prime: options.contains(&b'd'),
-        identity: texts.identity,
+        identity,
     }))
 }
 
-/// What a session's line takes memory for.
-#[derive(Drop)]
-struct Texts {
-    name: Octets,
-    peer_name: Option<Octets>,
-    identity: Identity,
-}
-
-/// The texts of a session of a method, from the fields of its line.
+/// What a session's line takes memory for: the server's name, the one that the peer expects, and the first identity.
 fn read_texts(
     alloc: Global,
     method: Method,
     sname: &[u8],
     pname: &[u8],
     identity: &[u8],
-) -> Result<Texts, NoMemory>
-    ensures name { IfOk result (λ texts. texts.name ≡ name_in method sname.now) }
-    ensures peer { IfOk result (λ texts. texts.peer_name ≡ peer_name_in method pname.now) }
-    ensures identity { IfOk result (λ texts. texts.identity ≡ identity_in identity.now) }
+) -> Result<(Octets, Option<Octets>, Identity), NoMemory>
+    ensures name { IfOk result (λ texts. texts.0 ≡ name_in method sname.now) }
+    ensures peer { IfOk result (λ texts. texts.1 ≡ peer_name_in method pname.now) }
+    ensures identity { IfOk result (λ texts. texts.2 ≡ identity_in identity.now) }
 {
-    Ok(Texts {
-        name: read_name(alloc, method, sname)?,
-        peer_name: read_peer_name(alloc, method, pname)?,
-        identity: read_identity(alloc, identity)?,
-    })
+    let name = read_name(alloc, method, sname)?;
+    let peer_name = read_peer_name(alloc, method, pname)?;
+    Ok((name, peer_name, read_identity(alloc, identity)?))
 }
 
 /// The method that a field is.
 fn read_method(text: &[u8]) -> Option<Method>
     ensures { result ≡ method_in text.now }
 {
-    if text == b"aka".as_slice() {
+    if is_text(text, b"aka") {
         return Some(Method::Aka);
     }
-    if text == b"prime".as_slice() {
+    if is_text(text, b"prime") {
         return Some(Method::Prime);
     }
     None
@@ -150,16 +133,14 @@ fn are_names(method: Method, sname: &[u8], pname: &[u8]) -> bool
 fn are_options(text: &[u8]) -> bool
     ensures { result ≡ are_options text.now }
 {
-    text == b"-".as_slice() || has_letters(text)
+    is_text(text, b"-") || has_letters(text)
 }
 
 /// Whether a field says which identity the peer gives first.
 fn is_identity(text: &[u8]) -> bool
     ensures { result ≡ is_identity text.now }
 {
-    text == b"held".as_slice()
-        || text == b"permanent".as_slice()
-        || (!text.is_empty() && text[0] == b'=')
+    is_text(text, b"held") || is_text(text, b"permanent") || (!text.is_empty() && text[0] == b'=')
 }
 
 /// The server's name of the network.
@@ -187,10 +168,10 @@ fn read_peer_name(alloc: Global, method: Method, pname: &[u8]) -> Result<Option<
 fn read_identity(alloc: Global, text: &[u8]) -> Result<Identity, NoMemory>
     ensures { IfOk result (λ identity. identity ≡ identity_in text.now) }
 {
-    if text == b"held".as_slice() {
+    if is_text(text, b"held") {
         return Ok(Identity::Held);
     }
-    if text == b"permanent".as_slice() {
+    if is_text(text, b"permanent") {
         return Ok(Identity::Permanent);
     }
     match text {
@@ -271,6 +252,5 @@ fn read_session_number(text: &[u8]) -> Result<u32, ScriptWhy>
     ensures value { result ≡ number_between 1 last_session text.now }
     ensures within { IfOk result IsSession }
 {
-    let number = read_number(text, 1, LAST_SESSION)?;
-    Ok(number as u32)
+    Ok(read_number(text, 1, LAST_SESSION)? as u32)
 }

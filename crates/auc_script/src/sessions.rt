@@ -13,6 +13,7 @@ use crate::refusal::{ScriptWhy, require};
 use auc_edge::NoMemory;
 use auc_lines::Line;
 use std::alloc::Global;
+use std::mem::replace;
 
 /// The sessions of the lines so far, by their numbers.
 #[derive(Drop)]
@@ -44,8 +45,8 @@ impl Sessions {
     pub fn begin_job(&mut self, alloc: Global)
         ensures { self.new ≡ of_new_job self.old }
     {
-        self.opened = NumberSet::new(alloc);
-        self.started = NumberSet::new(alloc);
+        drop(replace(&mut self.opened, NumberSet::new(alloc)));
+        drop(replace(&mut self.started, NumberSet::new(alloc)));
         self.packets = 0;
     }
 

@@ -1,6 +1,6 @@
 //! What the lines so far say.
 
-ghost use Rattle.std.specs.Prelude.{◌≡◌, ◌==◌, ◌||◌, not, is_some, [], List, length, IfOk, OnErr, OnOk};
+ghost use Rattle.std.specs.Prelude.{◌≡◌, ◌==◌, ◌&&◌, not, is_some, [], List, length, IfOk, OnErr, OnOk};
 ghost use Rattle.std.specs.Option.{unwrap_or};
 ghost use Rattle.auc_subs.specs.declared.row.Row.{Row};
 ghost use Rattle.auc_subs.specs.Subscriber.{AreSubscribers};
@@ -9,14 +9,14 @@ ghost use Rattle.auc_script.specs.Limits.{IsWithin};
 ghost use Rattle.auc_script.specs.Reading.{beginning, script_from};
 ghost use Rattle.auc_script.specs.InnerRefusal.{Becomes};
 ghost use Rattle.auc_script.specs.Scenario.{after_line, header_line, job_line, of_job_line, restart_line, round_line, subscriber_line, with_round, word_line};
-ghost use Rattle.auc_script.specs.InnerSoFar.{IsBetween, IsHeader, IsSoFar, scenario, with_line};
+ghost use Rattle.auc_script.specs.InnerSoFar.{IsBetween, IsHeader, IsReady, IsSoFar, asked_with, scenario, with_line};
 
 use crate::field::no_field;
 use crate::header::Header;
 use crate::holders::Holders;
 use crate::job_line::read_line;
 use crate::limits::{MAX_JOBS, MAX_ROUNDS, MAX_VECTORS};
-use crate::refusal::{LineRefusal, ScriptWhy};
+use crate::refusal::{LineRefusal, ScriptWhy, require};
 use crate::round_so_far::RoundSoFar;
 use crate::script::Script;
 use crate::session_line::has_fit_texts;
@@ -95,13 +95,9 @@ impl SoFar {
         let Some((text, fields)) = next_word(line) else {
             return Ok(());
         };
-        if is_later(text) {
-            return Err(LineRefusal::Why(ScriptWhy::NotYet));
-        }
-        match read_word(text) {
-            Some(word) => self.put_word(alloc, subs, word, fields),
-            None => Err(LineRefusal::Why(ScriptWhy::UnknownWord)),
-        }
+        require(!is_later(text), ScriptWhy::NotYet)?;
+        let word = read_word(text).ok_or(ScriptWhy::UnknownWord)?;
+        self.put_word(alloc, subs, word, fields)
     }
 
     /// Takes the fields of a word.
@@ -140,9 +136,7 @@ impl SoFar {
             (scenario rows self.new) }
         ensures kept { (rows : List Row) → IsSoFar rows self.old → OnOk result (IsSoFar rows self.new) }
     {
-        if self.has_begun() {
-            return Err(LineRefusal::Why(ScriptWhy::OutOfOrder));
-        }
+        require(self.is_before_rounds(), ScriptWhy::OutOfOrder)?;
         self.header.put(alloc, word, fields)
     }
 
@@ -159,12 +153,8 @@ impl SoFar {
         ensures kept { OnOk result (IsSoFar subs.new self.new) }
         ensures rows { OnErr result (subs.new ≡ subs.old) }
     {
-        if self.has_begun() {
-            return Err(LineRefusal::Why(ScriptWhy::OutOfOrder));
-        }
-        if word_count(fields) != 7 {
-            return Err(LineRefusal::Why(ScriptWhy::Fields));
-        }
+        require(self.is_before_rounds(), ScriptWhy::OutOfOrder)?;
+        require(word_count(fields) == 7, ScriptWhy::Fields)?;
         let line = joined(alloc, fields)?;
         match subs.add(line.as_slice()) {
             Ok(_) => Ok(()),
@@ -258,26 +248,27 @@ impl SoFar {
             return Err(LineRefusal::Why(ScriptWhy::OutOfOrder));
         };
         let line = read_line(alloc, subs, word, fields)?;
-        self.sessions.order(&line)?;
-        if self.holders.is_busy(round, &line) {
-            return Err(LineRefusal::Why(ScriptWhy::UsimBusy));
+        match asked_with(&self.sessions, &self.holders, self.asked, round, &line) {
+            Ok(asked) => {
+                self.holders.note(round, &line);
+                let noted = self.sessions.note(&line);
+                put_in_round(&mut self.round, line)?;
+                noted?;
+                self.asked = asked;
+                Ok(())
+            }
+            Err(why) => {
+                drop(line);
+                Err(LineRefusal::Why(why))
+            }
         }
-        let asked = self.asked + line.count();
-        if asked > MAX_VECTORS || !self.sessions.has_room(&line) || !has_fit_texts(&line) {
-            return Err(LineRefusal::Why(ScriptWhy::Limit));
-        }
-        self.holders.note(round, &line);
-        self.sessions.note(&line)?;
-        put_in_round(&mut self.round, line)?;
-        self.asked = asked;
-        Ok(())
     }
 
-    /// Whether a round has begun.
-    fn has_begun(&self) -> bool
-        ensures { result ≡ (is_some self.now.round || not (length self.now.ended == 0)) }
+    /// Whether no round has begun.
+    fn is_before_rounds(&self) -> bool
+        ensures { result ≡ (not (is_some self.now.round) && (length self.now.ended == 0)) }
     {
-        self.round.is_some() || !self.ended.is_empty()
+        self.round.is_none() && self.ended.is_empty()
     }
 
     /// Puts the present round after the parts before it. If there is none, it makes a mark for each subscriber.
@@ -319,10 +310,36 @@ impl SoFar {
             header,
             ended,
             round,
+            holders,
+            sessions,
             ..
         } = self;
+        drop(holders);
+        drop(sessions);
         (header, ended, round)
     }
+}
+
+/// How many vectors the lines ask for with one more of the present job, if it may stand there; else the cause.
+fn asked_with(
+    sessions: &Sessions,
+    holders: &Holders,
+    asked: u32,
+    round: &RoundSoFar,
+    line: &Line,
+) -> Result<u32, ScriptWhy>
+    requires { IsReady sessions.now holders.now asked round.now line.now }
+    ensures { result ≡ asked_with sessions.now asked round.now line.now }
+{
+    sessions.order(line)?;
+    if holders.is_busy(round, line) {
+        return Err(ScriptWhy::UsimBusy);
+    }
+    let sum = asked + line.count();
+    if sum > MAX_VECTORS || !sessions.has_room(line) || !has_fit_texts(line) {
+        return Err(ScriptWhy::Limit);
+    }
+    Ok(sum)
 }
 
 /// Parts with the present round after the last, if there is one.
@@ -342,6 +359,9 @@ fn put_in_round(round: &mut Option<RoundSoFar>, line: Line) -> Result<(), NoMemo
 {
     match round {
         Some(round) => round.put(line),
-        None => Ok(()),
+        None => {
+            drop(line);
+            Ok(())
+        }
     }
 }

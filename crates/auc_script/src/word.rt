@@ -3,6 +3,8 @@
 ghost use Rattle.std.specs.Prelude.{◌≡◌};
 ghost use Rattle.auc_script.specs.Word.{header_word_of, is_comment, is_later, job_word_of, other_word_of, word_of};
 
+use crate::field::is_text;
+
 /// A word of a line before the first round, which stands there at most once.
 #[derive(Clone, Copy)]
 pub enum HeaderWord {
@@ -67,13 +69,13 @@ pub fn is_comment(line: &[u8]) -> bool
 pub fn read_word(text: &[u8]) -> Option<Word>
     ensures { result ≡ word_of text.now }
 {
-    if text == b"subscriber".as_slice() {
+    if is_text(text, b"subscriber") {
         return Some(Word::Subscriber);
     }
-    if text == b"round".as_slice() {
+    if is_text(text, b"round") {
         return Some(Word::Round);
     }
-    if text == b"job".as_slice() {
+    if is_text(text, b"job") {
         return Some(Word::Job);
     }
     read_other_word(text)
@@ -83,7 +85,7 @@ pub fn read_word(text: &[u8]) -> Option<Word>
 fn read_other_word(text: &[u8]) -> Option<Word>
     ensures { result ≡ other_word_of text.now }
 {
-    if text == b"restart".as_slice() {
+    if is_text(text, b"restart") {
         return Some(Word::Restart);
     }
     match read_job_word(text) {
@@ -96,31 +98,31 @@ fn read_other_word(text: &[u8]) -> Option<Word>
 fn read_job_word(text: &[u8]) -> Option<JobWord>
     ensures { result ≡ job_word_of text.now }
 {
-    if text == b"draw".as_slice() {
+    if is_text(text, b"draw") {
         return Some(JobWord::Draw);
     }
-    if text == b"sync".as_slice() {
+    if is_text(text, b"sync") {
         return Some(JobWord::Sync);
     }
-    if text == b"give".as_slice() {
+    if is_text(text, b"give") {
         return Some(JobWord::Give);
     }
-    if text == b"session".as_slice() {
+    if is_text(text, b"session") {
         return Some(JobWord::Session);
     }
-    if text == b"start".as_slice() {
+    if is_text(text, b"start") {
         return Some(JobWord::Start);
     }
-    if text == b"deliver".as_slice() {
+    if is_text(text, b"deliver") {
         return Some(JobWord::Deliver);
     }
-    if text == b"repeat".as_slice() {
+    if is_text(text, b"repeat") {
         return Some(JobWord::Repeat);
     }
-    if text == b"giveup".as_slice() {
+    if is_text(text, b"giveup") {
         return Some(JobWord::GiveUp);
     }
-    if text == b"plain".as_slice() {
+    if is_text(text, b"plain") {
         return Some(JobWord::Plain);
     }
     None
@@ -130,16 +132,16 @@ fn read_job_word(text: &[u8]) -> Option<JobWord>
 fn read_header_word(text: &[u8]) -> Option<HeaderWord>
     ensures { result ≡ header_word_of text.now }
 {
-    if text == b"randkey".as_slice() {
+    if is_text(text, b"randkey") {
         return Some(HeaderWord::Randkey);
     }
-    if text == b"workers".as_slice() {
+    if is_text(text, b"workers") {
         return Some(HeaderWord::Workers);
     }
-    if text == b"print".as_slice() {
+    if is_text(text, b"print") {
         return Some(HeaderWord::Print);
     }
-    if text == b"realm".as_slice() {
+    if is_text(text, b"realm") {
         return Some(HeaderWord::Realm);
     }
     None
@@ -149,5 +151,5 @@ fn read_header_word(text: &[u8]) -> Option<HeaderWord>
 pub fn is_later(text: &[u8]) -> bool
     ensures { result ≡ is_later text.now }
 {
-    text == b"tamper".as_slice() || text == b"cut".as_slice()
+    is_text(text, b"tamper") || is_text(text, b"cut")
 }

@@ -1,4 +1,49 @@
+use Rattle.auc_text.specs.Text.{words_of}
+use Rattle.auc_script.specs.Scenario.{deliver_of, draw_of, give_of, give_up_of, sync_of}
+use Rattle.auc_script.proofs.LineLemmas.{known_said, line_said, says_same}
 use Rattle.auc_script.proofs.job_line.read_line.Goals as goal
 
-pub returns-in_ok-read_deliver-in-Deliver-clause-line : goal.returns-in_ok-read_deliver-in-Deliver-clause-line
-returns-in_ok-read_deliver-in-Deliver-clause-line c = λ fit. c.in_ok-read_deliver-in-Deliver.ensures.line c.args.subs.now
+pub returns-in-Draw-clause-value : goal.returns-in-Draw-clause-value
+returns-in-Draw-clause-value c = rw (c.in-Draw.is, c.said.ensures, c.read_draw.ensures.value) (says_same (draw_of c.args.subs.now (words_of c.args.fields.now)))
+
+pub returns-in-Draw-clause-known : goal.returns-in-Draw-clause-known
+returns-in-Draw-clause-known c = rw c.said.ensures (known_said c.args.subs.now c.read_draw.result c.read_draw.ensures.line)
+
+pub returns-in-Draw-clause-line : goal.returns-in-Draw-clause-line
+returns-in-Draw-clause-line c = rw c.said.ensures (line_said c.args.subs.now c.read_draw.result c.read_draw.ensures.line)
+
+pub returns-in-Sync-clause-value : goal.returns-in-Sync-clause-value
+returns-in-Sync-clause-value c = rw (c.in-Sync.is, c.said-in-Sync.ensures, c.read_sync.ensures.value) (says_same (sync_of c.args.subs.now (words_of c.args.fields.now)))
+
+pub returns-in-Sync-clause-known : goal.returns-in-Sync-clause-known
+returns-in-Sync-clause-known c = rw c.said-in-Sync.ensures (known_said c.args.subs.now c.read_sync.result c.read_sync.ensures.line)
+
+pub returns-in-Sync-clause-line : goal.returns-in-Sync-clause-line
+returns-in-Sync-clause-line c = rw c.said-in-Sync.ensures (line_said c.args.subs.now c.read_sync.result c.read_sync.ensures.line)
+
+pub returns-in-Give-clause-value : goal.returns-in-Give-clause-value
+returns-in-Give-clause-value c = rw (c.in-Give.is, c.said-in-Give.ensures, c.read_give.ensures.value) (says_same (give_of c.args.subs.now (words_of c.args.fields.now)))
+
+pub returns-in-Give-clause-known : goal.returns-in-Give-clause-known
+returns-in-Give-clause-known c = rw c.said-in-Give.ensures (known_said c.args.subs.now c.read_give.result c.read_give.ensures.line)
+
+pub returns-in-Give-clause-line : goal.returns-in-Give-clause-line
+returns-in-Give-clause-line c = rw c.said-in-Give.ensures (line_said c.args.subs.now c.read_give.result c.read_give.ensures.line)
+
+pub returns-in-Deliver-clause-value : goal.returns-in-Deliver-clause-value
+returns-in-Deliver-clause-value c = rw (c.in-Deliver.is, c.said-in-Deliver.ensures, c.read_deliver.ensures.value) (says_same (deliver_of (words_of c.args.fields.now)))
+
+pub returns-in-Deliver-clause-known : goal.returns-in-Deliver-clause-known
+returns-in-Deliver-clause-known c = rw c.said-in-Deliver.ensures (known_said c.args.subs.now c.read_deliver.result (c.read_deliver.ensures.line c.args.subs.now))
+
+pub returns-in-Deliver-clause-line : goal.returns-in-Deliver-clause-line
+returns-in-Deliver-clause-line c = rw c.said-in-Deliver.ensures (line_said c.args.subs.now c.read_deliver.result (c.read_deliver.ensures.line c.args.subs.now))
+
+pub returns-in-GiveUp-clause-value : goal.returns-in-GiveUp-clause-value
+returns-in-GiveUp-clause-value c = rw (c.in-GiveUp.is, c.said-in-GiveUp.ensures, c.read_give_up.ensures.value) (says_same (give_up_of (words_of c.args.fields.now)))
+
+pub returns-in-GiveUp-clause-known : goal.returns-in-GiveUp-clause-known
+returns-in-GiveUp-clause-known c = rw c.said-in-GiveUp.ensures (known_said c.args.subs.now c.read_give_up.result (c.read_give_up.ensures.line c.args.subs.now))
+
+pub returns-in-GiveUp-clause-line : goal.returns-in-GiveUp-clause-line
+returns-in-GiveUp-clause-line c = rw c.said-in-GiveUp.ensures (line_said c.args.subs.now c.read_give_up.result (c.read_give_up.ensures.line c.args.subs.now))

@@ -14,6 +14,6 @@ returns-clause-line c = λ fit.
       options = c.in_ok-session.options.now;
       identity = c.in_ok-session.identity.now;
     } in
-    let texts = texts_from c.args.fields.now fields c.in_ok-method.method c.in_ok-texts.texts.name c.in_ok-texts.texts.peer_name c.in_ok-texts.texts.identity c.in_ok-session.ensures c.in_ok-texts.ensures.name c.in_ok-texts.ensures.peer fit in
+    let texts = texts_from c.args.fields.now fields c.in_ok-method.method c.in_ok-name.name c.in_ok-name.peer_name c.in_ok-name.identity c.in_ok-session.ensures c.in_ok-name.ensures.name c.in_ok-name.ensures.peer fit in
     let known : c.in_ok-sub.sub < length c.args.subs.now = search rules in
     (known, texts.0, texts.2, c.in_ok-session-2.ensures.within, texts.1, texts.3)
