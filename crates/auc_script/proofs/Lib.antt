@@ -1,4 +1,5 @@
 mod FieldLemmas
+mod FitLemmas
 mod LawLemmas
 mod LineLemmas
 mod NameLemmas

@@ -1,6 +1,6 @@
 //! The lines of sessions.
 
-ghost use Rattle.std.specs.Prelude.{◌≡◌, ◌<◌, ◌≤◌, true, List, Ok, Err, length, IfOk, IfSome, MatchResult};
+ghost use Rattle.std.specs.Prelude.{◌≡◌, ◌<◌, ◌≤◌, ◌&&◌, true, List, Ok, Err, length, IfOk, IfSome, MatchResult};
 ghost use Rattle.auc_lines.specs.Part.{held_by};
 ghost use Rattle.auc_subs.specs.declared.row.Row.{Row};
 ghost use Rattle.auc_text.specs.Text.{words_of};
@@ -69,9 +69,10 @@ pub fn read_session(alloc: Global, subs: &Subscribers, fields: &[u8]) -> Result<
     let session = read_session_number(session)?;
     let imsi = Imsi::read(imsi).ok_or(ScriptWhy::Fields)?;
     let method = read_method(method).ok_or(ScriptWhy::Fields)?;
-    require(are_names(method, sname, pname), ScriptWhy::Fields)?;
-    require(are_options(options), ScriptWhy::Fields)?;
-    require(is_identity(identity), ScriptWhy::Fields)?;
+    require(
+        are_fit(method, sname, pname, options, identity),
+        ScriptWhy::Fields,
+    )?;
     let sub = subs.find(imsi).ok_or(ScriptWhy::UnknownSubscriber)?;
     let (name, peer_name, identity) = read_texts(alloc, method, sname, pname, identity)?;
     Ok(Line::Session(SessionLine {
@@ -129,11 +130,13 @@ fn are_names(method: Method, sname: &[u8], pname: &[u8]) -> bool
     }
 }
 
-/// Whether a field is options: letters, or none.
-fn are_options(text: &[u8]) -> bool
-    ensures { result ≡ are_options text.now }
+/// Whether names and an identity are those of a session of a method, and options are letters or none.
+fn are_fit(method: Method, sname: &[u8], pname: &[u8], options: &[u8], identity: &[u8]) -> bool
+    ensures { result ≡ (are_names method sname.now pname.now && are_options options.now && is_identity identity.now) }
 {
-    is_text(text, b"-") || has_letters(text)
+    are_names(method, sname, pname)
+        && (is_text(options, b"-") || has_letters(options))
+        && is_identity(identity)
 }
 
 /// Whether a field says which identity the peer gives first.
