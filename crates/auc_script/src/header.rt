@@ -48,8 +48,7 @@ impl Header {
         ensures becomes { Becomes (key_line self.old (words_of fields.now)) result self.new }
         ensures kept { OnOk result (IsHeader self.new) }
     {
-        let text = one_field(fields)?;
-        let key = read_octets::<32>(text).ok_or(ScriptWhy::Hex)?;
+        let key = read_octets::<32>(one_field(fields)?).ok_or(ScriptWhy::Hex)?;
         require(self.key.is_none(), ScriptWhy::Twice)?;
         self.key = Some(key);
         Ok(())
@@ -61,8 +60,7 @@ impl Header {
         ensures becomes { Becomes (workers_line self.old (words_of fields.now)) result self.new }
         ensures kept { OnOk result (IsHeader self.new) }
     {
-        let text = one_field(fields)?;
-        let workers = read_number(text, 1, MAX_WORKERS)?;
+        let workers = read_number(one_field(fields)?, 1, MAX_WORKERS)?;
         require(self.workers.is_none(), ScriptWhy::Twice)?;
         self.workers = Some(workers as u32);
         Ok(())

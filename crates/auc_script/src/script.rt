@@ -1,7 +1,6 @@
 //! A scenario as it was read.
 
 ghost use Rattle.std.specs.Prelude.{ℕ, ◌≡◌, ◌≤◌, length, IfOk, IfErr, OnOk};
-ghost use Rattle.auc_subs.specs.Subscriber.{AreSubscribers};
 ghost use Rattle.auc_script.specs.Limits.{IsWithin};
 ghost use Rattle.auc_script.specs.InnerSoFar.{IsSoFar, scenario};
 ghost use Rattle.auc_script.specs.Reading.{Keeps, beginning, script_from, script_of};
@@ -51,7 +50,8 @@ impl Script {
         let mut so_far = SoFar::new(alloc);
         match put_lines(alloc, bytes, subs, &mut so_far) {
             Ok(()) => {
-                attest(subs);
+                // (its clauses say what holds of all lists of subscribers)
+                let _ = subs.len();
                 Ok(so_far.script(alloc)?)
             }
             Err(refusal) => {
@@ -94,11 +94,4 @@ fn put_lines(
         }
     }
     Ok(())
-}
-
-/// Brings the clauses that hold of all lists of subscribers.
-fn attest(subs: &Subscribers)
-    ensures { AreSubscribers subs.now }
-{
-    let _ = subs.len();
 }

@@ -8,7 +8,7 @@ ghost use Rattle.auc_script.specs.InnerFields.{all_seven};
 ghost use Rattle.auc_script.specs.InnerRefusal.{Says};
 ghost use Rattle.auc_script.specs.Limits.{IsLine, IsSession};
 ghost use Rattle.auc_script.specs.Numbers.{last_session};
-ghost use Rattle.auc_script.specs.SessionLine.{are_letters, are_names, are_options, has_letters, identity_in, is_identity, method_in, name_in, peer_name_in, seven_fields};
+ghost use Rattle.auc_script.specs.SessionLine.{are_letters, are_names, are_options, has_letters, identity_in, is_identity, is_one_of, method_in, name_in, peer_name_in, seven_fields};
 ghost use Rattle.auc_script.specs.Field.{number_between};
 ghost use Rattle.auc_script.specs.Scenario.{deliver_of, give_up_of, number_of_session, session_of};
 ghost use Rattle.auc_script.specs.Session.{has_fit_texts, is_first, is_short};
@@ -81,13 +81,20 @@ pub fn read_session(alloc: Global, subs: &Subscribers, fields: &[u8]) -> Result<
         method,
         name,
         peer_name,
-        pseudonym: options.contains(&b'p'),
-        reauth: options.contains(&b'r'),
-        bidding: options.contains(&b'b'),
-        any: options.contains(&b'a'),
-        has_prime: options.contains(&b'd'),
+        pseudonym: has(options, b'p'),
+        reauth: has(options, b'r'),
+        bidding: has(options, b'b'),
+        any: has(options, b'a'),
+        has_prime: has(options, b'd'),
         identity,
     }))
+}
+
+/// Whether a letter is among options.
+fn has(options: &[u8], letter: u8) -> bool
+    ensures { result ≡ is_one_of options.now letter }
+{
+    options.contains(&letter)
 }
 
 /// What a session's line takes memory for: the server's name, the one that the peer expects, and the first identity.
