@@ -13,8 +13,7 @@ use Rattle.auc_sqn.specs.Number.{sqn_bytes}
 use Rattle.auc_sqn.specs.Past.{Past}
 use Rattle.auc_sqn.specs.declared.verdict.Verdict.{Verdict}
 use Rattle.auc_sqn.specs.declared.verdict.Verdict.TheVariants.{Fresh, Old, Far}
-use Rattle.auc_usim.specs.Usim.{IsAnswer, FollowsVerdict, acceptance, amf_in, mac_in, sqn_in, verdict_on, xmac}
-use Rattle.auc_usim.specs.declared.answer.Answer.{Answer}
+use Rattle.auc_usim.specs.Usim.{IsAnswer, FollowsVerdict, acceptance, mac_in, sqn_in, verdict_on, xmac}
 use Rattle.auc_usim.specs.declared.answer.Answer.TheVariants.{Accepted, WrongMac}
 use Rattle.auc_vector.specs.Vector.{vector_of, autn_of}
 use Rattle.auc_vector.specs.declared.parts.Vector.{Vector}
