@@ -142,10 +142,8 @@ fn response_is_confirmed_or_refused_by_each_network(rt: HostRuntime) {
     let h = at_home(NAME);
     let d = at_device(NAME);
     let other = at_device(b"5G:mnc002.mcc001.3gppnetwork.org");
-    let expects_another = HomeKeys {
-        xres_star: other.res_star,
-        ..h
-    };
+    let xres_star = other.res_star;
+    let expects_another = HomeKeys { xres_star, ..h };
     assert!(rt; judge(&h, d.res_star) == Judged::Confirmed);
     assert!(rt; judge(&h, other.res_star) == Judged::ServingRefused);
     assert!(rt; judge(&expects_another, d.res_star) == Judged::HomeRefused);
