@@ -168,13 +168,15 @@ def prove(clone, jobs):
 
 
 def prove_over_what_is_here(clone, names):
-    """Proves these crates of a clone over what `rt check` kept in this checkout: the names of those that aren't proved, and
-    the end of what rt said of them."""
+    """Proves these crates of a clone over what `rt check` and its builds of libraries kept in this checkout: the names of
+    those that aren't proved, and the end of what rt said of them."""
     unproved, told = set(), []
+    for name in with_those_below(names, uses_of(clone)):
+        for part in ("rlib", "incremental") if name in names else ("rlib",):
+            kept, there = (top / "crates" / name / "out" / part for top in (TOP, clone))
+            if kept.is_dir() and not there.exists():
+                shutil.copytree(kept, there)
     for name in names:
-        kept, there = (top / "crates" / name / "out/incremental" for top in (TOP, clone))
-        if kept.is_dir() and not there.exists():
-            shutil.copytree(kept, there)
         how = {"stdin": subprocess.DEVNULL, "stdout": subprocess.PIPE, "stderr": subprocess.STDOUT, "errors": "replace"}
         said = subprocess.run(["rt", "check"], cwd=clone / "crates" / name, check=False, **how).stdout
         if not re.search(r"(?m)^logic=proved ", said):
