@@ -89,6 +89,11 @@ has_packet packets (suc place) first last =
 pub end_missing : (packets : List SentPacket) (packet : ℕ) → 1 ≤ packet → packet ≤ length packets → refused.NoSuchEnd ≡ refusal_of (packet_at packets packet)
 end_missing packets packet first last = ap refusal_of (sym (has_packet packets packet first last).of_number)
 
+-- the place of a packet that is there
+pub near_within : (packet : ℕ) (read packets : List SentPacket) → read ≡ packets → 1 ≤ packet → packet ≤ length packets → packet - 1 < length read
+near_within packet read packets same first last =
+    let size : length read ≡ length packets = ap (λ (ps : List SentPacket). length ps) same in omega (arith, first, last, size)
+
 -- a packet that was read at its place
 pub packet_read : (packets read : List SentPacket) (packet : ℕ) (sent : SentPacket) → read ≡ packets → 1 ≤ packet → packet ≤ length packets → sent ≡ get_or read (packet - 1) sent
     → packet_at packets packet ≡ Some sent

@@ -1,6 +1,6 @@
 //! A job's network, with the devices of its subscribers.
 
-ghost use Rattle.std.specs.Prelude.{◌≡◌, ◌≤◌, ◌<◌, ◌++◌, ℕ, [], Some, None, All, length, map, IfOk, IfErr, IfSome, OnErr, is_some, true, vec_capacity, vec_len};
+ghost use Rattle.std.specs.Prelude.{◌≡◌, ◌≤◌, ◌<◌, ◌++◌, ℕ, [], Some, None, All, length, map, IfOk, IfErr, IfSome, OnErr, OnOk, is_some, true, vec_capacity, vec_len};
 ghost use Rattle.auc_world.specs.Came.{came_in, came_opened, session_of, vector_sent};
 ghost use Rattle.auc_world.specs.Event.{asked_in};
 ghost use Rattle.auc_world.specs.Happened.{Delivery, at_session, delivery_at, opened};
@@ -266,8 +266,7 @@ impl World {
         ensures world { OnErr result (self.new ≡ self.old) }
         ensures centre { OnErr result (centre.new ≡ centre.old) }
     {
-        make_place(&mut self.packets)?;
-        self.released.reserve(1)?;
+        make_places(&mut self.packets, &mut self.released)?;
         let session = &mut self.sessions[place];
         let delivery = Breach {
             session: session.number,
@@ -350,6 +349,18 @@ fn vector_sent(drawn: Option<NumberNote>, challenged: Option<Challenged>) -> Opt
         (Some(NumberNote::Drew(_)), Some(sent)) => Some(sent.vector),
         _ => None,
     }
+}
+
+/// Makes a place for one more packet, and one for a number that is released.
+fn make_places(packets: &mut Vec<SentPacket>, released: &mut Vec<Number>) -> Result<(), NoMemory>
+    ensures packets { packets.new.items ≡ packets.old.items }
+    ensures released { released.new.items ≡ released.old.items }
+    ensures place { OnOk result (HasPlace packets.new) }
+    ensures room { OnOk result (vec_len released.new < vec_capacity released.new) }
+{
+    make_place(packets)?;
+    released.reserve(1)?;
+    Ok(())
 }
 
 /// Posts what a server's turn sent, and notes the turn. There is a place for the packet.
