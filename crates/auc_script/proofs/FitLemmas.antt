@@ -1,5 +1,5 @@
 -- What a session's line says, by its parts, for `read_session`.
-use Rattle.std.proofs.Common.{ℕ, ◌≡◌, ◌&&◌, Bool, true, false, List, Result, Ok, Err, refl}
+use Rattle.std.proofs.Common.{ℕ, ◌≡◌, ◌&&◌, Bool, true, false, List, Result, Ok, refl}
 use Rattle.std.specs.Option.{ok_or}
 use Rattle.auc_edge.specs.Identity.{Identity, identity_of}
 use Rattle.auc_hmac.specs.declared.method.Method.{Method}

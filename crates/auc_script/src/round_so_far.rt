@@ -7,6 +7,7 @@ ghost use Rattle.auc_script.specs.InnerSoFar.{with_last};
 use auc_edge::{Items, NoMemory};
 use auc_lines::{JobPart, Line, RoundPart};
 use std::alloc::Global;
+use std::mem::replace;
 
 /// The present round, as far as it was read.
 #[derive(Drop)]
@@ -25,7 +26,7 @@ impl RoundSoFar {
         if let Some(job) = self.job.take() {
             self.jobs.push(job)?;
         }
-        self.job = Some(Items::new(alloc));
+        drop(replace(&mut self.job, Some(Items::new(alloc))));
         Ok(())
     }
 

@@ -132,7 +132,7 @@ fn are_names(method: Method, sname: &[u8], pname: &[u8]) -> bool
     ensures { result ≡ are_names method sname.now pname.now }
 {
     match method {
-        Method::Aka => sname == b"-".as_slice() && pname == b"-".as_slice(),
+        Method::Aka => is_text(sname, b"-") && is_text(pname, b"-"),
         Method::Prime => true,
     }
 }
@@ -169,7 +169,7 @@ fn read_peer_name(alloc: Global, method: Method, pname: &[u8]) -> Result<Option<
 {
     match method {
         Method::Aka => Ok(None),
-        Method::Prime if pname == b"*".as_slice() => Ok(None),
+        Method::Prime if is_text(pname, b"*") => Ok(None),
         Method::Prime => Ok(Some(Octets::copied_from(alloc, pname)?)),
     }
 }
