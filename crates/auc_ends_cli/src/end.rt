@@ -31,6 +31,36 @@ pub enum End {
 /// What is printed of a line that is none of those above.
 const NOT_UNDERSTOOD: &str = "not understood";
 
+/// The first word of a line.
+enum First {
+    Remark,
+    Server,
+    Peer,
+    Next,
+    Bytes,
+    Repeat,
+    GiveUp,
+    Unknown,
+}
+
+fn first_of(word: &str) -> First {
+    match word {
+        "#" => First::Remark,
+        "server" => First::Server,
+        "peer" => First::Peer,
+        "next" => First::Next,
+        "bytes" => First::Bytes,
+        "repeat" => First::Repeat,
+        "giveup" => First::GiveUp,
+        _ => First::Unknown,
+    }
+}
+
+/// A text up to its first space and after it.
+fn halves(text: &str) -> (&str, &str) {
+    text.split_once(' ').unwrap_or((text, ""))
+}
+
 impl End {
     /// What is printed of a line.
     pub fn answer<R: Wait>(
@@ -45,44 +75,41 @@ impl End {
     }
 
     fn put_answer<R: Wait>(&mut self, rt: &R, alloc: Global, line: &str, text: &mut Text) {
-        let (word, rest) = line.split_once(' ').unwrap_or((line, ""));
-        match word {
-            "#" => text.put(line),
-            "server" => self.begin_server(alloc, rest, text),
-            "peer" => self.begin_peer(alloc, rest, text),
-            "next" => self.begin_next(alloc, rest, text),
-            "bytes" => self.receive_digits(rt, alloc, rest, text),
-            "repeat" => self.repeat(alloc, text),
-            "giveup" => self.give_up(alloc, text),
-            _ => text.put(NOT_UNDERSTOOD),
+        let (word, rest) = halves(line);
+        match first_of(word) {
+            First::Remark => text.put(line),
+            First::Server => self.begin_server(alloc, rest, text),
+            First::Peer => self.begin_peer(alloc, rest, text),
+            First::Next => self.begin_next(alloc, rest, text),
+            First::Bytes => self.receive_digits(rt, alloc, rest, text),
+            First::Repeat => self.repeat(alloc, text),
+            First::GiveUp => self.give_up(alloc, text),
+            First::Unknown => text.put(NOT_UNDERSTOOD),
         }
     }
 
     fn begin_server(&mut self, alloc: Global, rest: &str, text: &mut Text) {
-        let Some((word, rest)) = rest.split_once(' ') else {
-            text.put(NOT_UNDERSTOOD);
-            return;
-        };
-        let (held, options) = rest.split_once(' ').unwrap_or((rest, ""));
-        match new_server(alloc, number(word), held == "held", options, text) {
-            Ok(server) => self.set(End::Server(server)),
-            Err(NoMemory) => text.fail(),
+        match rest.split_once(' ') {
+            Some((word, rest)) => {
+                let (held, options) = halves(rest);
+                let server = new_server(alloc, number(word), held == "held", options, text);
+                self.set(server, text);
+            }
+            None => text.put(NOT_UNDERSTOOD),
         }
     }
 
     fn begin_peer(&mut self, alloc: Global, rest: &str, text: &mut Text) {
-        let (word, options) = rest.split_once(' ').unwrap_or((rest, ""));
-        match new_peer(alloc, number(word), options) {
-            Ok(peer) => {
-                self.set(End::Peer(peer));
-                text.put("peer");
-            }
-            Err(NoMemory) => text.fail(),
-        }
+        let (word, options) = halves(rest);
+        text.put("peer");
+        self.set(new_peer(alloc, number(word), options), text);
     }
 
-    fn set(&mut self, end: End) {
-        *self = end;
+    fn set(&mut self, end: Result<End, NoMemory>, text: &mut Text) {
+        match end {
+            Ok(end) => *self = end,
+            Err(NoMemory) => text.fail(),
+        }
     }
 
     fn begin_next(&mut self, alloc: Global, options: &str, text: &mut Text) {
@@ -143,19 +170,21 @@ fn new_server(
     is_held: bool,
     options: &str,
     text: &mut Text,
-) -> Result<ServerEnd<CoreCentre>, NoMemory>
+) -> Result<End, NoMemory>
     requires { word ≤ max_seq }
 {
+    let core = Core::new(alloc, &[word])?;
     let options = server_options(alloc, 1, options)?;
-    let centre = CoreCentre::new(Core::new(alloc, &[word])?);
-    ServerEnd::begin(alloc, options, centre, is_held, text)
+    let server = ServerEnd::begin(alloc, options, CoreCentre::new(core), is_held, text)?;
+    Ok(End::Server(server))
 }
 
 /// A peer of the first session, whose USIM counts the numbers up to a word as accepted.
-fn new_peer(alloc: Global, word: u64, options: &str) -> Result<PeerEnd, NoMemory>
+fn new_peer(alloc: Global, word: u64, options: &str) -> Result<End, NoMemory>
     requires { word ≤ max_seq }
 {
-    PeerEnd::begin(alloc, peer_options(alloc, 1, options)?, word)
+    let peer = PeerEnd::begin(alloc, peer_options(alloc, 1, options)?, word)?;
+    Ok(End::Peer(peer))
 }
 
 /// The first 255 bytes of a text.
@@ -187,7 +216,7 @@ fn first_identity(alloc: Global, options: &str) -> Result<FirstIdentity, NoMemor
 {
     match options.split_once('=') {
         Some((_, rest)) => {
-            let (text, _) = rest.split_once(' ').unwrap_or((rest, ""));
+            let (text, _) = halves(rest);
             Ok(FirstIdentity::Text(Octets::copied_from(alloc, short(text))?))
         }
         None if has(options, "permanent") => Ok(FirstIdentity::Permanent),
@@ -203,29 +232,34 @@ fn server_options(alloc: Global, session: u32, options: &str) -> Result<ServerOp
     Ok(ServerOptions {
         session,
         method,
-        name: Octets::copied_from(alloc, name)?,
         pseudonym: has(options, "pseudonym"),
         reauth: has(options, "reauth"),
         bidding: has(options, "bidding"),
         any: has(options, "any"),
+        name: Octets::copied_from(alloc, name)?,
     })
 }
 
 /// The options of a peer.
 fn peer_options(alloc: Global, session: u32, options: &str) -> Result<PeerOptions, NoMemory> {
     let (method, name) = method_and_name(options);
-    let has_name = method == Method::Prime && name != b"*".as_slice();
+    let has_prime = has(options, "hasprime");
+    let name = name_of(alloc, method, name)?;
     Ok(PeerOptions {
         session,
         method,
-        name: if has_name {
-            Some(Octets::copied_from(alloc, name)?)
-        } else {
-            None
-        },
-        has_prime: has(options, "hasprime"),
+        name,
+        has_prime,
         first: first_identity(alloc, options)?,
     })
+}
+
+/// The network's name that a peer has, if it has one.
+fn name_of(alloc: Global, method: Method, name: &[u8]) -> Result<Option<Octets>, NoMemory> {
+    if method == Method::Aka || name == b"*".as_slice() {
+        return Ok(None);
+    }
+    Ok(Some(Octets::copied_from(alloc, name)?))
 }
 
 /// A number of a subscriber, or 0 if a text is none.

@@ -47,9 +47,19 @@ fn main(rt: HostRuntime) -> io::Result<()> {
 /// Prints what an end does at each line of the input.
 fn answer_all<R: Input + Print + Wait>(rt: &R, alloc: Global, end: &mut End) -> io::Result<()> {
     for line in rt.lines(alloc) {
-        answer_line(rt, alloc, end, line?.as_str())?;
+        answer_read(rt, alloc, end, line)?;
     }
     Ok(())
+}
+
+/// Prints what an end does at a line, if it was read.
+fn answer_read<R: Print + Wait>(
+    rt: &R,
+    alloc: Global,
+    end: &mut End,
+    line: io::Result<String>,
+) -> io::Result<()> {
+    answer_line(rt, alloc, end, line?.as_str())
 }
 
 /// Prints what an end does at a line.

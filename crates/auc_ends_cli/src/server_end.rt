@@ -1,11 +1,12 @@
 //! A server with what it is served with.
 
-ghost use Rattle.std.specs.Prelude.{◌≡◌, ◌≤◌, ◌<◌, ℕ, length};
+ghost use Rattle.std.specs.Prelude.{◌≡◌, ◌≤◌, ◌<◌, ℕ, All, IfOk, length};
+ghost use Rattle.auc_server.specs.Steps.{IsHome, IsServed};
 ghost use Rattle.auc_sqn.specs.Number.{max_seq};
 
 use crate::text::Text;
 use crate::turn::{put_sent, put_server_step, put_server_turn};
-use auc_edge::NoMemory;
+use auc_edge::{NoMemory, Octets};
 use auc_ident::{Names, Ordinals};
 use auc_random::Rands;
 use auc_reauth::ServerStore;
@@ -33,8 +34,6 @@ pub struct ServerEnd<C: Centre> {
 }
 
 impl<C: Centre> Model for ServerEnd<C> {
-    ghost use Rattle.auc_server.specs.Steps.{IsServed};
-
     ghost Value = { Unit {0} };
 
     ghost view = { λ _. tt };
@@ -55,21 +54,25 @@ impl<C: Centre + Drop> ServerEnd<C> {
         requires subs { 0 < C.subs centre }
         requires top { (sub : ℕ) → C.top centre sub ≡ max_seq }
     {
-        let mut subs = Subscribers::new(alloc);
-        let mut homes = Vec::new(alloc);
-        if subs.add(SUBSCRIBER).is_err() {
-            return Err(NoMemory);
-        }
-        if is_held && 0 < subs.len() {
-            homes.push(HomeRow {
-                sub: 0,
-                ordinals: Ordinals::at(0),
-                store: ServerStore::new(),
-            })?;
-        }
-        let (server, first) = Server::start(options, alloc)?;
+        let subs = subscriber(alloc)?;
+        let homes = homes_of(alloc, &subs, &centre, is_held)?;
+        let started = Server::start(options, alloc)?;
+        Ok(ServerEnd::of(subs, homes, centre, started, text))
+    }
+
+    /// A server that has started with a first request, which is printed.
+    fn of(
+        subs: Subscribers,
+        homes: Vec<HomeRow>,
+        centre: C,
+        started: (Server, Octets),
+        text: &mut Text,
+    ) -> ServerEnd<C>
+        requires { IsServed subs (C.subs centre) (C.top centre) homes.items started.0 }
+    {
+        let (server, first) = started;
         put_sent(first.as_slice(), text);
-        Ok(ServerEnd {
+        ServerEnd {
             subs,
             rands: Rands::new(random_key()),
             names: Names::new(random_key()),
@@ -77,7 +80,7 @@ impl<C: Centre + Drop> ServerEnd<C> {
             centre,
             server,
             sessions: 1,
-        })
+        }
     }
 
     /// The number of the next session.
@@ -131,6 +134,38 @@ impl<C: Centre + Drop> ServerEnd<C> {
         let step = self.server.give_up(alloc);
         put_server_step(&step, text);
     }
+}
+
+/// The subscriber.
+fn subscriber(alloc: Global) -> Result<Subscribers, NoMemory> {
+    let mut subs = Subscribers::new(alloc);
+    match subs.add(SUBSCRIBER) {
+        Ok(_) => Ok(subs),
+        Err(_) => Err(NoMemory),
+    }
+}
+
+/// The home of the subscriber, which is also one of the centre, if it is held.
+fn homes_of<C: Centre>(
+    alloc: Global,
+    subs: &Subscribers,
+    centre: &C,
+    is_held: bool,
+) -> Result<Vec<HomeRow>, NoMemory>
+    requires subs { 0 < C.subs centre.now }
+    requires top { (sub : ℕ) → C.top centre.now sub ≡ max_seq }
+    ensures { IfOk result (λ homes.
+        All (λ home. IsHome subs.now (C.subs centre.now) (C.top centre.now) home.sub) homes.items) }
+{
+    let mut homes = Vec::new(alloc);
+    if is_held && 0 < subs.len() {
+        homes.push(HomeRow {
+            sub: 0,
+            ordinals: Ordinals::at(0),
+            store: ServerStore::new(),
+        })?;
+    }
+    Ok(homes)
 }
 
 /// The key 00 01 .. 1f of the random bytes.
