@@ -74,14 +74,19 @@ def in_batches(places):
 
 
 def is_refused(said, crate, place):
-    """Whether a check says that a goal of this function's own is open or refused, and not for want of a name."""
+    """Whether a check says that a goal of this function's own is open or refused, and not for want of a name. A method stands
+    in the module of its type, which may be another one than that of its file: then its name has to be the only one."""
     module, name = place
-    lines = re.findall(rf"(?m)^fn {crate}::{module}::(?:\S+::)?{name}: (?:no proof|not proved)(.*)$", said)
-    files = rf"(?m)^\S*proofs/{module.replace('::', '/')}/(?:[^/\s]+/)?{name}/\S+: error: .*$"
+    verdicts = r"(?m)^fn {}::{}::(?:\S+::)?{}: (.*)$"
+    lines, path = re.findall(verdicts.format(crate, module, name), said), re.escape(module.replace("::", "/"))
+    if not lines:
+        lines, path = re.findall(verdicts.format(crate, r"\w+", name), said), r"\S+"
+    files = rf"(?m)^\S*proofs/{path}/(?:[^/\s]+/)?{name}/\S+: error: .*$"
     if any(NAMES.search(it) for it in re.findall(files, said)):
         return False
-    own = rf"`search` did not prove|it stands on `Rattle\.{crate}\.proofs\.{module.replace('::', '.')}\.(?:\w+\.)?{name}\."
-    return len(lines) == 1 and re.search(own, lines[0]) is not None
+    own = rf"`search` did not prove|it stands on `Rattle\.{crate}\.proofs\.{path.replace('/', '.')}\.(?:\w+\.)?{name}\."
+    unproved = [it for it in lines if it.startswith(("no proof", "not proved"))]
+    return len(lines) == len(unproved) == 1 and re.search(own, unproved[0]) is not None
 
 
 class Lane:
