@@ -4,7 +4,7 @@ use Rattle.std.specs.List.{list_any}
 use Rattle.auc_lines.specs.declared.part.Identity.{Identity}
 use Rattle.auc_lines.specs.declared.part.Identity.TheVariants.{Held, Permanent, Text}
 use Rattle.auc_lines.specs.declared.part.Line.{Line}
-use Rattle.auc_lines.specs.declared.part.Line.TheVariants.{Draw, Give, Sync, Session, Start, Deliver, Repeat, GiveUp, Plain}
+use Rattle.auc_lines.specs.declared.part.Line.TheVariants.{Draw, Give, Sync, Eps, Fiveg, Session, Start, Deliver, Repeat, GiveUp, Plain}
 use Rattle.auc_lines.specs.declared.part.Part.{Part}
 use Rattle.auc_lines.specs.declared.part.Part.TheVariants.{Round, Restart}
 
@@ -13,6 +13,8 @@ abbrev pub asked_by : Line → ℕ
 asked_by (Draw sub count) = count
 asked_by (Sync sub seq bit count) = count
 asked_by (Give sub number) = 0
+asked_by (Eps sub snid) = 1
+asked_by (Fiveg line) = 1
 asked_by (Session line) = 2
 asked_by (Start session) = 0
 asked_by (Deliver session end packet) = 0
@@ -29,11 +31,13 @@ jobs_of [] = []
 jobs_of (Round jobs ∷ more) = jobs ++ jobs_of more
 jobs_of (Restart ∷ more) = jobs_of more
 
--- the subscriber whose USIM a job holds because of a line: the line gives to it, or opens a session of it
+-- the subscriber whose USIM a job holds because of a line: the line presents a vector to it, or opens a session of it
 abbrev pub held_by : Line → Option ℕ
 held_by (Draw sub count) = None
 held_by (Sync sub seq bit count) = None
 held_by (Give sub number) = Some sub
+held_by (Eps sub snid) = None
+held_by (Fiveg line) = Some line.sub
 held_by (Session line) = Some line.sub
 held_by (Start session) = None
 held_by (Deliver session end packet) = None
@@ -72,6 +76,14 @@ last_bit = 111
 abbrev pub IsBit : Option ℕ → Type 0
 IsBit None = Unit {0}
 IsBit (Some bit) = bit ≤ last_bit
+
+-- the last of the 128 bits of RES* (TS 33.501 Annex A.4), and a bit of RES*, or none
+abbrev pub last_star_bit : ℕ
+last_star_bit = 127
+
+abbrev pub IsStarBit : Option ℕ → Type 0
+IsStarBit None = Unit {0}
+IsStarBit (Some bit) = bit ≤ last_star_bit
 
 -- an identity whose text, if it is one, has at most 255 bytes
 abbrev pub IsShortIdentity : Identity → Type 0

@@ -6,4 +6,4 @@
 
 mod part;
 
-pub use part::{End, Identity, JobPart, Line, Part, RoundPart, SessionLine};
+pub use part::{End, FivegLine, Identity, JobPart, Line, Part, RoundPart, SessionLine};

@@ -51,6 +51,22 @@ pub struct SessionLine {
     pub identity: Identity,
 }
 
+/// A 5G authentication of the device of the subscriber at the place `sub` (TS 33.501 §6.1.3.2), and what happens to RES* on
+/// its way to the networks.
+#[derive(Drop)]
+pub struct FivegLine {
+    /// The subscriber.
+    pub sub: u32,
+    /// The serving network's name that the home network knows, 1 to 255 bytes.
+    pub home: Octets,
+    /// The serving network's name that the device knows, 1 to 255 bytes.
+    pub device: Octets,
+    /// The bit of RES* that is turned over, from 0 for the first byte's top bit to 127, or none is.
+    pub bit: Option<u8>,
+    /// Whether the standard's HXRES* is told (TS 33.501 Annex A.5).
+    pub hxres: bool,
+}
+
 /// A line of a job, for the subscriber at the place `sub` or for the session of a number. A packet's number counts the
 /// packets of the job from 1.
 #[derive(Drop)]
@@ -75,6 +91,14 @@ pub enum Line {
         sub: u32,
         n: u64,
     },
+    /// Asks for a vector, and derives K_ASME of it for the serving network of the SN id, which is MCC and MNC as TS 33.401
+    /// Annex A.2 lays them out.
+    Eps {
+        sub: u32,
+        snid: [u8; 3],
+    },
+    /// Asks for a vector, and authenticates the subscriber's device with it as in 5G.
+    Fiveg(FivegLine),
     /// Opens a session.
     Session(SessionLine),
     /// The session's server starts, and sends its first request.
@@ -107,6 +131,7 @@ impl Line {
     {
         match *self {
             Line::Draw { count, .. } | Line::Sync { count, .. } => count,
+            Line::Eps { .. } | Line::Fiveg(_) => 1,
             Line::Session(_) => 2,
             Line::Give { .. }
             | Line::Start(_)
@@ -117,15 +142,18 @@ impl Line {
         }
     }
 
-    /// The subscriber whose USIM the line's job holds because of it: it gives to the USIM, or opens a session of it.
+    /// The subscriber whose USIM the line's job holds because of it: it presents a vector to the USIM,
+    /// or opens a session of it.
     pub fn held(&self) -> Option<u32>
         ensures { result ≡ held_by self.now }
     {
         match *self {
             Line::Give { sub, .. } => Some(sub),
+            Line::Fiveg(ref line) => Some(line.sub),
             Line::Session(ref line) => Some(line.sub),
             Line::Draw { .. }
             | Line::Sync { .. }
+            | Line::Eps { .. }
             | Line::Start(_)
             | Line::Deliver { .. }
             | Line::Repeat(_)

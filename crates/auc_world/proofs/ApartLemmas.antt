@@ -1,9 +1,12 @@
 -- For Pieces: jobs that hold USIMs of their own give the same lines whatever other jobs' lines came before.
-use Rattle.std.proofs.Common.{◌≡◌, ℕ, zero, suc, ◌==◌, true, false, if◌then◌else◌, List, [], ◌∷◌, ◌++◌, All, AllPairs, refl, sym, ap, ◌∙◌, subst, eq-eqb}
+use Rattle.std.proofs.Common.{◌≡◌, ℕ, zero, suc, ◌==◌, true, false, if◌then◌else◌, List, [], ◌∷◌, ◌++◌, map, All, AllPairs, Bool, refl, sym, ap, ◌∙◌, subst, eq-eqb}
 use Rattle.std.proofs.lemmas.Bool.{false_from_ne_true, or_left, or_parts, or_right, true≢false}
 use Rattle.std.proofs.lemmas.List.Concat.{flat_map-append}
 use Rattle.std.proofs.lemmas.List.Elements.{All-head, All-nil, All-tail}
 use Rattle.auc_history.proofs.Facts.{AllPairs-head, AllPairs-tail}
+use Rattle.auc_5g.specs.declared.device_keys.DeviceKeys.{DeviceKeys}
+use Rattle.auc_5g.specs.declared.home_keys.HomeKeys.{HomeKeys}
+use Rattle.auc_lines.specs.declared.part.FivegLine.{FivegLine}
 use Rattle.auc_lines.specs.declared.part.Line.{Line}
 use Rattle.auc_lines.specs.declared.part.Line.TheVariants as line
 use Rattle.auc_lines.specs.declared.part.End.{End}
@@ -11,9 +14,13 @@ use Rattle.auc_lines.specs.declared.part.End.TheVariants as end
 use Rattle.auc_lines.specs.Part.{AreApart, holds, is_held_by, is_that}
 use Rattle.auc_sqn.specs.Past.{Past}
 use Rattle.auc_subs.specs.declared.row.Row.{Row}
+use Rattle.auc_request.specs.Request.{is_separated}
+use Rattle.auc_vector.specs.declared.parts.Vector.{Vector as AuthVector}
+use Rattle.auc_world.specs.declared.further.Further.TheVariants as further
 use Rattle.auc_world.specs.declared.record.GiveVerdict.{GiveVerdict}
+use Rattle.auc_world.specs.declared.record.GiveVerdict.TheVariants as given
 use Rattle.auc_world.specs.declared.record.LineRecord.{LineRecord}
-use Rattle.auc_world.specs.declared.record.LineRecord.TheVariants.{Vector, Withheld, Exhausted, Sync, Give, Event as Told}
+use Rattle.auc_world.specs.declared.record.LineRecord.TheVariants.{Vector, Withheld, Exhausted, Sync, Give, Further, Event as Told}
 use Rattle.auc_world.specs.declared.record.SyncVerdict.{SyncVerdict}
 use Rattle.auc_world.specs.declared.record.SyncVerdict.TheVariants as verdict
 use Rattle.std.specs.Prelude.{Option, Some, None}
@@ -27,7 +34,8 @@ use Rattle.auc_world.specs.declared.event.Event.TheVariants as event
 use Rattle.auc_world.specs.declared.event.EventRecord.{EventRecord}
 use Rattle.auc_world.proofs.NetLemmas.{AreOf, IsOf, IsPresentedTo, Opens, device_is_of, presented_is_of, sessions_stay}
 use Rattle.auc_world.specs.Setting.{Setting}
-use Rattle.auc_world.specs.Given.{Before, DrawGives, EventGives, IsUsimAsked, JobGives, JobsGive, LineGives, PlainGives, RelayGives, UsimNotes, VectorsFollow, IsGiven, behind, is_released, packet_of, past_of, past_before}
+use Rattle.auc_world.specs.Given.{AuthenticatesIf, Before, DrawGives, EventGives, FivegFollows, GiveGives, IsUsimAsked, JobGives, JobsGive, LineGives, OneGives, PlainGives, RelayGives, UsimNotes, VectorsFollow, IsGiven, behind, hxres_lines, is_released, judged_lines, kasme_line, outcome_of, packet_of, past_of, past_before, turned}
+use Rattle.auc_world.specs.VectorAt.{vector_at, vector_of_row}
 use Rattle.auc_world.specs.Pieces.{Piece, lines_of_pieces, IsQuiet, PiecesGive, JobsGiveAfterAllLines}
 
 -- what a USIM accepted by two lists of lines
@@ -45,6 +53,7 @@ draw_quiet set who (suc count) sub (Withheld s n stop ∷ lines) gives = ap (acc
 draw_quiet set who (suc count) sub (Exhausted s word ∷ lines) gives = ap (accepted sub) gives.2
 draw_quiet set who (suc count) sub (Sync s answer ∷ lines) gives = absurd gives
 draw_quiet set who (suc count) sub (Give s n answer ∷ lines) gives = absurd gives
+draw_quiet set who (suc count) sub (Further said ∷ lines) gives = absurd gives
 draw_quiet set who (suc count) sub (Told r ∷ lines) gives = absurd gives
 
 -- nor after a verdict
@@ -57,6 +66,41 @@ follows_quiet set who count sub verdict.WrongMac lines follows = ap (accepted su
 -- nor by another subscriber's USIM
 give_quiet : (sub s n : ℕ) (answer : GiveVerdict) → (s == sub) ≡ false → accepted sub (Give s n answer ∷ []) ≡ []
 give_quiet sub s n answer other = ap (λ b. (if b then taken n answer else []) ++ []) other
+
+-- nor by what follows from a vector
+one_quiet : (set : Setting) (who sub : ℕ) (Follows : ℕ → List LineRecord → Type 0) (lines : List LineRecord) → OneGives set who Follows lines
+    → ((n : ℕ) (rest : List LineRecord) → Follows n rest → accepted sub rest ≡ []) → accepted sub lines ≡ []
+one_quiet set who sub Follows [] gives quiet = refl
+one_quiet set who sub Follows (Vector s n ∷ lines) gives quiet = quiet n lines gives.2
+one_quiet set who sub Follows (Withheld s n stop ∷ lines) gives quiet = ap (accepted sub) gives.3
+one_quiet set who sub Follows (Exhausted s word ∷ lines) gives quiet = ap (accepted sub) gives.2
+one_quiet set who sub Follows (Sync s answer ∷ lines) gives quiet = absurd gives
+one_quiet set who sub Follows (Give s n answer ∷ lines) gives quiet = absurd gives
+one_quiet set who sub Follows (Further said ∷ lines) gives quiet = absurd gives
+one_quiet set who sub Follows (Told r ∷ lines) gives quiet = absurd gives
+
+keys_quiet : (snid : List ℕ) (sub : ℕ) (vectors : List AuthVector) → accepted sub (map (kasme_line snid) vectors) ≡ []
+keys_quiet snid sub [] = refl
+keys_quiet snid sub (v ∷ vectors) = keys_quiet snid sub vectors
+
+judged_quiet : (l : FivegLine) (home : HomeKeys) (device : DeviceKeys) (answer : GiveVerdict) (sub : ℕ) → accepted sub (judged_lines l home device answer) ≡ []
+judged_quiet l home device given.Accepted sub = by l.hxres
+  where
+    by : (told : Bool) → accepted sub (hxres_lines told home ++ Further (further.Fiveg l.sub (outcome_of home device (turned l.bit device.res_star))) ∷ []) ≡ []
+    by true = refl
+    by false = refl
+judged_quiet l home device (given.Sync sqn_ms) sub = refl
+judged_quiet l home device given.Absent sub = refl
+
+fiveg_quiet : (set : Setting) (before : Before) (l : FivegLine) (n sub : ℕ) (lines : List LineRecord) → (l.sub == sub) ≡ false → FivegFollows set before l n lines → accepted sub lines ≡ []
+fiveg_quiet set before l n sub lines other f = by (is_separated (vector_of_row set f.row l.sub n).autn) f.follows
+  where
+    by : (separated : Bool) → AuthenticatesIf separated set before l f.row n lines → accepted sub lines ≡ []
+    by false is = ap (accepted sub) is
+    by true is =
+        ap (accepted sub) is.lines_are ∙ accepted-append sub is.front is.more
+        ∙ ap (λ (sqns : List (List ℕ)). sqns ++ accepted sub is.more) (ap (accepted sub) is.gives.lines_are ∙ give_quiet sub l.sub n is.gives.answer other)
+        ∙ ap (accepted sub) is.judged ∙ judged_quiet l _ _ is.gives.answer sub
 
 -- nor in an event, if its device is another's
 event_quiet : (sub : ℕ) (r : EventRecord) → IsOf (λ other. (other == sub) ≡ false) (device_in r.result) → accepted sub (Told r ∷ []) ≡ []
@@ -106,6 +150,18 @@ line_quiet set before net next (line.Draw who count) sub lines (gives, is) none 
 line_quiet set before net next (line.Sync who seq bit count) sub lines (gives, is) none others =
     (ap (accepted sub) gives.lines_are ∙ follows_quiet set who count sub gives.answer gives.more gives.follows, subst (AreOthers sub) (sym is) others)
 line_quiet set before net next (line.Give who n) sub lines (gives, is) none others = (ap (accepted sub) gives.lines_are ∙ give_quiet sub who n gives.answer none, subst (AreOthers sub) (sym is) others)
+line_quiet set before net next (line.Eps who snid) sub lines (gives, is) none others =
+    (
+      one_quiet set who sub (λ n rest. rest ≡ map (kasme_line snid) (vector_at set who n)) lines gives
+          (λ n rest is. ap (accepted sub) is ∙ keys_quiet snid sub (vector_at set who n)),
+      subst (AreOthers sub) (sym is) others,
+    )
+line_quiet set before net next (line.Fiveg l) sub lines (gives, is) none others =
+    (
+      one_quiet set l.sub sub (λ n rest. FivegFollows set (behind before (Vector l.sub n ∷ [])) l n rest) lines gives
+          (λ n rest f. fiveg_quiet set (behind before (Vector l.sub n ∷ [])) l n sub rest none f),
+      subst (AreOthers sub) (sym is) others,
+    )
 line_quiet set before net next (line.Session opening) sub lines gives none others =
     (event_line_quiet set before net next (event.Open opening) sub lines gives others, others_stay set before net next (event.Open opening) sub lines gives others none)
 line_quiet set before net next (line.Start session) sub lines gives none others =
@@ -200,6 +256,45 @@ plain_beside set early own beside done net next session (line ∷ lines) still (
     (event_still set (place early own done) own beside net mid e (line ∷ []) still tt first) more in
     ((mid, event_beside set early own beside done net mid e (line ∷ []) still first, rest), last)
 
+-- a vector that is presented to such a USIM gives the same
+give_beside : (set : Setting) (early own beside done : List LineRecord) (who n : ℕ) (lines : List LineRecord) → IsStill own beside who
+    → GiveGives set (place early own done) who n lines → GiveGives set (place early beside done) who n lines
+give_beside set early own beside done who n lines still gives = record {
+  row = gives.row;
+  there = gives.there;
+  answer = gives.answer;
+  lines_are = gives.lines_are;
+  given = subst (λ (past : Past). IsGiven (is_released (place early own done) who n) past n gives.answer)
+      (same_past early own beside done gives.row who still.own_none still.beside_none) gives.given;
+}
+
+-- so does what follows a vector
+one_beside : (set : Setting) (who : ℕ) (F G : ℕ → List LineRecord → Type 0) (lines : List LineRecord) → ((n : ℕ) (rest : List LineRecord) → F n rest → G n rest)
+    → OneGives set who F lines → OneGives set who G lines
+one_beside set who F G [] f gives = absurd gives
+one_beside set who F G (Vector s n ∷ lines) f gives = (gives.0, gives.1, f n lines gives.2)
+one_beside set who F G (Withheld s n stop ∷ lines) f gives = gives
+one_beside set who F G (Exhausted s word ∷ lines) f gives = gives
+one_beside set who F G (Sync s answer ∷ lines) f gives = absurd gives
+one_beside set who F G (Give s n answer ∷ lines) f gives = absurd gives
+one_beside set who F G (Further said ∷ lines) f gives = absurd gives
+one_beside set who F G (Told r ∷ lines) f gives = absurd gives
+
+fiveg_beside : (set : Setting) (early own beside done : List LineRecord) (l : FivegLine) (n : ℕ) (lines : List LineRecord) → IsStill own beside l.sub
+    → FivegFollows set (place early own done) l n lines → FivegFollows set (place early beside done) l n lines
+fiveg_beside set early own beside done l n lines still f =
+    record { row = f.row; there = f.there; follows = by (is_separated (vector_of_row set f.row l.sub n).autn) f.follows }
+  where
+    by : (separated : Bool) → AuthenticatesIf separated set (place early own done) l f.row n lines → AuthenticatesIf separated set (place early beside done) l f.row n lines
+    by false is = is
+    by true is = record {
+      front = is.front;
+      more = is.more;
+      lines_are = is.lines_are;
+      gives = give_beside set early own beside done l.sub n is.front still is.gives;
+      judged = is.judged;
+    }
+
 -- a line gives the same after such lines
 line_beside : (set : Setting) (early own beside done : List LineRecord) (net next : Net) (l : Line) (lines : List LineRecord) → ((sub : ℕ) → is_held_by sub l ≡ true → IsStill own beside sub)
     → AreOf (IsStill own beside) net.sessions → LineGives set (place early own done) net l lines next
@@ -207,20 +302,16 @@ line_beside : (set : Setting) (early own beside done : List LineRecord) (net nex
 line_beside set early own beside done net next (line.Draw who count) lines held still gives = (gives, subst (λ (w : Net). AreOf (IsStill own beside) w.sessions) (sym gives.1) still)
 line_beside set early own beside done net next (line.Sync who seq bit count) lines held still gives = (gives, subst (λ (w : Net). AreOf (IsStill own beside) w.sessions) (sym gives.1) still)
 line_beside set early own beside done net next (line.Give who n) lines held still (gives, is) =
-    let own_still = held who (eq-eqb who who refl) in (
-      (
-        record {
-          row = gives.row;
-          there = gives.there;
-          answer = gives.answer;
-          lines_are = gives.lines_are;
-          given = subst (λ (past : Past). IsGiven (is_released (place early own done) who n) past n gives.answer)
-              (same_past early own beside done gives.row who own_still.own_none own_still.beside_none) gives.given;
-        },
-        is,
-      ),
-      subst (λ (w : Net). AreOf (IsStill own beside) w.sessions) (sym is) still,
-    )
+    ((give_beside set early own beside done who n lines (held who (eq-eqb who who refl)) gives, is), subst (λ (w : Net). AreOf (IsStill own beside) w.sessions) (sym is) still)
+line_beside set early own beside done net next (line.Eps who snid) lines held still gives = (gives, subst (λ (w : Net). AreOf (IsStill own beside) w.sessions) (sym gives.1) still)
+line_beside set early own beside done net next (line.Fiveg l) lines held still (gives, is) = (
+  (
+    one_beside set l.sub (λ n rest. FivegFollows set (place early own (done ++ Vector l.sub n ∷ [])) l n rest) (λ n rest. FivegFollows set (place early beside (done ++ Vector l.sub n ∷ [])) l n rest) lines
+        (λ n rest f. fiveg_beside set early own beside (done ++ Vector l.sub n ∷ []) l n rest (held l.sub (eq-eqb l.sub l.sub refl)) f) gives,
+    is,
+  ),
+  subst (λ (w : Net). AreOf (IsStill own beside) w.sessions) (sym is) still,
+)
 line_beside set early own beside done net next (line.Session opening) lines held still gives =
     let e = event.Open opening in
     (event_beside set early own beside done net next e lines still gives, event_still set (place early own done) own beside net next e lines still (held opening.sub (eq-eqb opening.sub opening.sub refl)) gives)

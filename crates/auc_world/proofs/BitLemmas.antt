@@ -26,18 +26,6 @@ holds_at test (suc n) k e below =
       ]
     ]
 
--- 1, shifted left in 128 bits to the place of a bit
-abbrev pub shifted : ℕ → ℕ
-shifted bit = 1 * 2 ^ (111 - bit) % 2 ^ 128
-
--- whether the last 14 bytes of this number are the mask of the bit
-abbrev is_mask : ℕ → Bool
-is_mask bit = bytes_eq (drop 2 (to_be_bytes w128 (shifted bit))) (bit_mask bit)
-
--- the last 14 bytes of this number are the mask of the bit
-pub shifted-bit_mask : (bit : ℕ) → bit < 112 → drop 2 (to_be_bytes w128 (shifted bit)) ≡ bit_mask bit
-shifted-bit_mask bit below = (bytes_eq-Decides _ _).0 (holds_at is_mask 112 bit refl below)
-
 -- a byte of zeros, of which one byte was set, is a byte
 set_byte : (n place value i : ℕ) → value < 256 → slice_index (slice_set (replicate n 0) place value) i < 256
 set_byte zero place value i fits = omega arith
@@ -51,8 +39,10 @@ set_byte (suc n) zero value (suc i) fits = zero_byte n i
 set_byte (suc n) (suc place) value zero fits = omega arith
 set_byte (suc n) (suc place) value (suc i) fits = set_byte n place value i fits
 
+-- a power of two that stands for a bit of a byte is one
+pub power_fits : (bit : ℕ) → 2 ^ (7 - bit % 8) < 256
+power_fits bit = grind (arith, holds_at (λ rest. nat_lt (2 ^ (7 - rest)) 256) 8 (bit % 8) refl (omega arith))
+
 -- a mask consists of bytes
-pub bit_mask_is_bytes : (bit : ℕ) → IsBytes (bit_mask bit)
-bit_mask_is_bytes bit i =
-    let power : 2 ^ (7 - bit % 8) < 256 = grind (arith, holds_at (λ rest. nat_lt (2 ^ (7 - rest)) 256) 8 (bit % 8) refl (omega arith)) in
-    set_byte 14 (bit / 8) (2 ^ (7 - bit % 8)) i power
+pub bit_mask_is_bytes : (size bit : ℕ) → IsBytes (bit_mask size bit)
+bit_mask_is_bytes size bit i = set_byte size (bit / 8) (2 ^ (7 - bit % 8)) i (power_fits bit)

@@ -9,7 +9,7 @@ use Rattle.auc_vector.specs.declared.notes.NumberNote.TheVariants as number
 use Rattle.auc_world.specs.Event.{number_for, number_withheld}
 use Rattle.auc_world.specs.Lines.{withheld_by, withheld_of, held_by, held_of}
 use Rattle.auc_world.specs.declared.record.LineRecord.{LineRecord}
-use Rattle.auc_world.specs.declared.record.LineRecord.TheVariants.{Vector, Withheld, Exhausted, Sync, Give, Event}
+use Rattle.auc_world.specs.declared.record.LineRecord.TheVariants.{Vector, Withheld, Exhausted, Sync, Give, Further, Event}
 
 -- a line's withheld number is the one that has the cause
 withheld_held : (sub : ℕ) (line : LineRecord) → withheld_by sub line ≡ map (λ (h : ℕ × Stop). h.0) (held_by sub line)
@@ -22,6 +22,7 @@ withheld_held sub (Withheld s n stop) = by (s == sub)
 withheld_held sub (Exhausted s word) = refl
 withheld_held sub (Sync s verdict) = refl
 withheld_held sub (Give s n verdict) = refl
+withheld_held sub (Further said) = refl
 withheld_held sub (Event r) = by (number_for sub r)
   where
     by : (note : Option NumberNote) → number_withheld note ≡ map (λ (h : ℕ × Stop). h.0) (withheld_noted note)

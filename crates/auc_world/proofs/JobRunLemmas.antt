@@ -127,6 +127,8 @@ line_runs : (set : Setting) (before : Before) (w next : Net) (l : Line) (lines :
 line_runs set before w next (line.Draw sub count) lines (gives, is) = stands set w next lines is
 line_runs set before w next (line.Sync sub seq bit count) lines (gives, is) = stands set w next lines is
 line_runs set before w next (line.Give sub n) lines (gives, is) = stands set w next lines is
+line_runs set before w next (line.Eps sub snid) lines (gives, is) = stands set w next lines is
+line_runs set before w next (line.Fiveg l) lines (gives, is) = stands set w next lines is
 line_runs set before w next (line.Session opening) lines gives = event_runs set before w next (event.Open opening) lines gives
 line_runs set before w next (line.Start session) lines gives = event_runs set before w next (event.Start session) lines gives
 line_runs set before w next (line.Deliver session at' packet) lines gives = event_runs set before w next (event.Deliver session at' packet) lines gives

@@ -16,7 +16,7 @@ use Rattle.auc_vector.specs.declared.notes.NumberNote.TheVariants as number
 use Rattle.auc_vector.specs.declared.notes.ResyncNote.{ResyncNote}
 use Rattle.auc_vector.specs.declared.notes.ResyncNote.TheVariants as resync
 use Rattle.auc_world.specs.Event.{is_exhausted, number_for, resync_for}
-use Rattle.auc_world.specs.declared.record.LineRecord.TheVariants.{Vector, Withheld, Exhausted, Sync, Give, Event}
+use Rattle.auc_world.specs.declared.record.LineRecord.TheVariants.{Vector, Withheld, Exhausted, Sync, Give, Further, Event}
 use Rattle.auc_world.specs.declared.record.SyncVerdict.{SyncVerdict}
 use Rattle.auc_world.specs.declared.record.SyncVerdict.TheVariants as verdict
 use Rattle.auc_world.specs.Entries.{reports, is_reported, entries_of_number, entries_of_resync, entries_of_verdict, entries_of_line, entries_of_lines, entries_of_jobs}
@@ -115,6 +115,7 @@ line_leaves_out sub own all (Exhausted s word) lines among =
     exhausted_leaves_out (s == sub) (is_reported sub word own) (is_reported sub word all) word (among.more word) (λ same is. among.apart word (reports_itself sub s word lines same) is)
 line_leaves_out sub own all (Sync s answer) lines among = of_subscriber (s == sub) (entries_of_verdict sub own answer) (entries_of_verdict sub all answer) (verdict_leaves_out sub own all answer among.more)
 line_leaves_out sub own all (Give s n answer) lines among = refl
+line_leaves_out sub own all (Further said) lines among = refl
 line_leaves_out sub own all (Event r) lines among =
     leaves_out-append (entries_of_resync sub own (resync_for sub r)) (entries_of_resync sub all (resync_for sub r))
     (entries_of_number sub own (number_for sub r)) (entries_of_number sub all (number_for sub r))
@@ -170,6 +171,7 @@ line_marks sub word own (Exhausted s read) fresh says =
     omega (arith, ap (marks word) here, mark_once word)
 line_marks sub word own (Sync s answer) fresh says = absurd (false≢true says)
 line_marks sub word own (Give s n answer) fresh says = absurd (false≢true says)
+line_marks sub word own (Further said) fresh says = absurd (false≢true says)
 line_marks sub word own (Event r) fresh says =
     let mark = number_marks sub word own (number_for sub r) fresh says in
     omega (arith, marks-append word (entries_of_resync sub own (resync_for sub r)) (entries_of_number sub own (number_for sub r)), mark)

@@ -9,7 +9,7 @@ use Rattle.auc_vector.specs.declared.notes.NumberNote.TheVariants as number
 use Rattle.auc_vector.specs.declared.notes.ResyncNote.{ResyncNote}
 use Rattle.auc_vector.specs.declared.notes.ResyncNote.TheVariants as resync
 use Rattle.auc_world.specs.Event.{is_exhausted, number_for, resync_for}
-use Rattle.auc_world.specs.declared.record.LineRecord.TheVariants.{Vector, Withheld, Exhausted, Sync, Give, Event}
+use Rattle.auc_world.specs.declared.record.LineRecord.TheVariants.{Vector, Withheld, Exhausted, Sync, Give, Further, Event}
 use Rattle.auc_world.specs.declared.record.SyncVerdict.{SyncVerdict}
 use Rattle.auc_world.specs.declared.record.SyncVerdict.TheVariants as verdict
 
@@ -20,6 +20,7 @@ reports sub word (Withheld s n stop) = false
 reports sub word (Exhausted s read) = s == sub && read == word
 reports sub word (Sync s answer) = false
 reports sub word (Give s n answer) = false
+reports sub word (Further said) = false
 reports sub word (Event r) = is_exhausted word (number_for sub r)
 
 -- whether some line says so
@@ -59,6 +60,7 @@ entries_of_line sub before (Exhausted s word) =
     if s == sub then (if is_reported sub word before then [] else Drawn (word + 1) ∷ []) else []
 entries_of_line sub before (Sync s answer) = if s == sub then entries_of_verdict sub before answer else []
 entries_of_line sub before (Give s n answer) = []
+entries_of_line sub before (Further said) = []
 entries_of_line sub before (Event r) = entries_of_resync sub before (resync_for sub r) ++ entries_of_number sub before (number_for sub r)
 
 -- the entries of a subscriber that some lines stand for, in the order of the lines

@@ -1,20 +1,26 @@
 -- What the lines of a job give, by what came before them and in the network of its sessions. The centre's answers are free
 -- here; the rule of the round (`specs/Round`) says which of them a legal history allows.
-use Rattle.std.specs.Prelude.{◌≡◌, ℕ, ◌-◌, ◌/◌, ◌%◌, ◌^◌, ◌<◌, ◌≤◌, ◌||◌, ◌==◌, zero, suc, Bool, true, false, Option, Some, None, Ok, Err, List, [], ◌∷◌, ◌++◌, length, replicate, fold, slice_get, slice_set, All, Contains}
+use Rattle.std.specs.Prelude.{◌≡◌, ℕ, ◌-◌, ◌/◌, ◌%◌, ◌^◌, ◌<◌, ◌≤◌, ◌||◌, ◌==◌, zero, suc, Bool, true, false, Option, Some, None, Ok, Err, List, [], ◌∷◌, ◌++◌, length, map, not, replicate, fold, slice_get, slice_set, take, All, Contains, if◌then◌else◌}
 use Rattle.std.specs.List.{list_any}
+use Rattle.std.specs.Str.{bytes_eq}
+use Rattle.auc_5g.specs.Keys.{asme_of, device_of, front_of, home_of, standard_of}
+use Rattle.auc_5g.specs.declared.device_keys.DeviceKeys.{DeviceKeys}
+use Rattle.auc_5g.specs.declared.home_keys.HomeKeys.{HomeKeys}
 use Rattle.auc_aes.specs.Bytes.{xor}
 use Rattle.auc_history.specs.Resynchronise.{resynchronise_of}
 use Rattle.auc_history.specs.Resynchronise.{Resynchronisation}
 use Rattle.auc_history.specs.Resynchronise as found
-use Rattle.auc_milenage.specs.Milenage.{auts}
+use Rattle.auc_milenage.specs.Milenage.{auts, f2, f3, f4, f5}
 use Rattle.auc_milenage.specs.declared.secret.Secret.{Secret}
 use Rattle.auc_lines.specs.declared.part.End.{End}
 use Rattle.auc_lines.specs.declared.part.End.TheVariants as end
+use Rattle.auc_lines.specs.declared.part.FivegLine.{FivegLine}
 use Rattle.auc_lines.specs.declared.part.Line.{Line}
 use Rattle.auc_lines.specs.declared.part.Line.TheVariants as line
 use Rattle.auc_peer.specs.Asking.{answer_noted}
 use Rattle.auc_peer.specs.Turn.{Decrypts}
 use Rattle.auc_peer.specs.declared.peer.Challenge.{Challenge}
+use Rattle.auc_request.specs.Request.{is_separated}
 use Rattle.auc_sqn.specs.Number.{ind_of, max_seq, seq_of, sqn_bytes}
 use Rattle.auc_sqn.specs.Past.{Past, opening_past, verdict_of, IsSqnMs}
 use Rattle.auc_sqn.specs.declared.verdict.Verdict.{Verdict}
@@ -26,6 +32,7 @@ use Rattle.auc_vector.specs.Notes.{Asking}
 use Rattle.auc_random.specs.Random.{rand_of}
 use Rattle.auc_vector.specs.declared.auts.Auts.{Auts}
 use Rattle.auc_vector.specs.declared.auts.Auts.TheVariants as read
+use Rattle.auc_vector.specs.declared.parts.Vector.{Vector as AuthVector}
 use Rattle.auc_vector.specs.declared.notes.Notes.{Notes}
 use Rattle.auc_vector.specs.declared.notes.NumberNote.{NumberNote}
 use Rattle.auc_vector.specs.declared.notes.NumberNote.TheVariants as number
@@ -46,6 +53,10 @@ use Rattle.auc_world.specs.declared.record.SyncVerdict.{SyncVerdict}
 use Rattle.auc_world.specs.declared.record.SyncVerdict.TheVariants as verdict
 use Rattle.auc_world.specs.Lines.{numbers_of, accepted}
 use Rattle.auc_world.specs.Setting.{Setting}
+use Rattle.auc_world.specs.VectorAt.{vector_at, vector_of_row}
+use Rattle.auc_world.specs.declared.further.FivegOutcome.{FivegOutcome}
+use Rattle.auc_world.specs.declared.further.FivegOutcome.TheVariants as fiveg
+use Rattle.auc_world.specs.declared.further.Further.TheVariants as further
 
 -- the lines before a line of a transcript: those of earlier rounds, those of earlier jobs of its round, and
 -- those of its own job
@@ -66,29 +77,34 @@ pub record IsReleasable (set : Setting) (sub n : ℕ) : Type 0 where
   pub first : 1 ≤ n
   pub last : n ≤ max_seq
 
--- what a request for so many vectors of a subscriber gives: as many vectors, or fewer and then a withheld number or
--- the word of a spent subscriber, which is at least the greatest number
+-- what a request for a vector of a subscriber gives: a vector, and what follows its number; or a withheld number or the word
+-- of a spent subscriber, which is at least the greatest number, and nothing else
+abbrev pub OneGives : Setting → ℕ → (ℕ → List LineRecord → Type 0) → List LineRecord → Type 0
+OneGives set sub Follows [] = ⊥
+OneGives set sub Follows (record_of.Vector s n ∷ lines) = (s ≡ sub) × IsReleasable set sub n × Follows n lines
+OneGives set sub Follows (record_of.Withheld s n stop ∷ lines) = (s ≡ sub) × (1 ≤ n) × (n ≤ max_seq) × (lines ≡ [])
+OneGives set sub Follows (record_of.Exhausted s word ∷ lines) = (s ≡ sub) × (max_seq ≤ word) × (lines ≡ [])
+OneGives set sub Follows (record_of.Sync s answer ∷ lines) = ⊥
+OneGives set sub Follows (record_of.Give s n answer ∷ lines) = ⊥
+OneGives set sub Follows (record_of.Further said ∷ lines) = ⊥
+OneGives set sub Follows (record_of.Event r ∷ lines) = ⊥
+
+-- what a request for so many vectors gives: as many, or fewer and then what ends it
 abbrev pub DrawGives : Setting → ℕ → ℕ → List LineRecord → Type 0
 DrawGives set sub zero lines = lines ≡ []
-DrawGives set sub (suc count) [] = ⊥
-DrawGives set sub (suc count) (record_of.Vector s n ∷ lines) = (s ≡ sub) × IsReleasable set sub n × DrawGives set sub count lines
-DrawGives set sub (suc count) (record_of.Withheld s n stop ∷ lines) = (s ≡ sub) × (1 ≤ n) × (n ≤ max_seq) × (lines ≡ [])
-DrawGives set sub (suc count) (record_of.Exhausted s word ∷ lines) = (s ≡ sub) × (max_seq ≤ word) × (lines ≡ [])
-DrawGives set sub (suc count) (record_of.Sync s answer ∷ lines) = ⊥
-DrawGives set sub (suc count) (record_of.Give s n answer ∷ lines) = ⊥
-DrawGives set sub (suc count) (record_of.Event r ∷ lines) = ⊥
+DrawGives set sub (suc count) lines = OneGives set sub (λ n rest. DrawGives set sub count rest) lines
 
 -- ---- sync
 
--- 14 bytes of which only one bit is set, counted from the first byte's top bit: the byte of the bit is a power of
+-- so many bytes of which only one bit is set, counted from the first byte's top bit: the byte of the bit is a power of
 -- two, and each other byte is 0
-abbrev pub bit_mask : ℕ → List ℕ
-bit_mask bit = slice_set (replicate 14 0) (bit / 8) (2 ^ (7 - bit % 8))
+abbrev pub bit_mask : ℕ → ℕ → List ℕ
+bit_mask size bit = slice_set (replicate size 0) (bit / 8) (2 ^ (7 - bit % 8))
 
 -- bytes, with one bit inverted if a bit is named
 abbrev pub turned : Option ℕ → List ℕ → List ℕ
 turned None bytes = bytes
-turned (Some bit) bytes = xor bytes (bit_mask bit)
+turned (Some bit) bytes = xor bytes (bit_mask (length bytes) bit)
 
 -- the AUTS of a USIM whose SQN_MS is that of a number, for the RAND of the subscriber's number 0, with one bit
 -- inverted if a bit is named
@@ -164,6 +180,66 @@ pub record GiveGives (set : Setting) (before : Before) (sub n : ℕ) (lines : Li
   pub answer : GiveVerdict
   pub lines_are : lines ≡ record_of.Give sub n answer ∷ []
   pub given : IsGiven (is_released before sub n) (past_before before row sub) n answer
+
+-- ---- EPS and 5G
+
+-- K_ASME of a vector, for a serving network (TS 33.401 Annex A.2)
+abbrev pub kasme_line : List ℕ → AuthVector → LineRecord
+kasme_line snid v = record_of.Further (further.Kasme (asme_of v.ck v.ik snid (take 6 v.autn)))
+
+-- what a line for EPS gives: a vector, and its K_ASME
+abbrev pub EpsGives : Setting → ℕ → List ℕ → List LineRecord → Type 0
+EpsGives set sub snid lines = OneGives set sub (λ n rest. rest ≡ map (kasme_line snid) (vector_at set sub n)) lines
+
+-- what a device with a row's secret makes of the vector of a number that its USIM accepted, for a serving network (TS 33.501
+-- §6.1.3.2): the USIM hands it RES, CK and IK (TS 33.102 §6.3.3)
+abbrev pub device_of_row : Row → ℕ → List ℕ → List ℕ → DeviceKeys
+device_of_row row n rand name =
+    device_of (f2 row.secret.k row.secret.opc rand) (f3 row.secret.k row.secret.opc rand) (f4 row.secret.k row.secret.opc rand)
+    (f5 row.secret.k row.secret.opc rand) (sqn_bytes n) rand name
+
+-- what the networks make of RES* that reaches them: the serving network compares HRES*, and then the home network RES*
+abbrev pub outcome_of : HomeKeys → DeviceKeys → List ℕ → FivegOutcome
+outcome_of home device star =
+    if not (bytes_eq (front_of home.rand star) home.hxres_star) then fiveg.ServingRefused
+    else if not (bytes_eq star home.xres_star) then fiveg.HomeRefused
+    else fiveg.Confirmed home.k_seaf device.k_seaf
+
+-- the standard's HXRES*, if the line tells it
+abbrev pub hxres_lines : Bool → HomeKeys → List LineRecord
+hxres_lines told home = if told then record_of.Further (further.HxresStar (standard_of home.rand home.xres_star)) ∷ [] else []
+
+-- what follows a USIM's answer: if it accepted, the device's RES* reaches the networks, with one bit turned over if one is named
+abbrev pub judged_lines : FivegLine → HomeKeys → DeviceKeys → GiveVerdict → List LineRecord
+judged_lines line home device given.Accepted =
+    hxres_lines line.hxres home ++ record_of.Further (further.Fiveg line.sub (outcome_of home device (turned line.bit device.res_star))) ∷ []
+judged_lines line home device (given.Sync sqn_ms) = []
+judged_lines line home device given.Absent = []
+
+-- what a 5G authentication with a number's vector gives: the subscriber's USIM answers it
+pub record Authenticates (set : Setting) (before : Before) (line : FivegLine) (row : Row) (n : ℕ) (lines : List LineRecord) : Type 0 where
+  pub front : List LineRecord
+  pub more : List LineRecord
+  pub lines_are : lines ≡ front ++ more
+  pub gives : GiveGives set before line.sub n front
+  pub judged : more ≡ judged_lines line (home_of (vector_of_row set row line.sub n) line.home)
+      (device_of_row row n (rand_of set.key line.sub n) line.device) gives.answer
+
+-- if the separation bit of AMF is set (TS 33.501 §6.1.3.2)
+abbrev pub AuthenticatesIf : Bool → Setting → Before → FivegLine → Row → ℕ → List LineRecord → Type 0
+AuthenticatesIf false set before line row n lines = lines ≡ record_of.Further (further.Fiveg line.sub fiveg.NoSeparation) ∷ []
+AuthenticatesIf true set before line row n lines = Authenticates set before line row n lines
+
+-- what follows the vector of a number
+pub record FivegFollows (set : Setting) (before : Before) (line : FivegLine) (n : ℕ) (lines : List LineRecord) : Type 0 where
+  pub row : Row
+  pub there : slice_get set.rows line.sub ≡ Some row
+  pub follows : AuthenticatesIf (is_separated (vector_of_row set row line.sub n).autn) set before line row n lines
+
+-- what a line for 5G gives: a vector, which is released for the USIM's answer, and what follows it
+abbrev pub FivegGives : Setting → Before → FivegLine → List LineRecord → Type 0
+FivegGives set before line lines =
+    OneGives set line.sub (λ n rest. FivegFollows set (behind before (record_of.Vector line.sub n ∷ [])) line n rest) lines
 
 -- ---- events of sessions
 
@@ -244,6 +320,7 @@ packet_of (record_of.Withheld s n stop) = None
 packet_of (record_of.Exhausted s word) = None
 packet_of (record_of.Sync s answer) = None
 packet_of (record_of.Give s n answer) = None
+packet_of (record_of.Further said) = None
 packet_of (record_of.Event r) = packet_in r.result
 
 -- a packet is delivered to an end, if there is one; each packet that follows is delivered to the other end
@@ -268,6 +345,8 @@ abbrev pub LineGives : Setting → Before → Net → Line → List LineRecord �
 LineGives set before net (line.Draw sub count) lines next = DrawGives set sub count lines × (next ≡ net)
 LineGives set before net (line.Sync sub seq bit count) lines next = SyncGives set sub seq bit count lines × (next ≡ net)
 LineGives set before net (line.Give sub n) lines next = GiveGives set before sub n lines × (next ≡ net)
+LineGives set before net (line.Eps sub snid) lines next = EpsGives set sub snid lines × (next ≡ net)
+LineGives set before net (line.Fiveg line) lines next = FivegGives set before line lines × (next ≡ net)
 LineGives set before net (line.Session opening) lines next = EventGives set before net (event.Open opening) lines next
 LineGives set before net (line.Start session) lines next = EventGives set before net (event.Start session) lines next
 LineGives set before net (line.Deliver session at' packet) lines next = EventGives set before net (event.Deliver session at' packet) lines next

@@ -5,7 +5,7 @@ use Rattle.auc_released.specs.declared.numbers.Number.{Number}
 use Rattle.auc_world.specs.Event.{event_number}
 use Rattle.auc_world.specs.Released.{Released}
 use Rattle.auc_world.specs.declared.record.LineRecord.{LineRecord}
-use Rattle.auc_world.specs.declared.record.LineRecord.TheVariants.{Vector, Withheld, Exhausted, Sync, Give, Event}
+use Rattle.auc_world.specs.declared.record.LineRecord.TheVariants.{Vector, Withheld, Exhausted, Sync, Give, Further, Event}
 
 -- the number that a line releases, if it releases one
 abbrev pub number_of : LineRecord → Option Number
@@ -14,6 +14,7 @@ number_of (Withheld sub n stop) = None
 number_of (Exhausted sub word) = None
 number_of (Sync sub verdict) = None
 number_of (Give sub n verdict) = None
+number_of (Further said) = None
 number_of (Event r) = event_number r.result
 
 -- a set has room for a number, if there is one

@@ -5,7 +5,7 @@ use Rattle.auc_sqn.specs.Number.{sqn_bytes}
 use Rattle.auc_world.specs.declared.record.LineRecord.{LineRecord}
 use Rattle.auc_vector.specs.Notes.{withheld_noted}
 use Rattle.auc_world.specs.Event.{number_for, number_released, number_withheld, sqn_accepted, usim_for}
-use Rattle.auc_world.specs.declared.record.LineRecord.TheVariants.{Vector, Withheld, Exhausted, Sync, Give, Event}
+use Rattle.auc_world.specs.declared.record.LineRecord.TheVariants.{Vector, Withheld, Exhausted, Sync, Give, Further, Event}
 use Rattle.auc_world.specs.declared.record.GiveVerdict.{GiveVerdict}
 use Rattle.auc_world.specs.declared.record.GiveVerdict.TheVariants as given
 
@@ -16,6 +16,7 @@ released_by sub (Withheld s n stop) = []
 released_by sub (Exhausted s word) = []
 released_by sub (Sync s verdict) = []
 released_by sub (Give s n verdict) = []
+released_by sub (Further said) = []
 released_by sub (Event r) = number_released (number_for sub r)
 
 -- the numbers of the vectors that some lines release for a subscriber
@@ -29,6 +30,7 @@ withheld_by sub (Withheld s n stop) = if s == sub then n ∷ [] else []
 withheld_by sub (Exhausted s word) = []
 withheld_by sub (Sync s verdict) = []
 withheld_by sub (Give s n verdict) = []
+withheld_by sub (Further said) = []
 withheld_by sub (Event r) = number_withheld (number_for sub r)
 
 -- the numbers that were withheld from a subscriber
@@ -42,6 +44,7 @@ held_by sub (Withheld s n stop) = if s == sub then (n, stop) ∷ [] else []
 held_by sub (Exhausted s word) = []
 held_by sub (Sync s verdict) = []
 held_by sub (Give s n verdict) = []
+held_by sub (Further said) = []
 held_by sub (Event r) = withheld_noted (number_for sub r)
 
 -- the numbers that were withheld from a subscriber, each with its cause
@@ -61,6 +64,7 @@ accepted_by sub (Withheld s n stop) = []
 accepted_by sub (Exhausted s word) = []
 accepted_by sub (Sync s verdict) = []
 accepted_by sub (Give s n verdict) = if s == sub then taken n verdict else []
+accepted_by sub (Further said) = []
 accepted_by sub (Event r) = sqn_accepted (usim_for sub r)
 
 -- the SQNs that a subscriber's USIM accepted, 6 bytes each

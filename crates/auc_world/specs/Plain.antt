@@ -39,7 +39,7 @@ use Rattle.auc_world.specs.Start.{subscription_at}
 use Rattle.auc_world.specs.World.{IsName}
 use Rattle.auc_world.specs.declared.net.Session.{Session}
 use Rattle.auc_world.specs.declared.record.LineRecord.{LineRecord}
-use Rattle.auc_world.specs.declared.record.LineRecord.TheVariants.{Vector, Withheld, Exhausted, Sync, Give, Event}
+use Rattle.auc_world.specs.declared.record.LineRecord.TheVariants.{Vector, Withheld, Exhausted, Sync, Give, Further, Event}
 
 -- ---- the options of a session
 
@@ -160,6 +160,7 @@ came_of (Withheld sub n stop) = []
 came_of (Exhausted sub word) = []
 came_of (Sync sub answer) = []
 came_of (Give sub n answer) = []
+came_of (Further said) = []
 came_of (Event r) = r.result ∷ []
 
 abbrev pub results : List LineRecord → List Came

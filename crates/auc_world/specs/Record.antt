@@ -1,19 +1,27 @@
 -- The subscribers that records name.
 use Rattle.std.specs.Prelude.{ℕ, ◌<◌, Option, Some, None, All}
 use Rattle.auc_world.specs.Event.{asked_in}
+use Rattle.auc_world.specs.declared.further.Further.{Further as Said}
+use Rattle.auc_world.specs.declared.further.Further.TheVariants.{Kasme, HxresStar, Fiveg}
 use Rattle.auc_world.specs.declared.record.LineRecord.{LineRecord}
-use Rattle.auc_world.specs.declared.record.LineRecord.TheVariants.{Vector, Withheld, Exhausted, Sync, Give, Event}
+use Rattle.auc_world.specs.declared.record.LineRecord.TheVariants.{Vector, Withheld, Exhausted, Sync, Give, Further, Event}
 use Rattle.auc_world.specs.declared.record.PartRecord.{PartRecord}
 use Rattle.auc_world.specs.declared.record.PartRecord.TheVariants.{Round, Restart}
 use Rattle.auc_world.specs.declared.record.RoundRecord.{RoundRecord}
 
--- the subscriber whose numbers a record of a job's line is about; an event's is the one for whom the centre was asked
+-- the subscriber whom a record of a job's line names; an event's is the one for whom the centre was asked
+abbrev pub further_subscriber : Said → Option ℕ
+further_subscriber (Kasme key) = None
+further_subscriber (HxresStar half) = None
+further_subscriber (Fiveg sub outcome) = Some sub
+
 abbrev pub subscriber_of : LineRecord → Option ℕ
 subscriber_of (Vector sub n) = Some sub
 subscriber_of (Withheld sub n stop) = Some sub
 subscriber_of (Exhausted sub word) = Some sub
 subscriber_of (Sync sub verdict) = Some sub
 subscriber_of (Give sub n verdict) = Some sub
+subscriber_of (Further said) = further_subscriber said
 subscriber_of (Event r) = asked_in r.result
 
 -- a subscriber, if there is one, is one of so many

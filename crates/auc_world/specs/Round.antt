@@ -8,7 +8,7 @@ use Rattle.auc_lines.specs.declared.part.Line.{Line}
 use Rattle.auc_sqn.specs.Number.{max_seq}
 use Rattle.auc_world.specs.declared.record.Closing.{Closing}
 use Rattle.auc_world.specs.declared.record.LineRecord.{LineRecord}
-use Rattle.auc_world.specs.declared.record.LineRecord.TheVariants.{Vector, Withheld, Exhausted, Sync, Give, Event}
+use Rattle.auc_world.specs.declared.record.LineRecord.TheVariants.{Vector, Withheld, Exhausted, Sync, Give, Further, Event}
 use Rattle.auc_world.specs.Event.{number_in}
 use Rattle.auc_vector.specs.declared.notes.NumberNote.{NumberNote}
 use Rattle.auc_vector.specs.declared.notes.NumberNote.TheVariants as number
@@ -56,6 +56,7 @@ NamesStop stop (Withheld s n cause) = cause ≡ stop
 NamesStop stop (Exhausted s word) = Unit {0}
 NamesStop stop (Sync s answer) = Unit {0}
 NamesStop stop (Give s n answer) = Unit {0}
+NamesStop stop (Further said) = Unit {0}
 NamesStop stop (Event r) = NotesStop stop (number_in r.result)
 
 -- what is withheld in a round in which the reservation of numbers stopped: each line names the cause of the stop, and each

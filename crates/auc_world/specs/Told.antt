@@ -15,6 +15,10 @@ use Rattle.auc_world.specs.declared.event.Event.TheVariants as event
 use Rattle.auc_world.specs.declared.event.EventRecord.{EventRecord}
 use Rattle.auc_world.specs.declared.event.NoteStep.{NoteStep}
 use Rattle.auc_world.specs.declared.event.NoteStep.TheVariants as did
+use Rattle.auc_world.specs.declared.further.FivegOutcome.{FivegOutcome}
+use Rattle.auc_world.specs.declared.further.FivegOutcome.TheVariants as fiveg
+use Rattle.auc_world.specs.declared.further.Further.{Further}
+use Rattle.auc_world.specs.declared.further.Further.TheVariants as further
 use Rattle.auc_world.specs.declared.record.LineRecord.{LineRecord}
 use Rattle.auc_world.specs.declared.record.LineRecord.TheVariants as line
 use Rattle.auc_world.specs.declared.record.PartRecord.{PartRecord}
@@ -70,6 +74,18 @@ told_event (event.GiveUp session at') = event.GiveUp session at'
 abbrev pub told_record : EventRecord → EventRecord
 told_record r = record { event = told_event r.event; result = told_came r.result }
 
+-- the keys of both ends aren't told
+abbrev pub told_outcome_of_5g : FivegOutcome → FivegOutcome
+told_outcome_of_5g fiveg.NoSeparation = fiveg.NoSeparation
+told_outcome_of_5g fiveg.ServingRefused = fiveg.ServingRefused
+told_outcome_of_5g fiveg.HomeRefused = fiveg.HomeRefused
+told_outcome_of_5g (fiveg.Confirmed home device) = fiveg.Confirmed [] []
+
+abbrev pub told_further : Further → Further
+told_further (further.Kasme key) = further.Kasme key
+told_further (further.HxresStar half) = further.HxresStar half
+told_further (further.Fiveg sub outcome) = further.Fiveg sub (told_outcome_of_5g outcome)
+
 -- the other lines are told whole
 abbrev pub told_line : LineRecord → LineRecord
 told_line (line.Vector sub n) = line.Vector sub n
@@ -77,6 +93,7 @@ told_line (line.Withheld sub n stop) = line.Withheld sub n stop
 told_line (line.Exhausted sub word) = line.Exhausted sub word
 told_line (line.Sync sub verdict) = line.Sync sub verdict
 told_line (line.Give sub n verdict) = line.Give sub n verdict
+told_line (line.Further said) = line.Further (told_further said)
 told_line (line.Event r) = line.Event (told_record r)
 
 abbrev pub told_job : List LineRecord → List LineRecord

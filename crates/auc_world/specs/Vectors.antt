@@ -2,6 +2,7 @@
 use Rattle.std.specs.Prelude.{◌≡◌, ℕ, List, [], ◌∷◌, flat_map, Option, Some, None, slice_get}
 use Rattle.std.specs.Option.{option_to_list}
 use Rattle.auc_hmac.specs.declared.method.Method.TheVariants as method
+pub use Rattle.auc_world.specs.VectorAt.{vector_with, vector_at}
 use Rattle.auc_subs.specs.Subscriber.{IsRow}
 use Rattle.auc_subs.specs.declared.row.Row.{Row}
 use Rattle.auc_random.specs.Random.{rand_of}
@@ -12,17 +13,7 @@ use Rattle.auc_world.specs.Setting.{Setting}
 use Rattle.auc_world.specs.declared.record.LineRecord.{LineRecord}
 use Rattle.auc_released.specs.declared.numbers.Number.{Number}
 use Rattle.auc_world.specs.Event.{event_number, event_vector}
-use Rattle.auc_world.specs.declared.record.LineRecord.TheVariants.{Vector, Withheld, Exhausted, Sync, Give, Event}
-
--- the vector of a number for EAP-AKA, made with a row and a RAND; a subscriber without a row has no vectors, and no line that is
--- served names one
-abbrev pub vector_with : Option Row → ℕ → List ℕ → List AuthVector
-vector_with None n rand = []
-vector_with (Some row) n rand = vector_of row.secret method.Aka row.amf [] n rand ∷ []
-
--- the vector of a subscriber's number, with the RAND of both
-abbrev pub vector_at : Setting → ℕ → ℕ → List AuthVector
-vector_at set sub n = vector_with (slice_get set.rows sub) n (rand_of set.key sub n)
+use Rattle.auc_world.specs.declared.record.LineRecord.TheVariants.{Vector, Withheld, Exhausted, Sync, Give, Further, Event}
 
 -- the vector that a line releases; an event's is that of its session's challenge, by the session's method and name
 abbrev pub vector_in : Setting → LineRecord → List AuthVector
@@ -31,6 +22,7 @@ vector_in set (Withheld sub n stop) = []
 vector_in set (Exhausted sub word) = []
 vector_in set (Sync sub verdict) = []
 vector_in set (Give sub n verdict) = []
+vector_in set (Further said) = []
 vector_in set (Event r) = option_to_list (event_vector r.result)
 
 -- the vectors that some lines release, in the order of the lines
@@ -65,4 +57,5 @@ IsReleasableLine set (Withheld s n stop) = Unit {0}
 IsReleasableLine set (Exhausted s word) = Unit {0}
 IsReleasableLine set (Sync s answer) = Unit {0}
 IsReleasableLine set (Give s n answer) = Unit {0}
+IsReleasableLine set (Further said) = Unit {0}
 IsReleasableLine set (Event r) = IsReleasableNumber set (event_number r.result)

@@ -80,7 +80,8 @@ fn add_vector(
         LineRecord::Withheld { .. }
         | LineRecord::Exhausted { .. }
         | LineRecord::Sync { .. }
-        | LineRecord::Give { .. } => Ok(last),
+        | LineRecord::Give { .. }
+        | LineRecord::Further(_) => Ok(last),
     }
 }
 

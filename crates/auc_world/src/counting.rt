@@ -42,7 +42,7 @@ fn count_line(mut count: Count, line: &LineRecord) -> Count
         LineRecord::Sync { verdict, .. } => {
             count.skipped = count.skipped.saturating_add(passed(*verdict));
         }
-        LineRecord::Exhausted { .. } | LineRecord::Give { .. } => {}
+        LineRecord::Exhausted { .. } | LineRecord::Give { .. } | LineRecord::Further(_) => {}
         LineRecord::Event(event) => return count_event(count, event.record()),
     }
     count

@@ -32,12 +32,13 @@
 
 mod acting;
 mod agreement;
-mod auts;
+mod bits;
 mod bytes;
 mod closing;
 mod copying;
 mod counting;
 mod event;
+mod further;
 mod inputs;
 mod law;
 mod net;
@@ -57,11 +58,12 @@ pub use agreement::{
 };
 pub use auc_lines::End;
 pub use auc_server::Setting;
-pub use auts::auts_of;
+pub use bits::{auts_of, turned};
 pub use bytes::{printed_vectors, vector_at};
 pub use closing::{closings, reopened};
 pub use counting::{Count, counts};
 pub use event::{BoxedEvent, Event, EventRecord, Note, NoteStep, WorldRefusal};
+pub use further::{BoxedFurther, FivegOutcome, Further};
 pub use law::{
     jobs_give_after_all_lines, past_has_each_accepted_sqn, pieces_split_the_round,
     restart_opens_above_released_numbers,

@@ -1,6 +1,7 @@
 //! The records.
 
 use crate::event::BoxedEvent;
+use crate::further::BoxedFurther;
 use crate::net::Breach;
 use auc_edge::{Items, Stop};
 use auc_released::Number;
@@ -37,6 +38,8 @@ pub enum LineRecord {
         n: u64,
         verdict: GiveVerdict,
     },
+    /// What follows from a vector that was released for the line.
+    Further(BoxedFurther),
     /// An event of the job's sessions.
     Event(BoxedEvent),
 }
@@ -46,8 +49,8 @@ impl LineRecord {
     ghost use Rattle.auc_world.specs.InnerRoom.{number_of};
     ghost use Rattle.auc_world.specs.Record.{subscriber_of};
 
-    /// The subscriber whose numbers the line is about, by its place: an event's is the one for whom the centre was asked,
-    /// if it was asked.
+    /// The subscriber whom the line names, by its place: an event's is the one for whom the centre was asked, if it was
+    /// asked.
     pub fn subscriber(&self) -> Option<u32>
         ensures { result ≡ subscriber_of self.now }
     {
@@ -57,6 +60,7 @@ impl LineRecord {
             | LineRecord::Exhausted { sub, .. }
             | LineRecord::Sync { sub, .. }
             | LineRecord::Give { sub, .. } => Some(*sub),
+            LineRecord::Further(further) => further.said().subscriber(),
             LineRecord::Event(event) => event.record().asked(),
         }
     }
@@ -71,7 +75,8 @@ impl LineRecord {
             LineRecord::Withheld { .. }
             | LineRecord::Exhausted { .. }
             | LineRecord::Sync { .. }
-            | LineRecord::Give { .. } => None,
+            | LineRecord::Give { .. }
+            | LineRecord::Further(_) => None,
         }
     }
 }

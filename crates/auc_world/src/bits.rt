@@ -1,6 +1,6 @@
-//! The AUTS that a line of a scenario hands to the centre.
+//! Bits that a scenario turns over: of the AUTS that a line hands to the centre, and of RES* on its way.
 
-ghost use Rattle.std.specs.Prelude.{◌≡◌, ◌≤◌, ◌<◌};
+ghost use Rattle.std.specs.Prelude.{◌≡◌, ◌*◌, ◌≤◌, ◌<◌, IfSome};
 ghost use Rattle.auc_lines.specs.Part.{IsBit};
 ghost use Rattle.auc_milenage.specs.Milenage.{auts};
 ghost use Rattle.auc_sqn.specs.Number.{max_seq, sqn_bytes};
@@ -10,25 +10,24 @@ use auc_aes::xor;
 use auc_milenage::{Secret, make_auts};
 use auc_sqn::sqn_of;
 
-/// 14 bytes of which one bit is set, counted from the first byte's top bit.
-fn bit_mask(bit: u8) -> [u8; 14]
-    requires { bit < 112 }
-    ensures { result ≡ mask_of bit }
+/// `N` bytes of which one bit is set, counted from the first byte's top bit.
+fn bit_mask<const N: usize>(bit: u8) -> [u8; N]
+    requires { bit < 8 * N }
+    ensures { result ≡ mask_of N bit }
 {
-    let mask = (1_u128 << (111 - bit)).to_be_bytes();
-    let mut bytes = [0; 14];
-    bytes.copy_from_slice(&mask[2..]);
+    let mut bytes = [0; N];
+    bytes[(bit / 8) as usize] = 1 << (7 - bit % 8);
     bytes
 }
 
-/// An AUTS with a bit turned over, if one is named.
-fn turned(auts: [u8; 14], bit: Option<u8>) -> [u8; 14]
-    requires { IsBit bit }
-    ensures { result ≡ turned_by bit auts }
+/// `N` bytes with a bit turned over, from 0 for the first byte's top bit, if one is named.
+pub fn turned<const N: usize>(bytes: [u8; N], bit: Option<u8>) -> [u8; N]
+    requires { IfSome bit (λ bit. bit < 8 * N) }
+    ensures { result ≡ turned_by bit bytes }
 {
     match bit {
-        Some(bit) => xor(auts, bit_mask(bit)),
-        None => auts,
+        Some(bit) => xor(bytes, bit_mask(bit)),
+        None => bytes,
     }
 }
 
