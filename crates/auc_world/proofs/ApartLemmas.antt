@@ -14,6 +14,8 @@ use Rattle.auc_lines.specs.declared.part.End.TheVariants as end
 use Rattle.auc_lines.specs.Part.{AreApart, holds, is_held_by, is_that}
 use Rattle.auc_sqn.specs.Past.{Past}
 use Rattle.auc_subs.specs.declared.row.Row.{Row}
+use Rattle.auc_5g.specs.Keys.{home_of}
+use Rattle.auc_random.specs.Random.{rand_of}
 use Rattle.auc_request.specs.Request.{is_separated}
 use Rattle.auc_vector.specs.declared.parts.Vector.{Vector as AuthVector}
 use Rattle.auc_world.specs.declared.further.Further.TheVariants as further
@@ -34,7 +36,7 @@ use Rattle.auc_world.specs.declared.event.Event.TheVariants as event
 use Rattle.auc_world.specs.declared.event.EventRecord.{EventRecord}
 use Rattle.auc_world.proofs.NetLemmas.{AreOf, IsOf, IsPresentedTo, Opens, device_is_of, presented_is_of, sessions_stay}
 use Rattle.auc_world.specs.Setting.{Setting}
-use Rattle.auc_world.specs.Given.{AuthenticatesIf, Before, DrawGives, EventGives, FivegFollows, GiveGives, IsUsimAsked, JobGives, JobsGive, LineGives, OneGives, PlainGives, RelayGives, UsimNotes, VectorsFollow, IsGiven, behind, hxres_lines, is_released, judged_lines, kasme_line, outcome_of, packet_of, past_of, past_before, turned}
+use Rattle.auc_world.specs.Given.{AuthenticatesIf, Before, DrawGives, EventGives, FivegFollows, GiveGives, IsUsimAsked, JobGives, JobsGive, LineGives, OneGives, PlainGives, RelayGives, UsimNotes, VectorsFollow, IsGiven, behind, hxres_lines, is_released, judged_lines, device_of_row, kasme_line, outcome_of, packet_of, past_of, past_before, turned}
 use Rattle.auc_world.specs.VectorAt.{vector_at, vector_of_row}
 use Rattle.auc_world.specs.Pieces.{Piece, lines_of_pieces, IsQuiet, PiecesGive, JobsGiveAfterAllLines}
 
@@ -100,7 +102,7 @@ fiveg_quiet set before l n sub lines other f = by (is_separated (vector_of_row s
     by true is =
         ap (accepted sub) is.lines_are ∙ accepted-append sub is.front is.more
         ∙ ap (λ (sqns : List (List ℕ)). sqns ++ accepted sub is.more) (ap (accepted sub) is.gives.lines_are ∙ give_quiet sub l.sub n is.gives.answer other)
-        ∙ ap (accepted sub) is.judged ∙ judged_quiet l _ _ is.gives.answer sub
+        ∙ ap (accepted sub) is.judged ∙ judged_quiet l (home_of (vector_of_row set f.row l.sub n) l.home) (device_of_row f.row n (rand_of set.key l.sub n) l.device) is.gives.answer sub
 
 -- nor in an event, if its device is another's
 event_quiet : (sub : ℕ) (r : EventRecord) → IsOf (λ other. (other == sub) ≡ false) (device_in r.result) → accepted sub (Told r ∷ []) ≡ []
@@ -150,18 +152,16 @@ line_quiet set before net next (line.Draw who count) sub lines (gives, is) none 
 line_quiet set before net next (line.Sync who seq bit count) sub lines (gives, is) none others =
     (ap (accepted sub) gives.lines_are ∙ follows_quiet set who count sub gives.answer gives.more gives.follows, subst (AreOthers sub) (sym is) others)
 line_quiet set before net next (line.Give who n) sub lines (gives, is) none others = (ap (accepted sub) gives.lines_are ∙ give_quiet sub who n gives.answer none, subst (AreOthers sub) (sym is) others)
-line_quiet set before net next (line.Eps who snid) sub lines (gives, is) none others =
-    (
-      one_quiet set who sub (λ n rest. rest ≡ map (kasme_line snid) (vector_at set who n)) lines gives
-          (λ n rest is. ap (accepted sub) is ∙ keys_quiet snid sub (vector_at set who n)),
-      subst (AreOthers sub) (sym is) others,
-    )
-line_quiet set before net next (line.Fiveg l) sub lines (gives, is) none others =
-    (
-      one_quiet set l.sub sub (λ n rest. FivegFollows set (behind before (Vector l.sub n ∷ [])) l n rest) lines gives
-          (λ n rest f. fiveg_quiet set (behind before (Vector l.sub n ∷ [])) l n sub rest none f),
-      subst (AreOthers sub) (sym is) others,
-    )
+line_quiet set before net next (line.Eps who snid) sub lines (gives, is) none others = (
+  one_quiet set who sub (λ n rest. rest ≡ map (kasme_line snid) (vector_at set who n)) lines gives
+      (λ n rest is. ap (accepted sub) is ∙ keys_quiet snid sub (vector_at set who n)),
+  subst (AreOthers sub) (sym is) others,
+)
+line_quiet set before net next (line.Fiveg l) sub lines (gives, is) none others = (
+  one_quiet set l.sub sub (λ n rest. FivegFollows set (behind before (Vector l.sub n ∷ [])) l n rest) lines gives
+      (λ n rest f. fiveg_quiet set (behind before (Vector l.sub n ∷ [])) l n sub rest none f),
+  subst (AreOthers sub) (sym is) others,
+)
 line_quiet set before net next (line.Session opening) sub lines gives none others =
     (event_line_quiet set before net next (event.Open opening) sub lines gives others, others_stay set before net next (event.Open opening) sub lines gives others none)
 line_quiet set before net next (line.Start session) sub lines gives none others =
@@ -282,6 +282,7 @@ one_beside set who F G (Told r ∷ lines) f gives = absurd gives
 
 fiveg_beside : (set : Setting) (early own beside done : List LineRecord) (l : FivegLine) (n : ℕ) (lines : List LineRecord) → IsStill own beside l.sub
     → FivegFollows set (place early own done) l n lines → FivegFollows set (place early beside done) l n lines
+unfolding give_beside
 fiveg_beside set early own beside done l n lines still f =
     record { row = f.row; there = f.there; follows = by (is_separated (vector_of_row set f.row l.sub n).autn) f.follows }
   where

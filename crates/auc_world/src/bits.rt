@@ -23,7 +23,7 @@ fn bit_mask<const N: usize>(bit: u8) -> [u8; N]
 /// `N` bytes with a bit turned over, from 0 for the first byte's top bit, if one is named.
 pub fn turned<const N: usize>(bytes: [u8; N], bit: Option<u8>) -> [u8; N]
     requires { IfSome bit (λ bit. bit < 8 * N) }
-    ensures { result ≡ turned_by bit bytes }
+    ensures { result ≡ turned_by bit bytes.entry }
 {
     match bit {
         Some(bit) => xor(bytes, bit_mask(bit)),
