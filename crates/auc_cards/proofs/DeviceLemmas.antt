@@ -60,6 +60,8 @@ line_few : (count : ℕ) (l : Line) → IsKnownLine count l → IsFew count (hel
 line_few count (line.Draw sub n) known = tt
 line_few count (line.Sync sub seq bit n) known = tt
 line_few count (line.Give sub n) known = known.0
+line_few count (line.Eps sub snid) known = tt
+line_few count (line.Fiveg fiveg) known = known.sub
 line_few count (line.Session opening) known = known.0
 line_few count (line.Start session) known = tt
 line_few count (line.Deliver session at' packet) known = tt
