@@ -14,7 +14,7 @@ use Rattle.auc_sqn.specs.Number.{max_seq}
 use Rattle.auc_world.specs.Entries.{reports, entries_of_line, entries_of_lines, entries_of_jobs}
 use Rattle.auc_world.specs.Lines.{all_lines}
 use Rattle.auc_world.specs.declared.record.LineRecord.{LineRecord}
-use Rattle.auc_world.specs.declared.record.LineRecord.TheVariants.{Vector, Withheld, Exhausted, Sync, Give, Event}
+use Rattle.auc_world.specs.declared.record.LineRecord.TheVariants.{Vector, Withheld, Exhausted, Sync, Give, Further, Event}
 
 -- the entries of lines and of further ones
 entries_of_lines-append : (sub : ℕ) (before xs ys : List LineRecord)
@@ -96,6 +96,7 @@ IsOfDraw (Withheld s n stop) = Unit {0}
 IsOfDraw (Exhausted s word) = max_seq ≤ word
 IsOfDraw (Sync s answer) = ⊥
 IsOfDraw (Give s n answer) = ⊥
+IsOfDraw (Further said) = ⊥
 IsOfDraw (Event r) = ⊥
 
 -- its subscriber
@@ -105,6 +106,7 @@ sub_of (Withheld s n stop) = s
 sub_of (Exhausted s word) = s
 sub_of (Sync s answer) = s
 sub_of (Give s n answer) = s
+sub_of (Further said) = 0
 sub_of (Event r) = 0
 
 -- a word that it tells is at most another
@@ -114,6 +116,7 @@ WordWithin closing (Withheld s n stop) = Unit {0}
 WordWithin closing (Exhausted s word) = word ≤ closing
 WordWithin closing (Sync s answer) = Unit {0}
 WordWithin closing (Give s n answer) = Unit {0}
+WordWithin closing (Further said) = Unit {0}
 WordWithin closing (Event r) = Unit {0}
 
 -- the words that lines reported of a subscriber are at most a word
@@ -140,6 +143,7 @@ line_within sub closing before (Exhausted s word) is reported within named =
     (named_entries (s == sub) closing (if list_any (reports sub word) before then [] else Drawn (word + 1) ∷ []) (grind (arith, nat_tests)) within)
 line_within sub closing before (Sync s answer) is reported within named = tt
 line_within sub closing before (Give s n answer) is reported within named = tt
+line_within sub closing before (Further said) is reported within named = tt
 line_within sub closing before (Event r) is reported within named = tt
 
 -- the words that lines and one more reported
@@ -164,6 +168,7 @@ reports_more sub closing before line is reported here word told =
         omega (arith, bound)
     tells (Sync s answer) of_draw here is = absurd of_draw
     tells (Give s n answer) of_draw here is = absurd of_draw
+    tells (Further said) of_draw here is = absurd of_draw
     tells (Event r) of_draw here is = absurd of_draw
 
 -- the lines of the subscriber tell words that are no higher than where its entries end

@@ -37,7 +37,7 @@ use Rattle.auc_world.specs.Setting.{Setting}
 use Rattle.auc_world.specs.Start.{Kept}
 use Rattle.auc_world.specs.declared.record.Closing.{Closing}
 use Rattle.auc_world.specs.declared.record.LineRecord.{LineRecord}
-use Rattle.auc_world.specs.declared.record.LineRecord.TheVariants.{Vector, Withheld, Exhausted, Sync, Give, Event}
+use Rattle.auc_world.specs.declared.record.LineRecord.TheVariants.{Vector, Withheld, Exhausted, Sync, Give, Further, Event}
 use Rattle.auc_world.specs.declared.record.RoundRecord.{RoundRecord}
 use Rattle.auc_run.proofs.EntryLemmas.{IsOfDraw, IsWithin, WordWithin, all_entries-of_jobs, splits_within, lines_within, sub_of}
 
@@ -54,6 +54,7 @@ draw_lines set sub (suc count) (Withheld s n stop ∷ lines) (same, first, last,
 draw_lines set sub (suc count) (Exhausted s word ∷ lines) (same, spent, none) = All-cons IsOfDraw (Exhausted s word) lines spent (no_lines lines none)
 draw_lines set sub (suc count) (Sync s answer ∷ lines) gives = absurd gives
 draw_lines set sub (suc count) (Give s n answer ∷ lines) gives = absurd gives
+draw_lines set sub (suc count) (Further said ∷ lines) gives = absurd gives
 draw_lines set sub (suc count) (Event r ∷ lines) gives = absurd gives
 
 -- its lines are of its subscriber
@@ -71,6 +72,7 @@ draw_named set total sub (suc count) (Exhausted s word ∷ lines) inside (same, 
     (All-same (λ line. sub_of line < total) lines [] none (All-nil (λ line. sub_of line < total)))
 draw_named set total sub (suc count) (Sync s answer ∷ lines) inside gives = absurd gives
 draw_named set total sub (suc count) (Give s n answer ∷ lines) inside gives = absurd gives
+draw_named set total sub (suc count) (Further said ∷ lines) inside gives = absurd gives
 draw_named set total sub (suc count) (Event r ∷ lines) inside gives = absurd gives
 
 -- there are no more lines than vectors were asked for
@@ -82,6 +84,7 @@ draw_few set sub (suc count) (Withheld s n stop ∷ lines) (same, first, last, n
 draw_few set sub (suc count) (Exhausted s word ∷ lines) (same, spent, none) = let rest = ap length none in omega (arith, rest)
 draw_few set sub (suc count) (Sync s answer ∷ lines) gives = absurd gives
 draw_few set sub (suc count) (Give s n answer ∷ lines) gives = absurd gives
+draw_few set sub (suc count) (Further said ∷ lines) gives = absurd gives
 draw_few set sub (suc count) (Event r ∷ lines) gives = absurd gives
 
 -- jobs of which each draws so many vectors for the subscriber of its place in a list
@@ -146,6 +149,7 @@ line_draws sub before (Exhausted s word) is = mark (s == sub) (is_reported sub w
     mark false told n = omega arith
 line_draws sub before (Sync s answer) is = absurd is
 line_draws sub before (Give s n answer) is = absurd is
+line_draws sub before (Further said) is = absurd is
 line_draws sub before (Event r) is = absurd is
 
 line_skips : (sub : ℕ) (before : List LineRecord) (line : LineRecord) → IsOfDraw line → skipped (entries_of_line sub before line) ≡ 0
@@ -167,6 +171,7 @@ line_skips sub before (Exhausted s word) is = mark (s == sub) (is_reported sub w
     mark false told n = refl
 line_skips sub before (Sync s answer) is = absurd is
 line_skips sub before (Give s n answer) is = absurd is
+line_skips sub before (Further said) is = absurd is
 line_skips sub before (Event r) is = absurd is
 
 lines_draw : (sub : ℕ) (before lines : List LineRecord) → All IsOfDraw lines → length (drawn (entries_of_lines sub before lines)) ≤ length lines
@@ -195,6 +200,7 @@ IsVector (Withheld s n stop) = ⊥
 IsVector (Exhausted s word) = ⊥
 IsVector (Sync s answer) = ⊥
 IsVector (Give s n answer) = ⊥
+IsVector (Further said) = ⊥
 IsVector (Event r) = ⊥
 
 -- a line of a draw that tells no word as high as the greatest number and withholds nothing
@@ -209,6 +215,7 @@ vector_is closing (Withheld s n stop) small is within none = absurd (held (s == 
 vector_is closing (Exhausted s word) small is within none = absurd (omega (arith, small, is, within))
 vector_is closing (Sync s answer) small is within none = is
 vector_is closing (Give s n answer) small is within none = is
+vector_is closing (Further said) small is within none = is
 vector_is closing (Event r) small is within none = is
 
 -- what lists joined are empty
@@ -296,6 +303,7 @@ job_draws set (suc count) s sub before (Withheld t n stop ∷ lines) gives all =
 job_draws set (suc count) s sub before (Exhausted t word ∷ lines) gives all = absurd (All-head IsVector (Exhausted t word) lines all)
 job_draws set (suc count) s sub before (Sync t answer ∷ lines) gives all = absurd gives
 job_draws set (suc count) s sub before (Give t n answer ∷ lines) gives all = absurd gives
+job_draws set (suc count) s sub before (Further said ∷ lines) gives all = absurd gives
 job_draws set (suc count) s sub before (Event r ∷ lines) gives all = absurd gives
 
 job_releases : (set : Setting) (count s sub : ℕ) (lines : List LineRecord) → DrawGives set s count lines → All IsVector lines
@@ -316,6 +324,7 @@ job_releases set (suc count) s sub (Withheld t n stop ∷ lines) gives all = abs
 job_releases set (suc count) s sub (Exhausted t word ∷ lines) gives all = absurd (All-head IsVector (Exhausted t word) lines all)
 job_releases set (suc count) s sub (Sync t answer ∷ lines) gives all = absurd gives
 job_releases set (suc count) s sub (Give t n answer ∷ lines) gives all = absurd gives
+job_releases set (suc count) s sub (Further said ∷ lines) gives all = absurd gives
 job_releases set (suc count) s sub (Event r ∷ lines) gives all = absurd gives
 
 -- those of all jobs

@@ -1,12 +1,18 @@
 -- For the rounds: the lines of a lawful round name subscribers alone.
-use Rattle.std.proofs.Common.{◌≡◌, ℕ, zero, suc, ◌<◌, List, [], ◌∷◌, ◌++◌, length, All, Option, Some, None, arith}
+use Rattle.std.proofs.Common.{◌≡◌, ℕ, zero, suc, ◌<◌, List, [], ◌∷◌, ◌++◌, length, All, Bool, true, false, map, Option, Some, None, arith}
 use Rattle.std.specs.Prelude.{slice_get}
 use Rattle.std.proofs.lemmas.List.Elements.{All-nil, All-cons, All-append, All-same}
+use Rattle.auc_5g.specs.Keys.{home_of, standard_of}
+use Rattle.auc_5g.specs.declared.device_keys.DeviceKeys.{DeviceKeys}
+use Rattle.auc_5g.specs.declared.home_keys.HomeKeys.{HomeKeys}
 use Rattle.auc_jobs.specs.Serving.{IsKnownLine, AreAllKnown}
 use Rattle.auc_lines.specs.declared.part.End.{End}
 use Rattle.auc_lines.specs.declared.part.End.TheVariants as end
+use Rattle.auc_lines.specs.declared.part.FivegLine.{FivegLine}
 use Rattle.auc_lines.specs.declared.part.Line.{Line}
 use Rattle.auc_lines.specs.declared.part.Line.TheVariants as line
+use Rattle.auc_random.specs.Random.{rand_of}
+use Rattle.auc_request.specs.Request.{is_separated}
 use Rattle.auc_server.specs.Server.{ServerEnd}
 use Rattle.auc_server.specs.declared.options.ServerOptions.{ServerOptions}
 use Rattle.auc_vector.specs.Notes.{Asking}
@@ -14,7 +20,13 @@ use Rattle.auc_vector.specs.declared.notes.Notes.{Notes}
 use Rattle.auc_world.specs.Came.{asked_sub, asking_at, asking_in, asking_of, came, came_at_peer, came_at_server, came_delivered, came_given_up, came_in, came_opened, came_repeated, came_started, server_came_to_give_up, session_of}
 use Rattle.auc_peer.specs.Subscription.{Subscription}
 use Rattle.auc_world.specs.Event.{asked_in}
-use Rattle.auc_world.specs.Given.{Before, DrawGives, EventGives, IsCentreAsked, JobGives, JobsGive, LineGives, PlainGives, RelayGives, SyncGives, VectorsFollow, behind, packet_of}
+use Rattle.auc_vector.specs.declared.parts.Vector.{Vector as AuthVector}
+use Rattle.auc_world.specs.VectorAt.{vector_at, vector_of_row}
+use Rattle.auc_world.specs.declared.further.FivegOutcome.TheVariants as fiveg
+use Rattle.auc_world.specs.declared.further.Further.TheVariants as further
+use Rattle.auc_world.specs.declared.record.GiveVerdict.{GiveVerdict}
+use Rattle.auc_world.specs.declared.record.GiveVerdict.TheVariants as given
+use Rattle.auc_world.specs.Given.{AuthenticatesIf, Before, DrawGives, EventGives, FivegFollows, GiveGives, OneGives, device_of_row, hxres_lines, judged_lines, kasme_line, outcome_of, turned, IsCentreAsked, JobGives, JobsGive, LineGives, PlainGives, RelayGives, SyncGives, VectorsFollow, behind, packet_of}
 use Rattle.auc_world.specs.Happened.{Delivery, Told, delivery_in}
 use Rattle.auc_world.specs.Net.{Net, device_place, other, packet_at, session_place}
 use Rattle.auc_world.specs.Record.{IsBelow, subscriber_of}
@@ -51,7 +63,63 @@ draw_named set sub (suc count) (record_of.Exhausted s word ∷ lines) inside (sa
     All-cons (IsNamed (length set.rows)) (record_of.Exhausted s word) lines (omega (arith, same, inside)) (none_named (length set.rows) lines none)
 draw_named set sub (suc count) (record_of.Sync s answer ∷ lines) inside gives = absurd gives
 draw_named set sub (suc count) (record_of.Give s n answer ∷ lines) inside gives = absurd gives
+draw_named set sub (suc count) (record_of.Further said ∷ lines) inside gives = absurd gives
 draw_named set sub (suc count) (record_of.Event r ∷ lines) inside gives = absurd gives
+
+-- a request for one vector, and what follows it
+one_named : (set : Setting) (sub : ℕ) (Follows : ℕ → List LineRecord → Type 0) (lines : List LineRecord) → sub < length set.rows → OneGives set sub Follows lines
+    → ((n : ℕ) (rest : List LineRecord) → Follows n rest → All (IsNamed (length set.rows)) rest) → All (IsNamed (length set.rows)) lines
+one_named set sub Follows [] inside gives named = absurd gives
+one_named set sub Follows (record_of.Vector s n ∷ lines) inside (same, is, more) named =
+    All-cons (IsNamed (length set.rows)) (record_of.Vector s n) lines (omega (arith, same, inside)) (named n lines more)
+one_named set sub Follows (record_of.Withheld s n stop ∷ lines) inside (same, first, last, none) named =
+    All-cons (IsNamed (length set.rows)) (record_of.Withheld s n stop) lines (omega (arith, same, inside)) (none_named (length set.rows) lines none)
+one_named set sub Follows (record_of.Exhausted s word ∷ lines) inside (same, spent, none) named =
+    All-cons (IsNamed (length set.rows)) (record_of.Exhausted s word) lines (omega (arith, same, inside)) (none_named (length set.rows) lines none)
+one_named set sub Follows (record_of.Sync s answer ∷ lines) inside gives named = absurd gives
+one_named set sub Follows (record_of.Give s n answer ∷ lines) inside gives named = absurd gives
+one_named set sub Follows (record_of.Further said ∷ lines) inside gives named = absurd gives
+one_named set sub Follows (record_of.Event r ∷ lines) inside gives named = absurd gives
+
+-- the keys of vectors name nobody
+keys_named : (count : ℕ) (snid : List ℕ) (vectors : List AuthVector) → All (IsNamed count) (map (kasme_line snid) vectors)
+keys_named count snid [] = All-nil (IsNamed count)
+keys_named count snid (v ∷ vectors) = All-cons (IsNamed count) (kasme_line snid v) (map (kasme_line snid) vectors) tt (keys_named count snid vectors)
+
+-- a 5G authentication names its subscriber
+judged_named : (count : ℕ) (l : FivegLine) (home : HomeKeys) (device : DeviceKeys) (answer : GiveVerdict) → l.sub < count → All (IsNamed count) (judged_lines l home device answer)
+judged_named count l home device given.Accepted inside = by l.hxres
+  where
+    last : LineRecord
+    last = record_of.Further (further.Fiveg l.sub (outcome_of home device (turned l.bit device.res_star)))
+
+    by : (told : Bool) → All (IsNamed count) (hxres_lines told home ++ last ∷ [])
+    by true =
+        All-cons (IsNamed count) (record_of.Further (further.HxresStar (standard_of home.rand home.xres_star))) (last ∷ []) tt (All-cons (IsNamed count) last [] inside (All-nil (IsNamed count)))
+    by false = All-cons (IsNamed count) last [] inside (All-nil (IsNamed count))
+judged_named count l home device (given.Sync sqn_ms) inside = All-nil (IsNamed count)
+judged_named count l home device given.Absent inside = All-nil (IsNamed count)
+
+-- a presented vector
+give_named : (set : Setting) (before : Before) (sub n : ℕ) (lines : List LineRecord) → sub < length set.rows → GiveGives set before sub n lines → All (IsNamed (length set.rows)) lines
+give_named set before sub n lines inside gives =
+    All-same (IsNamed (length set.rows)) lines (record_of.Give sub n gives.answer ∷ []) gives.lines_are
+    (All-cons (IsNamed (length set.rows)) (record_of.Give sub n gives.answer) [] inside (All-nil (IsNamed (length set.rows))))
+
+fiveg_named : (set : Setting) (before : Before) (l : FivegLine) (n : ℕ) (lines : List LineRecord) → l.sub < length set.rows → FivegFollows set before l n lines
+    → All (IsNamed (length set.rows)) lines
+fiveg_named set before l n lines inside f = by (is_separated (vector_of_row set f.row l.sub n).autn) f.follows
+  where
+    by : (separated : Bool) → AuthenticatesIf separated set before l f.row n lines → All (IsNamed (length set.rows)) lines
+    by false is =
+        let last = record_of.Further (further.Fiveg l.sub fiveg.NoSeparation) in
+        All-same (IsNamed (length set.rows)) lines (last ∷ []) is (All-cons (IsNamed (length set.rows)) last [] inside (All-nil (IsNamed (length set.rows))))
+    by true is =
+        let judged = judged_lines l (home_of (vector_of_row set f.row l.sub n) l.home) (device_of_row f.row n (rand_of set.key l.sub n) l.device) is.gives.answer in
+        All-same (IsNamed (length set.rows)) lines (is.front ++ is.more) is.lines_are
+        (All-append (IsNamed (length set.rows)) is.front is.more (give_named set before l.sub n is.front inside is.gives)
+        (All-same (IsNamed (length set.rows)) is.more judged is.judged
+        (judged_named (length set.rows) l (home_of (vector_of_row set f.row l.sub n) l.home) (device_of_row f.row n (rand_of set.key l.sub n) l.device) is.gives.answer inside)))
 
 -- what follows a verdict
 follows_named : (set : Setting) (sub count : ℕ) (answer : SyncVerdict) (lines : List LineRecord) → sub < length set.rows
@@ -168,9 +236,13 @@ line_named : (set : Setting) (before : Before) (net : Net) (asked : Line) (lines
     → LineGives set before net asked lines next → All (IsNamed (length set.rows)) lines
 line_named set before net (line.Draw sub count) lines next known (gives, same) = draw_named set sub count lines known gives
 line_named set before net (line.Sync sub seq bit count) lines next known (gives, same) = sync_named set sub seq bit count lines known.0 gives
-line_named set before net (line.Give sub n) lines next known (gives, same) =
-    All-same (IsNamed (length set.rows)) lines (record_of.Give sub n gives.answer ∷ []) gives.lines_are
-    (All-cons (IsNamed (length set.rows)) (record_of.Give sub n gives.answer) [] known.0 (All-nil (IsNamed (length set.rows))))
+line_named set before net (line.Give sub n) lines next known (gives, same) = give_named set before sub n lines known.0 gives
+line_named set before net (line.Eps sub snid) lines next known (gives, same) =
+    one_named set sub (λ n rest. rest ≡ map (kasme_line snid) (vector_at set sub n)) lines known gives
+    (λ n rest is. All-same (IsNamed (length set.rows)) rest (map (kasme_line snid) (vector_at set sub n)) is (keys_named (length set.rows) snid (vector_at set sub n)))
+line_named set before net (line.Fiveg l) lines next known (gives, same) =
+    one_named set l.sub (λ n rest. FivegFollows set (behind before (record_of.Vector l.sub n ∷ [])) l n rest) lines known.sub gives
+    (λ n rest f. fiveg_named set (behind before (record_of.Vector l.sub n ∷ [])) l n rest known.sub f)
 line_named set before net (line.Session opened) lines next known gives = event_named set before net (event.Open opened) lines next gives
 line_named set before net (line.Start session) lines next known gives = event_named set before net (event.Start session) lines next gives
 line_named set before net (line.Deliver session at' packet) lines next known gives = event_named set before net (event.Deliver session at' packet) lines next gives
