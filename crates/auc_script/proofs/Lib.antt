@@ -1,5 +1,6 @@
 mod FieldLemmas
 mod FitLemmas
+mod FivegLemmas
 mod LawLemmas
 mod LineLemmas
 mod NameLemmas

@@ -2,7 +2,7 @@
 use Rattle.std.proofs.Common.{◌≡◌, ◌<◌, true, List, length, Result, Ok, Err, IfOk, IfSome, refl}
 use Rattle.auc_subs.specs.declared.row.Row.{Row}
 use Rattle.auc_lines.specs.declared.part.Line.{Line}
-use Rattle.auc_lines.specs.declared.part.Line.TheVariants.{Draw, Give, Sync, Session, Start, Deliver, Repeat, GiveUp, Plain}
+use Rattle.auc_lines.specs.declared.part.Line.TheVariants.{Draw, Give, Sync, Eps, Fiveg, Session, Start, Deliver, Repeat, GiveUp, Plain}
 use Rattle.auc_lines.specs.Part.{held_by}
 use Rattle.auc_script.specs.declared.refusal.ScriptWhy.{ScriptWhy}
 use Rattle.auc_script.specs.InnerRefusal.{Says, as_said}
@@ -19,6 +19,8 @@ known_line : (rows : List Row) (line : Line) → IsLine rows line → IfSome (he
 known_line rows (Draw sub count) is = tt
 known_line rows (Sync sub seq bit count) is = tt
 known_line rows (Give sub number) is = is.0
+known_line rows (Eps sub snid) is = tt
+known_line rows (Fiveg line) is = is.0
 known_line rows (Session line) is = is.0
 known_line rows (Start session) is = tt
 known_line rows (Deliver session end packet) is = tt

@@ -1,4 +1,4 @@
--- The texts of a session are within their limits, for `read_session`.
+-- The texts of a session are within their limits, for `read_session`; what is said of words is for `FivegLemmas` too.
 use Rattle.std.proofs.Common.{ℕ, ◌≡◌, ◌≤◌, ◌&&◌, nat_le, Bool, true, false, List, ◌∷◌, [], length, codes, Option, Some, None, Ok, arith, refl}
 use Rattle.std.specs.Prelude.{◌==◌, not, IfSome, if◌then◌else◌}
 use Rattle.std.specs.List.{All, slice_split}
@@ -19,7 +19,7 @@ use Rattle.auc_script.specs.SessionLine.{SessionFields, name_in, peer_name_in, s
 abbrev pub IsWord : List ℕ → Type 0
 IsWord word = not (length word == 0) ≡ true
 
-not_empty : (word : List ℕ) → IsWord word → 1 ≤ length word
+pub not_empty : (word : List ℕ) → IsWord word → 1 ≤ length word
 not_empty [] is = cc
 not_empty (a ∷ more) is = omega arith
 
@@ -55,11 +55,11 @@ are_names Prime sname pname first second short = (first, which (is_text pname (c
     which false short = (second, grind (arith, nat_tests))
 
 -- two tests, and a test of two numbers
-each : (a b : Bool) → (a && b) ≡ true → (a ≡ true) × (b ≡ true)
+pub each : (a b : Bool) → (a && b) ≡ true → (a ≡ true) × (b ≡ true)
 each true b is = (refl, is)
 each false b is = cc
 
-within : (n limit : ℕ) → nat_le n limit ≡ true → n ≤ limit
+pub within : (n limit : ℕ) → nat_le n limit ≡ true → n ≤ limit
 within n limit is = grind (arith, nat_tests)
 
 -- the text of an identity, if it is one

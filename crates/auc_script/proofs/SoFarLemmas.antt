@@ -19,7 +19,7 @@ use Rattle.auc_script.specs.declared.holders.Holders.{Holders}
 use Rattle.auc_script.specs.declared.sessions.Sessions.{Sessions}
 use Rattle.auc_script.specs.declared.so_far.SoFar.{SoFar}
 use Rattle.auc_lines.specs.declared.part.Line.{Line}
-use Rattle.auc_lines.specs.declared.part.Line.TheVariants.{Draw, Give, Sync, Session, Start, Deliver, Repeat, GiveUp, Plain}
+use Rattle.auc_lines.specs.declared.part.Line.TheVariants.{Draw, Give, Sync, Eps, Fiveg, Session, Start, Deliver, Repeat, GiveUp, Plain}
 use Rattle.auc_lines.specs.declared.part.Part.{Part}
 use Rattle.auc_lines.specs.declared.part.Part.TheVariants.{Round, Restart}
 use Rattle.auc_script.specs.Numbers.{most_count, most_jobs, most_packets, most_rounds, most_sessions, most_vectors}
@@ -598,6 +598,8 @@ few_asked rows (Draw sub count) is = (is refl).2
 few_asked rows (Sync sub seq bit count) is = (is refl).3
 few_asked rows (Session line) is = omega arith
 few_asked rows (Give sub number) is = omega arith
+few_asked rows (Eps sub snid) is = omega arith
+few_asked rows (Fiveg line) is = omega arith
 few_asked rows (Start session) is = omega arith
 few_asked rows (Deliver session end packet) is = omega arith
 few_asked rows (Repeat session) is = omega arith

@@ -8,7 +8,6 @@ use Rattle.auc_script.specs.declared.refusal.ScriptWhy.{ScriptWhy}
 use Rattle.auc_script.specs.declared.refusal.ScriptWhy.TheVariants as why
 use Rattle.auc_lines.specs.declared.part.End.{End}
 use Rattle.auc_lines.specs.declared.part.End.TheVariants.{Server, Peer}
-use Rattle.auc_lines.specs.Part.{last_bit}
 
 -- a test that has to hold
 abbrev pub require : Bool → ScriptWhy → Result (Unit {0}) ScriptWhy
@@ -35,6 +34,12 @@ abbrev pub four_fields : List (List ℕ) → Result (List ℕ × List ℕ × Lis
 four_fields (a ∷ b ∷ c ∷ d ∷ []) = Ok (a, b, c, d)
 four_fields other = Err why.Fields
 
+-- one field, or none
+abbrev pub optional_field : List (List ℕ) → Result (Option (List ℕ)) ScriptWhy
+optional_field [] = Ok None
+optional_field (a ∷ []) = Ok (Some a)
+optional_field other = Err why.Fields
+
 -- 1 to 20 decimal digits
 abbrev pub is_number : List ℕ → Bool
 is_number text = nat_le 1 (length text) && nat_le (length text) 20 && list_all is_ascii_digit text
@@ -50,9 +55,9 @@ abbrev pub some_bit : Result ℕ ScriptWhy → Result (Option ℕ) ScriptWhy
 some_bit (Ok bit) = Ok (Some bit)
 some_bit (Err cause) = Err cause
 
--- a bit of the 112 of an AUTS, or - for none
-abbrev pub bit_in : List ℕ → Result (Option ℕ) ScriptWhy
-bit_in text = if is_text text (codes "-") then Ok None else some_bit (number_between 0 last_bit text)
+-- a bit up to the last one, or - for none
+abbrev pub bit_in : ℕ → List ℕ → Result (Option ℕ) ScriptWhy
+bit_in last text = if is_text text (codes "-") then Ok None else some_bit (number_between 0 last text)
 
 -- an end of a session
 abbrev pub end_in : List ℕ → Result End ScriptWhy

@@ -1,4 +1,5 @@
 pub mod Field
+pub mod FivegLine
 pub mod InnerFields
 pub mod InnerRefusal
 pub mod InnerSoFar

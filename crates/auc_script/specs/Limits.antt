@@ -10,10 +10,10 @@ use Rattle.auc_subs.specs.Subscriber.{AreSubscribers}
 use Rattle.auc_lines.specs.declared.part.Identity.{Identity}
 use Rattle.auc_lines.specs.declared.part.Identity.TheVariants.{Held, Permanent, Text}
 use Rattle.auc_lines.specs.declared.part.Line.{Line}
-use Rattle.auc_lines.specs.declared.part.Line.TheVariants.{Draw, Give, Sync, Session, Start, Deliver, Repeat, GiveUp, Plain}
+use Rattle.auc_lines.specs.declared.part.Line.TheVariants.{Draw, Give, Sync, Eps, Fiveg, Session, Start, Deliver, Repeat, GiveUp, Plain}
 use Rattle.auc_lines.specs.declared.part.Part.{Part}
 use Rattle.auc_lines.specs.declared.part.Part.TheVariants.{Round, Restart}
-use Rattle.auc_lines.specs.Part.{AreApart, IsBit, IsShortIdentity, asked, jobs_of}
+use Rattle.auc_lines.specs.Part.{AreApart, IsBit, IsShortIdentity, IsStarBit, asked, jobs_of}
 use Rattle.auc_script.specs.declared.script.Script.{Script}
 use Rattle.auc_script.specs.Scenario.{rounds_of}
 use Rattle.auc_script.specs.Session.{is_among, named_by, opened, packets, sessions_of}
@@ -34,11 +34,17 @@ HasText Held = Unit {0}
 HasText Permanent = Unit {0}
 HasText (Text text) = 1 ≤ length text
 
+-- the name of a serving network
+abbrev pub IsName : List ℕ → Type 0
+IsName name = (1 ≤ length name) × (length name ≤ longest_name)
+
 -- a line whose subscriber there is, and whose numbers and texts are within their ranges
 abbrev pub IsLine : List Row → Line → Type 0
 IsLine rows (Draw sub count) = (sub < length rows) × (1 ≤ count) × (count ≤ most_count)
 IsLine rows (Sync sub seq bit count) = (sub < length rows) × (seq ≤ max_seq) × IsBit bit × (count ≤ most_count)
 IsLine rows (Give sub number) = (sub < length rows) × (1 ≤ number) × (number ≤ max_seq)
+IsLine rows (Eps sub snid) = sub < length rows
+IsLine rows (Fiveg line) = (line.sub < length rows) × IsName line.home × IsName line.device × IsStarBit line.bit
 IsLine rows (Session line) =
     (line.sub < length rows) × (length line.name ≤ longest_name) × IsShortIdentity line.identity
     × IsSession line.session × AreNames line.method line.name line.peer_name × HasText line.identity

@@ -14,6 +14,10 @@
 --                                            vectors; a subscriber's IMSI
 --   give IMSI N                              in a job; N from 1 to max_seq; a subscriber's IMSI, whose
 --                                            USIM no earlier job of the round holds
+--   eps IMSI SNID                            in a job; SNID of six hexadecimal digits; a subscriber's IMSI
+--   fiveg IMSI HOMENAME DEVICENAME BIT [hxresstar]
+--                                            in a job; BIT 0 to 127 or -; a subscriber's IMSI, whose USIM no
+--                                            earlier job of the round holds; a name has 255 bytes at most
 --   session T IMSI METHOD SNAME PNAME OPTIONS IDENTITY
 --                                            in a job; T from 1 to 999999; METHOD aka, with SNAME and
 --                                            PNAME -, or prime, with any names; OPTIONS - or letters of
@@ -27,9 +31,9 @@
 --   giveup T END                             the same; END server or peer
 --   plain T                                  the same
 --
--- All lines together ask for 1000000 vectors at most, a session for two. The lines of sessions in a job count for 1000000
--- packets at most, a plain for 40 and each other for one. A line without a word and a comment say nothing.
--- What isn't served so far is told before all else: tamper and cut.
+-- All lines together ask for 1000000 vectors at most: a session for two, an eps and a fiveg for one. The lines of sessions
+-- in a job count for 1000000 packets at most, a plain for 40 and each other for one. A line without a word and a comment say
+-- nothing. What isn't served so far is told before all else: tamper and cut.
 use Rattle.std.specs.Prelude.{ℕ, ◌+◌, ◌==◌, ◌++◌, ◌&&◌, not, nat_le, nat_lt, Bool, false, List, [], ◌∷◌, length, Option, Some, None, is_some, Result, Ok, Err, if◌then◌else◌}
 use Rattle.std.specs.List.{join_with_byte, list_any}
 use Rattle.std.specs.Option.{ok_or, option_to_list}
@@ -41,10 +45,10 @@ use Rattle.auc_text.specs.Field.{octets_in}
 use Rattle.auc_text.specs.Text.{words_of}
 use Rattle.auc_subs.specs.Subscriber.{place_of, rows_after}
 use Rattle.auc_lines.specs.declared.part.Line.{Line}
-use Rattle.auc_lines.specs.declared.part.Line.TheVariants.{Draw, Give, Sync, Session, Start, Deliver, Repeat, GiveUp, Plain}
+use Rattle.auc_lines.specs.declared.part.Line.TheVariants.{Draw, Give, Sync, Eps, Fiveg, Session, Start, Deliver, Repeat, GiveUp, Plain}
 use Rattle.auc_lines.specs.declared.part.Part.{Part}
 use Rattle.auc_lines.specs.declared.part.Part.TheVariants.{Round, Restart}
-use Rattle.auc_lines.specs.Part.{asked, asked_by, held_by, holds, jobs_of}
+use Rattle.auc_lines.specs.Part.{asked, asked_by, held_by, holds, jobs_of, last_bit, last_star_bit}
 use Rattle.auc_script.specs.Numbers.{last_packet, last_session, longest_realm, most_count, most_jobs, most_packets, most_rounds, most_sessions, most_vectors, most_workers}
 use Rattle.auc_script.specs.declared.refusal.ScriptWhy.{ScriptWhy}
 use Rattle.auc_script.specs.declared.refusal.ScriptWhy.TheVariants as why
@@ -58,6 +62,7 @@ use Rattle.auc_script.specs.declared.word.Word.{Word}
 use Rattle.auc_script.specs.declared.word.Word.TheVariants as word
 use Rattle.auc_subs.specs.Steps.{◌>>=◌}
 use Rattle.auc_script.specs.Field.{bit_in, end_in, four_fields, full_in, no_field, number_between, one_field, require, three_fields, two_fields}
+use Rattle.auc_script.specs.FivegLine.{fiveg_fields, fiveg_line, hxres_in}
 use Rattle.auc_script.specs.Session.{has_fit_texts, is_among, opened, opened_by, packets, packets_by, sessions_of, started}
 use Rattle.auc_script.specs.SessionLine.{are_names, are_options, is_identity, method_in, seven_fields, session_line}
 use Rattle.auc_script.specs.Word.{is_comment, is_later, word_of}
@@ -196,7 +201,7 @@ sync_of rows fields = do
   four ← four_fields fields
   identity ← ok_or (identity_of four.0) why.Fields
   seq ← number_between 0 max_seq four.1
-  bit ← bit_in four.2
+  bit ← bit_in last_bit four.2
   count ← number_between 0 most_count four.3
   sub ← ok_or (place_of rows identity) why.UnknownSubscriber
   Ok (Sync sub seq bit count)
@@ -208,6 +213,23 @@ give_of rows fields = do
   number ← number_between 1 max_seq two.1
   sub ← ok_or (place_of rows identity) why.UnknownSubscriber
   Ok (Give sub number)
+
+abbrev pub eps_of : List Row → List (List ℕ) → Result Line ScriptWhy
+eps_of rows fields = do
+  two ← two_fields fields
+  identity ← ok_or (identity_of two.0) why.Fields
+  snid ← ok_or (octets_in 3 two.1) why.Hex
+  sub ← ok_or (place_of rows identity) why.UnknownSubscriber
+  Ok (Eps sub snid)
+
+abbrev pub fiveg_of : List Row → List (List ℕ) → Result Line ScriptWhy
+fiveg_of rows fields = do
+  all ← fiveg_fields fields
+  identity ← ok_or (identity_of all.imsi) why.Fields
+  bit ← bit_in last_star_bit all.bit
+  hxres ← hxres_in all.fifth
+  sub ← ok_or (place_of rows identity) why.UnknownSubscriber
+  Ok (Fiveg (fiveg_line sub bit hxres all))
 
 abbrev pub session_of : List Row → List (List ℕ) → Result Line ScriptWhy
 session_of rows fields = do
@@ -246,6 +268,8 @@ abbrev pub line_of : List Row → JobWord → List (List ℕ) → Result Line Sc
 line_of rows job.Draw fields = draw_of rows fields
 line_of rows job.Sync fields = sync_of rows fields
 line_of rows job.Give fields = give_of rows fields
+line_of rows job.Eps fields = eps_of rows fields
+line_of rows job.Fiveg fields = fiveg_of rows fields
 line_of rows job.Session fields = session_of rows fields
 line_of rows job.Start fields = number_of_session fields >>= λ session. Ok (Start session)
 line_of rows job.Deliver fields = deliver_of fields
@@ -266,6 +290,8 @@ abbrev pub in_order : List ℕ → List ℕ → List ℕ → Line → Result (Un
 in_order all own begun (Draw sub count) = Ok tt
 in_order all own begun (Sync sub seq bit count) = Ok tt
 in_order all own begun (Give sub number) = Ok tt
+in_order all own begun (Eps sub snid) = Ok tt
+in_order all own begun (Fiveg line) = Ok tt
 in_order all own begun (Session line) = is_new all line.session
 in_order all own begun (Start session) = is_open own session >>= λ known. is_new begun session
 in_order all own begun (Deliver session end packet) = is_open own session

@@ -1,11 +1,11 @@
 -- The sessions of a scenario's lines: which line opens one, starts it, or is otherwise of it, and how many packets the
--- lines of a job count for.
+-- lines of a job count for. Beside them whether a line's texts are within their limits.
 use Rattle.std.specs.Prelude.{ℕ, ◌&&◌, nat_eq, nat_le, Bool, true, List, length, sum_by, Option, Some, None}
 use Rattle.std.specs.List.{filter_map, flat_map, list_any}
 use Rattle.auc_lines.specs.declared.part.Identity.{Identity}
 use Rattle.auc_lines.specs.declared.part.Identity.TheVariants.{Held, Permanent, Text}
 use Rattle.auc_lines.specs.declared.part.Line.{Line}
-use Rattle.auc_lines.specs.declared.part.Line.TheVariants.{Draw, Give, Sync, Session, Start, Deliver, Repeat, GiveUp, Plain}
+use Rattle.auc_lines.specs.declared.part.Line.TheVariants.{Draw, Give, Sync, Eps, Fiveg, Session, Start, Deliver, Repeat, GiveUp, Plain}
 use Rattle.auc_script.specs.Numbers.{longest_name, longest_text, packets_of_plain}
 
 -- the number of the session that a line opens, and of the one that it starts as a `start` line
@@ -52,9 +52,11 @@ is_first Held = true
 is_first Permanent = true
 is_first (Text text) = nat_le 1 (length text) && nat_le (length text) longest_text
 
--- the names of the session that a line opens, and its first identity, are within their limits
+-- the names of the session that a line opens, and its first identity, are within their limits; or the two names of a line's
+-- serving network
 abbrev pub has_fit_texts : Line → Bool
 has_fit_texts (Session line) = nat_le (length line.name) longest_name && is_short line.peer_name && is_first line.identity
+has_fit_texts (Fiveg line) = nat_le (length line.home) longest_name && nat_le (length line.device) longest_name
 has_fit_texts other = true
 
 -- how many packets a line counts for, and all lines of a job
@@ -62,6 +64,8 @@ abbrev pub packets_by : Line → ℕ
 packets_by (Draw sub count) = 0
 packets_by (Sync sub seq bit count) = 0
 packets_by (Give sub number) = 0
+packets_by (Eps sub snid) = 0
+packets_by (Fiveg line) = 0
 packets_by (Plain session) = packets_of_plain
 packets_by other = 1
 

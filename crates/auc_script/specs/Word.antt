@@ -27,6 +27,8 @@ job_word_of text =
     if is_text text (codes "draw") then Some job.Draw
     else if is_text text (codes "sync") then Some job.Sync
     else if is_text text (codes "give") then Some job.Give
+    else if is_text text (codes "eps") then Some job.Eps
+    else if is_text text (codes "fiveg") then Some job.Fiveg
     else if is_text text (codes "session") then Some job.Session
     else if is_text text (codes "start") then Some job.Start
     else if is_text text (codes "deliver") then Some job.Deliver

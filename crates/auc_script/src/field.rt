@@ -1,15 +1,20 @@
 //! The fields of a line.
 
 ghost use Rattle.std.specs.Prelude.{◌≡◌, ◌≤◌, [], ◌∷◌, ◌<◌, nat_le, MatchResult, IfOk, IfSome};
+ghost use Rattle.std.specs.Option.{option_copied};
 ghost use Rattle.auc_edge.specs.Identity.{number_of};
 ghost use Rattle.auc_text.specs.Text.{is_text, words_of};
-ghost use Rattle.auc_script.specs.Field.{bit_in, end_in, four_fields, full_in, is_number, no_field, number_between, one_field, three_fields, two_fields};
-ghost use Rattle.auc_lines.specs.Part.{IsBit};
+ghost use Rattle.auc_script.specs.Field.{bit_in, end_in, four_fields, full_in, is_number, no_field, number_between, one_field, optional_field, three_fields, two_fields};
 ghost use Rattle.auc_script.specs.declared.refusal.ScriptWhy.TheVariants as cause;
 
 use crate::refusal::ScriptWhy;
 use auc_lines::End;
 use auc_text::{are_digits, next_word, read_decimal};
+
+/// The last of the 112 bits of an AUTS (TS 33.102 §6.3.3).
+pub const LAST_BIT: u8 = 111;
+/// The last of the 128 bits of RES* (TS 33.501 Annex A.4).
+pub const LAST_STAR_BIT: u8 = 127;
 
 /// Whether a line has no field, else the cause.
 pub fn no_field(fields: &[u8]) -> Result<(), ScriptWhy>
@@ -78,6 +83,21 @@ pub fn four_fields(fields: &[u8]) -> Result<(&[u8], &[u8], &[u8], &[u8]), Script
     Ok((first, second, third, fourth))
 }
 
+/// The field of a line, if it has one.
+pub fn optional_field(fields: &[u8]) -> Result<Option<&[u8]>, ScriptWhy>
+    ensures { MatchResult result
+        (λ field. optional_field (words_of fields.now) ≡ Ok (option_copied field))
+        (λ why. optional_field (words_of fields.now) ≡ Err why) }
+{
+    match next_word(fields) {
+        None => Ok(None),
+        Some((field, rest)) => {
+            no_field(rest)?;
+            Ok(Some(field))
+        }
+    }
+}
+
 /// Whether a text is these bytes.
 pub fn is_text(text: &[u8], bytes: &[u8]) -> bool
     ensures { result ≡ is_text text.now bytes.now }
@@ -107,15 +127,15 @@ pub fn read_number(text: &[u8], least: u64, greatest: u64) -> Result<u64, Script
     }
 }
 
-/// The bit of an AUTS that a field is, or none.
-pub fn read_bit(text: &[u8]) -> Result<Option<u8>, ScriptWhy>
-    ensures value { result ≡ bit_in text.now }
-    ensures bit { IfOk result IsBit }
+/// The bit up to the last one that a field is, or none.
+pub fn read_bit(text: &[u8], last: u8) -> Result<Option<u8>, ScriptWhy>
+    ensures value { result ≡ bit_in last text.now }
+    ensures bit { IfOk result (λ bit. IfSome bit (λ number. number ≤ last)) }
 {
     if is_text(text, b"-") {
         return Ok(None);
     }
-    Ok(Some(read_number(text, 0, 111)? as u8))
+    Ok(Some(read_number(text, 0, u64::from(last))? as u8))
 }
 
 /// The end of a session that a field is.

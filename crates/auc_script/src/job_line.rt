@@ -5,10 +5,11 @@ ghost use Rattle.auc_lines.specs.Part.{held_by};
 ghost use Rattle.auc_text.specs.Text.{words_of};
 ghost use Rattle.auc_script.specs.InnerRefusal.{Says, as_said};
 ghost use Rattle.auc_script.specs.Limits.{IsLine};
-ghost use Rattle.auc_script.specs.Scenario.{draw_of, give_of, line_of, sync_of};
+ghost use Rattle.auc_script.specs.Scenario.{draw_of, eps_of, give_of, line_of, sync_of};
 ghost use Rattle.auc_script.specs.Session.{has_fit_texts};
 
-use crate::field::{four_fields, read_bit, read_number, two_fields};
+use crate::field::{LAST_BIT, four_fields, read_bit, read_number, two_fields};
+use crate::fiveg_line::read_fiveg;
 use crate::limits::MAX_COUNT;
 use crate::refusal::{LineRefusal, ScriptWhy};
 use crate::session_line::{read_deliver, read_give_up, read_one_number, read_session};
@@ -17,6 +18,7 @@ use auc_edge::Imsi;
 use auc_lines::Line;
 use auc_sqn::MAX_SEQ;
 use auc_subs::Subscribers;
+use auc_text::read_octets;
 use std::alloc::Global;
 
 /// What the fields of a word say.
@@ -34,6 +36,8 @@ pub fn read_line(
         JobWord::Draw => said(read_draw(subs, fields)),
         JobWord::Sync => said(read_sync(subs, fields)),
         JobWord::Give => said(read_give(subs, fields)),
+        JobWord::Eps => said(read_eps(subs, fields)),
+        JobWord::Fiveg => read_fiveg(alloc, subs, fields),
         JobWord::Session => read_session(alloc, subs, fields),
         JobWord::Start => Ok(Line::Start(read_one_number(fields)?)),
         JobWord::Deliver => said(read_deliver(fields)),
@@ -73,7 +77,7 @@ fn read_sync(subs: &Subscribers, fields: &[u8]) -> Result<Line, ScriptWhy>
     let (imsi, seq, bit, count) = four_fields(fields)?;
     let imsi = Imsi::read(imsi).ok_or(ScriptWhy::Fields)?;
     let seq = read_number(seq, 0, MAX_SEQ)?;
-    let bit = read_bit(bit)?;
+    let bit = read_bit(bit, LAST_BIT)?;
     let count = read_number(count, 0, MAX_COUNT)?;
     let sub = subs.find(imsi).ok_or(ScriptWhy::UnknownSubscriber)?;
     Ok(Line::Sync {
@@ -94,4 +98,16 @@ fn read_give(subs: &Subscribers, fields: &[u8]) -> Result<Line, ScriptWhy>
     let n = read_number(n, 1, MAX_SEQ)?;
     let sub = subs.find(imsi).ok_or(ScriptWhy::UnknownSubscriber)?;
     Ok(Line::Give { sub, n })
+}
+
+/// What the fields `IMSI SNID` say.
+fn read_eps(subs: &Subscribers, fields: &[u8]) -> Result<Line, ScriptWhy>
+    ensures value { result ≡ eps_of subs.now (words_of fields.now) }
+    ensures line { IfOk result (IsLine subs.now) }
+{
+    let (imsi, snid) = two_fields(fields)?;
+    let imsi = Imsi::read(imsi).ok_or(ScriptWhy::Fields)?;
+    let snid = read_octets::<3>(snid).ok_or(ScriptWhy::Hex)?;
+    let sub = subs.find(imsi).ok_or(ScriptWhy::UnknownSubscriber)?;
+    Ok(Line::Eps { sub, snid })
 }

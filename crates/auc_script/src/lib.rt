@@ -2,16 +2,17 @@
 //!
 //! [`Script::read`] reads a scenario's text: lines of words, each line with the first word that says what
 //! it is. `randkey`, `workers`, `print`, `realm` and the scenario's own `subscriber`s come before the first
-//! `round`; a round has `job`s, and a job has lines `draw`, `sync` and `give`, and those of sessions: `session`, `start`,
-//! `deliver`, `repeat`, `giveup` and `plain`. A `restart` may stand once after each round. The first line that is none of
-//! these, or stands in a wrong place, or has a wrong field, or passes a limit, is refused by its number and its first
-//! cause, a [`ScriptWhy`].
+//! `round`; a round has `job`s, and a job has lines `draw`, `sync`, `give`, `eps` and `fiveg`, and those of sessions:
+//! `session`, `start`, `deliver`, `repeat`, `giveup` and `plain`. A `restart` may stand once after each round. The first
+//! line that is none of these, or stands in a wrong place, or has a wrong field, or passes a limit, is refused by its
+//! number and its first cause, a [`ScriptWhy`].
 //!
 //! The parts and lines of a scenario are types of `auc_lines`. Contracts see the lists of a [`Script`] as
 //! lists; its subscribers go to `auc_subs`.
 #![tactic(auto)]
 
 mod field;
+mod fiveg_line;
 mod header;
 mod holders;
 mod job_line;
@@ -26,7 +27,7 @@ mod sessions;
 mod so_far;
 mod word;
 
-pub use auc_lines::{End, Identity, JobPart, Line, Part, RoundPart, SessionLine};
+pub use auc_lines::{End, FivegLine, Identity, JobPart, Line, Part, RoundPart, SessionLine};
 pub use law::{
     refused_line_is_the_first_wrong, right_text_is_read_whole, text_that_is_read_is_right,
 };

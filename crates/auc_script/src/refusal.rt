@@ -30,7 +30,7 @@ pub enum ScriptWhy {
     UnknownSession,
     /// The same word of the header, a session of this number, or a `start` of this session came before.
     Twice,
-    /// An earlier job of the round gives to this USIM, or has a session of it.
+    /// An earlier job of the round presents a vector to this USIM, or has a session of it.
     UsimBusy,
     /// A limit of the scenario is passed.
     Limit,

@@ -190,7 +190,8 @@ fn read_identity(alloc: Global, text: &[u8]) -> Result<Identity, NoMemory>
     }
 }
 
-/// Whether the names of the session that a line opens, and its first identity, are within their limits.
+/// Whether the names of the session that a line opens, and its first identity, are within their limits; or the two names of
+/// a line's serving network.
 pub fn has_fit_texts(line: &Line) -> bool
     ensures { result ≡ has_fit_texts line.now }
 {
@@ -198,6 +199,7 @@ pub fn has_fit_texts(line: &Line) -> bool
         Line::Session(line) => {
             line.name.len() <= MAX_NAME && is_short(&line.peer_name) && is_first(&line.identity)
         }
+        Line::Fiveg(line) => line.home.len() <= MAX_NAME && line.device.len() <= MAX_NAME,
         _ => true,
     }
 }

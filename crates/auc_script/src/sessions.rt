@@ -56,7 +56,11 @@ impl Sessions {
         ensures { result ≡ in_order self.now.all self.now.opened self.now.started line.now }
     {
         match *line {
-            Line::Draw { .. } | Line::Sync { .. } | Line::Give { .. } => Ok(()),
+            Line::Draw { .. }
+            | Line::Sync { .. }
+            | Line::Give { .. }
+            | Line::Eps { .. }
+            | Line::Fiveg(_) => Ok(()),
             Line::Session(ref line) => require(!self.all.has(line.session), ScriptWhy::Twice),
             Line::Start(session) => {
                 require(self.opened.has(session), ScriptWhy::UnknownSession)?;
@@ -110,7 +114,11 @@ fn packets_by(line: &Line) -> u32
     ensures few { result ≤ 40 }
 {
     match *line {
-        Line::Draw { .. } | Line::Sync { .. } | Line::Give { .. } => 0,
+        Line::Draw { .. }
+        | Line::Sync { .. }
+        | Line::Give { .. }
+        | Line::Eps { .. }
+        | Line::Fiveg(_) => 0,
         Line::Plain(_) => PACKETS_OF_PLAIN,
         _ => 1,
     }

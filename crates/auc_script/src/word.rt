@@ -27,6 +27,10 @@ pub enum JobWord {
     Sync,
     /// `give IMSI N`
     Give,
+    /// `eps IMSI SNID`
+    Eps,
+    /// `fiveg IMSI HOMENAME DEVICENAME BIT`, or with `hxresstar` as a fifth field
+    Fiveg,
     /// `session T IMSI METHOD SNAME PNAME OPTIONS IDENTITY`
     Session,
     /// `start T`
@@ -106,6 +110,12 @@ fn read_job_word(text: &[u8]) -> Option<JobWord>
     }
     if is_text(text, b"give") {
         return Some(JobWord::Give);
+    }
+    if is_text(text, b"eps") {
+        return Some(JobWord::Eps);
+    }
+    if is_text(text, b"fiveg") {
+        return Some(JobWord::Fiveg);
     }
     if is_text(text, b"session") {
         return Some(JobWord::Session);

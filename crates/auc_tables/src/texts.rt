@@ -1,7 +1,7 @@
 //! How scenarios and subscribers are read.
 
 use auc_edge::Items;
-use auc_lines::{Identity, JobPart, Line, SessionLine};
+use auc_lines::{FivegLine, Identity, JobPart, Line, SessionLine};
 use auc_script::{Part, Script, ScriptRefusal};
 use auc_subs::{AddRefusal, SubsRefusal, Subscribers};
 use std::alloc::{AllocError, Global};
@@ -78,6 +78,11 @@ fn text_of_line(alloc: Global, line: &Line) -> Result<String, AllocError> {
             count,
         } => format!(in alloc; "Sync {{ sub: {sub}, seq: {seq}, bit: {bit:?}, count: {count} }}"),
         Line::Give { sub, n } => format!(in alloc; "Give {{ sub: {sub}, n: {n} }}"),
+        Line::Eps { sub, snid } => {
+            let snid = hex::encode(alloc, snid)?;
+            format!(in alloc; "Eps {{ sub: {sub}, snid: {snid} }}")
+        }
+        Line::Fiveg(line) => text_of_fiveg(alloc, line),
         Line::Session(line) => text_of_session(alloc, line),
         Line::Start(session) => format!(in alloc; "Start({session})"),
         Line::Deliver {
@@ -91,6 +96,22 @@ fn text_of_line(alloc: Global, line: &Line) -> Result<String, AllocError> {
         }
         Line::Plain(session) => format!(in alloc; "Plain({session})"),
     }
+}
+
+/// A 5G authentication with its names as hexadecimal digits.
+fn text_of_fiveg(alloc: Global, line: &FivegLine) -> Result<String, AllocError> {
+    let FivegLine {
+        sub,
+        home,
+        device,
+        bit,
+        hxres,
+    } = line;
+    let home = hex::encode(alloc, home.as_slice())?;
+    let device = hex::encode(alloc, device.as_slice())?;
+    format!(in alloc;
+        "Fiveg {{ sub: {sub}, home: {home}, device: {device}, bit: {bit:?}, hxres: {hxres} }}"
+    )
 }
 
 /// A session with its texts as hexadecimal digits.

@@ -1,5 +1,5 @@
 use Rattle.auc_text.specs.Text.{words_of}
-use Rattle.auc_script.specs.Scenario.{deliver_of, draw_of, give_of, give_up_of, sync_of}
+use Rattle.auc_script.specs.Scenario.{deliver_of, draw_of, eps_of, give_of, give_up_of, sync_of}
 use Rattle.auc_script.proofs.LineLemmas.{known_said, line_said, says_same}
 use Rattle.auc_script.proofs.job_line.read_line.Goals as goal
 
@@ -29,6 +29,15 @@ returns-in-Give-clause-known c = rw c.said-in-Give.ensures (known_said c.args.su
 
 pub returns-in-Give-clause-line : goal.returns-in-Give-clause-line
 returns-in-Give-clause-line c = rw c.said-in-Give.ensures (line_said c.args.subs.now c.read_give.result c.read_give.ensures.line)
+
+pub returns-in-Eps-clause-value : goal.returns-in-Eps-clause-value
+returns-in-Eps-clause-value c = rw (c.in-Eps.is, c.said-in-Eps.ensures, c.read_eps.ensures.value) (says_same (eps_of c.args.subs.now (words_of c.args.fields.now)))
+
+pub returns-in-Eps-clause-known : goal.returns-in-Eps-clause-known
+returns-in-Eps-clause-known c = rw c.said-in-Eps.ensures (known_said c.args.subs.now c.read_eps.result c.read_eps.ensures.line)
+
+pub returns-in-Eps-clause-line : goal.returns-in-Eps-clause-line
+returns-in-Eps-clause-line c = rw c.said-in-Eps.ensures (line_said c.args.subs.now c.read_eps.result c.read_eps.ensures.line)
 
 pub returns-in-Deliver-clause-value : goal.returns-in-Deliver-clause-value
 returns-in-Deliver-clause-value c = rw (c.in-Deliver.is, c.said-in-Deliver.ensures, c.read_deliver.ensures.value) (says_same (deliver_of (words_of c.args.fields.now)))
