@@ -19,7 +19,7 @@ use Rattle.auc_world.specs.declared.event.EventRecord.{EventRecord}
 use Rattle.auc_world.specs.declared.record.GiveVerdict.{GiveVerdict}
 use Rattle.auc_world.specs.declared.record.GiveVerdict.TheVariants as given
 use Rattle.auc_world.specs.declared.record.LineRecord.{LineRecord}
-use Rattle.auc_world.specs.declared.record.LineRecord.TheVariants.{Vector, Withheld, Exhausted, Sync, Give, Event}
+use Rattle.auc_world.specs.declared.record.LineRecord.TheVariants.{Vector, Withheld, Exhausted, Sync, Give, Further, Event}
 use Rattle.auc_world.proofs.Facts.{accepted-append, each_accepted_in_past}
 use Rattle.auc_transcript.specs.Headline.{EachUsimAcceptsNoneTwice}
 use Rattle.auc_transcript.proofs.EventLemmas.{IsEventServed, IsFreshFor}
@@ -108,6 +108,7 @@ line_accepts set sub before (Withheld s n stop) within is = inl refl
 line_accepts set sub before (Exhausted s word) within is = inl refl
 line_accepts set sub before (Sync s answer) within is = inl refl
 line_accepts set sub before (Give s n answer) within is = given_accepts set sub s n answer (s == sub) before refl within is
+line_accepts set sub before (Further said) within is = inl refl
 line_accepts set sub before (Event r) within is = event_accepts set sub before r (usim_for sub r) refl is
 
 -- ---- what lines accept

@@ -19,7 +19,8 @@ use Rattle.auc_world.specs.declared.record.Premise.{Premise}
 use Rattle.auc_world.specs.declared.record.Premise.TheVariants as premise
 use Rattle.auc_transcript.specs.Keys.{AreNetsAfter, BreachesAreTold, EachBreachIsTold, EachTranscriptHasItsNets, HasNoBreach, IsUnbroken}
 use Rattle.auc_transcript.proofs.OneEventLemmas.{Laws}
-use Rattle.auc_transcript.proofs.OneToldLemmas.{conses, jobs_one}
+use Rattle.auc_transcript.proofs.OneLineLemmas.{conses}
+use Rattle.auc_transcript.proofs.OneToldLemmas.{jobs_one}
 
 -- ---- the premise of a round
 

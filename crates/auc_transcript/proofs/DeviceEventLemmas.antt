@@ -160,7 +160,7 @@ alike_accepts m sub place w v told result alike sqn e = inl alike
 abbrev pub IsPlaced : Setting → List Subscription → ℕ → ℕ → Type 0
 IsPlaced set devices sub place = device_place set.rows devices sub ≡ Some place
 
-row_is : (rows : List Row) (sub : ℕ) (row : Row) → AreSubscribers rows → slice_get rows sub ≡ Some row → IsRow row
+pub row_is : (rows : List Row) (sub : ℕ) (row : Row) → AreSubscribers rows → slice_get rows sub ≡ Some row → IsRow row
 row_is rows sub row are there = subst IsRow (get_or_from_slice_get rows sub row row there) (are.each sub row (slice_get_within rows sub row there))
 
 module _ (set : Setting) (b : Before) (m : Method) (sub place : ℕ) (are : AreSubscribers set.rows) (w : Net) (told : Told) (own : IsPlaced set w.devices sub place)

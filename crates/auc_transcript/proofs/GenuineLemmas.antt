@@ -13,7 +13,7 @@ use Rattle.auc_world.specs.Transcript.{lines_of, stretches_of}
 use Rattle.auc_world.specs.declared.record.GiveVerdict.{GiveVerdict}
 use Rattle.auc_world.specs.declared.record.GiveVerdict.TheVariants as given
 use Rattle.auc_world.specs.declared.record.LineRecord.{LineRecord}
-use Rattle.auc_world.specs.declared.record.LineRecord.TheVariants.{Vector, Withheld, Exhausted, Sync, Give, Event}
+use Rattle.auc_world.specs.declared.record.LineRecord.TheVariants.{Vector, Withheld, Exhausted, Sync, Give, Further, Event}
 use Rattle.auc_world.specs.declared.record.PartRecord.TheVariants as record_of
 use Rattle.auc_transcript.specs.Headline.{EachSqnOutsideSessionsIsGenuine, IsGenuine, IsOutsideSessions}
 use Rattle.auc_transcript.specs.Rounds.{EachSqnInRoundsIsGenuine, entries_of_rounds}
@@ -45,6 +45,7 @@ line_genuine set sub entries before (Withheld s n stop) is none all = All-nil (I
 line_genuine set sub entries before (Exhausted s word) is none all = All-nil (IsGenuine entries)
 line_genuine set sub entries before (Sync s answer) is none all = All-nil (IsGenuine entries)
 line_genuine set sub entries before (Give s n answer) is none all = given_genuine set sub s n entries answer (s == sub) before refl is all
+line_genuine set sub entries before (Further said) is none all = All-nil (IsGenuine entries)
 line_genuine set sub entries before (Event r) is none all = absurd none
 
 lines_genuine : (set : Setting) (sub : ℕ) (entries : List Entry) (before lines : List LineRecord) → AreServed set before lines → All IsOutsideSessions lines

@@ -1,27 +1,17 @@
 -- For the laws of contexts: what each event of a job keeps, the job keeps.
-use Rattle.std.proofs.Common.{◌≡◌, ℕ, List, [], ◌∷◌, ◌++◌, All, Option, Some, None, sym, ap, ◌∙◌, subst, append_assoc, append-nil}
-use Rattle.std.proofs.lemmas.List.Elements.{All-cons, All-nil}
+use Rattle.std.proofs.Common.{◌≡◌, ℕ, List, [], ◌∷◌, All, Option, Some, None, sym, ap, ◌∙◌, subst}
+use Rattle.std.proofs.lemmas.List.Elements.{All-nil}
 use Rattle.auc_lines.specs.declared.part.End.{End}
 use Rattle.auc_lines.specs.declared.part.End.TheVariants as end
 use Rattle.auc_lines.specs.declared.part.Line.{Line}
-use Rattle.auc_lines.specs.declared.part.Line.TheVariants as line
 use Rattle.auc_world.specs.Given.{Before, EventGives, JobGives, LineGives, PlainGives, RelayGives, behind, packet_of}
 use Rattle.auc_world.specs.Net.{Net, other}
 use Rattle.auc_world.specs.Setting.{Setting}
 use Rattle.auc_world.specs.declared.event.Event.{Event}
 use Rattle.auc_world.specs.declared.event.Event.TheVariants as event
 use Rattle.auc_world.specs.declared.record.LineRecord.{LineRecord}
-use Rattle.auc_world.specs.declared.record.LineRecord.TheVariants.{Give, Sync}
 use Rattle.auc_transcript.specs.Headline.{IsOutsideSessions}
-use Rattle.auc_transcript.proofs.WalkLemmas.{draw_quiet, follows_quiet}
-
--- after no line
-pub behind_none : (place : Before) → behind place [] ≡ place
-behind_none place = ap (λ (own : List LineRecord). record { early = place.early; beside = place.beside; own = own }) (append-nil place.own)
-
--- after some lines, and then others
-pub behind_on : (place : Before) (front rest : List LineRecord) → behind (behind place front) rest ≡ behind place (front ++ rest)
-behind_on place front rest = ap (λ (own : List LineRecord). record { early = place.early; beside = place.beside; own = own }) (append_assoc place.own front rest)
+use Rattle.auc_transcript.proofs.KindLemmas.{behind_on, by_kind, event_gives, quiet_gives}
 
 -- what lines without an event keep, and what each event keeps
 module _ (set : Setting) (P : Before → Net → Type 0) (quiet : (place : Before) (w : Net) (lines : List LineRecord) → All IsOutsideSessions lines → P place w → P (behind place lines) w)
@@ -46,20 +36,10 @@ module _ (set : Setting) (P : Before → Net → Type 0) (quiet : (place : Befor
       (relay_keeps (behind place (line ∷ [])) mid next session end.Peer (packet_of line) lines more (happens place w mid (event.Start session) (line ∷ []) first p))
 
   line_keeps : (place : Before) (w next : Net) (l : Line) (lines : List LineRecord) → LineGives set place w l lines next → P place w → P (behind place lines) next
-  line_keeps place w next (line.Draw sub count) lines (gives, same) p = quiet_keeps place w next lines (draw_quiet set sub count lines gives) same p
-  line_keeps place w next (line.Sync sub seq bit count) lines (gives, same) p =
-      quiet_keeps place w next lines
-      (subst (All IsOutsideSessions) (sym gives.lines_are)
-      (All-cons IsOutsideSessions (Sync sub gives.answer) gives.more tt (follows_quiet set sub count gives.answer gives.more gives.follows))) same p
-  line_keeps place w next (line.Give sub n) lines (gives, same) p =
-      quiet_keeps place w next lines
-      (subst (All IsOutsideSessions) (sym gives.lines_are) (All-cons IsOutsideSessions (Give sub n gives.answer) [] tt (All-nil IsOutsideSessions))) same p
-  line_keeps place w next (line.Session opening) lines gives p = happens place w next (event.Open opening) lines gives p
-  line_keeps place w next (line.Start session) lines gives p = happens place w next (event.Start session) lines gives p
-  line_keeps place w next (line.Deliver session at' packet) lines gives p = happens place w next (event.Deliver session at' packet) lines gives p
-  line_keeps place w next (line.Repeat session) lines gives p = happens place w next (event.Repeat session) lines gives p
-  line_keeps place w next (line.GiveUp session at') lines gives p = happens place w next (event.GiveUp session at') lines gives p
-  line_keeps place w next (line.Plain session) lines gives p = plain_keeps place w next session lines gives p
+  line_keeps place w next l lines = by_kind (λ x. LineGives set place w x lines next → P place w → P (behind place lines) next)
+      (λ x is gives p. let (outside, same) = quiet_gives x is set place w next lines gives in quiet_keeps place w next lines outside same p)
+      (λ e gives p. happens place w next e lines (event_gives set place w next e lines gives) p)
+      (λ session gives p. plain_keeps place w next session lines gives p) l
 
   -- a job
   pub job_keeps_outside : (place : Before) (w last : Net) (job : List Line) (lines : List LineRecord) → JobGives set place w job lines last → P place w → P (behind place lines) last

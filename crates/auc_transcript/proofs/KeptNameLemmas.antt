@@ -7,7 +7,6 @@ use Rattle.auc_lines.specs.Part.{held_subs}
 use Rattle.auc_lines.specs.declared.part.End.{End}
 use Rattle.auc_lines.specs.declared.part.End.TheVariants as end
 use Rattle.auc_lines.specs.declared.part.Line.{Line}
-use Rattle.auc_lines.specs.declared.part.Line.TheVariants as line
 use Rattle.auc_lines.specs.declared.part.SessionLine.{SessionLine}
 use Rattle.auc_peer.specs.Rows.{peer_row}
 use Rattle.auc_peer.specs.Subscription.{Subscription}
@@ -38,6 +37,7 @@ use Rattle.auc_world.specs.declared.event.Event.TheVariants as event
 use Rattle.auc_world.specs.declared.net.SentPacket.{SentPacket}
 use Rattle.auc_world.specs.declared.net.Session.{Session}
 use Rattle.auc_world.specs.declared.record.LineRecord.{LineRecord}
+use Rattle.auc_transcript.proofs.KindLemmas.{by_kind, event_gives}
 use Rattle.auc_transcript.proofs.NameLemmas.{AreNames, HasNames, kept_named, nothing_named, row_named}
 
 -- what holds of all elements of a list holds of the one at a place
@@ -188,15 +188,10 @@ plain_has set before w next session (l ∷ lines) (mid, first, more) all =
     relay_has set (behind before (l ∷ [])) mid next session end.Peer (packet_of l) lines more (event_has set before w mid (event.Start session) (l ∷ []) first all)
 
 pub line_has : (set : Setting) (before : Before) (w next : Net) (l : Line) (lines : List LineRecord) → LineGives set before w l lines next → KeepsNames w → KeepsNames next
-line_has set before w next (line.Draw sub count) lines (gives, same) all = subst KeepsNames (sym same) all
-line_has set before w next (line.Sync sub seq bit count) lines (gives, same) all = subst KeepsNames (sym same) all
-line_has set before w next (line.Give sub n) lines (gives, same) all = subst KeepsNames (sym same) all
-line_has set before w next (line.Session opening) lines gives all = event_has set before w next (event.Open opening) lines gives all
-line_has set before w next (line.Start session) lines gives all = event_has set before w next (event.Start session) lines gives all
-line_has set before w next (line.Deliver session at' packet) lines gives all = event_has set before w next (event.Deliver session at' packet) lines gives all
-line_has set before w next (line.Repeat session) lines gives all = event_has set before w next (event.Repeat session) lines gives all
-line_has set before w next (line.GiveUp session at') lines gives all = event_has set before w next (event.GiveUp session at') lines gives all
-line_has set before w next (line.Plain session) lines gives all = plain_has set before w next session lines gives all
+line_has set before w next l lines = by_kind (λ x. LineGives set before w x lines next → KeepsNames w → KeepsNames next)
+    (λ x is gives all. subst KeepsNames (sym (is.gives set before w next lines gives).1) all)
+    (λ e gives all. event_has set before w next e lines (event_gives set before w next e lines gives) all)
+    (λ session gives all. plain_has set before w next session lines gives all) l
 
 job_has : (set : Setting) (before : Before) (w last : Net) (job : List Line) (lines : List LineRecord) → JobGives set before w job lines last → KeepsNames w → KeepsNames last
 job_has set before w last [] lines (none, same) all = subst KeepsNames (sym same) all

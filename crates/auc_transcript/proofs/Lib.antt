@@ -1,5 +1,6 @@
 pub mod Facts
 mod ListLemmas
+mod KindLemmas
 mod LineLemmas
 mod EventLemmas
 mod ServedLemmas
@@ -18,6 +19,7 @@ mod GenuineLemmas
 mod RestartLemmas
 mod ReplyLemmas
 mod OneEventLemmas
+mod OneLineLemmas
 mod OneToldLemmas
 mod MoveFoldLemmas
 mod HomeTurnLemmas
@@ -59,3 +61,5 @@ mod ToldTurnLemmas
 mod ToldSessionLemmas
 mod ToldEventLemmas
 mod ToldCounterLemmas
+mod SystemLemmas
+mod SystemWitnessLemmas

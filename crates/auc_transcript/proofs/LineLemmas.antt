@@ -17,7 +17,7 @@ use Rattle.auc_vector.specs.declared.notes.NumberNote.{NumberNote}
 use Rattle.auc_vector.specs.declared.notes.NumberNote.TheVariants as number
 use Rattle.auc_world.specs.Event.{number_for, number_released, resync_for}
 use Rattle.auc_world.specs.declared.record.LineRecord.{LineRecord}
-use Rattle.auc_world.specs.declared.record.LineRecord.TheVariants.{Vector, Withheld, Exhausted, Sync, Give, Event}
+use Rattle.auc_world.specs.declared.record.LineRecord.TheVariants.{Vector, Withheld, Exhausted, Sync, Give, Further, Event}
 use Rattle.auc_world.specs.Lines.{released_by, numbers_of}
 use Rattle.auc_world.specs.Entries.{entries_of_line, entries_of_lines, entries_of_number, entries_of_resync}
 use Rattle.auc_world.specs.Given.{is_in}
@@ -114,6 +114,7 @@ times-numbers n sub before (Sync s answer ∷ lines) =
     drawn-further n (numbers_of sub lines) (entries_of_line sub before (Sync s answer)) (entries_of_lines sub (before ++ Sync s answer ∷ []) lines)
     (times-numbers n sub (before ++ Sync s answer ∷ []) lines)
 times-numbers n sub before (Give s m answer ∷ lines) = times-numbers n sub (before ++ Give s m answer ∷ []) lines
+times-numbers n sub before (Further said ∷ lines) = times-numbers n sub (before ++ Further said ∷ []) lines
 times-numbers n sub before (Event r ∷ lines) =
     drawn-event n sub before (number_for sub r) (entries_of_resync sub before (resync_for sub r)) (numbers_of sub lines) (entries_of_lines sub (before ++ Event r ∷ []) lines)
     (times-numbers n sub (before ++ Event r ∷ []) lines)

@@ -1,5 +1,5 @@
 -- The law of one told transcript: two lawful transcripts of the same parts of which the same is told are one.
-use Rattle.std.proofs.Common.{◌≡◌, ℕ, zero, suc, List, [], ◌∷◌, ◌++◌, map, Option, Some, None, refl, sym, ap, subst, ◌∙◌, append_assoc}
+use Rattle.std.proofs.Common.{◌≡◌, ℕ, List, [], ◌∷◌, ◌++◌, map, Option, Some, None, refl, sym, ap, subst, ◌∙◌, append_assoc}
 use Rattle.auc_edge.specs.declared.stop.Stop.{Stop}
 use Rattle.auc_lines.specs.declared.part.End.{End}
 use Rattle.auc_lines.specs.declared.part.End.TheVariants as end
@@ -8,39 +8,26 @@ use Rattle.auc_lines.specs.declared.part.Line.TheVariants as line
 use Rattle.auc_lines.specs.declared.part.Part.{Part}
 use Rattle.auc_lines.specs.declared.part.Part.TheVariants as part
 use Rattle.auc_world.specs.Came.{Came, came}
-use Rattle.auc_world.specs.Given.{Before, DrawGives, EventGives, JobGives, JobsGive, LineGives, PlainGives, RelayGives, VectorsFollow, behind, packet_of}
+use Rattle.auc_world.specs.Given.{Before, EventGives, JobGives, JobsGive, LineGives, PlainGives, RelayGives, behind, packet_of}
 use Rattle.auc_world.specs.Net.{Net, other}
 use Rattle.auc_world.specs.Setting.{Setting}
 use Rattle.auc_world.specs.Start.{Kept, kept_by_jobs, start_of}
-use Rattle.auc_world.specs.Told.{told, told_came, told_event, told_job, told_line, told_part, told_round}
+use Rattle.auc_world.specs.Told.{told, told_came, told_event, told_job, told_part, told_round}
 use Rattle.auc_world.specs.Transcript.{Course, Leads, beginning}
 use Rattle.auc_world.specs.declared.event.Event.{Event as Happens}
 use Rattle.auc_world.specs.declared.event.Event.TheVariants as event
 use Rattle.auc_world.specs.declared.event.EventRecord.{EventRecord}
 use Rattle.auc_world.specs.declared.record.Closing.{Closing}
-use Rattle.auc_world.specs.declared.record.GiveVerdict.{GiveVerdict}
 use Rattle.auc_world.specs.declared.record.LineRecord.{LineRecord}
-use Rattle.auc_world.specs.declared.record.LineRecord.TheVariants.{Vector, Withheld, Exhausted, Sync, Give, Event}
+use Rattle.auc_world.specs.declared.record.LineRecord.TheVariants.{Event}
 use Rattle.auc_world.specs.declared.record.PartRecord.{PartRecord}
 use Rattle.auc_world.specs.declared.record.PartRecord.TheVariants as record_of
 use Rattle.auc_world.specs.declared.record.Premise.{Premise}
 use Rattle.auc_world.specs.declared.record.RoundRecord.{RoundRecord}
 use Rattle.auc_world.specs.declared.record.SessionVerdict.{SessionVerdict}
-use Rattle.auc_world.specs.declared.record.SyncVerdict.{SyncVerdict}
-use Rattle.auc_world.specs.declared.record.SyncVerdict.TheVariants as verdict
 use Rattle.auc_transcript.specs.OneTold.{EachToldTranscriptIsOne}
 use Rattle.auc_transcript.proofs.OneEventLemmas.{Laws, event_one}
-
--- ---- lists
-
-heads : {X : Type 0} (x y : X) (xs ys : List X) → x ∷ xs ≡ y ∷ ys → x ≡ y
-heads x y xs ys e = cc
-
-tails : {X : Type 0} (x y : X) (xs ys : List X) → x ∷ xs ≡ y ∷ ys → xs ≡ ys
-tails x y xs ys e = cc
-
-pub conses : {X : Type 0} (x y : X) (xs ys : List X) → x ≡ y → xs ≡ ys → x ∷ xs ≡ y ∷ ys
-conses x y xs ys e f = cc
+use Rattle.auc_transcript.proofs.OneLineLemmas.{answered_one, conses, draw_one, eps_one, fiveg_one, heads, same_rest, sync_one, tails}
 
 -- lines that begin with others of which the same is told: those are the same, lead to the same network, and the same is told
 -- of the rest
@@ -48,80 +35,6 @@ record AreOne (lines others rest others_rest : List LineRecord) (net other_net :
   lines_are : lines ≡ others
   nets_are : net ≡ other_net
   rests_are : told_job rest ≡ told_job others_rest
-
--- ---- lines other than events
-
--- a line that is told whole
-abbrev IsWhole : LineRecord → Type 0
-IsWhole (Vector sub n) = Unit {0}
-IsWhole (Withheld sub n stop) = Unit {0}
-IsWhole (Exhausted sub word) = Unit {0}
-IsWhole (Sync sub answer) = Unit {0}
-IsWhole (Give sub n answer) = Unit {0}
-IsWhole (Event r) = ⊥
-
-told_whole : (line : LineRecord) → IsWhole line → told_line line ≡ line
-told_whole (Vector sub n) is = refl
-told_whole (Withheld sub n stop) is = refl
-told_whole (Exhausted sub word) is = refl
-told_whole (Sync sub answer) is = refl
-told_whole (Give sub n answer) is = refl
-told_whole (Event r) is = absurd is
-
-whole_one : (a b : LineRecord) → IsWhole a → IsWhole b → told_line a ≡ told_line b → a ≡ b
-whole_one a b is was same = sym (told_whole a is) ∙ same ∙ told_whole b was
-
--- what a request gives
-draw_whole : (set : Setting) (sub count : ℕ) (line : LineRecord) (lines : List LineRecord) → DrawGives set sub (suc count) (line ∷ lines) → IsWhole line
-draw_whole set sub count (Vector s n) lines gives = tt
-draw_whole set sub count (Withheld s n stop) lines gives = tt
-draw_whole set sub count (Exhausted s word) lines gives = tt
-draw_whole set sub count (Sync s answer) lines gives = absurd gives
-draw_whole set sub count (Give s n answer) lines gives = absurd gives
-draw_whole set sub count (Event r) lines gives = absurd gives
-
--- what comes after a line, if what the rest of the request gives is one
-draw_more : (set : Setting) (sub count : ℕ) (line : LineRecord) (xs ys rest others : List LineRecord) → DrawGives set sub (suc count) (line ∷ xs) → DrawGives set sub (suc count) (line ∷ ys)
-    → told_job (xs ++ rest) ≡ told_job (ys ++ others)
-    → (DrawGives set sub count xs → DrawGives set sub count ys → (xs ≡ ys) × (told_job rest ≡ told_job others)) → (xs ≡ ys) × (told_job rest ≡ told_job others)
-draw_more set sub count (Vector s n) xs ys rest others (same_sub, is, gives) (also_sub, was, gave) same next = next gives gave
-draw_more set sub count (Withheld s n stop) xs ys rest others (same_sub, first, last, none) (also_sub, from, to, nothing) same next =
-    (none ∙ sym nothing, ap (λ (ls : List LineRecord). told_job (ls ++ rest)) (sym none) ∙ same ∙ ap (λ (ls : List LineRecord). told_job (ls ++ others)) nothing)
-draw_more set sub count (Exhausted s word) xs ys rest others (same_sub, spent, none) (also_sub, was, nothing) same next =
-    (none ∙ sym nothing, ap (λ (ls : List LineRecord). told_job (ls ++ rest)) (sym none) ∙ same ∙ ap (λ (ls : List LineRecord). told_job (ls ++ others)) nothing)
-draw_more set sub count (Sync s answer) xs ys rest others gives gave same next = absurd gives
-draw_more set sub count (Give s n answer) xs ys rest others gives gave same next = absurd gives
-draw_more set sub count (Event r) xs ys rest others gives gave same next = absurd gives
-
--- as many lines as asked for, unless one ends them: where they end is told
-draw_one : (set : Setting) (sub count : ℕ) (xs ys rest others : List LineRecord) → DrawGives set sub count xs → DrawGives set sub count ys → told_job (xs ++ rest) ≡ told_job (ys ++ others)
-    → (xs ≡ ys) × (told_job rest ≡ told_job others)
-draw_one set sub zero xs ys rest others gives gave same =
-    (gives ∙ sym gave, ap (λ (ls : List LineRecord). told_job (ls ++ rest)) (sym gives) ∙ same ∙ ap (λ (ls : List LineRecord). told_job (ls ++ others)) gave)
-draw_one set sub (suc count) [] ys rest others gives gave same = absurd gives
-draw_one set sub (suc count) (x ∷ xs) [] rest others gives gave same = absurd gave
-draw_one set sub (suc count) (x ∷ xs) (y ∷ ys) rest others gives gave same =
-    let first = whole_one x y (draw_whole set sub count x xs gives) (draw_whole set sub count y ys gave) (heads (told_line x) (told_line y) (told_job (xs ++ rest)) (told_job (ys ++ others)) same) in
-    let after = tails (told_line x) (told_line y) (told_job (xs ++ rest)) (told_job (ys ++ others)) same in
-    let (lines, more) = draw_more set sub count x xs ys rest others gives (subst (λ (l : LineRecord). DrawGives set sub (suc count) (l ∷ ys)) (sym first) gave) after
-    (λ next also_next. draw_one set sub count xs ys rest others next also_next after) in
-    (conses x y xs ys first lines, more)
-
--- what follows a verdict
-follow_one : (set : Setting) (sub count : ℕ) (answer : SyncVerdict) (xs ys rest others : List LineRecord) → VectorsFollow set sub count answer xs → VectorsFollow set sub count answer ys
-    → told_job (xs ++ rest) ≡ told_job (ys ++ others) → (xs ≡ ys) × (told_job rest ≡ told_job others)
-follow_one set sub count (verdict.Moved seen seq_ms) xs ys rest others gives gave same = draw_one set sub count xs ys rest others gives gave same
-follow_one set sub count (verdict.InRange seen seq_ms) xs ys rest others gives gave same = draw_one set sub count xs ys rest others gives gave same
-follow_one set sub count (verdict.Beyond seen seq_ms) xs ys rest others none nothing same =
-    (none ∙ sym nothing, ap (λ (ls : List LineRecord). told_job (ls ++ rest)) (sym none) ∙ same ∙ ap (λ (ls : List LineRecord). told_job (ls ++ others)) nothing)
-follow_one set sub count verdict.WrongMac xs ys rest others none nothing same =
-    (none ∙ sym nothing, ap (λ (ls : List LineRecord). told_job (ls ++ rest)) (sym none) ∙ same ∙ ap (λ (ls : List LineRecord). told_job (ls ++ others)) nothing)
-
-sync_verdicts : (s t : ℕ) (a b : SyncVerdict) → Sync s a ≡ Sync t b → a ≡ b
-sync_verdicts s t a b e = cc
-
-give_verdicts : (s t m n : ℕ) (a b : GiveVerdict) → Give s m a ≡ Give t n b → a ≡ b
-give_verdicts s t m n a b e = cc
 
 -- ---- events
 
@@ -183,34 +96,25 @@ plain_one laws set before also_before net next also_next session (x ∷ xs) (y �
 
 -- ---- lines of a job
 
+-- lines without an event leave the network as it is
+quiet_one : (net next also_next : Net) (xs ys rest others : List LineRecord) → xs ≡ ys → next ≡ net → also_next ≡ net → told_job (xs ++ rest) ≡ told_job (ys ++ others)
+    → AreOne xs ys rest others next also_next
+quiet_one net next also_next xs ys rest others lines is was same =
+    record { lines_are = lines; nets_are = is ∙ sym was; rests_are = same_rest xs ys rest others lines same }
+
 line_one : Laws → (set : Setting) (before also_before : Before) (net next also_next : Net) (l : Line) (xs ys rest others : List LineRecord)
     → LineGives set before net l xs next → LineGives set also_before net l ys also_next → told_job (xs ++ rest) ≡ told_job (ys ++ others) → AreOne xs ys rest others next also_next
 line_one laws set before also_before net next also_next (line.Draw sub count) xs ys rest others (gives, is) (gave, was) same =
-    let one = draw_one set sub count xs ys rest others gives gave same in record { lines_are = one.0; nets_are = is ∙ sym was; rests_are = one.1 }
+    quiet_one net next also_next xs ys rest others (draw_one set sub count xs ys rest others gives gave same) is was same
 line_one laws set before also_before net next also_next (line.Sync sub seq bit count) xs ys rest others (gives, is) (gave, was) same =
-    let a = gives.answer in
-    let b = gave.answer in
-    let cut : Sync sub a ∷ told_job (gives.more ++ rest) ≡ Sync sub b ∷ told_job (gave.more ++ others) =
-    ap (λ (ls : List LineRecord). told_job (ls ++ rest)) (sym gives.lines_are) ∙ same ∙ ap (λ (ls : List LineRecord). told_job (ls ++ others)) gave.lines_are in
-    let answers = sync_verdicts sub sub a b (heads (Sync sub a) (Sync sub b) (told_job (gives.more ++ rest)) (told_job (gave.more ++ others)) cut) in
-    let more = follow_one set sub count a gives.more gave.more rest others gives.follows (subst (λ (v : SyncVerdict). VectorsFollow set sub count v gave.more) (sym answers) gave.follows)
-    (tails (Sync sub a) (Sync sub b) (told_job (gives.more ++ rest)) (told_job (gave.more ++ others)) cut) in
-    record {
-      lines_are = gives.lines_are ∙ conses (Sync sub a) (Sync sub b) gives.more gave.more (ap (Sync sub) answers) more.0 ∙ sym gave.lines_are;
-      nets_are = is ∙ sym was;
-      rests_are = more.1;
-    }
+    quiet_one net next also_next xs ys rest others (sync_one set sub seq bit count xs ys rest others gives gave same) is was same
 line_one laws set before also_before net next also_next (line.Give sub n) xs ys rest others (gives, is) (gave, was) same =
-    let a = gives.answer in
-    let b = gave.answer in
-    let cut : Give sub n a ∷ told_job rest ≡ Give sub n b ∷ told_job others =
-    ap (λ (ls : List LineRecord). told_job (ls ++ rest)) (sym gives.lines_are) ∙ same ∙ ap (λ (ls : List LineRecord). told_job (ls ++ others)) gave.lines_are in
-    let answers = give_verdicts sub sub n n a b (heads (Give sub n a) (Give sub n b) (told_job rest) (told_job others) cut) in
-    record {
-      lines_are = gives.lines_are ∙ ap (λ (v : GiveVerdict). Give sub n v ∷ []) answers ∙ sym gave.lines_are;
-      nets_are = is ∙ sym was;
-      rests_are = tails (Give sub n a) (Give sub n b) (told_job rest) (told_job others) cut;
-    }
+    quiet_one net next also_next xs ys rest others
+    (answered_one sub n (λ answer. []) xs ys rest others gives.answer gave.answer gives.lines_are gave.lines_are same) is was same
+line_one laws set before also_before net next also_next (line.Eps sub snid) xs ys rest others (gives, is) (gave, was) same =
+    quiet_one net next also_next xs ys rest others (eps_one set sub snid xs ys rest others gives gave same) is was same
+line_one laws set before also_before net next also_next (line.Fiveg l) xs ys rest others (gives, is) (gave, was) same =
+    quiet_one net next also_next xs ys rest others (fiveg_one set before also_before l xs ys rest others gives gave same) is was same
 line_one laws set before also_before net next also_next (line.Session opening) xs ys rest others gives gave same =
     event_lines_one laws set before also_before net next also_next (event.Open opening) xs ys rest others gives gave same
 line_one laws set before also_before net next also_next (line.Start session) xs ys rest others gives gave same =

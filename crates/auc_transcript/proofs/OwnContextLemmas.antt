@@ -29,7 +29,7 @@ use Rattle.auc_world.specs.declared.event.EventRecord.{EventRecord}
 use Rattle.auc_world.specs.declared.net.SentPacket.{SentPacket}
 use Rattle.auc_world.specs.declared.net.Session.{Session}
 use Rattle.auc_world.specs.declared.record.LineRecord.{LineRecord}
-use Rattle.auc_world.specs.declared.record.LineRecord.TheVariants.{Vector, Withheld, Exhausted, Sync, Give, Event}
+use Rattle.auc_world.specs.declared.record.LineRecord.TheVariants.{Vector, Withheld, Exhausted, Sync, Give, Further, Event}
 use Rattle.auc_world.specs.declared.record.PartRecord.{PartRecord}
 use Rattle.auc_world.specs.declared.record.PartRecord.TheVariants as record_of
 use Rattle.auc_world.proofs.Facts.{AreAt}
@@ -39,7 +39,8 @@ use Rattle.auc_transcript.specs.Headline.{IsOutsideSessions}
 use Rattle.auc_transcript.specs.Keys.{AreNets, AreNetsAfter}
 use Rattle.auc_transcript.proofs.DeviceEventLemmas.{IsPlaced, event_stays}
 use Rattle.auc_transcript.proofs.DeviceFoldLemmas.{placed_on}
-use Rattle.auc_transcript.proofs.JobFoldLemmas.{behind_none, behind_on, job_keeps_outside}
+use Rattle.auc_transcript.proofs.JobFoldLemmas.{job_keeps_outside}
+use Rattle.auc_transcript.proofs.KindLemmas.{behind_none, behind_on}
 use Rattle.auc_transcript.proofs.OneEventLemmas.{Laws, event_one}
 
 -- ---- lines lead on
@@ -71,6 +72,7 @@ module _ (set : Setting) where
   quiet_line before w (Exhausted sub word) is = refl
   quiet_line before w (Sync sub answer) is = refl
   quiet_line before w (Give sub n answer) is = refl
+  quiet_line before w (Further said) is = refl
   quiet_line before w (Event r) is = absurd is
 
   quiet_lines : (before : Before) (w : Net) (lines : List LineRecord) → All IsOutsideSessions lines → LinesLead set before w lines w
@@ -119,6 +121,7 @@ module _ (laws : Laws) (set : Setting) where
   one_line before w a b (Exhausted sub word) first second = first ∙ sym second
   one_line before w a b (Sync sub answer) first second = first ∙ sym second
   one_line before w a b (Give sub n answer) first second = first ∙ sym second
+  one_line before w a b (Further said) first second = first ∙ sym second
   one_line before w a b (Event r) first second =
       let came_first = result_of r (record { event = r.event; result = came set w r.event first.told }) first.lines_are in
       let came_second = result_of r (record { event = r.event; result = came set w r.event second.told }) second.lines_are in
@@ -149,6 +152,7 @@ line_stands set start before w next (Withheld sub n stop) leads st = subst (Stan
 line_stands set start before w next (Exhausted sub word) leads st = subst (Stands set start) (sym leads) st
 line_stands set start before w next (Sync sub answer) leads st = subst (Stands set start) (sym leads) st
 line_stands set start before w next (Give sub n answer) leads st = subst (Stands set start) (sym leads) st
+line_stands set start before w next (Further said) leads st = subst (Stands set start) (sym leads) st
 line_stands set start before w next (Event r) gives st =
     subst (Stands set start) (sym gives.leads) (record {
       devices = (event_stays set w r.event gives.told).devices ∙ st.devices;

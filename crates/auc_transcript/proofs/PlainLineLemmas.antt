@@ -1,8 +1,7 @@
 -- For plain sessions: a plain line between the other lines of its job. The lines before it open its session and leave it new,
 -- and those after it leave the session as it is.
-use Rattle.std.proofs.Common.{◌≡◌, ◌≢◌, ◌⊎◌, ℕ, ◌==◌, Bool, true, false, List, [], ◌∷◌, ◌++◌, flat_map, All, Contains, Option, Some, None, slice_get, refl, sym, ap, ◌∙◌, subst, inl, inr, append_assoc}
+use Rattle.std.proofs.Common.{◌≡◌, ◌≢◌, ◌⊎◌, ℕ, true, List, [], ◌∷◌, ◌++◌, flat_map, All, Contains, Option, Some, None, slice_get, refl, sym, ap, ◌∙◌, subst, inl, inr, append_assoc}
 use Rattle.std.specs.Option.{option_or}
-use Rattle.std.specs.Prelude.{if◌then◌else◌}
 use Rattle.std.proofs.lemmas.List.Elements.{All-head, All-nil, All-tail, Contains-append_left}
 use Rattle.auc_lines.specs.Part.{held_subs}
 use Rattle.auc_lines.specs.declared.part.Line.{Line}
@@ -17,8 +16,9 @@ use Rattle.auc_world.specs.Net.{Net, device_place}
 use Rattle.auc_world.specs.Start.{Kept, start_of, subscription_at}
 use Rattle.auc_world.specs.declared.net.Session.{Session}
 use Rattle.auc_world.specs.declared.record.LineRecord.{LineRecord}
-use Rattle.auc_transcript.specs.Completeness.{opening_in, session_named}
+use Rattle.auc_transcript.specs.Completeness.{opening_by, opening_in, session_named}
 use Rattle.auc_transcript.proofs.KeptNameLemmas.{AreKept, KeepsNames, line_has, start_has}
+use Rattle.auc_transcript.proofs.KindLemmas.{behind_none, behind_on, opens_only}
 use Rattle.auc_transcript.proofs.OpeningLemmas.{first_suits, opening_among}
 use Rattle.auc_transcript.proofs.ReadyLemmas.{IsOfSubs, device_is_there, homes_are_of, session_is_held}
 use Rattle.auc_transcript.proofs.SizeLemmas.{AreKeptSized, IsReached, line_reaches, reached_itself, reached_sized, start_sized}
@@ -60,25 +60,14 @@ begun_after : (set : Setting) (before : Before) (net next : Net) (opening : Sess
     → device_place set.rows net.devices opening.sub ≡ Some place → Leaves set.rows opening net next Suits → LineGives set before net l lines next → IsBegun opening net (l ∷ front)
     → IsBegun opening next front
 begun_after set before net next opening place l front lines Suits placed leaves gives (inl (s, is)) = inl (s, leaves.stays s is)
-begun_after set before net next opening place l front lines Suits placed leaves gives (inr first) = at_line l gives first
+begun_after set before net next opening place l front lines Suits placed leaves gives (inr first) = by (opening_by opening.session l) refl first
   where
-    by : (other : SessionLine) (b : Bool) → (other.session == opening.session) ≡ b → LineGives set before net (line.Session other) lines next
-        → option_or (if b then Some other else None) (opening_in opening.session front) ≡ Some opening → IsBegun opening next front
-    by other true is gives same =
+    by : (o : Option SessionLine) → opening_by opening.session l ≡ o → option_or o (opening_in opening.session front) ≡ Some opening → IsBegun opening next front
+    by (Some other) is same =
         let one : other ≡ opening = cc in
-        inl (opens set before net next opening place lines placed (subst (λ (o : SessionLine). LineGives set before net (line.Session o) lines next) one gives))
-    by other false is gives rest = inr rest
-
-    at_line : (x : Line) → LineGives set before net x lines next → opening_in opening.session (x ∷ front) ≡ Some opening → IsBegun opening next front
-    at_line (line.Draw sub count) gives rest = inr rest
-    at_line (line.Sync sub seq bit count) gives rest = inr rest
-    at_line (line.Give sub n) gives rest = inr rest
-    at_line (line.Session other) gives first = by other (other.session == opening.session) refl gives first
-    at_line (line.Start started) gives rest = inr rest
-    at_line (line.Deliver delivered at' packet) gives rest = inr rest
-    at_line (line.Repeat repeated) gives rest = inr rest
-    at_line (line.GiveUp ended at') gives rest = inr rest
-    at_line (line.Plain plain) gives rest = inr rest
+        let (line_is, named) = opens_only opening.session opening l (is ∙ ap Some one) in
+        inl (opens set before net next opening place lines placed (subst (λ (x : Line). LineGives set before net x lines next) line_is gives))
+    by None is rest = inr rest
 
 -- some lines that open the session, with no event of it among them
 arrives : (set : Setting) (kept : List Kept) (job : List Line) (before : Before) (net mid : Net) (opening : SessionLine) (place : ℕ) (front : List Line) (records : List LineRecord) → AreKeptSized kept
@@ -109,18 +98,28 @@ job_leaves set opening before net last (l ∷ job) records apart (lines, rest, n
 -- ---- the plain line
 
 -- the front of some lines, and the rest of them
-record IsSplit (set : Setting) (before : Before) (net : Net) (front back : List Line) (records : List LineRecord) (last : Net) : Type 0 where
-  early : List LineRecord
-  late : List LineRecord
-  cut : records ≡ early ++ late
-  mid : Net
-  first : JobGives set before net front early mid
-  after : Before
-  more : JobGives set after mid back late last
+pub record IsSplit (set : Setting) (before : Before) (net : Net) (front back : List Line) (records : List LineRecord) (last : Net) : Type 0 where
+  pub early : List LineRecord
+  pub late : List LineRecord
+  pub cut : records ≡ early ++ late
+  pub mid : Net
+  pub first : JobGives set before net front early mid
+  pub after : Before
+  pub after_is : after ≡ behind before early
+  pub more : JobGives set after mid back late last
 
-splits : (set : Setting) (before : Before) (net : Net) (front back : List Line) (records : List LineRecord) (last : Net) → JobGives set before net (front ++ back) records last
+pub splits : (set : Setting) (before : Before) (net : Net) (front back : List Line) (records : List LineRecord) (last : Net) → JobGives set before net (front ++ back) records last
     → IsSplit set before net front back records last
-splits set before net [] back records last gives = record { early = []; late = records; cut = refl; mid = net; first = (refl, refl); after = before; more = gives }
+splits set before net [] back records last gives = record {
+  early = [];
+  late = records;
+  cut = refl;
+  mid = net;
+  first = (refl, refl);
+  after = before;
+  after_is = sym (behind_none before);
+  more = gives;
+}
 splits set before net (l ∷ front) back records last (lines, rest, next, cut, gives, more) =
     let s = splits set (behind before lines) next front back rest last more in record {
       early = lines ++ s.early;
@@ -129,6 +128,7 @@ splits set before net (l ∷ front) back records last (lines, rest, next, cut, g
       mid = s.mid;
       first = (lines, s.early, next, refl, gives, s.first);
       after = s.after;
+      after_is = s.after_is ∙ behind_on before lines s.early;
       more = s.more;
     }
 

@@ -3,11 +3,10 @@ use Rattle.std.proofs.Common.{◌≡◌, ◌≢◌, ℕ, ◌==◌, Bool, true, f
 use Rattle.std.specs.Prelude.{flat_map, if◌then◌else◌}
 use Rattle.std.proofs.lemmas.Bool.{cond-false, eqb-true}
 use Rattle.std.proofs.lemmas.List.Concat.{flat_map-append}
-use Rattle.std.proofs.lemmas.List.Elements.{All-cons, All-head, All-nil, All-tail, filter-append}
+use Rattle.std.proofs.lemmas.List.Elements.{All-head, All-tail, filter-append}
 use Rattle.auc_lines.specs.declared.part.End.{End}
 use Rattle.auc_lines.specs.declared.part.End.TheVariants as end
 use Rattle.auc_lines.specs.declared.part.Line.{Line}
-use Rattle.auc_lines.specs.declared.part.Line.TheVariants as line
 use Rattle.auc_lines.specs.declared.part.SessionLine.{SessionLine}
 use Rattle.auc_world.specs.Came.{Came, came, came_opened}
 use Rattle.auc_world.specs.Event.{number_in, number_released}
@@ -18,10 +17,10 @@ use Rattle.auc_world.specs.Setting.{Setting}
 use Rattle.auc_world.specs.declared.event.Event.{Event as Happens}
 use Rattle.auc_world.specs.declared.event.Event.TheVariants as event
 use Rattle.auc_world.specs.declared.record.LineRecord.{LineRecord}
-use Rattle.auc_world.specs.declared.record.LineRecord.TheVariants.{Vector, Withheld, Exhausted, Sync, Give, Event}
+use Rattle.auc_world.specs.declared.record.LineRecord.TheVariants.{Vector, Withheld, Exhausted, Sync, Give, Further, Event}
 use Rattle.auc_transcript.specs.Completeness.{is_of_session, records_of, session_in, session_named}
 use Rattle.auc_transcript.specs.Headline.{IsOutsideSessions}
-use Rattle.auc_transcript.proofs.WalkLemmas.{draw_quiet, follows_quiet}
+use Rattle.auc_transcript.proofs.KindLemmas.{by_kind, line_of, quiet_gives}
 
 -- the numbers that lines tell were released
 abbrev pub numbers_told : List LineRecord → List ℕ
@@ -57,6 +56,7 @@ outside_none session (l ∷ lines) all =
     one (Exhausted sub word) is = refl
     one (Sync sub answer) is = refl
     one (Give sub n answer) is = refl
+    one (Further said) is = refl
     one (Event r) is = absurd is
 
 -- ---- events
@@ -120,23 +120,22 @@ named_apart own session apart same = apart (ap Some same)
 
 pub line_none : (set : Setting) (before : Before) (w next : Net) (l : Line) (session : ℕ) (lines : List LineRecord) → session_named l ≢ Some session → LineGives set before w l lines next
     → DrawsNone session lines
-line_none set before w next (line.Draw sub count) session lines apart (gives, same) = none_in session lines (outside_none session lines (draw_quiet set sub count lines gives))
-line_none set before w next (line.Sync sub seq bit count) session lines apart (gives, same) =
-    none_in session lines (outside_none session lines (subst (All IsOutsideSessions) (sym gives.lines_are)
-    (All-cons IsOutsideSessions (Sync sub gives.answer) gives.more tt (follows_quiet set sub count gives.answer gives.more gives.follows))))
-line_none set before w next (line.Give sub n) session lines apart (gives, same) =
-    none_in session lines (outside_none session lines (subst (All IsOutsideSessions) (sym gives.lines_are)
-    (All-cons IsOutsideSessions (Give sub n gives.answer) [] tt (All-nil IsOutsideSessions))))
-line_none set before w next (line.Session opening) session lines apart gives = open_none set before w next opening session lines gives
-line_none set before w next (line.Start own) session lines apart gives =
-    none_in session lines (event_none set before w next (event.Start own) session lines (named_apart own session apart) gives)
-line_none set before w next (line.Deliver own at' packet) session lines apart gives =
-    none_in session lines (event_none set before w next (event.Deliver own at' packet) session lines (named_apart own session apart) gives)
-line_none set before w next (line.Repeat own) session lines apart gives =
-    none_in session lines (event_none set before w next (event.Repeat own) session lines (named_apart own session apart) gives)
-line_none set before w next (line.GiveUp own at') session lines apart gives =
-    none_in session lines (event_none set before w next (event.GiveUp own at') session lines (named_apart own session apart) gives)
-line_none set before w next (line.Plain own) session lines apart gives = none_in session lines (plain_none set before w next own session lines (named_apart own session apart) gives)
+line_none set before w next l session lines = by_kind NoneBy
+    (λ x is apart gives. none_in session lines (outside_none session lines (quiet_gives x is set before w next lines gives).0)) at_event
+    (λ own apart gives. none_in session lines (plain_none set before w next own session lines (named_apart own session apart) gives)) l
+  where
+    NoneBy : Line → Type 0
+    NoneBy x = session_named x ≢ Some session → LineGives set before w x lines next → DrawsNone session lines
+
+    of_other : (e : Happens) → session_in e ≢ session → EventGives set before w e lines next → DrawsNone session lines
+    of_other e apart gives = none_in session lines (event_none set before w next e session lines apart gives)
+
+    at_event : (e : Happens) → NoneBy (line_of e)
+    at_event (event.Open opening) apart gives = open_none set before w next opening session lines gives
+    at_event (event.Start own) apart gives = of_other (event.Start own) (named_apart own session apart) gives
+    at_event (event.Deliver own at' packet) apart gives = of_other (event.Deliver own at' packet) (named_apart own session apart) gives
+    at_event (event.Repeat own) apart gives = of_other (event.Repeat own) (named_apart own session apart) gives
+    at_event (event.GiveUp own at') apart gives = of_other (event.GiveUp own at') (named_apart own session apart) gives
 
 pub job_none : (set : Setting) (before : Before) (w last : Net) (job : List Line) (session : ℕ) (lines : List LineRecord) → All (λ l. session_named l ≢ Some session) job
     → JobGives set before w job lines last → DrawsNone session lines

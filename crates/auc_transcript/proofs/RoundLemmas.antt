@@ -16,7 +16,7 @@ use Rattle.auc_vector.specs.declared.notes.ResyncNote.{ResyncNote}
 use Rattle.auc_vector.specs.declared.notes.ResyncNote.TheVariants as resync
 use Rattle.auc_world.specs.Event.{number_for, number_released, number_withheld, resync_for}
 use Rattle.auc_world.specs.declared.record.LineRecord.{LineRecord}
-use Rattle.auc_world.specs.declared.record.LineRecord.TheVariants.{Vector, Withheld, Exhausted, Sync, Give, Event}
+use Rattle.auc_world.specs.declared.record.LineRecord.TheVariants.{Vector, Withheld, Exhausted, Sync, Give, Further, Event}
 use Rattle.auc_world.specs.declared.record.RoundRecord.{RoundRecord}
 use Rattle.auc_world.specs.declared.record.SyncVerdict.{SyncVerdict}
 use Rattle.auc_world.specs.declared.record.SyncVerdict.TheVariants as verdict
@@ -190,6 +190,8 @@ drawn_told set n sub start before (Sync s answer ∷ lines) within (is, more) =
     (drawn_told set n sub (start ++ Sync s answer ∷ []) (before ++ Sync s answer ∷ []) lines within more)
 drawn_told set n sub start before (Give s m answer ∷ lines) within (is, more) =
     drawn_told set n sub (start ++ Give s m answer ∷ []) (before ++ Give s m answer ∷ []) lines within more
+drawn_told set n sub start before (Further said ∷ lines) within (is, more) =
+    drawn_told set n sub (start ++ Further said ∷ []) (before ++ Further said ∷ []) lines within more
 drawn_told set n sub start before (Event r ∷ lines) within (is, more) =
     told_event n sub before (resync_for sub r) (number_for sub r) (numbers_of sub lines) (withheld_of sub lines) (entries_of_lines sub (before ++ Event r ∷ []) lines) within
     (is.numbers sub) (drawn_told set n sub (start ++ Event r ∷ []) (before ++ Event r ∷ []) lines within more)

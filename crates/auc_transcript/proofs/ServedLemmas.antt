@@ -1,5 +1,5 @@
 -- For the laws: what each line of a lawful transcript is, by all lines before it.
-use Rattle.std.proofs.Common.{◌≡◌, ◌≢◌, ℕ, zero, suc, ◌%◌, ◌≤◌, Bool, true, false, Option, List, [], ◌∷◌, ◌++◌, Some, None, refl, sym, subst, arith, inl, inr, append_assoc, append-nil}
+use Rattle.std.proofs.Common.{◌≡◌, ◌≢◌, ℕ, ◌%◌, ◌≤◌, Bool, true, false, Option, List, [], ◌∷◌, ◌++◌, Some, None, refl, sym, subst, arith, inl, inr, append_assoc, append-nil}
 use Rattle.std.specs.Prelude.{slice_get}
 use Rattle.std.proofs.lemmas.Bool.{or_cases}
 use Rattle.auc_edge.specs.declared.stop.Stop.{Stop}
@@ -7,7 +7,6 @@ use Rattle.auc_history.specs.Split.{times}
 use Rattle.auc_lines.specs.declared.part.End.{End}
 use Rattle.auc_lines.specs.declared.part.End.TheVariants as end
 use Rattle.auc_lines.specs.declared.part.Line.{Line}
-use Rattle.auc_lines.specs.declared.part.Line.TheVariants as line
 use Rattle.auc_lines.specs.declared.part.Part.{Part}
 use Rattle.auc_lines.specs.declared.part.Part.TheVariants.{Round, Restart}
 use Rattle.auc_sqn.specs.Past.{verdict_of}
@@ -16,13 +15,11 @@ use Rattle.auc_subs.specs.declared.row.Row.{Row}
 use Rattle.auc_world.specs.declared.record.GiveVerdict.{GiveVerdict}
 use Rattle.auc_world.specs.declared.record.GiveVerdict.TheVariants as given
 use Rattle.auc_world.specs.declared.record.LineRecord.{LineRecord}
-use Rattle.auc_world.specs.declared.record.LineRecord.TheVariants.{Vector, Withheld, Exhausted, Sync, Give, Event}
+use Rattle.auc_world.specs.declared.record.LineRecord.TheVariants.{Vector, Withheld, Exhausted, Sync, Give, Further, Event}
 use Rattle.auc_world.specs.declared.record.PartRecord.{PartRecord}
 use Rattle.auc_world.specs.declared.record.PartRecord.TheVariants as record_of
-use Rattle.auc_world.specs.declared.record.SyncVerdict.{SyncVerdict}
-use Rattle.auc_world.specs.declared.record.SyncVerdict.TheVariants as verdict
 use Rattle.auc_world.specs.Lines.{numbers_of, accepted, all_lines}
-use Rattle.auc_world.specs.Given.{Before, DrawGives, EventGives, PlainGives, RelayGives, VectorsFollow, is_released, packet_of, past_of, past_before, UsimAnswers, IsGiven, LineGives, behind, JobGives, JobsGive}
+use Rattle.auc_world.specs.Given.{Before, EventGives, PlainGives, RelayGives, is_released, packet_of, past_of, past_before, UsimAnswers, IsGiven, LineGives, behind, JobGives, JobsGive}
 use Rattle.auc_world.specs.Net.{Net, other}
 use Rattle.auc_world.specs.Start.{Kept, start_of}
 use Rattle.auc_world.specs.declared.event.Event.{Event as Happens}
@@ -30,6 +27,7 @@ use Rattle.auc_world.specs.declared.event.Event.TheVariants as event
 use Rattle.auc_world.specs.Setting.{Setting}
 use Rattle.auc_world.specs.Transcript.{Course, Leads, after_round, after_restart, lines_of}
 use Rattle.auc_transcript.proofs.EventLemmas.{IsEventServed, all_before, event_served}
+use Rattle.auc_transcript.proofs.KindLemmas.{AreKnown, IsKnown, by_kind, event_gives}
 use Rattle.auc_transcript.proofs.LineLemmas.{times-from_is_in, times-numbers-append}
 
 -- a presented vector was released, and its USIM answered by all that it had accepted
@@ -47,6 +45,7 @@ IsServed set before (Withheld s n stop) = Unit {0}
 IsServed set before (Exhausted s word) = max_seq ≤ word
 IsServed set before (Sync s answer) = Unit {0}
 IsServed set before (Give s n answer) = answer ≢ given.Absent → IsAnswered set before s n answer
+IsServed set before (Further said) = Unit {0}
 IsServed set before (Event r) = IsEventServed set before r.result
 
 -- what lines are, one after the other
@@ -70,28 +69,6 @@ served_at set start (x ∷ before) after line (first, rest) =
     subst (λ (ls : List LineRecord). IsServed set ls line) (append_assoc start (x ∷ []) before) (served_at set (start ++ x ∷ []) before after line rest)
 
 -- ---- the lines of a job
-
--- the lines of a request
-draw_served : (set : Setting) (before : List LineRecord) (sub count : ℕ) (lines : List LineRecord) → DrawGives set sub count lines → AreServed set before lines
-draw_served set before sub zero lines gives = subst (λ (ls : List LineRecord). AreServed set before ls) (sym gives) tt
-draw_served set before sub (suc count) [] gives = absurd gives
-draw_served set before sub (suc count) (Vector s m ∷ lines) (same, is, more) =
-    (is.last, draw_served set (before ++ Vector s m ∷ []) sub count lines more)
-draw_served set before sub (suc count) (Withheld s n stop ∷ lines) (same, first, last, none) =
-    (tt, subst (λ (ls : List LineRecord). AreServed set (before ++ Withheld s n stop ∷ []) ls) (sym none) tt)
-draw_served set before sub (suc count) (Exhausted s word ∷ lines) (same, spent, none) =
-    (spent, subst (λ (ls : List LineRecord). AreServed set (before ++ Exhausted s word ∷ []) ls) (sym none) tt)
-draw_served set before sub (suc count) (Sync s answer ∷ lines) gives = absurd gives
-draw_served set before sub (suc count) (Give s n answer ∷ lines) gives = absurd gives
-draw_served set before sub (suc count) (Event r ∷ lines) gives = absurd gives
-
--- what follows a verdict
-follows_served : (set : Setting) (before : List LineRecord) (sub count : ℕ) (answer : SyncVerdict) (lines : List LineRecord)
-    → VectorsFollow set sub count answer lines → AreServed set before lines
-follows_served set before sub count (verdict.Moved seen seq_ms) lines follows = draw_served set before sub count lines follows
-follows_served set before sub count (verdict.InRange seen seq_ms) lines follows = draw_served set before sub count lines follows
-follows_served set before sub count (verdict.Beyond seen seq_ms) lines follows = subst (λ (ls : List LineRecord). AreServed set before ls) (sym follows) tt
-follows_served set before sub count verdict.WrongMac lines follows = subst (λ (ls : List LineRecord). AreServed set before ls) (sym follows) tt
 
 -- a released number stands among the numbers of all lines before
 released_before : (place : Before) (sub n : ℕ) → is_released place sub n ≡ true → 1 ≤ times n (numbers_of sub (all_before place))
@@ -120,6 +97,21 @@ served_then : (set : Setting) (place : Before) (front rest : List LineRecord) �
 served_then set place front rest first more =
     AreServed-append set (all_before place) front rest first (subst (λ (ls : List LineRecord). AreServed set ls rest) (all_behind place front) more)
 
+-- lines of known kinds
+known_served : (set : Setting) (place : Before) (lines : List LineRecord) → AreKnown set place lines → AreServed set (all_before place) lines
+known_served set place [] known = tt
+known_served set place (line ∷ lines) (first, more) =
+    (one line first, subst (λ (ls : List LineRecord). AreServed set ls lines) (all_behind place (line ∷ [])) (known_served set (behind place (line ∷ [])) lines more))
+  where
+    one : (l : LineRecord) → IsKnown set place l → IsServed set (all_before place) l
+    one (Vector s n) is = is.last
+    one (Withheld s n stop) is = tt
+    one (Exhausted s word) is = is
+    one (Sync s answer) is = tt
+    one (Give s n answer) (row, there, given) = given_answered set place s n row answer (is_released place s n) refl there given
+    one (Further said) is = tt
+    one (Event r) is = absurd is
+
 -- an event
 event_line_served : (set : Setting) (place : Before) (net next : Net) (e : Happens) (lines : List LineRecord) → EventGives set place net e lines next
     → AreServed set (all_before place) lines
@@ -145,19 +137,10 @@ plain_served set place net next session (line ∷ lines) (mid, first, more) =
 
 -- what a line of a job gives
 line_served : (set : Setting) (place : Before) (net next : Net) (l : Line) (lines : List LineRecord) → LineGives set place net l lines next → AreServed set (all_before place) lines
-line_served set place net next (line.Draw sub count) lines (gives, is) = draw_served set (all_before place) sub count lines gives
-line_served set place net next (line.Sync sub seq bit count) lines (gives, is) =
-    subst (λ (ls : List LineRecord). AreServed set (all_before place) ls) (sym gives.lines_are)
-    (tt, follows_served set (all_before place ++ Sync sub gives.answer ∷ []) sub count gives.answer gives.more gives.follows)
-line_served set place net next (line.Give sub n) lines (gives, is) =
-    subst (λ (ls : List LineRecord). AreServed set (all_before place) ls) (sym gives.lines_are)
-    (given_answered set place sub n gives.row gives.answer (is_released place sub n) refl gives.there gives.given, tt)
-line_served set place net next (line.Session opening) lines gives = event_line_served set place net next (event.Open opening) lines gives
-line_served set place net next (line.Start session) lines gives = event_line_served set place net next (event.Start session) lines gives
-line_served set place net next (line.Deliver session at' packet) lines gives = event_line_served set place net next (event.Deliver session at' packet) lines gives
-line_served set place net next (line.Repeat session) lines gives = event_line_served set place net next (event.Repeat session) lines gives
-line_served set place net next (line.GiveUp session at') lines gives = event_line_served set place net next (event.GiveUp session at') lines gives
-line_served set place net next (line.Plain session) lines gives = plain_served set place net next session lines gives
+line_served set place net next l lines = by_kind (λ x. LineGives set place net x lines next → AreServed set (all_before place) lines)
+    (λ x is gives. known_served set place lines (is.gives set place net next lines gives).0)
+    (λ e gives. event_line_served set place net next e lines (event_gives set place net next e lines gives))
+    (λ session gives. plain_served set place net next session lines gives) l
 
 -- what a job gives
 job_served : (set : Setting) (place : Before) (net last : Net) (job : List Line) (records : List LineRecord) → JobGives set place net job records last

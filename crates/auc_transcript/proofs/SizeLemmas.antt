@@ -8,7 +8,6 @@ use Rattle.auc_lines.specs.Part.{held_subs}
 use Rattle.auc_lines.specs.declared.part.End.{End}
 use Rattle.auc_lines.specs.declared.part.End.TheVariants as end
 use Rattle.auc_lines.specs.declared.part.Line.{Line}
-use Rattle.auc_lines.specs.declared.part.Line.TheVariants as line
 use Rattle.auc_reauth.specs.Device.{Keeps}
 use Rattle.auc_reauth.specs.Server.{Contexts, no_contexts}
 use Rattle.auc_reauth.specs.Store.{entry}
@@ -27,6 +26,7 @@ use Rattle.auc_world.specs.declared.event.Event.TheVariants as event
 use Rattle.auc_world.specs.declared.net.Session.{Session}
 use Rattle.auc_world.specs.declared.record.LineRecord.{LineRecord}
 use Rattle.auc_world.proofs.Facts.{run_is_sized, run_resumes_sized}
+use Rattle.auc_transcript.proofs.KindLemmas.{by_kind, event_gives}
 
 -- ---- what befalls a network
 
@@ -66,15 +66,10 @@ plain_reaches set start before w next session (l ∷ lines) (mid, first, more) r
 
 pub line_reaches : (set : Setting) (start : Net) (before : Before) (w next : Net) (l : Line) (lines : List LineRecord) → LineGives set before w l lines next → IsReached set start w
     → IsReached set start next
-line_reaches set start before w next (line.Draw sub count) lines (gives, same) r = subst (IsReached set start) (sym same) r
-line_reaches set start before w next (line.Sync sub seq bit count) lines (gives, same) r = subst (IsReached set start) (sym same) r
-line_reaches set start before w next (line.Give sub n) lines (gives, same) r = subst (IsReached set start) (sym same) r
-line_reaches set start before w next (line.Session opening) lines gives r = event_reaches set start before w next (event.Open opening) lines gives r
-line_reaches set start before w next (line.Start session) lines gives r = event_reaches set start before w next (event.Start session) lines gives r
-line_reaches set start before w next (line.Deliver session at' packet) lines gives r = event_reaches set start before w next (event.Deliver session at' packet) lines gives r
-line_reaches set start before w next (line.Repeat session) lines gives r = event_reaches set start before w next (event.Repeat session) lines gives r
-line_reaches set start before w next (line.GiveUp session at') lines gives r = event_reaches set start before w next (event.GiveUp session at') lines gives r
-line_reaches set start before w next (line.Plain session) lines gives r = plain_reaches set start before w next session lines gives r
+line_reaches set start before w next l lines = by_kind (λ x. LineGives set before w x lines next → IsReached set start w → IsReached set start next)
+    (λ x is gives r. subst (IsReached set start) (sym (is.gives set before w next lines gives).1) r)
+    (λ e gives r. event_reaches set start before w next e lines (event_gives set before w next e lines gives) r)
+    (λ session gives r. plain_reaches set start before w next session lines gives r) l
 
 pub job_reaches : (set : Setting) (start : Net) (before : Before) (w last : Net) (job : List Line) (lines : List LineRecord) → JobGives set before w job lines last → IsReached set start w
     → IsReached set start last

@@ -1,6 +1,6 @@
 -- For plain sessions: a session stays as it is through the events of other sessions, and one without an event stays new.
 use Rattle.std.proofs.Common.{◌≡◌, ◌≢◌, ◌⊎◌, ℕ, ◌==◌, Bool, true, false, List, [], ◌∷◌, length, map, All, Option, Some, None, slice_get, slice_set, refl, sym, ap, ◌∙◌, subst, inl, inr, ⊎_elim}
-use Rattle.std.proofs.lemmas.Bool.{eq-eqb, eqb-true}
+use Rattle.std.proofs.lemmas.Bool.{cond-true, eq-eqb, eqb-true}
 use Rattle.std.proofs.lemmas.List.Elements.{All-push, All-set}
 use Rattle.std.proofs.lemmas.List.Quantifiers.{position-Some}
 use Rattle.std.proofs.lemmas.Option.{slice_get-get_or}
@@ -35,8 +35,9 @@ use Rattle.auc_world.specs.declared.net.SentPacket.{SentPacket}
 use Rattle.auc_world.specs.declared.net.Session.{Session}
 use Rattle.auc_world.specs.declared.record.LineRecord.{LineRecord}
 use Rattle.auc_world.proofs.Facts.{turn_subs}
-use Rattle.auc_transcript.specs.Completeness.{session_in, session_named}
+use Rattle.auc_transcript.specs.Completeness.{opening_by, session_in, session_named}
 use Rattle.auc_transcript.proofs.FirstLemmas.{StaysFirst, first_after_push, first_after_set, passes_first, pushed_is_first}
+use Rattle.auc_transcript.proofs.KindLemmas.{by_kind, line_of}
 
 -- ---- a session of a number
 
@@ -342,33 +343,41 @@ named_apart session number apart same = apart (ap Some same)
 
 -- a line that opens a session under the number of another one is this one
 abbrev pub SuitsAt : SessionLine → Line → Type 0
-SuitsAt opening (line.Draw sub count) = Unit {0}
-SuitsAt opening (line.Sync sub seq bit count) = Unit {0}
-SuitsAt opening (line.Give sub n) = Unit {0}
-SuitsAt opening (line.Session other) = IsTheOne opening other
-SuitsAt opening (line.Start session) = Unit {0}
-SuitsAt opening (line.Deliver session at' packet) = Unit {0}
-SuitsAt opening (line.Repeat session) = Unit {0}
-SuitsAt opening (line.GiveUp session at') = Unit {0}
-SuitsAt opening (line.Plain session) = Unit {0}
+SuitsAt opening l = (other : SessionLine) → opening_by opening.session l ≡ Some other → other ≡ opening
+
+-- what leaves a session, if less is asked for
+leaves_if : (rows : List Row) (opening : SessionLine) (w next : Net) (First Suits : Type 0) → (Suits → First) → Leaves rows opening w next First → Leaves rows opening w next Suits
+leaves_if rows opening w next First Suits here k =
+    record { stays = k.stays; new = λ suits all. k.new (λ none. here (suits none)) all; devices = k.devices; homes = k.homes }
 
 -- a line that is of no event in the session
 pub line_leaves : (set : Setting) (opening : SessionLine) (before : Before) (w next : Net) (l : Line) (lines : List LineRecord) → session_named l ≢ Some opening.session
     → LineGives set before w l lines next → Leaves set.rows opening w next (SuitsAt opening l)
-line_leaves set opening before w next (line.Draw sub count) lines apart (gives, same) = leaves_itself set.rows opening w next (Unit {0}) same
-line_leaves set opening before w next (line.Sync sub seq bit count) lines apart (gives, same) = leaves_itself set.rows opening w next (Unit {0}) same
-line_leaves set opening before w next (line.Give sub n) lines apart (gives, same) = leaves_itself set.rows opening w next (Unit {0}) same
-line_leaves set opening before w next (line.Session other) lines apart gives = gives_leaves set opening before w next (event.Open other) lines tt gives
-line_leaves set opening before w next (line.Start session) lines apart gives =
-    gives_leaves set opening before w next (event.Start session) lines (named_apart session opening.session apart) gives
-line_leaves set opening before w next (line.Deliver session at' packet) lines apart gives =
-    gives_leaves set opening before w next (event.Deliver session at' packet) lines (named_apart session opening.session apart) gives
-line_leaves set opening before w next (line.Repeat session) lines apart gives =
-    gives_leaves set opening before w next (event.Repeat session) lines (named_apart session opening.session apart) gives
-line_leaves set opening before w next (line.GiveUp session at') lines apart gives =
-    gives_leaves set opening before w next (event.GiveUp session at') lines (named_apart session opening.session apart) gives
-line_leaves set opening before w next (line.Plain session) lines apart gives =
-    plain_leaves set opening before w next session lines (named_apart session opening.session apart) gives
+line_leaves set opening before w next l lines = by_kind LeavesBy
+    (λ x is apart gives. leaves_itself set.rows opening w next (SuitsAt opening x) (is.gives set before w next lines gives).1) at_event
+    (λ session apart gives. leaves_if set.rows opening w next (Unit {0}) (SuitsAt opening (line.Plain session)) (λ suits. tt)
+    (plain_leaves set opening before w next session lines (named_apart session opening.session apart) gives)) l
+  where
+    LeavesBy : Line → Type 0
+    LeavesBy x = session_named x ≢ Some opening.session → LineGives set before w x lines next → Leaves set.rows opening w next (SuitsAt opening x)
+
+    the_one : (other : SessionLine) → SuitsAt opening (line.Session other) → IsTheOne opening other
+    the_one other suits same =
+        suits other (cond-true (other.session == opening.session) (Some other) None (eq-eqb other.session opening.session same))
+
+    by_event : (e : Event) → IsBeside opening.session e → EventGives set before w e lines next → (SuitsAt opening (line_of e) → SuitsIn opening e)
+        → Leaves set.rows opening w next (SuitsAt opening (line_of e))
+    by_event e beside gives suits =
+        leaves_if set.rows opening w next (SuitsIn opening e) (SuitsAt opening (line_of e)) suits (gives_leaves set opening before w next e lines beside gives)
+
+    at_event : (e : Event) → LeavesBy (line_of e)
+    at_event (event.Open other) apart gives = by_event (event.Open other) tt gives (the_one other)
+    at_event (event.Start session) apart gives = by_event (event.Start session) (named_apart session opening.session apart) gives (λ suits. tt)
+    at_event (event.Deliver session at' packet) apart gives =
+        by_event (event.Deliver session at' packet) (named_apart session opening.session apart) gives (λ suits. tt)
+    at_event (event.Repeat session) apart gives = by_event (event.Repeat session) (named_apart session opening.session apart) gives (λ suits. tt)
+    at_event (event.GiveUp session at') apart gives =
+        by_event (event.GiveUp session at') (named_apart session opening.session apart) gives (λ suits. tt)
 
 -- a line that opens a session, for a subscriber whose device there is
 pub opens : (set : Setting) (before : Before) (w next : Net) (opening : SessionLine) (place : ℕ) (lines : List LineRecord) → device_place set.rows w.devices opening.sub ≡ Some place

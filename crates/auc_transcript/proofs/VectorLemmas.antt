@@ -16,7 +16,7 @@ use Rattle.auc_vector.specs.declared.notes.NumberNote.TheVariants as number
 use Rattle.auc_lines.specs.declared.part.Part.{Part}
 use Rattle.auc_lines.specs.declared.part.Part.TheVariants.{Round, Restart}
 use Rattle.auc_world.specs.declared.record.LineRecord.{LineRecord}
-use Rattle.auc_world.specs.declared.record.LineRecord.TheVariants.{Vector, Withheld, Exhausted, Sync, Give, Event}
+use Rattle.auc_world.specs.declared.record.LineRecord.TheVariants.{Vector, Withheld, Exhausted, Sync, Give, Further, Event}
 use Rattle.auc_world.specs.declared.record.PartRecord.{PartRecord}
 use Rattle.auc_world.specs.declared.record.PartRecord.TheVariants as record_of
 use Rattle.auc_world.specs.declared.record.RoundRecord.{RoundRecord}
@@ -65,6 +65,7 @@ numbers_within set sub before (Withheld s n stop ∷ lines) (is, more) = numbers
 numbers_within set sub before (Exhausted s word ∷ lines) (is, more) = numbers_within set sub (before ++ Exhausted s word ∷ []) lines more
 numbers_within set sub before (Sync s answer ∷ lines) (is, more) = numbers_within set sub (before ++ Sync s answer ∷ []) lines more
 numbers_within set sub before (Give s n answer ∷ lines) (is, more) = numbers_within set sub (before ++ Give s n answer ∷ []) lines more
+numbers_within set sub before (Further said ∷ lines) (is, more) = numbers_within set sub (before ++ Further said ∷ []) lines more
 numbers_within set sub before (Event r ∷ lines) (is, more) =
     All-append (λ n. n ≤ max_seq) (number_released (number_for sub r)) (numbers_of sub lines) (released_within (number_for sub r) (is.numbers sub))
     (numbers_within set sub (before ++ Event r ∷ []) lines more)

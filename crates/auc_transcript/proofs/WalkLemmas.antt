@@ -1,6 +1,6 @@
 -- For the law of vectors that sessions present: each event of a lawful transcript happens in a network whose packets are
 -- those that the earlier lines of its job sent, and whose devices have the secrets of their subscribers.
-use Rattle.std.proofs.Common.{◌≡◌, ℕ, zero, suc, ◌==◌, true, List, [], ◌∷◌, ◌++◌, Option, Some, None, All, refl, sym, ap, ◌∙◌, subst, inl, inr, append_assoc, append-nil}
+use Rattle.std.proofs.Common.{◌≡◌, ℕ, ◌==◌, true, List, [], ◌∷◌, ◌++◌, Option, Some, None, All, refl, sym, ap, ◌∙◌, subst, inl, inr, append_assoc, append-nil}
 use Rattle.std.specs.Prelude.{flat_map, slice_get}
 use Rattle.std.proofs.lemmas.Bool.{and_parts, cases_order, eqb-true}
 use Rattle.std.proofs.lemmas.List.Concat.{flat_map-append}
@@ -13,7 +13,6 @@ use Rattle.auc_lines.specs.Part.{held_subs}
 use Rattle.auc_lines.specs.declared.part.End.{End}
 use Rattle.auc_lines.specs.declared.part.End.TheVariants as end
 use Rattle.auc_lines.specs.declared.part.Line.{Line}
-use Rattle.auc_lines.specs.declared.part.Line.TheVariants as line
 use Rattle.auc_lines.specs.declared.part.Part.{Part}
 use Rattle.auc_lines.specs.declared.part.Part.TheVariants.{Round, Restart}
 use Rattle.auc_peer.specs.Subscription.{Subscription}
@@ -21,7 +20,7 @@ use Rattle.auc_subs.specs.Subscriber.{AreSubscribers, same_identity}
 use Rattle.auc_subs.specs.declared.row.Row.{Row}
 use Rattle.auc_world.specs.Agreement.{HaveSecrets}
 use Rattle.auc_world.specs.Came.{AreReceived, TellsNotes, bytes_named, came, presented_by}
-use Rattle.auc_world.specs.Given.{Before, DrawGives, EventGives, IsUsimAsked, JobGives, JobsGive, LineGives, PlainGives, RelayGives, VectorsFollow, behind, packet_of}
+use Rattle.auc_world.specs.Given.{Before, EventGives, IsUsimAsked, JobGives, JobsGive, LineGives, PlainGives, RelayGives, behind, packet_of}
 use Rattle.auc_world.specs.Happened.{Told, happened}
 use Rattle.auc_world.specs.Lines.{all_lines}
 use Rattle.auc_world.specs.Net.{Net, other, place_with}
@@ -33,15 +32,14 @@ use Rattle.auc_world.specs.declared.event.Event.TheVariants as event
 use Rattle.auc_world.specs.declared.event.EventRecord.{EventRecord}
 use Rattle.auc_world.specs.declared.net.Session.{Session}
 use Rattle.auc_world.specs.declared.record.LineRecord.{LineRecord}
-use Rattle.auc_world.specs.declared.record.LineRecord.TheVariants.{Vector, Withheld, Exhausted, Sync, Give, Event}
+use Rattle.auc_world.specs.declared.record.LineRecord.TheVariants.{Vector, Withheld, Exhausted, Sync, Give, Further, Event}
 use Rattle.auc_world.specs.declared.record.PartRecord.{PartRecord}
 use Rattle.auc_world.specs.declared.record.PartRecord.TheVariants as record_of
 use Rattle.auc_world.specs.declared.record.RoundRecord.{RoundRecord}
-use Rattle.auc_world.specs.declared.record.SyncVerdict.{SyncVerdict}
-use Rattle.auc_world.specs.declared.record.SyncVerdict.TheVariants as verdict
 use Rattle.auc_world.proofs.Facts.{AreAt, OpensAt, places_stay}
 use Rattle.auc_transcript.specs.Headline.{IsOutsideSessions}
 use Rattle.auc_transcript.specs.Presented.{packets_in, sent_in_line}
+use Rattle.auc_transcript.proofs.KindLemmas.{behind_none, behind_on, by_kind, event_gives, quiet_gives}
 use Rattle.auc_transcript.proofs.PacketLemmas.{bytes_of, event_posts}
 
 -- ---- the devices of a job
@@ -144,6 +142,7 @@ HasOccurred set place (Withheld sub n stop) = Unit {0}
 HasOccurred set place (Exhausted sub word) = Unit {0}
 HasOccurred set place (Sync sub answer) = Unit {0}
 HasOccurred set place (Give sub n answer) = Unit {0}
+HasOccurred set place (Further said) = Unit {0}
 HasOccurred set place (Event r) = Occurred set place r
 
 abbrev pub HaveOccurred : Setting → Before → List LineRecord → Type 0
@@ -155,21 +154,18 @@ record Walks (set : Setting) (place : Before) (lines : List LineRecord) (next : 
   have : HaveOccurred set place lines
   leads : IsAfter set (place.own ++ lines) next
 
-behind_one : (place : Before) (line : LineRecord) (lines : List LineRecord) → behind (behind place (line ∷ [])) lines ≡ behind place (line ∷ lines)
-behind_one place line lines = ap (λ (own : List LineRecord). record { early = place.early; beside = place.beside; own = own }) (append_assoc place.own (line ∷ []) lines)
-
 have-append : (set : Setting) (place : Before) (xs ys : List LineRecord) → HaveOccurred set place xs → HaveOccurred set (behind place xs) ys → HaveOccurred set place (xs ++ ys)
 have-append set place [] ys these those =
-    subst (λ (own : List LineRecord). HaveOccurred set (record { early = place.early; beside = place.beside; own = own }) ys) (append-nil place.own) those
+    subst (λ (p : Before). HaveOccurred set p ys) (behind_none place) those
 have-append set place (x ∷ xs) ys (first, these) those =
-    (first, have-append set (behind place (x ∷ [])) xs ys these (subst (λ (p : Before). HaveOccurred set p ys) (sym (behind_one place x xs)) those))
+    (first, have-append set (behind place (x ∷ [])) xs ys these (subst (λ (p : Before). HaveOccurred set p ys) (sym (behind_on place (x ∷ []) xs)) those))
 
 -- one line of many
 pub occurred_at : (set : Setting) (place : Before) (front after : List LineRecord) (r : EventRecord) → HaveOccurred set place (front ++ Event r ∷ after) → Occurred set (behind place front) r
 occurred_at set place [] after r (here, rest) =
-    subst (λ (own : List LineRecord). Occurred set (record { early = place.early; beside = place.beside; own = own }) r) (sym (append-nil place.own)) here
+    subst (λ (p : Before). Occurred set p r) (sym (behind_none place)) here
 occurred_at set place (x ∷ front) after r (first, rest) =
-    subst (λ (p : Before). Occurred set p r) (behind_one place x front) (occurred_at set (behind place (x ∷ [])) front after r rest)
+    subst (λ (p : Before). Occurred set p r) (behind_on place (x ∷ []) front) (occurred_at set (behind place (x ∷ [])) front after r rest)
 
 -- ---- lines without events
 
@@ -183,6 +179,7 @@ quiet_have set place (line ∷ lines) none = (one line (All-head IsOutsideSessio
     one (Exhausted sub word) is = tt
     one (Sync sub answer) is = tt
     one (Give sub n answer) is = tt
+    one (Further said) is = tt
     one (Event r) is = absurd is
 
 quiet_sends : (lines : List LineRecord) → All IsOutsideSessions lines → packets_in lines ≡ []
@@ -196,6 +193,7 @@ quiet_sends (line ∷ lines) none =
     one (Exhausted sub word) is = refl
     one (Sync sub answer) is = refl
     one (Give sub n answer) is = refl
+    one (Further said) is = refl
     one (Event r) is = absurd is
 
 quiet_walks : (set : Setting) (place : Before) (w next : Net) (lines : List LineRecord) → All IsOutsideSessions lines → next ≡ w → IsAfter set place.own w → Walks set place lines next
@@ -207,24 +205,6 @@ quiet_walks set place w next lines none is stands = record {
     sessions = stands.sessions;
   });
 }
-
-pub draw_quiet : (set : Setting) (sub count : ℕ) (lines : List LineRecord) → DrawGives set sub count lines → All IsOutsideSessions lines
-draw_quiet set sub zero lines gives = subst (All IsOutsideSessions) (sym gives) (All-nil IsOutsideSessions)
-draw_quiet set sub (suc count) [] gives = absurd gives
-draw_quiet set sub (suc count) (Vector s m ∷ lines) (same, is, more) = All-cons IsOutsideSessions (Vector s m) lines tt (draw_quiet set sub count lines more)
-draw_quiet set sub (suc count) (Withheld s n stop ∷ lines) (same, first, last, none) =
-    All-cons IsOutsideSessions (Withheld s n stop) lines tt (subst (All IsOutsideSessions) (sym none) (All-nil IsOutsideSessions))
-draw_quiet set sub (suc count) (Exhausted s word ∷ lines) (same, spent, none) =
-    All-cons IsOutsideSessions (Exhausted s word) lines tt (subst (All IsOutsideSessions) (sym none) (All-nil IsOutsideSessions))
-draw_quiet set sub (suc count) (Sync s answer ∷ lines) gives = absurd gives
-draw_quiet set sub (suc count) (Give s n answer ∷ lines) gives = absurd gives
-draw_quiet set sub (suc count) (Event r ∷ lines) gives = absurd gives
-
-pub follows_quiet : (set : Setting) (sub count : ℕ) (answer : SyncVerdict) (lines : List LineRecord) → VectorsFollow set sub count answer lines → All IsOutsideSessions lines
-follows_quiet set sub count (verdict.Moved seen seq_ms) lines follows = draw_quiet set sub count lines follows
-follows_quiet set sub count (verdict.InRange seen seq_ms) lines follows = draw_quiet set sub count lines follows
-follows_quiet set sub count (verdict.Beyond seen seq_ms) lines follows = subst (All IsOutsideSessions) (sym follows) (All-nil IsOutsideSessions)
-follows_quiet set sub count verdict.WrongMac lines follows = subst (All IsOutsideSessions) (sym follows) (All-nil IsOutsideSessions)
 
 -- ---- events
 
@@ -276,20 +256,10 @@ plain_walks set place w next session (line ∷ lines) (mid, first, more) stands 
     (λ after. relay_walks set (behind place (line ∷ [])) mid next session end.Peer (packet_of line) lines more after)
 
 line_walks : (set : Setting) (place : Before) (w next : Net) (l : Line) (lines : List LineRecord) → LineGives set place w l lines next → IsAfter set place.own w → Walks set place lines next
-line_walks set place w next (line.Draw sub count) lines (gives, is) stands = quiet_walks set place w next lines (draw_quiet set sub count lines gives) is stands
-line_walks set place w next (line.Sync sub seq bit count) lines (gives, is) stands =
-    quiet_walks set place w next lines
-    (subst (All IsOutsideSessions) (sym gives.lines_are)
-    (All-cons IsOutsideSessions (Sync sub gives.answer) gives.more tt (follows_quiet set sub count gives.answer gives.more gives.follows))) is stands
-line_walks set place w next (line.Give sub n) lines (gives, is) stands =
-    quiet_walks set place w next lines
-    (subst (All IsOutsideSessions) (sym gives.lines_are) (All-cons IsOutsideSessions (Give sub n gives.answer) [] tt (All-nil IsOutsideSessions))) is stands
-line_walks set place w next (line.Session opening) lines gives stands = event_walks set place w next (event.Open opening) lines gives stands
-line_walks set place w next (line.Start session) lines gives stands = event_walks set place w next (event.Start session) lines gives stands
-line_walks set place w next (line.Deliver session at' packet) lines gives stands = event_walks set place w next (event.Deliver session at' packet) lines gives stands
-line_walks set place w next (line.Repeat session) lines gives stands = event_walks set place w next (event.Repeat session) lines gives stands
-line_walks set place w next (line.GiveUp session at') lines gives stands = event_walks set place w next (event.GiveUp session at') lines gives stands
-line_walks set place w next (line.Plain session) lines gives stands = plain_walks set place w next session lines gives stands
+line_walks set place w next l lines = by_kind (λ x. LineGives set place w x lines next → IsAfter set place.own w → Walks set place lines next)
+    (λ x is gives stands. let (none, same) = quiet_gives x is set place w next lines gives in quiet_walks set place w next lines none same stands)
+    (λ e gives stands. event_walks set place w next e lines (event_gives set place w next e lines gives) stands)
+    (λ session gives stands. plain_walks set place w next session lines gives stands) l
 
 job_walks : (set : Setting) (place : Before) (w last : Net) (job : List Line) (lines : List LineRecord) → JobGives set place w job lines last → IsAfter set place.own w → Walks set place lines last
 job_walks set place w last [] lines (none, is) stands =

@@ -28,7 +28,7 @@ use Rattle.auc_world.specs.declared.event.Event.{Event as Happens}
 use Rattle.auc_world.specs.declared.event.Event.TheVariants as event
 use Rattle.auc_world.specs.declared.net.Session.{Session}
 use Rattle.auc_world.specs.declared.record.LineRecord.{LineRecord}
-use Rattle.auc_world.specs.declared.record.LineRecord.TheVariants.{Vector, Withheld, Exhausted, Sync, Give, Event}
+use Rattle.auc_world.specs.declared.record.LineRecord.TheVariants.{Vector, Withheld, Exhausted, Sync, Give, Further, Event}
 use Rattle.auc_world.specs.declared.record.PartRecord.{PartRecord}
 use Rattle.auc_world.specs.declared.record.PartRecord.TheVariants as record_of
 use Rattle.auc_world.specs.declared.record.SessionVerdict.{SessionVerdict}
@@ -41,6 +41,8 @@ abbrev pub session_named : Line → Option ℕ
 session_named (line.Draw sub count) = None
 session_named (line.Sync sub seq bit count) = None
 session_named (line.Give sub n) = None
+session_named (line.Eps sub snid) = None
+session_named (line.Fiveg authentication) = None
 session_named (line.Session opening) = None
 session_named (line.Start session) = Some session
 session_named (line.Deliver session end packet) = Some session
@@ -53,6 +55,8 @@ abbrev pub opening_by : ℕ → Line → Option SessionLine
 opening_by session (line.Draw sub count) = None
 opening_by session (line.Sync sub seq bit count) = None
 opening_by session (line.Give sub n) = None
+opening_by session (line.Eps sub snid) = None
+opening_by session (line.Fiveg authentication) = None
 opening_by session (line.Session opening) = if opening.session == session then Some opening else None
 opening_by session (line.Start started) = None
 opening_by session (line.Deliver delivered end packet) = None
@@ -119,6 +123,7 @@ is_of_session session (Withheld sub n stop) = false
 is_of_session session (Exhausted sub word) = false
 is_of_session session (Sync sub answer) = false
 is_of_session session (Give sub n answer) = false
+is_of_session session (Further said) = false
 is_of_session session (Event r) = session_in r.event == session
 
 abbrev pub records_of : ℕ → List LineRecord → List LineRecord

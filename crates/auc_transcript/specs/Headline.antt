@@ -13,7 +13,7 @@ use Rattle.auc_subs.specs.declared.row.Row.{Row}
 use Rattle.auc_world.specs.declared.record.GiveVerdict.{GiveVerdict}
 use Rattle.auc_world.specs.declared.record.GiveVerdict.TheVariants as given
 use Rattle.auc_world.specs.declared.record.LineRecord.{LineRecord}
-use Rattle.auc_world.specs.declared.record.LineRecord.TheVariants.{Vector, Withheld, Exhausted, Sync, Give, Event}
+use Rattle.auc_world.specs.declared.record.LineRecord.TheVariants.{Vector, Withheld, Exhausted, Sync, Give, Further, Event}
 use Rattle.auc_world.specs.declared.record.PartRecord.{PartRecord}
 use Rattle.auc_world.specs.declared.record.PartRecord.TheVariants as record_of
 use Rattle.auc_world.specs.Given.{is_in}
@@ -142,6 +142,7 @@ IsOutsideSessions (Withheld sub n stop) = Unit {0}
 IsOutsideSessions (Exhausted sub word) = Unit {0}
 IsOutsideSessions (Sync sub answer) = Unit {0}
 IsOutsideSessions (Give sub n answer) = Unit {0}
+IsOutsideSessions (Further said) = Unit {0}
 IsOutsideSessions (Event r) = ⊥
 
 -- without sessions each accepted SQN was drawn for the subscriber, so that the premise `genuine` holds always

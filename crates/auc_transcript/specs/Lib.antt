@@ -6,4 +6,5 @@ pub mod OneTold
 pub mod Position
 pub mod Presented
 pub mod Rounds
+pub mod Systems
 pub mod Witnesses

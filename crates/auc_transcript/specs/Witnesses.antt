@@ -9,6 +9,7 @@ use Rattle.auc_hmac.specs.declared.keys.Master.TheVariants as master
 use Rattle.auc_hmac.specs.declared.method.Method.TheVariants as method
 use Rattle.auc_ident.specs.Permanent.{username}
 use Rattle.auc_lines.specs.declared.part.End.TheVariants as end
+use Rattle.auc_lines.specs.declared.part.FivegLine.{FivegLine}
 use Rattle.auc_lines.specs.declared.part.Identity.TheVariants as identity
 use Rattle.auc_lines.specs.declared.part.Line.TheVariants as line
 use Rattle.auc_lines.specs.declared.part.Part.{Part}
@@ -49,11 +50,14 @@ use Rattle.auc_world.specs.declared.event.Event.{Event as Happens}
 use Rattle.auc_world.specs.declared.event.Event.TheVariants as event
 use Rattle.auc_world.specs.declared.event.Note.{Note}
 use Rattle.auc_world.specs.declared.event.NoteStep.TheVariants as did
+use Rattle.auc_world.specs.declared.further.FivegOutcome.{FivegOutcome}
+use Rattle.auc_world.specs.declared.further.FivegOutcome.TheVariants as fiveg
+use Rattle.auc_world.specs.declared.further.Further.TheVariants as further
 use Rattle.auc_world.specs.declared.net.Session.{Session}
 use Rattle.auc_world.specs.declared.record.GiveVerdict.{GiveVerdict}
 use Rattle.auc_world.specs.declared.record.GiveVerdict.TheVariants as given
 use Rattle.auc_world.specs.declared.record.LineRecord.{LineRecord}
-use Rattle.auc_world.specs.declared.record.LineRecord.TheVariants.{Vector, Give, Event}
+use Rattle.auc_world.specs.declared.record.LineRecord.TheVariants.{Vector, Give, Further, Event}
 use Rattle.auc_world.specs.declared.record.PartRecord.{PartRecord}
 use Rattle.auc_world.specs.declared.record.PartRecord.TheVariants as record_of
 use Rattle.auc_world.specs.declared.record.Premise.TheVariants as premise
@@ -64,6 +68,7 @@ use Rattle.auc_transcript.specs.Counters.{KeepsContexts}
 use Rattle.auc_transcript.specs.Headline.{FailsExactlyByPlace, IsFailure}
 use Rattle.auc_transcript.specs.Keys.{EndsAgree}
 use Rattle.auc_transcript.specs.Presented.{FailsExactlyByPlaceInSessions, FindsRightMacs, IsNotedFailure}
+use Rattle.auc_transcript.specs.Systems.{AuthenticationsAreConfirmed}
 
 -- ---- one subscriber, and a round of one job
 
@@ -367,3 +372,22 @@ abbrev pub AcceptanceIsOwn : Type 0
 AcceptanceIsOwn = (key text x : List ℕ) (c n : ℕ) (net : Net)
     → KeepsContexts (setting key) (plain_round 1 ∷ text_round 2 text ∷ []) (text_rounds text n) ((first_net (context x c) ∷ []) ∷ (net ∷ []) ∷ [])
     → (username text ≡ x) × (c ≤ n)
+
+-- ---- authentications in 5G
+
+-- one in which nothing happens to RES* on its way, and both ends know the serving network by one name
+abbrev pub authentication : FivegLine
+authentication = record { sub = 0; home = zeros; device = zeros; bit = None; hxres = false }
+
+abbrev pub fiveg_round : Part
+fiveg_round = part.Round ((line.Fiveg authentication ∷ []) ∷ [])
+
+-- the first vector is released for it, the USIM gives this answer, and this is its outcome
+abbrev pub authenticated : GiveVerdict → FivegOutcome → List PartRecord
+authenticated answer outcome = transcript_of (Vector 0 1 ∷ Give 0 1 answer ∷ Further (further.Fiveg 0 outcome) ∷ [])
+
+-- the USIM accepted, and both ends have one K_SEAF, whatever network there is
+abbrev pub AuthenticationIsConfirmed : Type 0
+AuthenticationIsConfirmed = (key : List ℕ) (answer : GiveVerdict) (outcome : FivegOutcome) (net : Net)
+    → AuthenticationsAreConfirmed (setting key) (fiveg_round ∷ []) (authenticated answer outcome) ((net ∷ []) ∷ [])
+    → (answer ≡ given.Accepted) × ((k_seaf : List ℕ) × (outcome ≡ fiveg.Confirmed k_seaf k_seaf))

@@ -8,8 +8,10 @@ ghost use Rattle.auc_transcript.specs.OneTold.{EachToldTranscriptIsOne};
 ghost use Rattle.auc_transcript.specs.Position.{EachMoveStandsBetween, EachPlaceIsAPosition};
 ghost use Rattle.auc_transcript.specs.Presented.{EachFailureInSessionsIsByPlace, EachFailureInSessionsOfRoundsIsByPlace, EachPresentedVectorHasARightMac};
 ghost use Rattle.auc_transcript.specs.Rounds.{EachFailureInRoundsIsByPlace, EachSqnInRoundsIsGenuine};
-ghost use Rattle.auc_transcript.specs.Witnesses.{AcceptanceIsOwn, ContextsAreKept, CountersAreNoted, KeysAreEqual, MacIsRight, PlacesDecide, PlacesDecideInSessions, PlainSessionWins, ResumedSessionWins};
+ghost use Rattle.auc_transcript.specs.Systems.{EachHonestAuthenticationIsConfirmed};
+ghost use Rattle.auc_transcript.specs.Witnesses.{AcceptanceIsOwn, AuthenticationIsConfirmed, ContextsAreKept, CountersAreNoted, KeysAreEqual, MacIsRight, PlacesDecide, PlacesDecideInSessions, PlainSessionWins, ResumedSessionWins};
 
+use auc_5g::each_device_agrees_with_its_home;
 use auc_attr::bytes_have_one_reading_or_one_fault;
 use auc_ident::each_name_is_given_once;
 use auc_packet::{
@@ -193,6 +195,15 @@ pub fn each_resumed_session_agrees()
     each_resumed_session_succeeds();
 }
 
+/// If nothing happens to RES* on its way to the networks, and both ends know the serving network by one name, then both networks
+/// confirm a 5G authentication exactly if the USIM accepts the vector, and the device has the home network's XRES*, K_AUSF and
+/// K_SEAF (TS 33.501 §6.1.3.2). The vector of a subscriber without the separation bit is none of 5G.
+pub fn each_honest_authentication_is_confirmed()
+    ensures { EachHonestAuthenticationIsConfirmed }
+{
+    each_device_agrees_with_its_home();
+}
+
 /// No promise is empty: for each there are transcripts of a few lines that meet its premise, with a part left open that the promise
 /// determines.
 pub fn each_promise_has_a_witness()
@@ -205,6 +216,7 @@ pub fn each_promise_has_a_witness()
     ensures acceptances { AcceptanceIsOwn }
     ensures plain { PlainSessionWins }
     ensures resumed { ResumedSessionWins }
+    ensures authentications { AuthenticationIsConfirmed }
 {
     written_packets_are_read();
 }

@@ -1,5 +1,6 @@
 -- The laws are lemmas on the witnesses, by the law of written packets.
 use Rattle.auc_transcript.proofs.OwnWitnessLemmas.{acceptance_is_own}
+use Rattle.auc_transcript.proofs.SystemWitnessLemmas.{authentication_is_confirmed}
 use Rattle.auc_transcript.proofs.WitnessLemmas.{contexts_are_kept, counters_are_noted, keys_are_equal, mac_is_right, places_decide, places_decide_in_sessions, plain_session_wins, resumed_session_wins}
 use Rattle.auc_transcript.proofs.law.each_promise_has_a_witness.Goals as goal
 
@@ -29,3 +30,6 @@ returns-clause-resumed c = resumed_session_wins
 
 pub returns-clause-acceptances : goal.returns-clause-acceptances
 returns-clause-acceptances c = acceptance_is_own c.written_packets_are_read.ensures
+
+pub returns-clause-authentications : goal.returns-clause-authentications
+returns-clause-authentications c = authentication_is_confirmed

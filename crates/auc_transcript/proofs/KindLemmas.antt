@@ -1,0 +1,233 @@
+-- For the laws: each line of a job is an event's or a plain one, or it gives lines of known kinds and leaves the network of the job's
+-- sessions as it is. So the lemmas on lines go by these three kinds.
+use Rattle.std.proofs.Common.{◌≡◌, ℕ, zero, suc, ◌≤◌, ◌==◌, Bool, true, false, List, [], ◌∷◌, ◌++◌, map, All, Option, Some, None, refl, sym, ap, ◌∙◌, subst, append_assoc, append-nil}
+use Rattle.std.specs.Prelude.{if◌then◌else◌, slice_get}
+use Rattle.std.proofs.lemmas.Bool.{eqb-true}
+use Rattle.std.proofs.lemmas.List.Elements.{All-cons, All-nil}
+use Rattle.auc_5g.specs.Keys.{home_of}
+use Rattle.auc_5g.specs.declared.device_keys.DeviceKeys.{DeviceKeys}
+use Rattle.auc_5g.specs.declared.home_keys.HomeKeys.{HomeKeys}
+use Rattle.auc_lines.specs.declared.part.FivegLine.{FivegLine}
+use Rattle.auc_lines.specs.declared.part.Line.{Line}
+use Rattle.auc_lines.specs.declared.part.Line.TheVariants as line
+use Rattle.auc_lines.specs.declared.part.SessionLine.{SessionLine}
+use Rattle.auc_random.specs.Random.{rand_of}
+use Rattle.auc_request.specs.Request.{is_separated}
+use Rattle.auc_sqn.specs.Number.{max_seq}
+use Rattle.auc_subs.specs.declared.row.Row.{Row}
+use Rattle.auc_vector.specs.declared.parts.Vector.{Vector as AuthVector}
+use Rattle.auc_world.specs.Given.{AuthenticatesIf, Before, DrawGives, EpsGives, EventGives, FivegFollows, FivegGives, GiveGives, IsGiven, IsReleasable, LineGives, OneGives, SyncGives, VectorsFollow, behind, device_of_row, hxres_lines, is_released, judged_lines, kasme_line, outcome_of, past_before, turned}
+use Rattle.auc_world.specs.Net.{Net}
+use Rattle.auc_world.specs.Setting.{Setting}
+use Rattle.auc_world.specs.VectorAt.{vector_at, vector_of_row}
+use Rattle.auc_world.specs.declared.event.Event.{Event as Happens}
+use Rattle.auc_world.specs.declared.event.Event.TheVariants as event
+use Rattle.auc_world.specs.declared.further.Further.TheVariants as further
+use Rattle.auc_world.specs.declared.record.GiveVerdict.{GiveVerdict}
+use Rattle.auc_world.specs.declared.record.GiveVerdict.TheVariants as given
+use Rattle.auc_world.specs.declared.record.LineRecord.{LineRecord}
+use Rattle.auc_world.specs.declared.record.LineRecord.TheVariants.{Vector, Withheld, Exhausted, Sync, Give, Further, Event}
+use Rattle.auc_world.specs.declared.record.SyncVerdict.{SyncVerdict}
+use Rattle.auc_world.specs.declared.record.SyncVerdict.TheVariants as verdict
+use Rattle.auc_transcript.specs.Completeness.{opening_by}
+use Rattle.auc_transcript.specs.Headline.{IsOutsideSessions}
+
+-- ---- the lines before
+
+-- after no line
+pub behind_none : (place : Before) → behind place [] ≡ place
+behind_none place = ap (λ (own : List LineRecord). record { early = place.early; beside = place.beside; own = own }) (append-nil place.own)
+
+-- after some lines, and then others
+pub behind_on : (place : Before) (front rest : List LineRecord) → behind (behind place front) rest ≡ behind place (front ++ rest)
+behind_on place front rest = ap (λ (own : List LineRecord). record { early = place.early; beside = place.beside; own = own }) (append_assoc place.own front rest)
+
+-- ---- lines of known kinds
+
+-- a line that is no event's, after the lines before it: a vector has a number that one may have, the word of a spent subscriber is no
+-- number that one may still have, and a presented vector was answered
+abbrev pub IsKnown : Setting → Before → LineRecord → Type 0
+IsKnown set place (Vector s n) = IsReleasable set s n
+IsKnown set place (Withheld s n stop) = Unit {0}
+IsKnown set place (Exhausted s word) = max_seq ≤ word
+IsKnown set place (Sync s answer) = Unit {0}
+IsKnown set place (Give s n answer) = (row : Row) × (slice_get set.rows s ≡ Some row) × IsGiven (is_released place s n) (past_before place row s) n answer
+IsKnown set place (Further said) = Unit {0}
+IsKnown set place (Event r) = ⊥
+
+-- such lines, one after the other
+abbrev pub AreKnown : Setting → Before → List LineRecord → Type 0
+AreKnown set place [] = Unit {0}
+AreKnown set place (line ∷ lines) = IsKnown set place line × AreKnown set (behind place (line ∷ [])) lines
+
+known-append : (set : Setting) (place : Before) (xs ys : List LineRecord) → AreKnown set place xs → AreKnown set (behind place xs) ys → AreKnown set place (xs ++ ys)
+known-append set place [] ys these those = subst (λ (p : Before). AreKnown set p ys) (behind_none place) those
+known-append set place (x ∷ xs) ys (first, these) those =
+    (first, known-append set (behind place (x ∷ [])) xs ys these (subst (λ (p : Before). AreKnown set p ys) (sym (behind_on place (x ∷ []) xs)) those))
+
+none_known : (set : Setting) (place : Before) (lines : List LineRecord) → lines ≡ [] → AreKnown set place lines
+none_known set place lines none = subst (AreKnown set place) (sym none) tt
+
+-- none of them is an event's
+pub known_outside : (set : Setting) (place : Before) (lines : List LineRecord) → AreKnown set place lines → All IsOutsideSessions lines
+known_outside set place [] known = All-nil IsOutsideSessions
+known_outside set place (line ∷ lines) (first, more) = All-cons IsOutsideSessions line lines (one line first) (known_outside set (behind place (line ∷ [])) lines more)
+  where
+    one : (l : LineRecord) → IsKnown set place l → IsOutsideSessions l
+    one (Vector s n) is = tt
+    one (Withheld s n stop) is = tt
+    one (Exhausted s word) is = tt
+    one (Sync s answer) is = tt
+    one (Give s n answer) is = tt
+    one (Further said) is = tt
+    one (Event r) is = absurd is
+
+-- ---- what lines give
+
+-- a request for one vector, and what follows its number
+pub one_known : (set : Setting) (place : Before) (sub : ℕ) (Follows : ℕ → List LineRecord → Type 0) (lines : List LineRecord)
+    → ((n : ℕ) (rest : List LineRecord) → Follows n rest → AreKnown set (behind place (Vector sub n ∷ [])) rest) → OneGives set sub Follows lines → AreKnown set place lines
+one_known set place sub Follows [] known gives = absurd gives
+one_known set place sub Follows (Vector s n ∷ lines) known (same, is, more) = (
+  subst (λ (t : ℕ). IsReleasable set t n) (sym same) is,
+  subst (λ (t : ℕ). AreKnown set (behind place (Vector t n ∷ [])) lines) (sym same) (known n lines more),
+)
+one_known set place sub Follows (Withheld s n stop ∷ lines) known (same, first, last, none) = (tt, none_known set (behind place (Withheld s n stop ∷ [])) lines none)
+one_known set place sub Follows (Exhausted s word ∷ lines) known (same, spent, none) = (spent, none_known set (behind place (Exhausted s word ∷ [])) lines none)
+one_known set place sub Follows (Sync s answer ∷ lines) known gives = absurd gives
+one_known set place sub Follows (Give s n answer ∷ lines) known gives = absurd gives
+one_known set place sub Follows (Further said ∷ lines) known gives = absurd gives
+one_known set place sub Follows (Event r ∷ lines) known gives = absurd gives
+
+-- a request for so many
+draw_known : (set : Setting) (place : Before) (sub count : ℕ) (lines : List LineRecord) → DrawGives set sub count lines → AreKnown set place lines
+draw_known set place sub zero lines none = none_known set place lines none
+draw_known set place sub (suc count) lines gives =
+    one_known set place sub (λ n rest. DrawGives set sub count rest) lines (λ n rest more. draw_known set (behind place (Vector sub n ∷ [])) sub count rest more) gives
+
+-- an AUTS
+follows_known : (set : Setting) (place : Before) (sub count : ℕ) (answer : SyncVerdict) (lines : List LineRecord) → VectorsFollow set sub count answer lines → AreKnown set place lines
+follows_known set place sub count (verdict.Moved seen seq_ms) lines gives = draw_known set place sub count lines gives
+follows_known set place sub count (verdict.InRange seen seq_ms) lines gives = draw_known set place sub count lines gives
+follows_known set place sub count (verdict.Beyond seen seq_ms) lines none = none_known set place lines none
+follows_known set place sub count verdict.WrongMac lines none = none_known set place lines none
+
+sync_known : (set : Setting) (place : Before) (sub seq : ℕ) (bit : Option ℕ) (count : ℕ) (lines : List LineRecord) → SyncGives set sub seq bit count lines → AreKnown set place lines
+sync_known set place sub seq bit count lines gives =
+    subst (AreKnown set place) (sym gives.lines_are)
+    (tt, follows_known set (behind place (Sync sub gives.answer ∷ [])) sub count gives.answer gives.more gives.follows)
+
+-- a presented vector
+give_known : (set : Setting) (place : Before) (sub n : ℕ) (lines : List LineRecord) → GiveGives set place sub n lines → AreKnown set place lines
+give_known set place sub n lines gives = subst (AreKnown set place) (sym gives.lines_are) ((gives.row, gives.there, gives.given), tt)
+
+-- K_ASME
+kasme_known : (set : Setting) (place : Before) (snid : List ℕ) (vectors : List AuthVector) → AreKnown set place (map (kasme_line snid) vectors)
+kasme_known set place snid [] = tt
+kasme_known set place snid (v ∷ vectors) = (tt, kasme_known set (behind place (kasme_line snid v ∷ [])) snid vectors)
+
+eps_known : (set : Setting) (place : Before) (sub : ℕ) (snid : List ℕ) (lines : List LineRecord) → EpsGives set sub snid lines → AreKnown set place lines
+eps_known set place sub snid lines gives =
+    one_known set place sub (λ n rest. rest ≡ map (kasme_line snid) (vector_at set sub n)) lines
+    (λ n rest is. subst (AreKnown set (behind place (Vector sub n ∷ []))) (sym is) (kasme_known set (behind place (Vector sub n ∷ [])) snid (vector_at set sub n))) gives
+
+-- a 5G authentication: what follows the USIM's answer, what follows the vector, and both with it
+judged_known : (set : Setting) (place : Before) (l : FivegLine) (home : HomeKeys) (device : DeviceKeys) (answer : GiveVerdict) → AreKnown set place (judged_lines l home device answer)
+judged_known set place l home device given.Accepted = by l.hxres
+  where
+    by : (told : Bool) → AreKnown set place (hxres_lines told home ++ Further (further.Fiveg l.sub (outcome_of home device (turned l.bit device.res_star))) ∷ [])
+    by true = (tt, (tt, tt))
+    by false = (tt, tt)
+judged_known set place l home device (given.Sync sqn_ms) = tt
+judged_known set place l home device given.Absent = tt
+
+follows_vector_known : (set : Setting) (place : Before) (l : FivegLine) (n : ℕ) (lines : List LineRecord) → FivegFollows set place l n lines → AreKnown set place lines
+follows_vector_known set place l n lines f = by (is_separated (vector_of_row set f.row l.sub n).autn) f.follows
+  where
+    by : (separated : Bool) → AuthenticatesIf separated set place l f.row n lines → AreKnown set place lines
+    by false is = subst (AreKnown set place) (sym is) (tt, tt)
+    by true is =
+        let home = home_of (vector_of_row set f.row l.sub n) l.home in
+        let device = device_of_row f.row n (rand_of set.key l.sub n) l.device in
+        subst (AreKnown set place) (sym is.lines_are)
+        (known-append set place is.front is.more (give_known set place l.sub n is.front is.gives)
+        (subst (AreKnown set (behind place is.front)) (sym is.judged) (judged_known set (behind place is.front) l home device is.gives.answer)))
+
+fiveg_known : (set : Setting) (place : Before) (l : FivegLine) (lines : List LineRecord) → FivegGives set place l lines → AreKnown set place lines
+fiveg_known set place l lines gives =
+    one_known set place l.sub (λ n rest. FivegFollows set (behind place (Vector l.sub n ∷ [])) l n rest) lines
+    (λ n rest f. follows_vector_known set (behind place (Vector l.sub n ∷ [])) l n rest f) gives
+
+-- ---- the three kinds
+
+-- a line without an event: it opens no session, gives lines of known kinds, and leaves the network as it is
+pub record IsQuiet (l : Line) : Type 0 where
+  pub opens : (session : ℕ) → opening_by session l ≡ None
+  pub gives : (set : Setting) (place : Before) (w next : Net) (lines : List LineRecord) → LineGives set place w l lines next → AreKnown set place lines × (next ≡ w)
+
+-- the line of an event
+abbrev pub line_of : Happens → Line
+line_of (event.Open opening) = line.Session opening
+line_of (event.Start session) = line.Start session
+line_of (event.Deliver session at' packet) = line.Deliver session at' packet
+line_of (event.Repeat session) = line.Repeat session
+line_of (event.GiveUp session at') = line.GiveUp session at'
+
+-- it gives what the event gives
+pub event_gives : (set : Setting) (place : Before) (w next : Net) (e : Happens) (lines : List LineRecord) → LineGives set place w (line_of e) lines next → EventGives set place w e lines next
+event_gives set place w next (event.Open opening) lines gives = gives
+event_gives set place w next (event.Start session) lines gives = gives
+event_gives set place w next (event.Deliver session at' packet) lines gives = gives
+event_gives set place w next (event.Repeat session) lines gives = gives
+event_gives set place w next (event.GiveUp session at') lines gives = gives
+
+-- what holds of each line without an event, of each event's and of each plain one holds of each line. A further kind of line costs a
+-- lemma that it gives lines of known kinds, and its case here
+module _ (P : Line → Type 0) (quiet : (l : Line) → IsQuiet l → P l) (happens : (e : Happens) → P (line_of e)) (plain : (session : ℕ) → P (line.Plain session)) where
+  pub by_kind : (l : Line) → P l
+  by_kind (line.Draw sub count) =
+      quiet _ (record { opens = λ session. refl; gives = λ set place w next lines g. (draw_known set place sub count lines g.0, g.1) })
+  by_kind (line.Sync sub seq bit count) =
+      quiet _ (record { opens = λ session. refl; gives = λ set place w next lines g. (sync_known set place sub seq bit count lines g.0, g.1) })
+  by_kind (line.Give sub n) =
+      quiet _ (record { opens = λ session. refl; gives = λ set place w next lines g. (give_known set place sub n lines g.0, g.1) })
+  by_kind (line.Eps sub snid) =
+      quiet _ (record { opens = λ session. refl; gives = λ set place w next lines g. (eps_known set place sub snid lines g.0, g.1) })
+  by_kind (line.Fiveg l) =
+      quiet _ (record { opens = λ session. refl; gives = λ set place w next lines g. (fiveg_known set place l lines g.0, g.1) })
+  by_kind (line.Session opening) = happens (event.Open opening)
+  by_kind (line.Start session) = happens (event.Start session)
+  by_kind (line.Deliver session at' packet) = happens (event.Deliver session at' packet)
+  by_kind (line.Repeat session) = happens (event.Repeat session)
+  by_kind (line.GiveUp session at') = happens (event.GiveUp session at')
+  by_kind (line.Plain session) = plain session
+
+-- a line without an event gives lines outside sessions
+pub quiet_gives : (l : Line) → IsQuiet l → (set : Setting) (place : Before) (w next : Net) (lines : List LineRecord) → LineGives set place w l lines next
+    → All IsOutsideSessions lines × (next ≡ w)
+quiet_gives l is set place w next lines gives = let (known, same) = is.gives set place w next lines gives in (known_outside set place lines known, same)
+
+-- ---- lines that open sessions
+
+-- if these are the options with which a line opens a session under a number, then it is their session line, and has the number
+abbrev OpensOnly : ℕ → SessionLine → Line → Type 0
+OpensOnly session other l = opening_by session l ≡ Some other → (l ≡ line.Session other) × (other.session ≡ session)
+
+pub opens_only : (session : ℕ) (other : SessionLine) (l : Line) → OpensOnly session other l
+opens_only session other l = by_kind (OpensOnly session other) (λ x is first. absurd (nothing (sym (is.opens session) ∙ first))) at_event (λ plain first. absurd (nothing first)) l
+  where
+    nothing : ◌≡◌ {A = Option SessionLine} None (Some other) → ⊥
+    nothing e = cc
+
+    under : (opening : SessionLine) (b : Bool) → (opening.session == session) ≡ b → (if b then Some opening else None) ≡ Some other
+        → (line.Session opening ≡ line.Session other) × (other.session ≡ session)
+    under opening true is first =
+        let one : opening ≡ other = cc in (ap line.Session one, ap (λ (o : SessionLine). o.session) (sym one) ∙ eqb-true opening.session session is)
+    under opening false is first = absurd (nothing first)
+
+    at_event : (e : Happens) → OpensOnly session other (line_of e)
+    at_event (event.Open opening) first = under opening (opening.session == session) refl first
+    at_event (event.Start started) first = absurd (nothing first)
+    at_event (event.Deliver delivered at' packet) first = absurd (nothing first)
+    at_event (event.Repeat repeated) first = absurd (nothing first)
+    at_event (event.GiveUp ended at') first = absurd (nothing first)

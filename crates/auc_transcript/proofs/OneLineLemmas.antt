@@ -1,0 +1,178 @@
+-- For the law of one told transcript: two lists of records that a line without an event gives are one, if the same is told of them.
+use Rattle.std.proofs.Common.{◌≡◌, ℕ, zero, suc, Bool, true, false, List, [], ◌∷◌, ◌++◌, map, Option, Some, refl, sym, ap, subst, ◌∙◌}
+use Rattle.std.specs.Prelude.{slice_get}
+use Rattle.std.proofs.lemmas.List.{append_cancel_left, map-append}
+use Rattle.auc_5g.specs.Keys.{home_of}
+use Rattle.auc_lines.specs.declared.part.FivegLine.{FivegLine}
+use Rattle.auc_random.specs.Random.{rand_of}
+use Rattle.auc_request.specs.Request.{is_separated}
+use Rattle.auc_subs.specs.declared.row.Row.{Row}
+use Rattle.auc_world.specs.Given.{Authenticates, AuthenticatesIf, Before, DrawGives, EpsGives, FivegFollows, FivegGives, OneGives, SyncGives, VectorsFollow, behind, device_of_row, judged_lines, kasme_line}
+use Rattle.auc_world.specs.Setting.{Setting}
+use Rattle.auc_world.specs.Told.{told_job, told_line}
+use Rattle.auc_world.specs.VectorAt.{vector_at, vector_of_row}
+use Rattle.auc_world.specs.declared.record.GiveVerdict.{GiveVerdict}
+use Rattle.auc_world.specs.declared.record.LineRecord.{LineRecord}
+use Rattle.auc_world.specs.declared.record.LineRecord.TheVariants.{Vector, Withheld, Exhausted, Sync, Give, Further, Event}
+use Rattle.auc_world.specs.declared.record.SyncVerdict.{SyncVerdict}
+use Rattle.auc_world.specs.declared.record.SyncVerdict.TheVariants as verdict
+
+-- ---- lists
+
+pub heads : {X : Type 0} (x y : X) (xs ys : List X) → x ∷ xs ≡ y ∷ ys → x ≡ y
+heads x y xs ys e = cc
+
+pub tails : {X : Type 0} (x y : X) (xs ys : List X) → x ∷ xs ≡ y ∷ ys → xs ≡ ys
+tails x y xs ys e = cc
+
+pub conses : {X : Type 0} (x y : X) (xs ys : List X) → x ≡ y → xs ≡ ys → x ∷ xs ≡ y ∷ ys
+conses x y xs ys e f = cc
+
+-- if lines are the same, the same is told of what follows them
+pub same_rest : (xs ys rest others : List LineRecord) → xs ≡ ys → told_job (xs ++ rest) ≡ told_job (ys ++ others) → told_job rest ≡ told_job others
+same_rest xs ys rest others is same =
+    append_cancel_left (told_job xs) (told_job rest) (told_job others)
+    (sym (map-append told_line xs rest) ∙ same ∙ ap (λ (ls : List LineRecord). told_job (ls ++ others)) (sym is) ∙ map-append told_line xs others)
+
+-- ---- lines other than events
+
+-- a line that is told whole
+abbrev IsWhole : LineRecord → Type 0
+IsWhole (Vector sub n) = Unit {0}
+IsWhole (Withheld sub n stop) = Unit {0}
+IsWhole (Exhausted sub word) = Unit {0}
+IsWhole (Sync sub answer) = Unit {0}
+IsWhole (Give sub n answer) = Unit {0}
+IsWhole (Further said) = ⊥
+IsWhole (Event r) = ⊥
+
+told_whole : (line : LineRecord) → IsWhole line → told_line line ≡ line
+told_whole (Vector sub n) is = refl
+told_whole (Withheld sub n stop) is = refl
+told_whole (Exhausted sub word) is = refl
+told_whole (Sync sub answer) is = refl
+told_whole (Give sub n answer) is = refl
+told_whole (Further said) is = absurd is
+told_whole (Event r) is = absurd is
+
+whole_one : (a b : LineRecord) → IsWhole a → IsWhole b → told_line a ≡ told_line b → a ≡ b
+whole_one a b is was same = sym (told_whole a is) ∙ same ∙ told_whole b was
+
+-- ---- a request for a vector, and what follows its number
+
+first_whole : (set : Setting) (sub : ℕ) (F : ℕ → List LineRecord → Type 0) (line : LineRecord) (lines : List LineRecord) → OneGives set sub F (line ∷ lines) → IsWhole line
+first_whole set sub F (Vector s n) lines gives = tt
+first_whole set sub F (Withheld s n stop) lines gives = tt
+first_whole set sub F (Exhausted s word) lines gives = tt
+first_whole set sub F (Sync s answer) lines gives = absurd gives
+first_whole set sub F (Give s n answer) lines gives = absurd gives
+first_whole set sub F (Further said) lines gives = absurd gives
+first_whole set sub F (Event r) lines gives = absurd gives
+
+module _ (set : Setting) (sub : ℕ) (F G : ℕ → List LineRecord → Type 0) where
+  -- what follows one number is one
+  abbrev FollowsOnce : List LineRecord → List LineRecord → Type 0
+  FollowsOnce rest others = (n : ℕ) (xs ys : List LineRecord) → F n xs → G n ys → told_job (xs ++ rest) ≡ told_job (ys ++ others) → xs ≡ ys
+
+  after_first : (line : LineRecord) (xs ys rest others : List LineRecord) → OneGives set sub F (line ∷ xs) → OneGives set sub G (line ∷ ys)
+      → told_job (xs ++ rest) ≡ told_job (ys ++ others) → FollowsOnce rest others → xs ≡ ys
+  after_first (Vector s n) xs ys rest others (same_sub, is, gives) (also_sub, was, gave) same once = once n xs ys gives gave same
+  after_first (Withheld s n stop) xs ys rest others (same_sub, first, last, none) (also_sub, from, to, nothing) same once = none ∙ sym nothing
+  after_first (Exhausted s word) xs ys rest others (same_sub, spent, none) (also_sub, was, nothing) same once = none ∙ sym nothing
+  after_first (Sync s answer) xs ys rest others gives gave same once = absurd gives
+  after_first (Give s n answer) xs ys rest others gives gave same once = absurd gives
+  after_first (Further said) xs ys rest others gives gave same once = absurd gives
+  after_first (Event r) xs ys rest others gives gave same once = absurd gives
+
+  -- two such lists are one, if what follows one number is one
+  pub one_one : (xs ys rest others : List LineRecord) → FollowsOnce rest others → OneGives set sub F xs → OneGives set sub G ys → told_job (xs ++ rest) ≡ told_job (ys ++ others) → xs ≡ ys
+  one_one [] ys rest others once gives gave same = absurd gives
+  one_one (x ∷ xs) [] rest others once gives gave same = absurd gave
+  one_one (x ∷ xs) (y ∷ ys) rest others once gives gave same =
+      let cut = heads (told_line x) (told_line y) (told_job (xs ++ rest)) (told_job (ys ++ others)) same in
+      let first = whole_one x y (first_whole set sub F x xs gives) (first_whole set sub G y ys gave) cut in
+      let after = tails (told_line x) (told_line y) (told_job (xs ++ rest)) (told_job (ys ++ others)) same in
+      conses x y xs ys first (after_first x xs ys rest others gives (subst (λ (l : LineRecord). OneGives set sub G (l ∷ ys)) (sym first) gave) after once)
+
+-- ---- lines of a job
+
+-- as many lines as asked for, unless one ends them: where they end is told
+pub draw_one : (set : Setting) (sub count : ℕ) (xs ys rest others : List LineRecord) → DrawGives set sub count xs → DrawGives set sub count ys → told_job (xs ++ rest) ≡ told_job (ys ++ others)
+    → xs ≡ ys
+draw_one set sub zero xs ys rest others gives gave same = gives ∙ sym gave
+draw_one set sub (suc count) xs ys rest others gives gave same =
+    let More : ℕ → List LineRecord → Type 0 = λ (n : ℕ) (more : List LineRecord). DrawGives set sub count more in
+    one_one set sub More More xs ys rest others (λ n more also_more is was told. draw_one set sub count more also_more rest others is was told) gives gave same
+
+-- what follows a verdict
+follow_one : (set : Setting) (sub count : ℕ) (answer : SyncVerdict) (xs ys rest others : List LineRecord) → VectorsFollow set sub count answer xs → VectorsFollow set sub count answer ys
+    → told_job (xs ++ rest) ≡ told_job (ys ++ others) → xs ≡ ys
+follow_one set sub count (verdict.Moved seen seq_ms) xs ys rest others gives gave same = draw_one set sub count xs ys rest others gives gave same
+follow_one set sub count (verdict.InRange seen seq_ms) xs ys rest others gives gave same = draw_one set sub count xs ys rest others gives gave same
+follow_one set sub count (verdict.Beyond seen seq_ms) xs ys rest others none nothing same = none ∙ sym nothing
+follow_one set sub count verdict.WrongMac xs ys rest others none nothing same = none ∙ sym nothing
+
+sync_verdicts : (s t : ℕ) (a b : SyncVerdict) → Sync s a ≡ Sync t b → a ≡ b
+sync_verdicts s t a b e = cc
+
+give_verdicts : (s t m n : ℕ) (a b : GiveVerdict) → Give s m a ≡ Give t n b → a ≡ b
+give_verdicts s t m n a b e = cc
+
+pub sync_one : (set : Setting) (sub seq : ℕ) (bit : Option ℕ) (count : ℕ) (xs ys rest others : List LineRecord) → SyncGives set sub seq bit count xs → SyncGives set sub seq bit count ys
+    → told_job (xs ++ rest) ≡ told_job (ys ++ others) → xs ≡ ys
+sync_one set sub seq bit count xs ys rest others gives gave same =
+    let a = gives.answer in
+    let b = gave.answer in
+    let cut : Sync sub a ∷ told_job (gives.more ++ rest) ≡ Sync sub b ∷ told_job (gave.more ++ others) =
+    ap (λ (ls : List LineRecord). told_job (ls ++ rest)) (sym gives.lines_are) ∙ same ∙ ap (λ (ls : List LineRecord). told_job (ls ++ others)) gave.lines_are in
+    let answers = sync_verdicts sub sub a b (heads (Sync sub a) (Sync sub b) (told_job (gives.more ++ rest)) (told_job (gave.more ++ others)) cut) in
+    let more = follow_one set sub count a gives.more gave.more rest others gives.follows (subst (λ (v : SyncVerdict). VectorsFollow set sub count v gave.more) (sym answers) gave.follows)
+    (tails (Sync sub a) (Sync sub b) (told_job (gives.more ++ rest)) (told_job (gave.more ++ others)) cut) in
+    gives.lines_are ∙ conses (Sync sub a) (Sync sub b) gives.more gave.more (ap (Sync sub) answers) more ∙ sym gave.lines_are
+
+-- lines that a USIM's answer to a vector determines: the answer is told
+pub answered_one : (sub n : ℕ) (more : GiveVerdict → List LineRecord) (xs ys rest others : List LineRecord) (a b : GiveVerdict) → xs ≡ Give sub n a ∷ more a → ys ≡ Give sub n b ∷ more b
+    → told_job (xs ++ rest) ≡ told_job (ys ++ others) → xs ≡ ys
+answered_one sub n more xs ys rest others a b is was same =
+    let cut : Give sub n a ∷ told_job (more a ++ rest) ≡ Give sub n b ∷ told_job (more b ++ others) =
+    ap (λ (ls : List LineRecord). told_job (ls ++ rest)) (sym is) ∙ same ∙ ap (λ (ls : List LineRecord). told_job (ls ++ others)) was in
+    let answers = give_verdicts sub sub n n a b (heads (Give sub n a) (Give sub n b) (told_job (more a ++ rest)) (told_job (more b ++ others)) cut) in
+    is ∙ ap (λ (v : GiveVerdict). Give sub n v ∷ more v) answers ∙ sym was
+
+some_rows : (o : Option Row) (a b : Row) → o ≡ Some a → o ≡ Some b → a ≡ b
+some_rows o a b e f = cc
+
+-- what follows a vector in a 5G authentication, whatever came before: the row is known, and the answer is told
+fiveg_follows_one : (set : Setting) (before also_before : Before) (l : FivegLine) (n : ℕ) (xs ys rest others : List LineRecord) → FivegFollows set before l n xs → FivegFollows set also_before l n ys
+    → told_job (xs ++ rest) ≡ told_job (ys ++ others) → xs ≡ ys
+fiveg_follows_one set before also_before l n xs ys rest others f g same =
+    by (is_separated (vector_of_row set row l.sub n).autn) f.follows
+    (subst (λ (r : Row). AuthenticatesIf (is_separated (vector_of_row set r l.sub n).autn) set also_before l r n ys) (some_rows (slice_get set.rows l.sub) g.row f.row g.there f.there) g.follows)
+  where
+    row : Row
+    row = f.row
+
+    judged : GiveVerdict → List LineRecord
+    judged answer = judged_lines l (home_of (vector_of_row set row l.sub n) l.home) (device_of_row row n (rand_of set.key l.sub n) l.device) answer
+
+    lines : (place : Before) (zs : List LineRecord) (is : Authenticates set place l row n zs) → zs ≡ Give l.sub n is.gives.answer ∷ judged is.gives.answer
+    lines place zs is =
+        is.lines_are ∙ ap (λ (ls : List LineRecord). ls ++ is.more) is.gives.lines_are ∙ ap (λ (ls : List LineRecord). Give l.sub n is.gives.answer ∷ ls) is.judged
+
+    by : (separated : Bool) → AuthenticatesIf separated set before l row n xs → AuthenticatesIf separated set also_before l row n ys → xs ≡ ys
+    by false is was = is ∙ sym was
+    by true is was = answered_one l.sub n judged xs ys rest others is.gives.answer was.gives.answer (lines before xs is) (lines also_before ys was) same
+
+pub eps_one : (set : Setting) (sub : ℕ) (snid : List ℕ) (xs ys rest others : List LineRecord) → EpsGives set sub snid xs → EpsGives set sub snid ys → told_job (xs ++ rest) ≡ told_job (ys ++ others)
+    → xs ≡ ys
+eps_one set sub snid xs ys rest others gives gave same =
+    let Keys : ℕ → List LineRecord → Type 0 = λ (n : ℕ) (more : List LineRecord). more ≡ map (kasme_line snid) (vector_at set sub n) in
+    one_one set sub Keys Keys xs ys rest others (λ n more also_more keys also_keys told. keys ∙ sym also_keys) gives gave same
+
+pub fiveg_one : (set : Setting) (before also_before : Before) (l : FivegLine) (xs ys rest others : List LineRecord) → FivegGives set before l xs → FivegGives set also_before l ys
+    → told_job (xs ++ rest) ≡ told_job (ys ++ others) → xs ≡ ys
+fiveg_one set before also_before l xs ys rest others gives gave same =
+    let place : ℕ → Before = λ (n : ℕ). behind before (Vector l.sub n ∷ []) in
+    let also_place : ℕ → Before = λ (n : ℕ). behind also_before (Vector l.sub n ∷ []) in
+    one_one set l.sub (λ n more. FivegFollows set (place n) l n more) (λ n more. FivegFollows set (also_place n) l n more) xs ys rest others
+    (λ n more also_more f g told. fiveg_follows_one set (place n) (also_place n) l n more also_more rest others f g told) gives gave same
