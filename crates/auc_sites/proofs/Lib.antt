@@ -1,0 +1,5 @@
+mod DrawingLemmas
+mod EventLemmas
+mod ListLemmas
+mod RunLemmas
+mod SoundLemmas

@@ -1,0 +1,9 @@
+pub mod Request
+pub mod Lease
+pub mod Site
+pub mod Master
+pub mod Drawing
+pub mod Reply
+pub mod Network
+pub mod Run
+pub mod Law
