@@ -26,6 +26,29 @@ TOP = TOOLS.parent
 EXAMPLES = TOP / "examples"
 EXPECTED = sorted(EXAMPLES.glob("*.expected"))
 WHOLE_PAGE = (TOP / "docs/TRANSCRIPT.md").read_text()
+# A line for EPS, and 5G authentications of each outcome; the keys are runs of equal bytes.
+FURTHER = f"""round 1
+job 1
+vector 001010000000001 7
+kasme {"1a" * 32}
+vector 001010000000001 8
+bytes {"01" * 16} {"02" * 16} {"03" * 8} {"04" * 16} {"05" * 16}
+give 001010000000001 8 accepted
+hxresstar {"2b" * 16}
+fiveg 001010000000001 confirmed
+seaf {"3c" * 32} {"4d" * 32}
+job 2
+vector 001010000000002 1
+fiveg 001010000000002 noseparation
+vector 001010000000001 9
+give 001010000000001 9 accepted
+fiveg 001010000000001 servingrefused
+vector 001010000000001 10
+give 001010000000001 10 accepted
+fiveg 001010000000001 homerefused
+closed 001010000000001 6 10 4 0 4 0
+closed 001010000000002 0 1 1 0 1 0
+"""
 needs_cryptography = unittest.skipIf(ciphers.Cipher is None, "Python's cryptography is missing")
 
 
@@ -100,7 +123,7 @@ class Objects(unittest.TestCase):
     def test_each_kind_of_line_is_in_the_examples_or_here(self):
         rare = ("round 1\njob 1\nwithheld 001010000000001 7 full\nexhausted 001010000000001 8796093022208\n"
                 "sync 001010000000001 beyond 268435457 0\npremise broken 1 2 peer 3\n")
-        texts = [rare, *(path.read_text() for path in EXPECTED), "usage\n", "refused scenario 3 fields\n"]
+        texts = [rare, FURTHER, *(path.read_text() for path in EXPECTED), "usage\n", "refused scenario 3 fields\n"]
         kinds = {it["kind"] for text in texts for it in objects_in(text)}
         self.assertEqual(kinds, LINES.keys() | REFUSED_FORMS.keys() | {"event"})
         objects = list(objects_in(rare))
@@ -109,12 +132,38 @@ class Objects(unittest.TestCase):
         self.assertEqual({name: objects[5][name] for name in ("round", "job", "session", "end", "packet")},
                          {"round": 1, "job": 1, "session": 2, "end": "peer", "packet": 3})
 
+    def test_lines_of_eps_and_5g_are_of_the_vector_before_them(self):
+        objects = list(objects_in(FURTHER))
+        self.assertEqual([line_of(it) for it in objects], FURTHER.splitlines())
+        found = [it for it in objects if it["kind"] in ("kasme", "hxresstar", "fiveg", "seaf")]
+        self.assertEqual([(it["round"], it["job"], it["kind"], it["imsi"], it["number"]) for it in found], [
+            (1, 1, "kasme", "001010000000001", 7), (1, 1, "hxresstar", "001010000000001", 8), (1, 1, "fiveg", "001010000000001", 8),
+            (1, 1, "seaf", "001010000000001", 8), (1, 2, "fiveg", "001010000000002", 1), (1, 2, "fiveg", "001010000000001", 9),
+            (1, 2, "fiveg", "001010000000001", 10)])
+        self.assertEqual([found[0]["k_asme"], found[1]["hxres_star"], found[3]["home"], found[3]["device"]], ["1a" * 32, "2b" * 16, "3c" * 32, "4d" * 32])
+        self.assertEqual([it["result"] for it in found if "result" in it], ["confirmed", "noseparation", "servingrefused", "homerefused"])
+
+    def test_line_of_eps_or_5g_that_is_of_no_vector_is_refused(self):
+        begun, vector = "round 1\njob 1\n", "vector 001010000000001 1\n"
+        keys = f"seaf {'3c' * 32} {'4d' * 32}\n"
+        cases = [
+            (f"kasme {'1a' * 32}\n", "line 3: the line `kasme` is of no vector"),
+            (f"{vector}job 2\nhxresstar {'2b' * 16}\n", "line 5: the line `hxresstar` is of no vector"),
+            (f"{vector}fiveg 001010000000002 confirmed\n", "line 4: the line `fiveg` is of no vector"),
+            (f"{vector}fiveg 001010000000001 homerefused\n{keys}", "line 5: the keys are of no 5G authentication"),
+            (f"{vector}fiveg 001010000000001 refused\n", "line 4: 'fiveg 001010000000001 refused' is no line of a transcript"),
+            (f"{vector}kasme {'1a' * 31}\n", f"line 4: 'kasme {'1a' * 27}' is no line of a transcript"),
+        ]
+        for text, reason in cases:
+            status, _, error = printed("-", given=begun + text)
+            self.assertEqual((status, error), (2, f"transcript: -: {reason}\n"), text)
+
     def test_page_names_each_kind_and_field(self):
-        for path in EXPECTED:
-            for found in objects_in(path.read_text()):
+        for text in [FURTHER, *(path.read_text() for path in EXPECTED)]:
+            for found in objects_in(text):
                 for it in [found, *found.get("notes", [])]:
                     for name in it:
-                        self.assertIn(f"`{name}`", WHOLE_PAGE, path.name)
+                        self.assertIn(f"`{name}`", WHOLE_PAGE, found)
                 self.assertIn(f"`{found['kind']}`", WHOLE_PAGE)
 
     def test_page_shows_objects_as_they_are_printed(self):
@@ -303,6 +352,12 @@ class Numbers(unittest.TestCase):
     def test_moved_and_accepted_numbers_are_those_of_the_lines(self):
         self.assertEqual([step[2:] for step in self.steps("stale-vector", MOVED)], [[1, 500]])
         self.assertEqual([step[2] for step in self.steps("stale-vector", ACCEPTED)], [501, 502])
+
+    def test_numbers_of_eps_and_5g_are_those_of_their_vectors(self):
+        subscribers = report.data_of(FURTHER, {}, "run")["subscribers"]
+        numbers = lambda kind: {imsi: [step[2] for step in steps if step[1] == kind] for imsi, steps, _ in subscribers}
+        self.assertEqual(numbers(DRAWN), {"001010000000001": [7, 8, 9, 10], "001010000000002": [1]})
+        self.assertEqual(numbers(ACCEPTED), {"001010000000001": [8, 9, 10], "001010000000002": []})
 
     def test_subscriber_is_told_by_the_numbers_only_if_it_can_be_one_alone(self):
         closed = [{"imsi": "1", "open": 0, "close": 5}, {"imsi": "2", "open": 3, "close": 9}, {"imsi": "3", "open": 20, "close": 21}]

@@ -549,6 +549,15 @@ class Inputs(unittest.TestCase):
                 transcript.sessions_in(text)
             self.assertTrue(str(refused.exception).startswith(reason), (text, str(refused.exception)))
 
+    def test_lines_of_eps_and_5g_tell_nothing_of_a_session(self):
+        lines = [f"kasme {'1a' * 32}", f"hxresstar {'2b' * 16}", f"seaf {'3c' * 32} {'4d' * 32}",
+                 *(f"fiveg 001010000000001 {result}" for result in ("noseparation", "servingrefused", "homerefused", "confirmed"))]
+        for line in lines:
+            shown = [ladders.ladder_of(it) for it in transcript.sessions_in(PACKETS.replace("giveup 7", f"{line}\ngiveup 7"))]
+            self.assertEqual(chart.text_ladder(shown[0], chart.columns_of(shown)), LADDER, line)
+            with self.assertRaisesRegex(transcript.Unreadable, "the keys are of no end", msg=line):
+                transcript.sessions_in(f"{PACKETS}{line}\nkeys {'00' * 16} 00 00 00 00\n")
+
     def test_tools_tell_what_they_cannot_read(self):
         brief, empty = EXAMPLES / "session.expected", EXAMPLES / "first.expected"
         cases = [

@@ -19,7 +19,7 @@ CENTRE_NOTES = {"moved": 2, "inrange": 2, "beyond": 2, "drew": 1, "exhausted": 1
 OWN_NOTES = {"badauts": 0, "resumed": 1, "accepted": 1, "sync": 1, "wrongmac": 0, "counter": 1, "small": 1}
 NOTES = CENTRE_NOTES | OWN_NOTES
 # The first words of the lines that tell nothing of a session's packets.
-OTHER_LINES = {"restart", "vector", "withheld", "exhausted", "sync", "give"}
+OTHER_LINES = {"restart", "vector", "withheld", "exhausted", "sync", "give", "kasme", "hxresstar", "fiveg", "seaf"}
 # Of an event's line, the words before its notes.
 EVENTS = {"start": 2, "repeat": 2, "giveup": 3, "deliver": 4}
 REFUSALS = {"nosuchpacket", "nosuchend", "started"}

@@ -23,6 +23,11 @@ LINES = {
              "sync {imsi} {result=beyond} {number} {seq}", "sync {imsi} {result=wrongmac}"],
     "give": ["give {imsi} {number} {result=accepted}", "give {imsi} {number} {result=sync} {sqn}",
              "give {imsi} {number} {result=absent}"],
+    "kasme": ["kasme {k_asme}"],
+    "hxresstar": ["hxresstar {hxres_star}"],
+    "fiveg": ["fiveg {imsi} {result=noseparation}", "fiveg {imsi} {result=servingrefused}", "fiveg {imsi} {result=homerefused}",
+              "fiveg {imsi} {result=confirmed}"],
+    "seaf": ["seaf {home} {device}"],
     "session": ["session {session} open"],
     "verdict": ["session {session} {verdict=agree}", "session {session} {verdict=differ}"],
     "packet": ["packet {packet} {bytes}"],
@@ -49,7 +54,8 @@ HEX = "(?:[0-9a-f]{2})+"
 TEXTS = {"imsi": "[0-9]{6,15}", "stop": "fault|full", "sqn": "[0-9a-f]{12}", "end": "server|peer", "why": "[a-z]+",
          "ignored": "[a-z]+", "rand": "[0-9a-f]{32}", "autn": "[0-9a-f]{32}", "xres": HEX, "ck": "[0-9a-f]{32}",
          "ik": "[0-9a-f]{32}", "bytes": HEX, "k_encr": "[0-9a-f]{32}", "k_aut": "[0-9a-f]{64}", "k_re": "[0-9a-f]{64}",
-         "msk": "[0-9a-f]{128}", "emsk": "[0-9a-f]{128}"}
+         "msk": "[0-9a-f]{128}", "emsk": "[0-9a-f]{128}", "k_asme": "[0-9a-f]{64}", "hxres_star": "[0-9a-f]{32}",
+         "home": "[0-9a-f]{64}", "device": "[0-9a-f]{64}"}
 NUMBER = "[0-9]{1,20}"
 OUTSIDE_OF_JOBS = {"round", "restart", "closed", "premise"}
 
@@ -114,6 +120,9 @@ class Lines:
         self.reader = Reader()
         # What a line `bytes` is of: the subscriber's or the session's number before it.
         self.drawn = None
+        # What a line on a key of EPS or on 5G is of: the vector that was released last in the job. Whether the line before is a
+        # confirmed 5G authentication.
+        self.released, self.confirmed = None, False
 
     def object_of(self, line, text):
         """The object of a line."""
@@ -123,6 +132,9 @@ class Lines:
         found = fields_of_event(event) if event is not before and event else self.fields_of_line(text)
         if found["kind"] not in ("bytes", "packet", "keys"):
             self.drawn = self.drawn_in(found)
+        if found["kind"] in ("job", "vector"):
+            self.released = self.drawn
+        self.confirmed = found["kind"] == "fiveg" and found["result"] == "confirmed"
         return {"line": line} | self.place_of(found) | found
 
     def fields_of_line(self, text):
@@ -131,10 +143,20 @@ class Lines:
             if self.drawn is None:
                 raise Unreadable("the bytes are of no number")
             return found | self.drawn
+        if found["kind"] in ("kasme", "hxresstar", "fiveg", "seaf"):
+            return found | self.vector_of(found)
         if found["kind"] in ("packet", "keys"):
             event = self.reader.event
             return found | {"session": event.session.number, "end": event.end}
         return found
+
+    def vector_of(self, found):
+        """The subscriber and the number of the vector that a line on a key of EPS or on 5G is of."""
+        if self.released is None or found.get("imsi") not in (None, self.released["imsi"]):
+            raise Unreadable(f"the line `{found['kind']}` is of no vector")
+        if found["kind"] == "seaf" and not self.confirmed:
+            raise Unreadable("the keys are of no 5G authentication")
+        return self.released
 
     def drawn_in(self, found):
         """Of a line, what the bytes after it are of."""

@@ -1,18 +1,26 @@
 -- In a lawful transcript what comes of each event is a step of the end that the event concerns.
-use Rattle.std.proofs.Common.{ℕ, ◌≡◌, sym, subst, List, [], ◌∷◌, ◌++◌, Option, Some, None, zero, suc, All}
-use Rattle.std.proofs.lemmas.List.Elements.{All-nil, All-cons, All-append}
+use Rattle.std.proofs.Common.{ℕ, ◌≡◌, refl, sym, subst, Bool, true, false, List, [], ◌∷◌, ◌++◌, map, Option, Some, None, zero, suc, All}
+use Rattle.std.proofs.lemmas.List.Elements.{All-nil, All-cons, All-append, All-map}
+use Rattle.auc_5g.specs.Keys.{home_of}
+use Rattle.auc_5g.specs.declared.device_keys.DeviceKeys.{DeviceKeys}
+use Rattle.auc_5g.specs.declared.home_keys.HomeKeys.{HomeKeys}
 use Rattle.auc_edge.specs.declared.stop.Stop.{Stop}
 use Rattle.auc_lines.specs.declared.part.End.{End}
 use Rattle.auc_lines.specs.declared.part.End.TheVariants as end
+use Rattle.auc_lines.specs.declared.part.FivegLine.{FivegLine}
 use Rattle.auc_lines.specs.declared.part.Line.{Line}
 use Rattle.auc_lines.specs.declared.part.Line.TheVariants as line
 use Rattle.auc_lines.specs.declared.part.Part.{Part}
 use Rattle.auc_lines.specs.declared.part.Part.TheVariants as part
 use Rattle.auc_peer.specs.Subscription.{Subscription}
+use Rattle.auc_random.specs.Random.{rand_of}
+use Rattle.auc_request.specs.Request.{is_separated}
 use Rattle.auc_server.specs.Server.{ServerEnd}
 use Rattle.auc_server.specs.declared.options.ServerOptions.{ServerOptions}
+use Rattle.auc_subs.specs.declared.row.Row.{Row}
+use Rattle.auc_vector.specs.declared.parts.Vector.{Vector as AuthVector}
 use Rattle.auc_world.specs.Came.{Came, came, came_at_peer, came_at_server, came_delivered, came_given_up, came_in, came_opened, came_repeated, came_started, server_came_to_give_up, session_of}
-use Rattle.auc_world.specs.Given.{Before, DrawGives, EventGives, JobGives, JobsGive, LineGives, PlainGives, RelayGives, VectorsFollow, behind, packet_of}
+use Rattle.auc_world.specs.Given.{Authenticates, AuthenticatesIf, Before, DrawGives, EventGives, FivegFollows, GiveGives, JobGives, JobsGive, LineGives, OneGives, PlainGives, RelayGives, VectorsFollow, behind, device_of_row, hxres_lines, judged_lines, kasme_line, outcome_of, packet_of, turned}
 use Rattle.auc_world.specs.Happened.{Delivery, Told, delivery_in}
 use Rattle.auc_world.specs.Net.{Net, device_place, other, packet_at, session_place}
 use Rattle.auc_world.specs.Setting.{Setting}
@@ -20,8 +28,14 @@ use Rattle.auc_world.specs.Start.{Kept, start_of}
 use Rattle.auc_world.specs.Transcript.{Course, Leads, ServesPart, stop_before}
 use Rattle.auc_world.specs.declared.event.Event.{Event}
 use Rattle.auc_world.specs.declared.event.Event.TheVariants as event
+use Rattle.auc_world.specs.VectorAt.{vector_at, vector_of_row}
+use Rattle.auc_world.specs.declared.further.FivegOutcome.TheVariants as fiveg
+use Rattle.auc_world.specs.declared.further.Further.{Further}
+use Rattle.auc_world.specs.declared.further.Further.TheVariants as further
 use Rattle.auc_world.specs.declared.net.SentPacket.{SentPacket}
 use Rattle.auc_world.specs.declared.net.Session.{Session}
+use Rattle.auc_world.specs.declared.record.GiveVerdict.{GiveVerdict}
+use Rattle.auc_world.specs.declared.record.GiveVerdict.TheVariants as given
 use Rattle.auc_world.specs.declared.record.LineRecord.{LineRecord}
 use Rattle.auc_world.specs.declared.record.LineRecord.TheVariants as record_of
 use Rattle.auc_world.specs.declared.record.PartRecord.{PartRecord}
@@ -112,18 +126,25 @@ plain_at set before net session (first ∷ lines) next (mid, here, rest) =
     All-append IsAtItsEnd (first ∷ []) lines (event_at set before net (event.Start session) (first ∷ []) mid here)
     (relay_at set (behind before (first ∷ [])) mid session end.Peer (packet_of first) lines next rest)
 
+-- what a request for a vector gives, if what follows the vector's number is so
+one_at : (set : Setting) (sub : ℕ) (Follows : ℕ → List LineRecord → Type 0) (lines : List LineRecord) → OneGives set sub Follows lines
+    → ((n : ℕ) (rest : List LineRecord) → Follows n rest → AreAt rest) → AreAt lines
+one_at set sub Follows [] gives each = absurd gives
+one_at set sub Follows (record_of.Vector s n ∷ lines) gives each =
+    All-cons IsAtItsEnd (record_of.Vector s n) lines tt (each n lines gives.2)
+one_at set sub Follows (record_of.Withheld s n stop ∷ lines) gives each =
+    All-cons IsAtItsEnd (record_of.Withheld s n stop) lines tt (none_at lines gives.3)
+one_at set sub Follows (record_of.Exhausted s word ∷ lines) gives each =
+    All-cons IsAtItsEnd (record_of.Exhausted s word) lines tt (none_at lines gives.2)
+one_at set sub Follows (record_of.Sync s answer ∷ lines) gives each = absurd gives
+one_at set sub Follows (record_of.Give s n answer ∷ lines) gives each = absurd gives
+one_at set sub Follows (record_of.Further said ∷ lines) gives each = absurd gives
+one_at set sub Follows (record_of.Event r ∷ lines) gives each = absurd gives
+
 draw_at : (set : Setting) (sub count : ℕ) (lines : List LineRecord) → DrawGives set sub count lines → AreAt lines
 draw_at set sub zero lines gives = none_at lines gives
-draw_at set sub (suc count) [] gives = absurd gives
-draw_at set sub (suc count) (record_of.Vector s n ∷ lines) (same, fits, rest) =
-    All-cons IsAtItsEnd (record_of.Vector s n) lines tt (draw_at set sub count lines rest)
-draw_at set sub (suc count) (record_of.Withheld s n stop ∷ lines) (same, low, high, none) =
-    All-cons IsAtItsEnd (record_of.Withheld s n stop) lines tt (none_at lines none)
-draw_at set sub (suc count) (record_of.Exhausted s word ∷ lines) (same, above, none) =
-    All-cons IsAtItsEnd (record_of.Exhausted s word) lines tt (none_at lines none)
-draw_at set sub (suc count) (record_of.Sync s answer ∷ lines) gives = absurd gives
-draw_at set sub (suc count) (record_of.Give s n answer ∷ lines) gives = absurd gives
-draw_at set sub (suc count) (record_of.Event r ∷ lines) gives = absurd gives
+draw_at set sub (suc count) lines gives =
+    one_at set sub (λ n rest. DrawGives set sub count rest) lines gives (λ n rest more. draw_at set sub count rest more)
 
 vectors_at : (set : Setting) (sub count : ℕ) (answer : SyncVerdict) (lines : List LineRecord) → VectorsFollow set sub count answer lines → AreAt lines
 vectors_at set sub count (verdict.Moved seen seq_ms) lines follow = draw_at set sub count lines follow
@@ -131,15 +152,58 @@ vectors_at set sub count (verdict.InRange seen seq_ms) lines follow = draw_at se
 vectors_at set sub count (verdict.Beyond seen seq_ms) lines follow = none_at lines follow
 vectors_at set sub count verdict.WrongMac lines follow = none_at lines follow
 
+give_at : (set : Setting) (before : Before) (sub n : ℕ) (lines : List LineRecord) → GiveGives set before sub n lines → AreAt lines
+give_at set before sub n lines gives =
+    subst AreAt (sym gives.lines_are) (All-cons IsAtItsEnd (record_of.Give sub n gives.answer) [] tt (All-nil IsAtItsEnd))
+
+-- what follows from a vector
+further_at : (said : Further) (lines : List LineRecord) → lines ≡ record_of.Further said ∷ [] → AreAt lines
+further_at said lines is = subst AreAt (sym is) (All-cons IsAtItsEnd (record_of.Further said) [] tt (All-nil IsAtItsEnd))
+
+keys_at : (snid : List ℕ) (vectors : List AuthVector) → AreAt (map (kasme_line snid) vectors)
+keys_at snid vectors = All-map IsAtItsEnd (kasme_line snid) vectors (λ k d within. tt)
+
+judged_at : (l : FivegLine) (home : HomeKeys) (device : DeviceKeys) (answer : GiveVerdict) → AreAt (judged_lines l home device answer)
+judged_at l home device given.Accepted = by l.hxres
+  where
+    last : LineRecord
+    last = record_of.Further (further.Fiveg l.sub (outcome_of home device (turned l.bit device.res_star)))
+
+    by : (told : Bool) → AreAt (hxres_lines told home ++ last ∷ [])
+    by true =
+        All-append IsAtItsEnd (hxres_lines true home) (last ∷ []) (further_at _ (hxres_lines true home) refl) (further_at _ (last ∷ []) refl)
+    by false = further_at _ (last ∷ []) refl
+judged_at l home device (given.Sync sqn_ms) = All-nil IsAtItsEnd
+judged_at l home device given.Absent = All-nil IsAtItsEnd
+
+authenticates_at : (set : Setting) (before : Before) (l : FivegLine) (row : Row) (n : ℕ) (lines : List LineRecord)
+    → Authenticates set before l row n lines → AreAt lines
+authenticates_at set before l row n lines is =
+    subst AreAt (sym is.lines_are)
+    (All-append IsAtItsEnd is.front is.more (give_at set before l.sub n is.front is.gives)
+    (subst AreAt (sym is.judged)
+    (judged_at l (home_of (vector_of_row set row l.sub n) l.home) (device_of_row row n (rand_of set.key l.sub n) l.device) is.gives.answer)))
+
+fiveg_at : (set : Setting) (before : Before) (l : FivegLine) (n : ℕ) (lines : List LineRecord) → FivegFollows set before l n lines → AreAt lines
+fiveg_at set before l n lines f = by (is_separated (vector_of_row set f.row l.sub n).autn) f.follows
+  where
+    by : (separated : Bool) → AuthenticatesIf separated set before l f.row n lines → AreAt lines
+    by false is = further_at (further.Fiveg l.sub fiveg.NoSeparation) lines is
+    by true is = authenticates_at set before l f.row n lines is
+
 line_at : (set : Setting) (before : Before) (net : Net) (asked : Line) (lines : List LineRecord) (next : Net) → LineGives set before net asked lines next → AreAt lines
 line_at set before net (line.Draw sub count) lines next gives = draw_at set sub count lines gives.0
 line_at set before net (line.Sync sub seq bit count) lines next gives =
     let did = gives.0 in
     subst AreAt (sym did.lines_are)
     (All-cons IsAtItsEnd (record_of.Sync sub did.answer) did.more tt (vectors_at set sub count did.answer did.more did.follows))
-line_at set before net (line.Give sub n) lines next gives =
-    let did = gives.0 in
-    subst AreAt (sym did.lines_are) (All-cons IsAtItsEnd (record_of.Give sub n did.answer) [] tt (All-nil IsAtItsEnd))
+line_at set before net (line.Give sub n) lines next gives = give_at set before sub n lines gives.0
+line_at set before net (line.Eps sub snid) lines next gives =
+    one_at set sub (λ n rest. rest ≡ map (kasme_line snid) (vector_at set sub n)) lines gives.0
+    (λ n rest is. subst AreAt (sym is) (keys_at snid (vector_at set sub n)))
+line_at set before net (line.Fiveg l) lines next gives =
+    one_at set l.sub (λ n rest. FivegFollows set (behind before (record_of.Vector l.sub n ∷ [])) l n rest) lines gives.0
+    (λ n rest f. fiveg_at set (behind before (record_of.Vector l.sub n ∷ [])) l n rest f)
 line_at set before net (line.Session opening) lines next gives = event_at set before net (event.Open opening) lines next gives
 line_at set before net (line.Start session) lines next gives = event_at set before net (event.Start session) lines next gives
 line_at set before net (line.Deliver session at' packet) lines next gives = event_at set before net (event.Deliver session at' packet) lines next gives

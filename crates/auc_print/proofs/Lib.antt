@@ -1,7 +1,9 @@
 mod EndLemmas
 mod EventLemmas
 pub mod Facts
+mod FurtherLemmas
 mod HexLemmas
+mod ImsiLemmas
 mod LineLemmas
 mod NumberLemmas
 mod NumeralLemmas

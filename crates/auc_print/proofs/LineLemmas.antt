@@ -1,13 +1,11 @@
 -- The words of a line determine what is told of the line, and so does the text of lines.
-use Rattle.std.proofs.Common.{ℕ, zero, suc, ◌+◌, ◌/◌, ◌%◌, ◌<◌, ◌≤◌, ◌≡◌, ◌∙◌, refl, sym, ap, Bool, true, false, ◌||◌, List, [], ◌∷◌, ◌++◌, map, drop, length, get_or, slice_index_or, flat_map, if◌then◌else◌, codes, bytes_eq, Option, Some, None, Result, Ok, Err, ◌⊎◌, inl, inr, arith}
+use Rattle.std.proofs.Common.{ℕ, ◌<◌, ◌≡◌, ◌∙◌, refl, sym, ap, Bool, true, false, ◌||◌, List, [], ◌∷◌, ◌++◌, map, drop, length, get_or, flat_map, if◌then◌else◌, codes, bytes_eq, Option, Some, None, Result, Ok, Err, arith}
 use Rattle.std.specs.List.{AllByRecursion}
-use Rattle.std.proofs.lemmas.Bool.{cases_order}
 use Rattle.std.proofs.lemmas.List.Concat.{flat_map-append}
 use Rattle.hex.specs.Hex.{encode_lower}
-use Rattle.auc_edge.specs.Identity.{Identity, last_digits}
+use Rattle.auc_edge.specs.Identity.{Identity}
 use Rattle.auc_edge.specs.declared.stop.Stop.{Stop}
 use Rattle.auc_edge.specs.declared.stop.Stop.TheVariants.{Fault, Full}
-use Rattle.auc_edge.proofs.Facts.{digits_of_injective}
 use Rattle.auc_lines.specs.declared.part.End.{End}
 use Rattle.auc_lines.specs.declared.part.End.TheVariants as end
 use Rattle.auc_peer.specs.declared.why.PeerWhy.{PeerWhy}
@@ -41,9 +39,12 @@ use Rattle.auc_world.specs.declared.event.NoteStep.{NoteStep}
 use Rattle.auc_world.specs.declared.event.NoteStep.TheVariants as did
 use Rattle.auc_world.specs.declared.event.WorldRefusal.{WorldRefusal}
 use Rattle.auc_world.specs.declared.event.WorldRefusal.TheVariants as refused
+use Rattle.auc_world.specs.declared.further.FivegOutcome.TheVariants as fiveg
+use Rattle.auc_world.specs.declared.further.Further.{Further as Said}
+use Rattle.auc_world.specs.declared.further.Further.TheVariants as further
 use Rattle.auc_world.specs.declared.net.Breach.{Breach}
 use Rattle.auc_world.specs.declared.record.LineRecord.{LineRecord}
-use Rattle.auc_world.specs.declared.record.LineRecord.TheVariants.{Vector, Withheld, Exhausted, Sync, Give, Event}
+use Rattle.auc_world.specs.declared.record.LineRecord.TheVariants.{Vector, Withheld, Exhausted, Sync, Give, Further, Event}
 use Rattle.auc_world.specs.declared.record.SyncVerdict.{SyncVerdict}
 use Rattle.auc_world.specs.declared.record.SyncVerdict.TheVariants.{Moved, InRange, Beyond, WrongMac}
 use Rattle.auc_world.specs.declared.record.GiveVerdict.{GiveVerdict}
@@ -52,14 +53,16 @@ use Rattle.auc_world.specs.declared.record.Closing.{Closing}
 use Rattle.auc_world.specs.declared.record.SessionVerdict.{SessionVerdict}
 use Rattle.auc_print.specs.EventText.{came_lines, came_words, counter_words, end_word, event_words, notes_words, number_words, packet_lines, peer_words, reason_word, resumed_words, resync_words, sent_words, server_words, step_lines, step_sent, step_words, stop_word, usim_words, what_lines, what_words}
 use Rattle.auc_print.specs.Numeral.{numeral}
-use Rattle.auc_print.specs.Text.{Line, RoundLine, JobLine, RecordLine, ClosedLine, SessionLine, HeldLine, BrokenLine, RestartLine, added_lines, agree_word, broken_words, bytes_words, closing_words, event_lines, give_words, identities_of, imsi_of, line_text, line_words, record_words, session_words, spaced, sync_words}
+use Rattle.auc_print.specs.Text.{Line, RoundLine, JobLine, RecordLine, ClosedLine, SessionLine, HeldLine, BrokenLine, RestartLine, added_lines, agree_word, broken_words, bytes_words, closing_words, further_lines, further_words, give_words, identities_of, line_text, line_words, record_words, session_words, shown_lines, spaced, sync_words}
 use Rattle.auc_print.specs.OneText.{AnswerFits, AreIdentities, GiveFits, IsAtItsEnd}
 use Rattle.auc_print.proofs.EventLemmas.{end_injective, event_injective, notes_flat, stop_injective, word_at}
+use Rattle.auc_print.proofs.FurtherLemmas.{further_injective, further_words_are}
 use Rattle.auc_print.proofs.HexLemmas.{hex_injective}
+use Rattle.auc_print.proofs.ImsiLemmas.{imsi_injective, imsi_word}
 use Rattle.auc_print.proofs.NumeralLemmas.{numeral_injective, numeral_word}
-use Rattle.auc_print.proofs.SpacedLemmas.{IsWord, AllWords, AreWords, AreLines, hex_word, is_word, last_digits_word, lines_cut, word_from_test, words_append}
+use Rattle.auc_print.proofs.SpacedLemmas.{IsWord, AllWords, AreWords, AreLines, hex_word, is_word, lines_cut, word_from_test, words_append}
 
--- each subscriber that a line names has an identity, and the SQN in the line consists of bytes
+-- each subscriber that a line names has an identity, and the SQN, K_ASME or HXRES* in the line consists of bytes
 abbrev pub LineFits : List Identity → Line → Type 0
 LineFits identities (RoundLine number) = Unit {0}
 LineFits identities (JobLine number) = Unit {0}
@@ -91,62 +94,6 @@ told_of (SessionLine verdict) = SessionLine verdict
 told_of HeldLine = HeldLine
 told_of (BrokenLine job breach) = BrokenLine job breach
 told_of RestartLine = RestartLine
-
--- ---- subscribers
-
--- an identity has digits
-some_digits : (count n : ℕ) → 0 < count → last_digits count n ≡ [] → ⊥
-some_digits zero n some e = omega arith
-some_digits (suc count) n some e = in_front (last_digits count (n / 10)) (48 + n % 10) e
-  where
-    in_front : (xs : List ℕ) (x : ℕ) → xs ++ x ∷ [] ≡ [] → ⊥
-    in_front [] x e = cc
-    in_front (y ∷ xs) x e = cc
-
--- past the last subscriber there is no IMSI
-no_imsi : (identities : List Identity) (t : ℕ) → length identities ≤ t → imsi_of identities t ≡ []
-no_imsi [] t above = refl
-no_imsi (identity ∷ identities) zero above = absurd (omega arith)
-no_imsi (identity ∷ identities) (suc t) above = no_imsi identities t (omega arith)
-
-known_or_past : (t n : ℕ) → (t < n) ⊎ (n ≤ t)
-known_or_past t n =
-    elim (cases_order t n) [
-      | inl equal ↦ inr (omega arith)
-      | inr apart ↦ elim apart [
-        | inl below ↦ inl below
-        | inr above ↦ inr (omega arith)
-      ]
-    ]
-
--- a known subscriber and one with the same IMSI are the same
-imsi_injective : (identities : List Identity) (s t : ℕ) → AreIdentities identities → s < length identities → imsi_of identities s ≡ imsi_of identities t → s ≡ t
-imsi_injective identities s t are a e = by (known_or_past t (length identities))
-  where
-    none : Identity
-    none = record { digits = 0; number = 0 }
-
-    by : (t < length identities) ⊎ (length identities ≤ t) → s ≡ t
-    by (inl b) =
-        let same : slice_index_or identities s none ≡ slice_index_or identities t none
-        = digits_of_injective _ _ (are.each s none a) (are.each t none b) e in
-        elim (cases_order s t) [
-          | inl equal ↦ equal
-          | inr apart ↦ elim apart [
-            | inl below ↦ absurd (are.differ s t none below b same)
-            | inr above ↦ absurd (are.differ t s none above a (sym same))
-          ]
-        ]
-    by (inr past) =
-        let here : Identity = slice_index_or identities s none in
-        let some = (are.each s none a).least in
-        let enough : 0 < here.digits = omega (arith, some) in
-        absurd (some_digits here.digits here.number enough (e ∙ no_imsi identities t past))
-
--- an IMSI is a word
-imsi_word : (identities : List Identity) (s : ℕ) → IsWord (imsi_of identities s)
-imsi_word identities s =
-    let identity : Identity = slice_index_or identities s (record { digits = 0; number = 0 }) in last_digits_word identity.digits identity.number
 
 -- ---- words
 
@@ -304,6 +251,7 @@ answer_words_are identities (Sync sub verdict) =
     (word_from_test (codes "sync") refl, (imsi_word identities sub, sync_words_are verdict))
 answer_words_are identities (Give sub n verdict) =
     (word_from_test (codes "give") refl, (imsi_word identities sub, (numeral_word n, give_words_are verdict)))
+answer_words_are identities (Further said) = further_words_are identities said
 answer_words_are identities (Event r) = event_words_are r.event (came_words r.result) (came_words_are r.result)
 
 agree_word_is : (agree : Bool) → IsWord (agree_word agree)
@@ -382,7 +330,7 @@ texts_are set full (line ∷ lines) =
 
 -- the word at a place, and whether a first word is that of a line that a full print adds
 abbrev is_added : List ℕ → Bool
-is_added word = bytes_eq word (codes "bytes") || (bytes_eq word (codes "packet") || bytes_eq word (codes "keys"))
+is_added word = bytes_eq word (codes "bytes") || (bytes_eq word (codes "packet") || (bytes_eq word (codes "keys") || bytes_eq word (codes "seaf")))
 
 -- lines of words that a full print adds
 abbrev AreAdded : List (List (List ℕ)) → Type 0
@@ -422,17 +370,27 @@ came_added (Ok note) =
     added_append (packet_lines note.packet (step_sent note.step)) (step_lines note.step) (packet_added note.packet (step_sent note.step)) (step_added note.step)
 came_added (Err why) = tt
 
-event_added : (answer : LineRecord) → AreAdded (event_lines answer)
-event_added (Vector sub n) = tt
-event_added (Withheld sub n stop) = tt
-event_added (Exhausted sub word) = tt
-event_added (Sync sub verdict) = tt
-event_added (Give sub n verdict) = tt
-event_added (Event r) = came_added r.result
+further_added : (said : Said) → AreAdded (further_lines said)
+further_added (further.Kasme key) = tt
+further_added (further.HxresStar half) = tt
+further_added (further.Fiveg sub fiveg.NoSeparation) = tt
+further_added (further.Fiveg sub fiveg.ServingRefused) = tt
+further_added (further.Fiveg sub fiveg.HomeRefused) = tt
+further_added (further.Fiveg sub (fiveg.Confirmed home device)) =
+    (refl, (word_from_test (codes "seaf") refl, (hex_word home, (hex_word device, tt))), tt)
+
+shown_added : (answer : LineRecord) → AreAdded (shown_lines answer)
+shown_added (Vector sub n) = tt
+shown_added (Withheld sub n stop) = tt
+shown_added (Exhausted sub word) = tt
+shown_added (Sync sub verdict) = tt
+shown_added (Give sub n verdict) = tt
+shown_added (Further said) = further_added said
+shown_added (Event r) = came_added r.result
 
 all_added : (set : Setting) (full : Bool) (line : Line) → AreAdded (added set full line)
 all_added set true (RecordLine answer) =
-    added_append (map bytes_words (vector_in set answer)) (event_lines answer) (bytes_added (vector_in set answer)) (event_added answer)
+    added_append (map bytes_words (vector_in set answer)) (shown_lines answer) (bytes_added (vector_in set answer)) (shown_added answer)
 all_added set false (RecordLine answer) = tt
 all_added set full (RoundLine number) = tt
 all_added set full (JobLine number) = tt
@@ -472,6 +430,12 @@ own_of_event (event.Deliver session at' packet) words rest = refl
 own_of_event (event.Repeat session) words rest = refl
 own_of_event (event.GiveUp session at') words rest = refl
 
+own_of_further : (identities : List Identity) (said : Said) (rest : List (List (List ℕ)))
+    → own (further_words identities said ∷ rest) ≡ further_words identities said ∷ own rest
+own_of_further identities (further.Kasme key) rest = refl
+own_of_further identities (further.HxresStar half) rest = refl
+own_of_further identities (further.Fiveg sub outcome) rest = refl
+
 own_of_words : (identities : List Identity) (line : Line) (rest : List (List (List ℕ)))
     → own (line_words identities line ∷ rest) ≡ line_words identities line ∷ own rest
 own_of_words identities (RoundLine number) rest = refl
@@ -486,6 +450,7 @@ own_of_words identities (RecordLine (Withheld sub n stop)) rest = refl
 own_of_words identities (RecordLine (Exhausted sub word)) rest = refl
 own_of_words identities (RecordLine (Sync sub verdict)) rest = refl
 own_of_words identities (RecordLine (Give sub n verdict)) rest = refl
+own_of_words identities (RecordLine (Further said)) rest = own_of_further identities said rest
 own_of_words identities (RecordLine (Event r)) rest = own_of_event r.event (came_words r.result) rest
 
 -- without what a full print adds, only the lines themselves are left of their printed lines
@@ -583,6 +548,11 @@ kind_of_event (event.Deliver session at' packet) words none = refl
 kind_of_event (event.Repeat session) words none = refl
 kind_of_event (event.GiveUp session at') words none = refl
 
+kind_of_further : (identities : List Identity) (said : Said) → 4 ≡ kind_of_words (further_words identities said)
+kind_of_further identities (further.Kasme key) = refl
+kind_of_further identities (further.HxresStar half) = refl
+kind_of_further identities (further.Fiveg sub outcome) = refl
+
 kind_of_verdict : (agree : Bool) → is_verdict (agree_word agree) ≡ true
 kind_of_verdict true = refl
 kind_of_verdict false = refl
@@ -602,7 +572,12 @@ kind_is identities (RecordLine (Withheld sub n stop)) = refl
 kind_is identities (RecordLine (Exhausted sub word)) = refl
 kind_is identities (RecordLine (Sync sub verdict)) = refl
 kind_is identities (RecordLine (Give sub n verdict)) = refl
+kind_is identities (RecordLine (Further said)) = kind_of_further identities said
 kind_is identities (RecordLine (Event r)) = kind_of_event r.event (came_words r.result) (in_came r.result)
+
+-- whether a word is the first of a line on what follows from a vector
+abbrev is_further : List ℕ → Bool
+is_further word = bytes_eq word (codes "kasme") || (bytes_eq word (codes "hxresstar") || bytes_eq word (codes "fiveg"))
 
 -- a number for each kind of record, by its first word
 abbrev record_of_word : List ℕ → ℕ
@@ -611,7 +586,8 @@ record_of_word word =
     else if bytes_eq word (codes "withheld") then 1
     else if bytes_eq word (codes "exhausted") then 2
     else if bytes_eq word (codes "sync") then 3
-    else if bytes_eq word (codes "give") then 4 else 5
+    else if bytes_eq word (codes "give") then 4
+    else if is_further word then 5 else 6
 
 -- the same number, by the record
 abbrev record_number : LineRecord → ℕ
@@ -620,9 +596,15 @@ record_number (Withheld sub n stop) = 1
 record_number (Exhausted sub word) = 2
 record_number (Sync sub verdict) = 3
 record_number (Give sub n verdict) = 4
-record_number (Event r) = 5
+record_number (Further said) = 5
+record_number (Event r) = 6
 
-record_of_event : (e : SessionEvent) (words : List (List ℕ)) → 5 ≡ record_of_word (word_at (event_words e ++ words) 0)
+record_of_further : (identities : List Identity) (said : Said) → 5 ≡ record_of_word (word_at (further_words identities said) 0)
+record_of_further identities (further.Kasme key) = refl
+record_of_further identities (further.HxresStar half) = refl
+record_of_further identities (further.Fiveg sub outcome) = refl
+
+record_of_event : (e : SessionEvent) (words : List (List ℕ)) → 6 ≡ record_of_word (word_at (event_words e ++ words) 0)
 record_of_event (event.Open opening) words = refl
 record_of_event (event.Start session) words = refl
 record_of_event (event.Deliver session at' packet) words = refl
@@ -636,6 +618,7 @@ record_is identities (Withheld sub n stop) = refl
 record_is identities (Exhausted sub word) = refl
 record_is identities (Sync sub verdict) = refl
 record_is identities (Give sub n verdict) = refl
+record_is identities (Further said) = record_of_further identities said
 record_is identities (Event r) = record_of_event r.event (came_words r.result)
 
 -- a number for each verdict on an AUTS, by its first word
@@ -723,6 +706,7 @@ answer_injective identities (Give s m a) (Give t n b) are p x y e =
     let sub : s ≡ t = imsi_injective identities s t are p.0 (ap (λ ws. word_at ws 1) e) in
     let number : m ≡ n = numeral_injective m n (ap (λ ws. word_at ws 2) e) in
     let verdict : a ≡ b = give_injective a b p.1 (ap (λ ws. drop 3 ws) e) in (cc)
+answer_injective identities (Further a) (Further b) are p x y e = ap (λ (s : Said). Further s) (further_injective identities a b are p.0 p.1 e)
 answer_injective identities (Event a) (Event b) are p x y e = ap (λ (r : EventRecord). Event r) (event_injective a b p.1 x y e)
 answer_injective identities a b are p x y e =
     let kinds : record_number a ≡ record_number b

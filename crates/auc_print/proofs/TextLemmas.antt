@@ -12,7 +12,7 @@ use Rattle.auc_world.specs.Record.{IsBelow, subscriber_of}
 use Rattle.auc_world.specs.Setting.{Setting}
 use Rattle.auc_world.specs.Vectors.{vector_with, vector_at, vector_in, vectors_in}
 use Rattle.auc_world.specs.declared.record.LineRecord.{LineRecord}
-use Rattle.auc_world.specs.declared.record.LineRecord.TheVariants.{Vector, Withheld, Exhausted, Sync, Give, Event}
+use Rattle.auc_world.specs.declared.record.LineRecord.TheVariants.{Vector, Withheld, Exhausted, Sync, Give, Further, Event}
 use Rattle.auc_world.specs.declared.record.Closing.{Closing}
 use Rattle.auc_world.specs.declared.record.Premise.{Premise}
 use Rattle.auc_world.specs.declared.record.Premise.TheVariants as premise
@@ -21,7 +21,7 @@ use Rattle.auc_world.specs.declared.record.SessionVerdict.{SessionVerdict}
 use Rattle.auc_edge.specs.Identity.{Identity}
 use Rattle.auc_print.specs.Inner.{IsFrontOf, answer_text, answers_text, bytes_text, job_text, left_after, left_for, lines_text, premise_text, shown_after, shown_for}
 use Rattle.auc_print.specs.Numeral.{numeral}
-use Rattle.auc_print.specs.Text.{Line, RoundLine, JobLine, RecordLine, ClosedLine, SessionLine, BrokenLine, broken_words, bytes_words, closing_words, end_lines, event_lines, identities_of, job_lines, jobs_lines, line_text, premise_lines, record_words, round_text, session_words, spaced}
+use Rattle.auc_print.specs.Text.{Line, RoundLine, JobLine, RecordLine, ClosedLine, SessionLine, BrokenLine, broken_words, bytes_words, closing_words, end_lines, identities_of, job_lines, jobs_lines, line_text, premise_lines, record_words, round_text, session_words, shown_lines, spaced}
 
 -- a place in a list has an item
 item_at : (rows : List Row) (sub : ℕ) → sub < length rows → (row : Row) × (slice_get rows sub ≡ Some row)
@@ -50,6 +50,7 @@ brief_shown (Withheld sub n stop) = refl
 brief_shown (Exhausted sub word) = refl
 brief_shown (Sync sub verdict) = refl
 brief_shown (Give sub n verdict) = refl
+brief_shown (Further said) = refl
 brief_shown (Event r) = none_shown (event_vector r.result)
 
 brief_left : (answer : LineRecord) → left_after answer [] ≡ []
@@ -58,6 +59,7 @@ brief_left (Withheld sub n stop) = refl
 brief_left (Exhausted sub word) = refl
 brief_left (Sync sub verdict) = refl
 brief_left (Give sub n verdict) = refl
+brief_left (Further said) = refl
 brief_left (Event r) = none_left (event_vector r.result)
 
 -- of the vectors of some lines, a line that releases a vector shows its own, and leaves those of the lines after it
@@ -82,6 +84,7 @@ full_shown set (Withheld sub n stop) more named = refl
 full_shown set (Exhausted sub word) more named = refl
 full_shown set (Sync sub verdict) more named = refl
 full_shown set (Give sub n verdict) more named = refl
+full_shown set (Further said) more named = refl
 full_shown set (Event r) more named = vector_shown (event_vector r.result) more
 
 full_left : (set : Setting) (answer : LineRecord) (more : List AuthVector) → IsBelow (length set.rows) (subscriber_of answer)
@@ -91,6 +94,7 @@ full_left set (Withheld sub n stop) more named = refl
 full_left set (Exhausted sub word) more named = refl
 full_left set (Sync sub verdict) more named = refl
 full_left set (Give sub n verdict) more named = refl
+full_left set (Further said) more named = refl
 full_left set (Event r) more named = vector_left (event_vector r.result) more
 
 -- ---- a job
@@ -109,7 +113,7 @@ brief_answers set (answer ∷ job) =
     ∙ ap (λ vectors. line_text set false (RecordLine answer) ++ answers_text (identities_of set.rows) false job vectors) (brief_left answer)
     ∙ ap (λ rest. line_text set false (RecordLine answer) ++ rest) (brief_answers set job)
 
--- in a full print the bytes of the vector that a record releases follow its line, and then the lines of an event
+-- in a full print the bytes of the vector that a record releases follow its line, and then what else is shown of it
 full_answers : (set : Setting) (job : List LineRecord) → AreNamed set job
     → answers_text (identities_of set.rows) true job (vectors_in set job) ≡ flat_map (line_text set true) (map RecordLine job)
 full_answers set [] named = refl
@@ -118,12 +122,12 @@ full_answers set (answer ∷ job) named =
     let there : AreNamed set job = All-tail (λ line. IsBelow (length set.rows) (subscriber_of line)) answer job named in
     let own : List ℕ = spaced (record_words (identities_of set.rows) answer) in
     let more : List AuthVector = vectors_in set job in
-    ap (λ vectors. (own ++ (bytes_text vectors ++ lines_text (event_lines answer)))
+    ap (λ vectors. (own ++ (bytes_text vectors ++ lines_text (shown_lines answer)))
     ++ answers_text (identities_of set.rows) true job (left_after answer (vector_in set answer ++ more))) (full_shown set answer more here)
-    ∙ ap (λ vectors. (own ++ (bytes_text (vector_in set answer) ++ lines_text (event_lines answer))) ++ answers_text (identities_of set.rows) true job vectors)
+    ∙ ap (λ vectors. (own ++ (bytes_text (vector_in set answer) ++ lines_text (shown_lines answer))) ++ answers_text (identities_of set.rows) true job vectors)
     (full_left set answer more here)
     ∙ ap (λ t. (own ++ t) ++ answers_text (identities_of set.rows) true job more)
-    (sym (flat_map-append spaced (map bytes_words (vector_in set answer)) (event_lines answer)))
+    (sym (flat_map-append spaced (map bytes_words (vector_in set answer)) (shown_lines answer)))
     ∙ ap (λ rest. line_text set true (RecordLine answer) ++ rest) (full_answers set job there)
 
 -- a job's text with the vectors that a print shows is that of its lines

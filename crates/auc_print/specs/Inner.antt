@@ -10,14 +10,14 @@ use Rattle.auc_world.specs.Event.{event_vector}
 use Rattle.auc_world.specs.declared.event.NoteStep.{NoteStep}
 use Rattle.auc_world.specs.declared.event.NoteStep.TheVariants as did
 use Rattle.auc_world.specs.declared.record.LineRecord.{LineRecord}
-use Rattle.auc_world.specs.declared.record.LineRecord.TheVariants.{Vector, Withheld, Exhausted, Sync, Give, Event}
+use Rattle.auc_world.specs.declared.record.LineRecord.TheVariants.{Vector, Withheld, Exhausted, Sync, Give, Further, Event}
 use Rattle.auc_world.specs.declared.record.Premise.{Premise}
 use Rattle.auc_world.specs.declared.record.Premise.TheVariants as premise
 use Rattle.auc_print.specs.declared.word.Word.{Word}
 use Rattle.auc_print.specs.declared.word.Word.TheVariants as words
 use Rattle.auc_print.specs.EventText.{peer_words, reason_word, server_words}
 use Rattle.auc_print.specs.Numeral.{numeral}
-use Rattle.auc_print.specs.Text.{broken_words, bytes_words, event_lines, record_words, spaced}
+use Rattle.auc_print.specs.Text.{broken_words, bytes_words, record_words, shown_lines, spaced}
 
 -- a text begins with a front
 pub record IsFrontOf (front text : List ℕ) : Type 0 where
@@ -95,6 +95,7 @@ shown_after (Withheld sub n stop) vectors = []
 shown_after (Exhausted sub word) vectors = []
 shown_after (Sync sub verdict) vectors = []
 shown_after (Give sub n verdict) vectors = []
+shown_after (Further said) vectors = []
 shown_after (Event r) vectors = shown_for (event_vector r.result) vectors
 
 abbrev pub left_after : LineRecord → List AuthVector → List AuthVector
@@ -103,12 +104,13 @@ left_after (Withheld sub n stop) vectors = vectors
 left_after (Exhausted sub word) vectors = vectors
 left_after (Sync sub verdict) vectors = vectors
 left_after (Give sub n verdict) vectors = vectors
+left_after (Further said) vectors = vectors
 left_after (Event r) vectors = left_for (event_vector r.result) vectors
 
 -- the text of a record, with some vectors left to be shown
 abbrev pub answer_text : List Identity → Bool → LineRecord → List AuthVector → List ℕ
 answer_text identities full answer vectors =
-    spaced (record_words identities answer) ++ (bytes_text (shown_after answer vectors) ++ lines_text (if full then event_lines answer else []))
+    spaced (record_words identities answer) ++ (bytes_text (shown_after answer vectors) ++ lines_text (if full then shown_lines answer else []))
 
 -- the text of a job's records, with the vectors that its lines show
 abbrev pub answers_text : List Identity → Bool → List LineRecord → List AuthVector → List ℕ

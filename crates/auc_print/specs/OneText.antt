@@ -15,6 +15,8 @@ use Rattle.auc_world.specs.declared.event.Note.{Note}
 use Rattle.auc_world.specs.declared.event.NoteStep.{NoteStep}
 use Rattle.auc_world.specs.declared.event.NoteStep.TheVariants as did
 use Rattle.auc_world.specs.declared.event.WorldRefusal.{WorldRefusal}
+use Rattle.auc_world.specs.declared.further.Further.{Further}
+use Rattle.auc_world.specs.declared.further.Further.TheVariants as further
 use Rattle.auc_world.specs.declared.record.LineRecord.{LineRecord}
 use Rattle.auc_world.specs.declared.record.LineRecord.TheVariants as record_of
 use Rattle.auc_world.specs.declared.record.GiveVerdict.{GiveVerdict}
@@ -29,7 +31,7 @@ pub record AreIdentities (identities : List Identity) : Type 0 where
   pub each : All (λ identity. IsIdentity identity.digits identity.number) identities
   pub differ : AllPairs ◌≢◌ identities
 
--- ---- the SQNs in the answers of USIMs consist of bytes
+-- ---- the SQNs in the answers of USIMs, and the keys and halves that are printed, consist of bytes
 
 abbrev pub GiveFits : GiveVerdict → Type 0
 GiveFits Accepted = Unit {0}
@@ -46,13 +48,19 @@ abbrev pub CameFits : Result Note WorldRefusal → Type 0
 CameFits (Ok note) = UsimFits note.notes.usim
 CameFits (Err why) = Unit {0}
 
--- that of a job's record, if it has one
+abbrev pub FurtherFits : Further → Type 0
+FurtherFits (further.Kasme key) = IsBytes key
+FurtherFits (further.HxresStar half) = IsBytes half
+FurtherFits (further.Fiveg sub outcome) = Unit {0}
+
+-- those of a job's record, if it has any
 abbrev pub AnswerFits : LineRecord → Type 0
 AnswerFits (record_of.Vector sub n) = Unit {0}
 AnswerFits (record_of.Withheld sub n stop) = Unit {0}
 AnswerFits (record_of.Exhausted sub word) = Unit {0}
 AnswerFits (record_of.Sync sub verdict) = Unit {0}
 AnswerFits (record_of.Give sub n verdict) = GiveFits verdict
+AnswerFits (record_of.Further said) = FurtherFits said
 AnswerFits (record_of.Event r) = CameFits r.result
 
 abbrev pub RoundFits : RoundRecord → Type 0
@@ -63,7 +71,8 @@ abbrev pub PartFits : PartRecord → Type 0
 PartFits (Round round) = RoundFits round
 PartFits Restart = Unit {0}
 
--- each subscriber that the parts name is one of the first `count` subscribers, and each SQN in them consists of bytes
+-- each subscriber that the parts name is one of the first `count` subscribers, and each SQN, K_ASME and HXRES* in them
+-- consists of bytes
 pub record IsPrintable (count : ℕ) (records : List PartRecord) : Type 0 where
   pub named : All (PartNamesBelow count) records
   pub fit : All PartFits records
@@ -96,6 +105,7 @@ IsAtItsEnd (record_of.Withheld sub n stop) = Unit {0}
 IsAtItsEnd (record_of.Exhausted sub word) = Unit {0}
 IsAtItsEnd (record_of.Sync sub verdict) = Unit {0}
 IsAtItsEnd (record_of.Give sub n verdict) = Unit {0}
+IsAtItsEnd (record_of.Further said) = Unit {0}
 IsAtItsEnd (record_of.Event r) = CameAt (end_of r.event) r.result
 
 -- the same of a part's records

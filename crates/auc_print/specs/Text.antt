@@ -4,9 +4,13 @@ use Rattle.hex.specs.Hex.{encode_lower}
 use Rattle.auc_edge.specs.Identity.{Identity, digits_of}
 use Rattle.auc_subs.specs.declared.row.Row.{Row}
 use Rattle.auc_vector.specs.declared.parts.Vector.{Vector as AuthVector}
+use Rattle.auc_world.specs.declared.further.FivegOutcome.{FivegOutcome}
+use Rattle.auc_world.specs.declared.further.FivegOutcome.TheVariants.{NoSeparation, ServingRefused, HomeRefused, Confirmed}
+use Rattle.auc_world.specs.declared.further.Further.{Further as Said}
+use Rattle.auc_world.specs.declared.further.Further.TheVariants.{Kasme, HxresStar, Fiveg}
 use Rattle.auc_world.specs.declared.net.Breach.{Breach}
 use Rattle.auc_world.specs.declared.record.LineRecord.{LineRecord}
-use Rattle.auc_world.specs.declared.record.LineRecord.TheVariants.{Vector, Withheld, Exhausted, Sync, Give, Event}
+use Rattle.auc_world.specs.declared.record.LineRecord.TheVariants.{Vector, Withheld, Exhausted, Sync, Give, Further, Event}
 use Rattle.auc_world.specs.declared.record.SyncVerdict.{SyncVerdict}
 use Rattle.auc_world.specs.declared.record.SyncVerdict.TheVariants.{Moved, InRange, Beyond, WrongMac}
 use Rattle.auc_world.specs.declared.record.GiveVerdict.{GiveVerdict}
@@ -84,6 +88,19 @@ give_words Accepted = codes "accepted" ∷ []
 give_words (SyncFailure sqn_ms) = codes "sync" ∷ encode_lower sqn_ms ∷ []
 give_words Absent = codes "absent" ∷ []
 
+-- the word that says what became of a 5G authentication
+abbrev pub fiveg_word : FivegOutcome → List ℕ
+fiveg_word NoSeparation = codes "noseparation"
+fiveg_word ServingRefused = codes "servingrefused"
+fiveg_word HomeRefused = codes "homerefused"
+fiveg_word (Confirmed home device) = codes "confirmed"
+
+-- the words of what follows from a released vector
+abbrev pub further_words : List Identity → Said → List (List ℕ)
+further_words identities (Kasme key) = codes "kasme" ∷ encode_lower key ∷ []
+further_words identities (HxresStar half) = codes "hxresstar" ∷ encode_lower half ∷ []
+further_words identities (Fiveg sub outcome) = codes "fiveg" ∷ imsi_of identities sub ∷ fiveg_word outcome ∷ []
+
 -- the words of a job's record
 abbrev pub record_words : List Identity → LineRecord → List (List ℕ)
 record_words identities (Vector sub n) = codes "vector" ∷ imsi_of identities sub ∷ numeral n ∷ []
@@ -91,6 +108,7 @@ record_words identities (Withheld sub n stop) = codes "withheld" ∷ imsi_of ide
 record_words identities (Exhausted sub word) = codes "exhausted" ∷ imsi_of identities sub ∷ numeral word ∷ []
 record_words identities (Sync sub verdict) = codes "sync" ∷ imsi_of identities sub ∷ sync_words verdict
 record_words identities (Give sub n verdict) = codes "give" ∷ imsi_of identities sub ∷ numeral n ∷ give_words verdict
+record_words identities (Further said) = further_words identities said
 record_words identities (Event r) = event_words r.event ++ came_words r.result
 
 -- the words of a closing
@@ -134,18 +152,36 @@ abbrev pub spaced : List (List ℕ) → List ℕ
 spaced [] = codes "\n"
 spaced (word ∷ words) = word ++ flat_map (λ next. 32 ∷ next) words ++ codes "\n"
 
--- the lines that a full print adds after a record's line: the bytes of the vector that it releases, and the packet and the
--- keys of an event
-abbrev pub event_lines : LineRecord → List (List (List ℕ))
-event_lines (Vector sub n) = []
-event_lines (Withheld sub n stop) = []
-event_lines (Exhausted sub word) = []
-event_lines (Sync sub verdict) = []
-event_lines (Give sub n verdict) = []
-event_lines (Event r) = came_lines r.result
+-- the words of K_SEAF of the home network and of the device
+abbrev pub seaf_words : List ℕ → List ℕ → List (List ℕ)
+seaf_words home device = codes "seaf" ∷ encode_lower home ∷ encode_lower device ∷ []
 
+-- the line of K_SEAF of both ends, if a 5G authentication is confirmed
+abbrev pub fiveg_lines : FivegOutcome → List (List (List ℕ))
+fiveg_lines NoSeparation = []
+fiveg_lines ServingRefused = []
+fiveg_lines HomeRefused = []
+fiveg_lines (Confirmed home device) = seaf_words home device ∷ []
+
+abbrev pub further_lines : Said → List (List (List ℕ))
+further_lines (Kasme key) = []
+further_lines (HxresStar half) = []
+further_lines (Fiveg sub outcome) = fiveg_lines outcome
+
+-- the lines that a full print adds after a record's line, besides the bytes of a vector: K_SEAF of a 5G authentication, or
+-- the packet and the keys of an event
+abbrev pub shown_lines : LineRecord → List (List (List ℕ))
+shown_lines (Vector sub n) = []
+shown_lines (Withheld sub n stop) = []
+shown_lines (Exhausted sub word) = []
+shown_lines (Sync sub verdict) = []
+shown_lines (Give sub n verdict) = []
+shown_lines (Further said) = further_lines said
+shown_lines (Event r) = came_lines r.result
+
+-- all of them: the bytes of the vector that the record releases come first
 abbrev pub added_lines : Setting → LineRecord → List (List (List ℕ))
-added_lines set answer = map bytes_words (vector_in set answer) ++ event_lines answer
+added_lines set answer = map bytes_words (vector_in set answer) ++ shown_lines answer
 
 -- what a full print adds after a line
 abbrev pub full_text : Setting → Bool → Line → List ℕ

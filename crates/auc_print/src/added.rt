@@ -1,30 +1,47 @@
-//! The lines that a full print adds after an event's.
+//! The lines that a full print adds after a record's, besides the bytes of a vector.
 
 ghost use Rattle.std.specs.Prelude.{◌≡◌, ◌++◌, OnOk};
-ghost use Rattle.auc_print.specs.EventText.{keys_words, packet_lines, step_lines, step_sent, what_lines, what_sent};
+ghost use Rattle.auc_print.specs.EventText.{came_lines, keys_words, packet_lines, step_lines, step_sent, what_lines, what_sent};
 ghost use Rattle.auc_print.specs.Inner.{IsFrontOf, lines_text};
-ghost use Rattle.auc_print.specs.Text.{event_lines, spaced};
+ghost use Rattle.auc_print.specs.Text.{shown_lines, spaced};
 
+use crate::further::print_seaf;
 use crate::word::Word;
 use crate::writer::print_line;
 use auc_edge::{NoMemory, Octets};
 use auc_hmac::KeySet;
 use auc_vector::{Outcome, Step};
-use auc_world::{LineRecord, NoteStep};
+use auc_world::{LineRecord, Note, NoteStep, WorldRefusal};
 
-/// Appends the lines that a full print adds after an event's: the packet that was sent, and the keys of Success.
+/// Appends the lines that a full print adds after a record's, besides the bytes of a vector: K_SEAF of a confirmed 5G
+/// authentication, or the packet that an event sent and the keys of its Success.
 pub fn print_added(answer: &LineRecord, out: &mut Octets) -> Result<(), NoMemory>
-    ensures printed { OnOk result (out.new ≡ out.old ++ lines_text (event_lines answer.now)) }
+    ensures printed { OnOk result (out.new ≡ out.old ++ lines_text (shown_lines answer.now)) }
     ensures grows { IsFrontOf out.old out.new }
 {
-    let LineRecord::Event(event) = answer else {
-        return Ok(());
-    };
-    let Ok(note) = &event.record().result else {
-        return Ok(());
-    };
-    print_packet(note.packet, bytes_of_step(&note.step), out)?;
-    print_step_lines(&note.step, out)
+    match answer {
+        LineRecord::Further(further) => print_seaf(further.said(), out),
+        LineRecord::Event(event) => print_came_lines(&event.record().result, out),
+        LineRecord::Vector { .. }
+        | LineRecord::Withheld { .. }
+        | LineRecord::Exhausted { .. }
+        | LineRecord::Sync { .. }
+        | LineRecord::Give { .. } => Ok(()),
+    }
+}
+
+/// Appends the lines of what came of an event.
+fn print_came_lines(came: &Result<Note, WorldRefusal>, out: &mut Octets) -> Result<(), NoMemory>
+    ensures printed { OnOk result (out.new ≡ out.old ++ lines_text (came_lines came.now)) }
+    ensures grows { IsFrontOf out.old out.new }
+{
+    match came {
+        Ok(note) => {
+            print_packet(note.packet, bytes_of_step(&note.step), out)?;
+            print_step_lines(&note.step, out)
+        }
+        Err(_) => Ok(()),
+    }
 }
 
 /// Appends the line of a packet, if there is one.

@@ -8,6 +8,7 @@ ghost use Rattle.auc_print.specs.OneText.{AnswerFits, GiveFits};
 ghost use Rattle.auc_print.specs.Text.{agree_word, broken_words, closing_words, give_words, identities_of, record_words, session_words, spaced, sync_words};
 
 use crate::event::{print_event, word_of_end};
+use crate::further::print_further;
 use crate::notes::word_of;
 use crate::word::{Group, Word, one, pair};
 use crate::writer::{print_line, print_named};
@@ -46,6 +47,7 @@ pub fn print_record(
         LineRecord::Give { sub, n, verdict } => {
             print_named(b"give", *sub, &words_of_give(*n, *verdict), subs, out)
         }
+        LineRecord::Further(further) => print_further(further.said(), subs, out),
         LineRecord::Event(event) => print_event(event.record(), out),
     }
 }

@@ -27,8 +27,8 @@ pub fn print_restart(out: &mut Octets) -> Result<(), NoMemory>
 /// Appends the text of a round: its own line, the lines of its jobs, numbered from 1, those of its closings and its
 /// sessions, and that of the premise of equal keys. In a full print the lines of a vector's bytes, a packet and keys
 /// follow the line that they belong to; `vectors` has the vectors that each job's lines released, and in a brief print it
-/// is empty. Each subscriber that the round names is a row. Each SQN that is printed consists of bytes. If memory runs
-/// out, `out` stays as it was.
+/// is empty. Each subscriber that the round names is a row. Each SQN, K_ASME and HXRES* that is printed consists of bytes.
+/// If memory runs out, `out` stays as it was.
 pub fn print_round(
     round: &RoundRecord,
     vectors: &[JobVectors],
@@ -134,7 +134,7 @@ fn print_answers(
 }
 
 /// Appends the line of a job's record. If it releases a vector and vectors are left, the line of the first
-/// one's bytes follows; in a full print, so do those of an event's packet and keys.
+/// one's bytes follows; in a full print, so do those of K_SEAF or of an event's packet and keys.
 fn print_answer(
     answer: &LineRecord,
     vectors: &[Vector],

@@ -2,7 +2,7 @@
 
 ghost use Rattle.std.specs.Prelude.{◌≡◌, ◌∷◌, []};
 ghost use Rattle.hex.specs.Hex.{IsBytes, encode_lower};
-ghost use Rattle.auc_print.specs.Inner.{group_texts};
+ghost use Rattle.auc_print.specs.Inner.{group_texts, word_texts};
 ghost use Rattle.auc_print.specs.Numeral.{numeral};
 
 /// A word of a line.
@@ -64,4 +64,12 @@ pub fn sqn_after(text: &[u8], sqn: [u8; 6]) -> Group<'_>
     ensures fits { IsBytes sqn }
 {
     [Word::Text(text), Word::Sqn(sqn), Word::Nothing]
+}
+
+/// Bytes in lower-case hexadecimal digits.
+pub fn hex_word(bytes: &[u8]) -> Word<'_>
+    ensures word { word_texts result ≡ encode_lower bytes.now ∷ [] }
+    ensures fits { IsBytes bytes.now }
+{
+    Word::Hex(bytes)
 }

@@ -13,8 +13,9 @@ use auc_sqn::MAX_SEQ;
 use auc_subs::Subscribers;
 use auc_vector::{CounterNote, Notes, NumberNote, Outcome, ResyncNote, Step, UsimNote, Vector};
 use auc_world::{
-    BoxedEvent, Closing, End, Event, EventRecord, JobRecord, LineRecord, Note, NoteStep, Premise,
-    RoundRecord, SessionVerdict, Setting, SyncVerdict, printed_vectors,
+    BoxedEvent, BoxedFurther, Closing, End, Event, EventRecord, FivegOutcome, Further, JobRecord,
+    LineRecord, Note, NoteStep, Premise, RoundRecord, SessionVerdict, Setting, SyncVerdict,
+    printed_vectors,
 };
 use std::alloc::Global;
 use std::test::Fail;
@@ -60,7 +61,8 @@ fn is_releasable(line: &LineRecord, set: &Setting) -> bool
         LineRecord::Withheld { .. }
         | LineRecord::Exhausted { .. }
         | LineRecord::Sync { .. }
-        | LineRecord::Give { .. } => true,
+        | LineRecord::Give { .. }
+        | LineRecord::Further(_) => true,
     }
 }
 
@@ -70,11 +72,12 @@ fn are_releasable(job: &[LineRecord], set: &Setting) -> bool
     job.iter().all(|line| is_releasable(line, set))
 }
 
-// Appends the full print of a round of this one record, which has to be printable, and answers whether it is.
-fn print_full(
+// Appends the text of a round of this one record, which has to be printable, and answers whether it is.
+fn print_alone(
     alloc: Global,
     record: LineRecord,
     set: &Setting,
+    full: bool,
     out: &mut Octets,
 ) -> Result<bool, NoMemory> {
     let job = one(alloc, record)?;
@@ -85,25 +88,29 @@ fn print_full(
         premise: Premise::NoSession,
         jobs: one(alloc, job)?,
     };
-    print_one_job(alloc, &round, set, out)
+    print_one_job(alloc, &round, set, full, out)
 }
 
 fn print_one_job(
     alloc: Global,
     round: &RoundRecord,
     set: &Setting,
+    full: bool,
     out: &mut Octets,
 ) -> Result<bool, NoMemory> {
     let [job] = round.jobs.as_slice() else {
         return Ok(false);
     };
-    let is_printable = names_below(round, set.subs.len() as usize)
-        && are_releasable(job.as_slice(), set);
-    if is_printable {
+    if !names_below(round, set.subs.len() as usize) || !are_releasable(job.as_slice(), set) {
+        return Ok(false);
+    }
+    if full {
         let vectors = [printed_vectors(alloc, set, job.as_slice(), true)?];
         print_round(round, &vectors, set, true, out)?;
+    } else {
+        print_round(round, &[], set, false, out)?;
     }
-    Ok(is_printable)
+    Ok(true)
 }
 
 // A list of one record.
@@ -227,7 +234,7 @@ fn print_parts(
     }
     print_round(round, &[], set, false, out)?;
     print_restart(out)?;
-    print_full(alloc, LineRecord::Vector { sub: 0, n: 1 }, set, out)
+    print_alone(alloc, LineRecord::Vector { sub: 0, n: 1 }, set, true, out)
 }
 
 #[test]
@@ -326,8 +333,120 @@ fn notes_packet_and_keys_are_printed_in_their_order(rt: HostRuntime) -> Result<(
         names: &names,
         realm: b"",
     };
-    let printed = print_full(rt.alloc(), LineRecord::Event(record), &set, &mut text);
+    let printed = print_alone(rt.alloc(), LineRecord::Event(record), &set, true, &mut text);
     assert_eq!(rt; printed, Ok(true));
     assert_eq!(rt; text.as_slice(), wanted.as_slice());
+    Ok(())
+}
+
+/// The bytes of two numbers.
+fn bytes(high: u128, low: u128) -> [u8; 32] {
+    let mut both = [0; 32];
+    both[..16].copy_from_slice(&high.to_be_bytes());
+    both[16..].copy_from_slice(&low.to_be_bytes());
+    both
+}
+
+// What follows from a vector, and its lines: in each print, and what a full print adds.
+type FurtherCase = (Further, &'static [u8], &'static [u8]);
+
+// Python's `hmac` and `hashlib`, by the formulas of TS 33.401 Annex A.2 and of TS 33.501 Annexes A.2 and A.4 to A.6, from TS
+// 35.208, test set 1: K_ASME for the SN id 00f110; HXRES* and K_SEAF for 5G:mnc001.mcc001.3gppnetwork.org; for the device
+// K_SEAF for the name 5.
+fn keys_of_eps_and_5g() -> [FurtherCase; 3] {
+    let k_asme = bytes(
+        0x48579af8781c742d5120e6ed8ccac131,
+        0x93f38c53ab7aa69396f49ca6e1b0562d,
+    );
+    let home = bytes(
+        0x8dff166c02edd5b177950d50cdd3fe93,
+        0x756cc53951856a95cb5ee9aabd35e220,
+    );
+    let device = bytes(
+        0x16171648d0f04fce14d68e26699f43b1,
+        0xbe9eb2103a82f385e05107726b0bd48f,
+    );
+    let half = 0x20a71900b01776bfd773e8c15a825446_u128.to_be_bytes();
+    let outcome = FivegOutcome::Confirmed { home, device };
+    [
+        (
+            Further::Kasme(k_asme),
+            b"kasme 48579af8781c742d5120e6ed8ccac13193f38c53ab7aa69396f49ca6e1b0562d\n",
+            b"",
+        ),
+        (
+            Further::HxresStar(half),
+            b"hxresstar 20a71900b01776bfd773e8c15a825446\n",
+            b"",
+        ),
+        (
+            Further::Fiveg { sub: 1, outcome },
+            b"fiveg 000007 confirmed\n",
+            b"seaf 8dff166c02edd5b177950d50cdd3fe93756cc53951856a95cb5ee9aabd35e220 \
+16171648d0f04fce14d68e26699f43b1be9eb2103a82f385e05107726b0bd48f\n",
+        ),
+    ]
+}
+
+// By hand.
+fn refusals_of_5g() -> [FurtherCase; 3] {
+    let of = |outcome| Further::Fiveg { sub: 0, outcome };
+    [
+        (
+            of(FivegOutcome::NoSeparation),
+            b"fiveg 001010000000001 noseparation\n",
+            b"",
+        ),
+        (
+            of(FivegOutcome::ServingRefused),
+            b"fiveg 001010000000001 servingrefused\n",
+            b"",
+        ),
+        (
+            of(FivegOutcome::HomeRefused),
+            b"fiveg 001010000000001 homerefused\n",
+            b"",
+        ),
+    ]
+}
+
+// The text of a round of what follows from a vector, as it is printed and as it has to be.
+fn further_text(
+    alloc: Global,
+    case: FurtherCase,
+    full: bool,
+    set: &Setting,
+) -> Result<(Octets, Octets), NoMemory> {
+    let (said, line, more) = case;
+    let (mut text, mut wanted) = (Octets::new(alloc), Octets::new(alloc));
+    wanted.append(b"round 8\njob 1\n")?;
+    wanted.append(line)?;
+    if full {
+        wanted.append(more)?;
+    }
+    let record = LineRecord::Further(BoxedFurther::new(alloc, said)?);
+    print_alone(alloc, record, set, full, &mut text)?;
+    Ok((text, wanted))
+}
+
+#[test]
+fn lines_of_eps_and_5g_are_printed_and_full_prints_add_k_seaf(rt: HostRuntime) -> Result<(), Fail> {
+    let subs = subscribers(rt.alloc())?;
+    let rands = rands();
+    let names = Names::new([0; 32]);
+    let set = Setting {
+        subs: &subs,
+        rands: &rands,
+        names: &names,
+        realm: b"",
+    };
+    for cases in [keys_of_eps_and_5g(), refusals_of_5g()] {
+        for case in cases {
+            for full in [false, true] {
+                let (text, wanted) = further_text(rt.alloc(), case, full, &set)?;
+                assert_eq!(rt; text.as_slice(), wanted.as_slice());
+            }
+        }
+    }
     Ok(())
 }

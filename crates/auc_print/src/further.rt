@@ -1,0 +1,67 @@
+//! The lines of what follows from a released vector: keys of EPS, and a 5G authentication.
+
+ghost use Rattle.std.specs.Prelude.{◌≡◌, ◌++◌, length, OnOk};
+ghost use Rattle.auc_world.specs.Record.{IsBelow, further_subscriber};
+ghost use Rattle.auc_print.specs.Inner.{IsFrontOf, lines_text};
+ghost use Rattle.auc_print.specs.OneText.{FurtherFits};
+ghost use Rattle.auc_print.specs.Text.{fiveg_word, further_lines, further_words, identities_of, seaf_words, spaced};
+
+use crate::word::{Word, hex_word};
+use crate::writer::{print_line, print_named};
+use auc_edge::{NoMemory, Octets};
+use auc_subs::Subscribers;
+use auc_world::{FivegOutcome, Further};
+
+/// Appends the line of what follows from a vector.
+pub fn print_further(said: &Further, subs: &Subscribers, out: &mut Octets) -> Result<(), NoMemory>
+    requires { IsBelow (length subs.now) (further_subscriber said.now) }
+
+    ensures printed { OnOk result
+        (out.new ≡ out.old ++ spaced (further_words (identities_of subs.now) said.now)) }
+    ensures grows { IsFrontOf out.old out.new }
+    ensures fits { OnOk result (FurtherFits said.now) }
+{
+    match said {
+        Further::Kasme(key) => print_line(b"kasme", &[hex_word(key)], out),
+        Further::HxresStar(half) => print_line(b"hxresstar", &[hex_word(half)], out),
+        Further::Fiveg { sub, outcome } => {
+            let word = Word::Text(word_of_fiveg(outcome));
+            print_named(b"fiveg", *sub, &[word], subs, out)
+        }
+    }
+}
+
+/// The word that says what became of a 5G authentication.
+fn word_of_fiveg(outcome: &FivegOutcome) -> &'static [u8]
+    ensures { result.now ≡ fiveg_word outcome.now }
+{
+    match outcome {
+        FivegOutcome::NoSeparation => b"noseparation",
+        FivegOutcome::ServingRefused => b"servingrefused",
+        FivegOutcome::HomeRefused => b"homerefused",
+        FivegOutcome::Confirmed { .. } => b"confirmed",
+    }
+}
+
+/// Appends the line that a full print adds after it: K_SEAF of the home network and of the device, if a 5G authentication is
+/// confirmed.
+pub fn print_seaf(said: &Further, out: &mut Octets) -> Result<(), NoMemory>
+    ensures printed { OnOk result (out.new ≡ out.old ++ lines_text (further_lines said.now)) }
+    ensures grows { IsFrontOf out.old out.new }
+{
+    match said {
+        Further::Fiveg {
+            outcome: FivegOutcome::Confirmed { home, device },
+            ..
+        } => { print_both(home, device, out) }
+        Further::Fiveg { .. } | Further::Kasme(_) | Further::HxresStar(_) => Ok(()),
+    }
+}
+
+/// Appends the line of K_SEAF of both ends.
+fn print_both(home: &[u8; 32], device: &[u8; 32], out: &mut Octets) -> Result<(), NoMemory>
+    ensures printed { OnOk result (out.new ≡ out.old ++ spaced (seaf_words home.now device.now)) }
+    ensures grows { IsFrontOf out.old out.new }
+{
+    print_line(b"seaf", &[Word::Hex(home), Word::Hex(device)], out)
+}
