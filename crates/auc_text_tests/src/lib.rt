@@ -1,8 +1,11 @@
-//! Tests of the text of a transcript and of the words of a load: one file for each crate.
+//! Tests of the text of a transcript, of the words of a load, and of the words and lines of `vector` and `auts`: one file for
+//! each crate.
 //!
 //! They stand in a crate of their own, since the tests of a crate are proved together with it.
 #![tactic(auto)]
 
+#[cfg(test)]
+mod forms;
 #[cfg(test)]
 mod load;
 #[cfg(test)]
