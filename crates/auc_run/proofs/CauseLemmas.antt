@@ -1,9 +1,9 @@
 -- For the top call: each cause comes to its refusal, if the shelf tells its files and the disk its bytes.
 use Rattle.std.proofs.Common.{◌≡◌, ℕ, ◌<◌, true, false, List, [], ◌∷◌, length, Option, Some, None, Result, Ok, Err, IfErr, ◌⊎◌, inl, inr, refl, sym, ◌∙◌, ap, subst, arith}
 use Rattle.auc_edge.specs.Shelf.{File, IsLonger, IsLongerFile, file_of}
-use Rattle.auc_forms.specs.Algorithm.{values_named}
+use Rattle.auc_forms.specs.Algorithm.{algorithm_named}
 use Rattle.auc_forms.specs.Reserved.{asks_reserved}
-use Rattle.auc_forms.specs.declared.algorithm.AlgorithmWords.{AlgorithmWords}
+use Rattle.auc_forms.specs.declared.algorithm.AlgorithmForm.{AlgorithmForm}
 use Rattle.auc_journal.specs.Image.{read_image}
 use Rattle.auc_load.specs.Words.{load_named}
 use Rattle.auc_load.specs.declared.words.LoadWords.{LoadWords}
@@ -241,7 +241,7 @@ asks_unnamed (word ∷ next ∷ more) asks = absurd (apart asks)
     apart same = cc
 
 -- words that name files have no other form
-named_alone : (words : List (List ℕ)) (files : Files) → files_named words ≡ Some files → (values_named words ≡ None) × (load_named words ≡ None)
+named_alone : (words : List (List ℕ)) (files : Files) → files_named words ≡ Some files → (algorithm_named words ≡ None) × (load_named words ≡ None)
 named_alone [] files is = absurd (some_none None files is refl)
 named_alone (word ∷ []) files is = absurd (some_none None files is refl)
 named_alone (word ∷ first ∷ []) files is = (refl, refl)
@@ -253,8 +253,8 @@ pub ends_before : (words : List (List ℕ)) (told : Option (List File)) (files :
     → files_named words ≡ Some files → IfErr result (FilesStop told files seen) → NeedsNoJournal words (status_in result) → IsBeforeJournal (status_in result)
 ends_before words told files seen result named stops needs = of_result result stops needs
   where
-    no_other : ((values : AlgorithmWords) × (values_named words ≡ Some values)) ⊎ ((load : LoadWords) × (load_named words ≡ Some load)) ⊎ AreUnknown words → ⊥
-    no_other (inl (values, is)) = some_none (values_named words) values is (named_alone words files named).0
+    no_other : ((form : AlgorithmForm) × (algorithm_named words ≡ Some form)) ⊎ ((load : LoadWords) × (load_named words ≡ Some load)) ⊎ AreUnknown words → ⊥
+    no_other (inl (form, is)) = some_none (algorithm_named words) form is (named_alone words files named).0
     no_other (inr (inl (load, is))) = some_none (load_named words) load is (named_alone words files named).1
     no_other (inr (inr unknown)) = some_none (files_named words) files named unknown.no_files
 
@@ -276,26 +276,26 @@ comes_named : (words : List (List ℕ)) (there : List File) (seen : Option (List
     → AreWrong (Some there) files cause → Stops words (Some there) seen refusal → Tells refusal ended mid new → MayRefuse cause ended
 comes_named words there seen cause refusal ended mid new files named wrong (inl (others, is, stop)) tells =
     comes_files there files seen cause refusal ended mid new wrong (subst (λ (fs : Files). FilesStop (Some there) fs seen refusal) (some_same (files_named words) others files is named) stop) tells
-comes_named words there seen cause refusal ended mid new files named wrong (inr (inl (values, none, is, stop))) tells = absurd (some_none (files_named words) files named none)
-comes_named words there seen cause refusal ended mid new files named wrong (inr (inr (inl (none, no_values, asks, stop)))) tells = absurd (some_none (files_named words) files named none)
-comes_named words there seen cause refusal ended mid new files named wrong (inr (inr (inr (none, no_values, asks, stop)))) tells = absurd (some_none (files_named words) files named none)
+comes_named words there seen cause refusal ended mid new files named wrong (inr (inl (form, none, is, stop))) tells = absurd (some_none (files_named words) files named none)
+comes_named words there seen cause refusal ended mid new files named wrong (inr (inr (inl (none, no_algorithm, asks, stop)))) tells = absurd (some_none (files_named words) files named none)
+comes_named words there seen cause refusal ended mid new files named wrong (inr (inr (inr (none, no_algorithm, asks, stop)))) tells = absurd (some_none (files_named words) files named none)
 
 -- words of no form
 comes_usage : (words : List (List ℕ)) (told : Option (List File)) (seen : Option (List ℕ)) (refusal : Refusal) (ended : Status) (mid new : Option (List ℕ)) → IsCause words told seen refused.Usage
     → Stops words told seen refusal → Tells refusal ended mid new → MayRefuse refused.Usage ended
-comes_usage words told seen refusal ended mid new (none, no_values, no_load, no_asks) (inl (files, named, stop)) tells = absurd (some_none (files_named words) files named none)
-comes_usage words told seen refusal ended mid new (none, no_values, no_load, no_asks) (inr (inl (values, unnamed, named, stop))) tells = absurd (some_none (values_named words) values named no_values)
-comes_usage words told seen refusal ended mid new (none, no_values, no_load, no_asks) (inr (inr (inl (unnamed, unvalued, asks, stop)))) tells = absurd (apart (sym asks ∙ no_asks))
+comes_usage words told seen refusal ended mid new (none, no_algorithm, no_load, no_asks) (inl (files, named, stop)) tells = absurd (some_none (files_named words) files named none)
+comes_usage words told seen refusal ended mid new (none, no_algorithm, no_load, no_asks) (inr (inl (form, unnamed, named, stop))) tells = absurd (some_none (algorithm_named words) form named no_algorithm)
+comes_usage words told seen refusal ended mid new (none, no_algorithm, no_load, no_asks) (inr (inr (inl (unnamed, unvalued, asks, stop)))) tells = absurd (apart (sym asks ∙ no_asks))
   where
     apart : true ≡ false → ⊥
     apart same = cc
-comes_usage words told seen refusal ended mid new (none, no_values, no_load, no_asks) (inr (inr (inr (unnamed, unvalued, asks, inl (unloaded, is))))) tells =
+comes_usage words told seen refusal ended mid new (none, no_algorithm, no_load, no_asks) (inr (inr (inr (unnamed, unvalued, asks, inl (unloaded, is))))) tells =
     usage_told (subst (λ (r : Refusal). Tells r ended mid new) is tells)
   where
     usage_told : Tells refused.Usage ended mid new → MayRefuse refused.Usage ended
     usage_told (inl (is, line)) = inl is
     usage_told (inr is) = inr is
-comes_usage words told seen refusal ended mid new (none, no_values, no_load, no_asks) (inr (inr (inr (unnamed, unvalued, asks, inr (load, named, stop))))) tells = absurd (some_none (load_named words) load named no_load)
+comes_usage words told seen refusal ended mid new (none, no_algorithm, no_load, no_asks) (inr (inr (inr (unnamed, unvalued, asks, inr (load, named, stop))))) tells = absurd (some_none (load_named words) load named no_load)
 
 -- a journal that is none
 unopened_files : (words : List (List ℕ)) (there : List File) (files : Files) (wrong : Refusal) → OpensJournal words (Some there) → files_named words ≡ Some files → AreWrong (Some there) files wrong → ⊥

@@ -2,9 +2,9 @@
 use Rattle.std.proofs.Common.{◌≡◌, ◌⊎◌, ℕ, List, [], ◌∷◌, true, false, Option, Some, None, inl, inr, refl, sym, ◌∙◌, ap, subst}
 use Rattle.auc_edge.specs.Shelf.{File}
 use Rattle.auc_edge.specs.Sink.{Appends, AppendsFront}
-use Rattle.auc_forms.specs.Algorithm.{values_named}
+use Rattle.auc_forms.specs.Algorithm.{algorithm_named}
 use Rattle.auc_forms.specs.Reserved.{IsReservedText, asks_reserved}
-use Rattle.auc_forms.specs.declared.algorithm.AlgorithmWords.{AlgorithmWords}
+use Rattle.auc_forms.specs.declared.algorithm.AlgorithmForm.{AlgorithmForm}
 use Rattle.auc_journal.specs.Image.{Frame, reserved_in}
 use Rattle.auc_journal.specs.Opening.{Opens}
 use Rattle.auc_journal.specs.declared.open_why.OpenWhy.{OpenWhy}
@@ -92,41 +92,41 @@ ran_told words told files seen leaves (refused.NotJournal place) ended old mid n
 ran_told words told files seen leaves (refused.NotJournal place) ended old mid new named stops (inr still) (inr (inr is)) front spared =
     inr (ends_so words told seen status.NoMemory ended old new is (spared is ∙ still))
 
--- ---- the functions of Milenage
+-- ---- the lines of `vector` or `auts`
 
-values_still : (values : AlgorithmWords) (s ended : Status) (old mid new : Option (List ℕ)) → ended ≡ s → Appends mid new [] → EndsAlgorithm values s old mid → EndsAlgorithm values ended old new
-values_still values s ended old mid new is none ends =
-    subst (λ (e : Status). EndsAlgorithm values e old new) (sym is) (subst (λ (o : Option (List ℕ)). EndsAlgorithm values s old o) (sym (Appends-nothing mid new none)) ends)
+form_still : (form : AlgorithmForm) (s ended : Status) (old mid new : Option (List ℕ)) → ended ≡ s → Appends mid new [] → EndsAlgorithm form s old mid → EndsAlgorithm form ended old new
+form_still form s ended old mid new is none ends =
+    subst (λ (e : Status). EndsAlgorithm form e old new) (sym is) (subst (λ (o : Option (List ℕ)). EndsAlgorithm form s old o) (sym (Appends-nothing mid new none)) ends)
 
 -- they were printed, or weren't, and the refusal was told
-pub algorithm_told : (values : AlgorithmWords) (refusal : Refusal) (ended : Status) (old mid new : Option (List ℕ)) → EndsAlgorithm values (status_of refusal) old mid → Tells refusal ended mid new
-    → EndsAlgorithm values ended old new
-algorithm_told values refused.WriteFault ended old mid new ends (inl (is, none)) = values_still values status.WriteFault ended old mid new is none ends
-algorithm_told values refused.WriteFault ended old mid new ends (inr untold) = absurd untold
-algorithm_told values refused.NoMemory ended old mid new ends (inl (is, none)) = values_still values status.NoMemory ended old mid new is none ends
-algorithm_told values refused.NoMemory ended old mid new ends (inr untold) = absurd untold
-algorithm_told values refused.Usage ended old mid new ends tells = absurd ends
-algorithm_told values (refused.Subscribers row fault) ended old mid new ends tells = absurd ends
-algorithm_told values (refused.Scenario row fault) ended old mid new ends tells = absurd ends
-algorithm_told values refused.ReadFault ended old mid new ends tells = absurd ends
-algorithm_told values refused.StoreFault ended old mid new ends tells = absurd ends
-algorithm_told values (refused.NotJournal place) ended old mid new ends tells = absurd ends
-algorithm_told values refused.StoreFull ended old mid new ends tells = absurd ends
-algorithm_told values refused.TooLong ended old mid new ends tells = absurd ends
+pub algorithm_told : (form : AlgorithmForm) (refusal : Refusal) (ended : Status) (old mid new : Option (List ℕ)) → EndsAlgorithm form (status_of refusal) old mid → Tells refusal ended mid new
+    → EndsAlgorithm form ended old new
+algorithm_told form refused.WriteFault ended old mid new ends (inl (is, none)) = form_still form status.WriteFault ended old mid new is none ends
+algorithm_told form refused.WriteFault ended old mid new ends (inr untold) = absurd untold
+algorithm_told form refused.NoMemory ended old mid new ends (inl (is, none)) = form_still form status.NoMemory ended old mid new is none ends
+algorithm_told form refused.NoMemory ended old mid new ends (inr untold) = absurd untold
+algorithm_told form refused.Usage ended old mid new ends tells = absurd ends
+algorithm_told form (refused.Subscribers row fault) ended old mid new ends tells = absurd ends
+algorithm_told form (refused.Scenario row fault) ended old mid new ends tells = absurd ends
+algorithm_told form refused.ReadFault ended old mid new ends tells = absurd ends
+algorithm_told form refused.StoreFault ended old mid new ends tells = absurd ends
+algorithm_told form (refused.NotJournal place) ended old mid new ends tells = absurd ends
+algorithm_told form refused.StoreFull ended old mid new ends tells = absurd ends
+algorithm_told form refused.TooLong ended old mid new ends tells = absurd ends
 
 -- so they end in one of three ways
-pub algorithm_may : (values : AlgorithmWords) (ended : Status) (old new : Option (List ℕ)) → EndsAlgorithm values ended old new → MayPrint ended
-algorithm_may values status.Done old new ends = inl refl
-algorithm_may values status.WriteFault old new ends = inr (inl refl)
-algorithm_may values status.NoMemory old new ends = inr (inr refl)
-algorithm_may values status.Usage old new ends = absurd ends
-algorithm_may values status.SubscribersRefused old new ends = absurd ends
-algorithm_may values status.ScenarioRefused old new ends = absurd ends
-algorithm_may values status.ReadFault old new ends = absurd ends
-algorithm_may values status.StoreFault old new ends = absurd ends
-algorithm_may values status.NotJournal old new ends = absurd ends
-algorithm_may values status.StoreFull old new ends = absurd ends
-algorithm_may values status.TooLong old new ends = absurd ends
+pub algorithm_may : (form : AlgorithmForm) (ended : Status) (old new : Option (List ℕ)) → EndsAlgorithm form ended old new → MayPrint ended
+algorithm_may form status.Done old new ends = inl refl
+algorithm_may form status.WriteFault old new ends = inr (inl refl)
+algorithm_may form status.NoMemory old new ends = inr (inr refl)
+algorithm_may form status.Usage old new ends = absurd ends
+algorithm_may form status.SubscribersRefused old new ends = absurd ends
+algorithm_may form status.ScenarioRefused old new ends = absurd ends
+algorithm_may form status.ReadFault old new ends = absurd ends
+algorithm_may form status.StoreFault old new ends = absurd ends
+algorithm_may form status.NotJournal old new ends = absurd ends
+algorithm_may form status.StoreFull old new ends = absurd ends
+algorithm_may form status.TooLong old new ends = absurd ends
 
 -- ---- the limits of a journal
 
@@ -168,8 +168,8 @@ limits_unopened seen unopened.StoreFault old = refl
 limits_unopened seen (unopened.NotJournal place) old = refl
 limits_unopened seen unopened.NoMemory old = refl
 
--- the word `reserved` gives no values
-pub asks_unvalued : (words : List (List ℕ)) → asks_reserved words ≡ true → values_named words ≡ None
+-- the word `reserved` is no form of `vector` or `auts`
+pub asks_unvalued : (words : List (List ℕ)) → asks_reserved words ≡ true → algorithm_named words ≡ None
 asks_unvalued [] asks = refl
 asks_unvalued (word ∷ []) asks = refl
 asks_unvalued (word ∷ next ∷ more) asks = absurd (apart asks)
@@ -180,9 +180,9 @@ asks_unvalued (word ∷ next ∷ more) asks = absurd (apart asks)
 -- why limits aren't written
 reserved_stops : (words : List (List ℕ)) (told : Option (List File)) (seen : Option (List ℕ)) (refusal : Refusal) → asks_reserved words ≡ true → Stops words told seen refusal → ReservedStops seen refusal
 reserved_stops words told seen refusal asks (inl (files, named, stop)) = absurd (some_none (files_named words) files named (asks_unnamed words asks))
-reserved_stops words told seen refusal asks (inr (inl (values, none, named, stop))) = absurd (some_none (values_named words) values named (asks_unvalued words asks))
-reserved_stops words told seen refusal asks (inr (inr (inl (none, no_values, again, stop)))) = stop
-reserved_stops words told seen refusal asks (inr (inr (inr (none, no_values, no_asks, stop)))) = absurd (apart (sym asks ∙ no_asks))
+reserved_stops words told seen refusal asks (inr (inl (form, none, named, stop))) = absurd (some_none (algorithm_named words) form named (asks_unvalued words asks))
+reserved_stops words told seen refusal asks (inr (inr (inl (none, no_algorithm, again, stop)))) = stop
+reserved_stops words told seen refusal asks (inr (inr (inr (none, no_algorithm, no_asks, stop)))) = absurd (apart (sym asks ∙ no_asks))
   where
     apart : true ≡ false → ⊥
     apart same = cc
@@ -222,13 +222,13 @@ reserved_told words told seen refusal ended old mid new asks stops = limits_told
 -- they are refused so
 unknown_stops : (words : List (List ℕ)) (told : Option (List File)) (seen : Option (List ℕ)) (refusal : Refusal) → AreUnknown words → Stops words told seen refusal → refusal ≡ refused.Usage
 unknown_stops words told seen refusal unknown (inl (files, named, stop)) = absurd (some_none (files_named words) files named unknown.no_files)
-unknown_stops words told seen refusal unknown (inr (inl (values, none, named, stop))) = absurd (some_none (values_named words) values named unknown.no_values)
-unknown_stops words told seen refusal unknown (inr (inr (inl (none, no_values, asks, stop)))) = absurd (apart (sym asks ∙ unknown.no_limits))
+unknown_stops words told seen refusal unknown (inr (inl (form, none, named, stop))) = absurd (some_none (algorithm_named words) form named unknown.no_algorithm)
+unknown_stops words told seen refusal unknown (inr (inr (inl (none, no_algorithm, asks, stop)))) = absurd (apart (sym asks ∙ unknown.no_limits))
   where
     apart : true ≡ false → ⊥
     apart same = cc
-unknown_stops words told seen refusal unknown (inr (inr (inr (none, no_values, asks, inl (unloaded, is))))) = is
-unknown_stops words told seen refusal unknown (inr (inr (inr (none, no_values, asks, inr (load, named, stop))))) = absurd (some_none (load_named words) load named unknown.no_load)
+unknown_stops words told seen refusal unknown (inr (inr (inr (none, no_algorithm, asks, inl (unloaded, is))))) = is
+unknown_stops words told seen refusal unknown (inr (inr (inr (none, no_algorithm, asks, inr (load, named, stop))))) = absurd (some_none (load_named words) load named unknown.no_load)
 
 usage_so : (s ended : Status) (old new : Option (List ℕ)) → ended ≡ s → EndsUsage s old new → EndsUsage ended old new
 usage_so s ended old new is ends = subst (λ (e : Status). EndsUsage e old new) (sym is) ends

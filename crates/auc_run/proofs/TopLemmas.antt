@@ -98,13 +98,13 @@ untouched_told words refused.NoMemory ended mid new (inr untold) needs = absurd 
 -- only a journal that is full ends a run so, and only a run of a scenario
 pub full_files : (words : List (List ℕ)) (told : Option (List File)) (seen : Option (List ℕ)) → Stops words told seen refused.StoreFull → (files : Files) × (files_named words ≡ Some files)
 full_files words told seen (inl (files, named, right)) = (files, named)
-full_files words told seen (inr (inl (values, none, named, stop))) = absurd stop
-full_files words told seen (inr (inr (inl (none, no_values, asks, stop)))) = absurd stop
-full_files words told seen (inr (inr (inr (none, no_values, asks, inl (no_load, is))))) = absurd (apart is)
+full_files words told seen (inr (inl (form, none, named, stop))) = absurd stop
+full_files words told seen (inr (inr (inl (none, no_algorithm, asks, stop)))) = absurd stop
+full_files words told seen (inr (inr (inr (none, no_algorithm, asks, inl (no_load, is))))) = absurd (apart is)
   where
     apart : refused.StoreFull ≡ refused.Usage → ⊥
     apart same = cc
-full_files words told seen (inr (inr (inr (none, no_values, asks, inr (load, named, stop))))) = absurd stop
+full_files words told seen (inr (inr (inr (none, no_algorithm, asks, inr (load, named, stop))))) = absurd stop
 
 pub full_told : (refusal : Refusal) (ended : Status) (mid new : Option (List ℕ)) → Tells refusal ended mid new → ended ≡ status.StoreFull → refusal ≡ refused.StoreFull
 full_told refused.StoreFull ended mid new tells full = refl
@@ -242,42 +242,42 @@ cause_of words told seen refused.StoreFault stops = tt
 cause_of words told seen refused.StoreFull stops = tt
 cause_of words told seen refused.NoMemory stops = tt
 cause_of words told seen refused.Usage (inl (files, named, stop)) = absurd stop
-cause_of words told seen refused.Usage (inr (inl (values, none, named, stop))) = absurd stop
-cause_of words told seen refused.Usage (inr (inr (inl (none, no_values, asks, stop)))) = absurd stop
-cause_of words told seen refused.Usage (inr (inr (inr (none, no_values, asks, inl (no_load, is))))) = (none, no_values, no_load, asks)
-cause_of words told seen refused.Usage (inr (inr (inr (none, no_values, asks, inr (load, named, stop))))) = absurd stop
+cause_of words told seen refused.Usage (inr (inl (form, none, named, stop))) = absurd stop
+cause_of words told seen refused.Usage (inr (inr (inl (none, no_algorithm, asks, stop)))) = absurd stop
+cause_of words told seen refused.Usage (inr (inr (inr (none, no_algorithm, asks, inl (no_load, is))))) = (none, no_algorithm, no_load, asks)
+cause_of words told seen refused.Usage (inr (inr (inr (none, no_algorithm, asks, inr (load, named, stop))))) = absurd stop
 cause_of words told seen (refused.Subscribers row fault) (inl (files, named, stop)) = (files, named, stop)
-cause_of words told seen (refused.Subscribers row fault) (inr (inl (values, none, named, stop))) = absurd stop
-cause_of words told seen (refused.Subscribers row fault) (inr (inr (inl (none, no_values, asks, stop)))) = absurd stop
-cause_of words told seen (refused.Subscribers row fault) (inr (inr (inr (none, no_values, asks, inl (no_load, is))))) = absurd (apart is)
+cause_of words told seen (refused.Subscribers row fault) (inr (inl (form, none, named, stop))) = absurd stop
+cause_of words told seen (refused.Subscribers row fault) (inr (inr (inl (none, no_algorithm, asks, stop)))) = absurd stop
+cause_of words told seen (refused.Subscribers row fault) (inr (inr (inr (none, no_algorithm, asks, inl (no_load, is))))) = absurd (apart is)
   where
     apart : refused.Subscribers row fault ≡ refused.Usage → ⊥
     apart same = cc
-cause_of words told seen (refused.Subscribers row fault) (inr (inr (inr (none, no_values, asks, inr (load, named, stop))))) = absurd stop
+cause_of words told seen (refused.Subscribers row fault) (inr (inr (inr (none, no_algorithm, asks, inr (load, named, stop))))) = absurd stop
 cause_of words told seen (refused.Scenario row fault) (inl (files, named, stop)) = (files, named, stop)
-cause_of words told seen (refused.Scenario row fault) (inr (inl (values, none, named, stop))) = absurd stop
-cause_of words told seen (refused.Scenario row fault) (inr (inr (inl (none, no_values, asks, stop)))) = absurd stop
-cause_of words told seen (refused.Scenario row fault) (inr (inr (inr (none, no_values, asks, inl (no_load, is))))) = absurd (apart is)
+cause_of words told seen (refused.Scenario row fault) (inr (inl (form, none, named, stop))) = absurd stop
+cause_of words told seen (refused.Scenario row fault) (inr (inr (inl (none, no_algorithm, asks, stop)))) = absurd stop
+cause_of words told seen (refused.Scenario row fault) (inr (inr (inr (none, no_algorithm, asks, inl (no_load, is))))) = absurd (apart is)
   where
     apart : refused.Scenario row fault ≡ refused.Usage → ⊥
     apart same = cc
-cause_of words told seen (refused.Scenario row fault) (inr (inr (inr (none, no_values, asks, inr (load, named, stop))))) = absurd stop
+cause_of words told seen (refused.Scenario row fault) (inr (inr (inr (none, no_algorithm, asks, inr (load, named, stop))))) = absurd stop
 cause_of words told seen refused.TooLong (inl (files, named, stop)) = (files, named, stop)
-cause_of words told seen refused.TooLong (inr (inl (values, none, named, stop))) = absurd stop
-cause_of words told seen refused.TooLong (inr (inr (inl (none, no_values, asks, stop)))) = absurd stop
-cause_of words told seen refused.TooLong (inr (inr (inr (none, no_values, asks, inl (no_load, is))))) = absurd (apart is)
+cause_of words told seen refused.TooLong (inr (inl (form, none, named, stop))) = absurd stop
+cause_of words told seen refused.TooLong (inr (inr (inl (none, no_algorithm, asks, stop)))) = absurd stop
+cause_of words told seen refused.TooLong (inr (inr (inr (none, no_algorithm, asks, inl (no_load, is))))) = absurd (apart is)
   where
     apart : refused.TooLong ≡ refused.Usage → ⊥
     apart same = cc
-cause_of words told seen refused.TooLong (inr (inr (inr (none, no_values, asks, inr (load, named, stop))))) = absurd stop
+cause_of words told seen refused.TooLong (inr (inr (inr (none, no_algorithm, asks, inr (load, named, stop))))) = absurd stop
 cause_of words told seen (refused.NotJournal place) (inl (files, named, both)) = (inr (files, named, both.0), both.1)
-cause_of words told seen (refused.NotJournal place) (inr (inl (values, none, named, stop))) = absurd stop
-cause_of words told seen (refused.NotJournal place) (inr (inr (inl (none, no_values, asks, stop)))) = (inl asks, stop)
-cause_of words told seen (refused.NotJournal place) (inr (inr (inr (none, no_values, asks, inl (no_load, is))))) = absurd (apart is)
+cause_of words told seen (refused.NotJournal place) (inr (inl (form, none, named, stop))) = absurd stop
+cause_of words told seen (refused.NotJournal place) (inr (inr (inl (none, no_algorithm, asks, stop)))) = (inl asks, stop)
+cause_of words told seen (refused.NotJournal place) (inr (inr (inr (none, no_algorithm, asks, inl (no_load, is))))) = absurd (apart is)
   where
     apart : refused.NotJournal place ≡ refused.Usage → ⊥
     apart same = cc
-cause_of words told seen (refused.NotJournal place) (inr (inr (inr (none, no_values, asks, inr (load, named, stop))))) = absurd stop
+cause_of words told seen (refused.NotJournal place) (inr (inr (inr (none, no_algorithm, asks, inr (load, named, stop))))) = absurd stop
 
 -- the words of a refusal of the files
 pub files_of : (words : List (List ℕ)) (told : Option (List File)) (seen : Option (List ℕ)) (refusal : Refusal) (ended : Status) (old mid new : Option (List ℕ)) (cause : IsCause words told seen refusal)

@@ -6,9 +6,9 @@ use Rattle.auc_edge.specs.Sink.{Appends, AppendsFront}
 use Rattle.auc_edge.specs.declared.stop.Stop.{Stop}
 use Rattle.auc_edge.specs.declared.read_refusal.ReadRefusal.{ReadRefusal}
 use Rattle.auc_edge.specs.declared.read_refusal.ReadRefusal.TheVariants as unread
-use Rattle.auc_forms.specs.Algorithm.{values_named}
+use Rattle.auc_forms.specs.Algorithm.{algorithm_named}
 use Rattle.auc_forms.specs.Reserved.{IsReservedText, asks_reserved}
-use Rattle.auc_forms.specs.declared.algorithm.AlgorithmWords.{AlgorithmWords}
+use Rattle.auc_forms.specs.declared.algorithm.AlgorithmForm.{AlgorithmForm}
 use Rattle.auc_journal.specs.Durable.{IsDurable, IsTold}
 use Rattle.auc_journal.specs.Image.{Frame, Keeps}
 use Rattle.auc_journal.specs.Journal.{JournalState, limits_of, reserved_at}
@@ -183,13 +183,13 @@ abbrev pub LoadStops : List (List ℕ) → Refusal → Type 0
 LoadStops words refusal = ((load_named words ≡ None) × (refusal ≡ refused.Usage))
     ⊎ ((load : LoadWords) × (load_named words ≡ Some load) × OutputStops refusal)
 
--- why a run ends early: by its files, in printing the functions of Milenage, in telling the journal, or in a load, or by
+-- why a run ends early: by its files, in printing the lines of `vector` or `auts`, in telling the journal, or in a load, or by
 -- the words alone
 abbrev pub Stops : List (List ℕ) → Option (List File) → Option (List ℕ) → Refusal → Type 0
 Stops words told seen refusal = ((files : Files) × (files_named words ≡ Some files) × FilesStop told files seen refusal)
-    ⊎ ((values : AlgorithmWords) × (files_named words ≡ None) × (values_named words ≡ Some values) × OutputStops refusal)
-    ⊎ ((files_named words ≡ None) × (values_named words ≡ None) × (asks_reserved words ≡ true) × ReservedStops seen refusal)
-    ⊎ ((files_named words ≡ None) × (values_named words ≡ None) × (asks_reserved words ≡ false) × LoadStops words refusal)
+    ⊎ ((form : AlgorithmForm) × (files_named words ≡ None) × (algorithm_named words ≡ Some form) × OutputStops refusal)
+    ⊎ ((files_named words ≡ None) × (algorithm_named words ≡ None) × (asks_reserved words ≡ true) × ReservedStops seen refusal)
+    ⊎ ((files_named words ≡ None) × (algorithm_named words ≡ None) × (asks_reserved words ≡ false) × LoadStops words refusal)
 
 -- nothing was written, unless a refusal is one that may come after rounds were written
 abbrev pub IsSilent : Refusal → Option (List ℕ) → Option (List ℕ) → Type 0

@@ -4,9 +4,9 @@ use Rattle.auc_edge.specs.Shelf.{File, IsFile, IsLongerFile}
 use Rattle.auc_edge.specs.Sink.{Appends, AppendsFront}
 use Rattle.auc_edge.specs.declared.stop.Stop.{Stop}
 use Rattle.auc_edge.specs.declared.stop.Stop.TheVariants.{Fault, Full}
-use Rattle.auc_forms.specs.Algorithm.{values_named, algorithm_text}
+use Rattle.auc_forms.specs.Algorithm.{algorithm_named, algorithm_text}
 use Rattle.auc_forms.specs.Reserved.{IsReservedText, asks_reserved}
-use Rattle.auc_forms.specs.declared.algorithm.AlgorithmWords.{AlgorithmWords}
+use Rattle.auc_forms.specs.declared.algorithm.AlgorithmForm.{AlgorithmForm}
 use Rattle.auc_jobs.specs.Round.{DrewFull}
 use Rattle.auc_journal.specs.Durable.{IsTold}
 use Rattle.auc_journal.specs.Image.{Frame}
@@ -146,9 +146,9 @@ pub record RunsFull {D : Type 0} (seen : D → Option (List ℕ)) (may_leave : D
   pub written : Appends old new (text_of rows script transcript)
   pub ends : EndsFull seen may_leave rows from transcript disk
 
--- the words give the values of Milenage's functions, and these were written
+-- the words have a form of `vector` or `auts`, and its lines were written
 abbrev pub PrintsAlgorithm : List (List ℕ) → Option (List ℕ) → Option (List ℕ) → Type 0
-PrintsAlgorithm words old new = (values : AlgorithmWords) × (values_named words ≡ Some values) × Appends old new (algorithm_text values)
+PrintsAlgorithm words old new = (form : AlgorithmForm) × (algorithm_named words ≡ Some form) × Appends old new (algorithm_text form)
 
 -- the words are those of a load, and its five lines were written: they are a function of the words
 abbrev pub RunsLoad : List (List ℕ) → Option (List ℕ) → Option (List ℕ) → Type 0
@@ -162,13 +162,13 @@ EndsLoad load WriteFault old new = AppendsFront old new (load_text load)
 EndsLoad load NoMemory old new = new ≡ old
 EndsLoad load _ old new = ⊥
 
--- how a run ends whose words give the values of Milenage's functions, and what was written then: the seven lines, or some first
--- bytes of them if the output failed, or nothing if memory ran out
-abbrev pub EndsAlgorithm : AlgorithmWords → Status → Option (List ℕ) → Option (List ℕ) → Type 0
-EndsAlgorithm values Done old new = Appends old new (algorithm_text values)
-EndsAlgorithm values WriteFault old new = AppendsFront old new (algorithm_text values)
-EndsAlgorithm values NoMemory old new = new ≡ old
-EndsAlgorithm values _ old new = ⊥
+-- how a run ends whose words have a form of `vector` or `auts`, and what was written then: its lines, or some first bytes of them
+-- if the output failed, or nothing if memory ran out
+abbrev pub EndsAlgorithm : AlgorithmForm → Status → Option (List ℕ) → Option (List ℕ) → Type 0
+EndsAlgorithm form Done old new = Appends old new (algorithm_text form)
+EndsAlgorithm form WriteFault old new = AppendsFront old new (algorithm_text form)
+EndsAlgorithm form NoMemory old new = new ≡ old
+EndsAlgorithm form _ old new = ⊥
 
 -- the word is `reserved`, and the limits of the journal that was found were written
 pub record PrintsReserved (words : List (List ℕ)) (seen : Option (List ℕ)) (old new : Option (List ℕ)) : Type 0 where
@@ -198,7 +198,7 @@ EndsReserved seen _ old new = ⊥
 -- the words have none of the program's forms
 pub record AreUnknown (words : List (List ℕ)) : Type 0 where
   pub no_files : files_named words ≡ None
-  pub no_values : values_named words ≡ None
+  pub no_algorithm : algorithm_named words ≡ None
   pub no_load : load_named words ≡ None
   pub no_limits : asks_reserved words ≡ false
 
@@ -224,7 +224,7 @@ AreWrong told files _ = ⊥
 -- journal is none
 abbrev pub IsCause : List (List ℕ) → Option (List File) → Option (List ℕ) → Refusal → Type 0
 IsCause words told seen refused.Usage =
-    (files_named words ≡ None) × (values_named words ≡ None) × (load_named words ≡ None) × (asks_reserved words ≡ false)
+    (files_named words ≡ None) × (algorithm_named words ≡ None) × (load_named words ≡ None) × (asks_reserved words ≡ false)
 IsCause words told seen (refused.NotJournal place) = OpensJournal words told × IsNoJournal seen place
 IsCause words told seen refusal = (files : Files) × (files_named words ≡ Some files) × AreWrong told files refusal
 
@@ -269,7 +269,7 @@ IsQuiet _ = Unit {0}
 abbrev pub MayRun : Status → Type 0
 MayRun status = (status ≡ Done) ⊎ IsStop status
 
--- how a run may end whose words give the values of Milenage's functions, or are those of a load
+-- how a run may end whose words have a form of `vector` or `auts`, or are those of a load
 abbrev pub MayPrint : Status → Type 0
 MayPrint status = (status ≡ Done) ⊎ (status ≡ WriteFault) ⊎ (status ≡ NoMemory)
 
@@ -284,4 +284,4 @@ NeedsNoJournal words SubscribersRefused = Unit {0}
 NeedsNoJournal words ScenarioRefused = Unit {0}
 NeedsNoJournal words ReadFault = Unit {0}
 NeedsNoJournal words TooLong = Unit {0}
-NeedsNoJournal words _ = ((values : AlgorithmWords) × (values_named words ≡ Some values)) ⊎ ((load : LoadWords) × (load_named words ≡ Some load)) ⊎ AreUnknown words
+NeedsNoJournal words _ = ((form : AlgorithmForm) × (algorithm_named words ≡ Some form)) ⊎ ((load : LoadWords) × (load_named words ≡ Some load)) ⊎ AreUnknown words

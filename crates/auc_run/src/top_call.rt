@@ -4,7 +4,7 @@ ghost use Rattle.std.specs.Prelude.{◌≡◌, ◌≢◌, ◌≤◌, ◌⊎◌, 
 ghost use Rattle.auc_edge.specs.Faults.{Rose};
 ghost use Rattle.auc_edge.specs.Shelf.{File};
 ghost use Rattle.auc_edge.specs.Sink.{Appends};
-ghost use Rattle.auc_forms.specs.Algorithm.{values_named, algorithm_text};
+ghost use Rattle.auc_forms.specs.Algorithm.{algorithm_named, algorithm_text};
 ghost use Rattle.auc_forms.specs.Reserved.{IsReservedText, asks_reserved};
 ghost use Rattle.auc_journal.specs.Durable.{IsTold};
 ghost use Rattle.auc_journal.specs.Image.{Frame, Reading, read_image};
@@ -32,7 +32,7 @@ use crate::rounds::serve_parts;
 use crate::status::{Ended, Status};
 use auc_disk::Disk;
 use auc_edge::{Gate, Octets, Shelf, Sink, write_whole};
-use auc_forms::{AlgorithmWords, algorithm_lines, algorithm_words, is_reserved, reserved_lines};
+use auc_forms::{AlgorithmForm, algorithm_lines, algorithm_words, is_reserved, reserved_lines};
 use auc_journal::{Journal, LimitList, OpenRefused};
 use auc_script::Script;
 use auc_subs::Subscribers;
@@ -52,8 +52,9 @@ use std::thread::Threads;
 /// journal of the disk, serve the scenario's rounds and restarts, and write the text of each round when it has ended;
 /// `run SCENARIO` begins with no subscribers. If the journal fails or is full in a round, the round is written and the run
 /// ends. The word `reserved` opens the journal and writes its limits. The words `vector K OPC RAND SQN AMF` write the seven
-/// functions of Milenage at these values. The words `load KEY SUBSCRIBERS JOBS WORKERS` serve one round of draws over a
-/// journal in memory, and then write five lines, which are a function of the words. Any other words are answered by `usage`.
+/// functions of Milenage at these values, and AUTN too if the word `autn` stands behind them; the words `auts K OPC RAND SQN`
+/// write AUTS. The words `load KEY SUBSCRIBERS JOBS WORKERS` serve one round of draws over a journal in memory, and then write
+/// five lines, which are a function of the words. Any other words are answered by `usage`.
 ///
 /// As many workers as the scenario or the words say serve the jobs of a round. Each passes the gate as it begins a job
 /// and after the job's last line. The clauses hold for every number of workers and however their steps interleave; none
@@ -98,8 +99,8 @@ pub fn run<R: Threads + Wait + Sync, H: Shelf, K: Sink, D: Disk + Drop + Send, G
         → files_named words.now ≡ Some files → AreWrong (Some there) files cause → result.disk ≡ disk }
 
     // However another form ends: its lines were written, or some first bytes of them if the output failed, or nothing.
-    ensures algorithm_ran { (values : AlgorithmWords) → values_named words.now ≡ Some values
-        → EndsAlgorithm values result.status (K.written out.old) (K.written out.new) }
+    ensures algorithm_ran { (form : AlgorithmForm) → algorithm_named words.now ≡ Some form
+        → EndsAlgorithm form result.status (K.written out.old) (K.written out.new) }
     ensures reserved_ran { asks_reserved words.now ≡ true
         → EndsReserved (D.seen disk) result.status (K.written out.old) (K.written out.new) }
     ensures load_ran { (load : LoadWords) → load_named words.now ≡ Some load
@@ -119,7 +120,7 @@ pub fn run<R: Threads + Wait + Sync, H: Shelf, K: Sink, D: Disk + Drop + Send, G
 
     // If the shelf tells its files and the disk its bytes, each input comes to its status, unless a fault, a full journal or
     // want of memory comes before.
-    ensures usage_comes { files_named words.now ≡ None → values_named words.now ≡ None → load_named words.now ≡ None
+    ensures usage_comes { files_named words.now ≡ None → algorithm_named words.now ≡ None → load_named words.now ≡ None
         → asks_reserved words.now ≡ false → MayRefuse Refusal.Usage result.status }
     ensures refused_comes { (there : List File) (found : List ℕ) (cause : Refusal) → H.files shelf.old ≡ Some there
         → D.seen disk ≡ Some found → IsCause words.now (Some there) (Some found) cause → MayRefuse cause result.status }
@@ -127,7 +128,7 @@ pub fn run<R: Threads + Wait + Sync, H: Shelf, K: Sink, D: Disk + Drop + Send, G
         (script : Script) (reading : Reading) → H.files shelf.old ≡ Some there → D.seen disk ≡ Some found
         → files_named words.now ≡ Some files → AreRead (Some there) files rows text
         → script_of rows text ≡ Ok (script, after) → read_image found ≡ Ok reading → MayRun result.status }
-    ensures algorithm_comes { (values : AlgorithmWords) → values_named words.now ≡ Some values → MayPrint result.status }
+    ensures algorithm_comes { (form : AlgorithmForm) → algorithm_named words.now ≡ Some form → MayPrint result.status }
     ensures load_comes { (load : LoadWords) → load_named words.now ≡ Some load → MayPrint result.status }
     ensures reserved_comes { (found : List ℕ) (reading : Reading) → asks_reserved words.now ≡ true
         → D.seen disk ≡ Some found → read_image found ≡ Ok reading → MayTell result.status }
@@ -173,8 +174,8 @@ fn perform<R: Threads + Wait + Sync, H: Shelf, K: Sink, D: Disk + Drop + Send, G
     ensures untouched { NeedsNoJournal words.now (status_in result.result) → result.disk ≡ disk }
     ensures unopened { (there : List File) (files : Files) (cause : Refusal) → H.files shelf.old ≡ Some there
         → files_named words.now ≡ Some files → AreWrong (Some there) files cause → result.disk ≡ disk }
-    ensures algorithm_ran { (values : AlgorithmWords) → values_named words.now ≡ Some values
-        → EndsAlgorithm values (status_in result.result) (K.written out.old) (K.written out.new) }
+    ensures algorithm_ran { (form : AlgorithmForm) → algorithm_named words.now ≡ Some form
+        → EndsAlgorithm form (status_in result.result) (K.written out.old) (K.written out.new) }
     ensures limits_ran { asks_reserved words.now ≡ true
         → LimitsLeave (D.seen disk) (status_in result.result) (K.written out.old) (K.written out.new) }
     ensures load_ran { (load : LoadWords) → load_named words.now ≡ Some load
@@ -194,8 +195,8 @@ fn perform<R: Threads + Wait + Sync, H: Shelf, K: Sink, D: Disk + Drop + Send, G
     if let Some(files) = input_files(words) {
         return run_files(rt, alloc, &files, shelf, out, disk, gate);
     }
-    if let Some(values) = algorithm_words(words) {
-        let result = print_algorithm(alloc, &values, out);
+    if let Some(form) = algorithm_words(words) {
+        let result = print_algorithm(alloc, &form, out);
         return Performed { disk, result };
     }
     if is_reserved(words) {
@@ -374,19 +375,15 @@ fn write_limits<K: Sink>(alloc: Global, limits: &LimitList, out: &mut K) -> Resu
     Ok(())
 }
 
-/// Writes the functions of Milenage at some values.
-fn print_algorithm<K: Sink>(
-    alloc: Global,
-    values: &AlgorithmWords,
-    out: &mut K,
-) -> Result<(), Refusal>
-    ensures written { OnOk result (Appends (K.written out.old) (K.written out.new) (algorithm_text values.now)) }
-    ensures ran { EndsAlgorithm values.now (status_in result) (K.written out.old) (K.written out.new) }
+/// Writes the lines of a form of `vector` or `auts`.
+fn print_algorithm<K: Sink>(alloc: Global, form: &AlgorithmForm, out: &mut K) -> Result<(), Refusal>
+    ensures written { OnOk result (Appends (K.written out.old) (K.written out.new) (algorithm_text form.now)) }
+    ensures ran { EndsAlgorithm form.now (status_in result) (K.written out.old) (K.written out.new) }
     ensures refused { IfErr result OutputStops }
     ensures fault { IsErrOf result Refusal.WriteFault → Rose (K.faults out.old) (K.faults out.new) }
     ensures quiet { result ≢ Err Refusal.WriteFault → K.faults out.new ≡ K.faults out.old }
 {
-    let text = algorithm_lines(alloc, values)?;
+    let text = algorithm_lines(alloc, form)?;
     write_whole(out, text.as_slice())?;
     Ok(())
 }

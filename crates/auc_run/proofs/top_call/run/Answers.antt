@@ -49,16 +49,16 @@ returns-in-Err-clause-load_ran g c = λ load named.
     (rw c.in-Err.is at (c.perform-disk.ensures.load_ran load named)) c.tell.ensures.told
 
 pub returns-in-Ok-clause-algorithm_ran : goal.returns-in-Ok-clause-algorithm_ran
-returns-in-Ok-clause-algorithm_ran g c = λ values named. rw c.in-Ok.is at (c.perform-disk.ensures.algorithm_ran values named)
+returns-in-Ok-clause-algorithm_ran g c = λ form named. rw c.in-Ok.is at (c.perform-disk.ensures.algorithm_ran form named)
 
 pub returns-in-Err-clause-algorithm_ran : goal.returns-in-Err-clause-algorithm_ran
-returns-in-Err-clause-algorithm_ran g c = λ values named.
-    algorithm_told values c.in-Err.refusal c.tell.result (g.K.Sink.written c.args.out.now) (g.K.Sink.written c.perform-disk.new.out) (g.K.Sink.written c.tell.new.out)
-    (rw c.in-Err.is at (c.perform-disk.ensures.algorithm_ran values named)) c.tell.ensures.told
+returns-in-Err-clause-algorithm_ran g c = λ form named.
+    algorithm_told form c.in-Err.refusal c.tell.result (g.K.Sink.written c.args.out.now) (g.K.Sink.written c.perform-disk.new.out) (g.K.Sink.written c.tell.new.out)
+    (rw c.in-Err.is at (c.perform-disk.ensures.algorithm_ran form named)) c.tell.ensures.told
 
 pub returns-in-Err-clause-algorithm_comes : goal.returns-in-Err-clause-algorithm_comes
-returns-in-Err-clause-algorithm_comes g c = λ values named.
-    algorithm_may values c.tell.result (g.K.Sink.written c.args.out.now) (g.K.Sink.written c.tell.new.out) (returns-in-Err-clause-algorithm_ran g c values named)
+returns-in-Err-clause-algorithm_comes g c = λ form named.
+    algorithm_may form c.tell.result (g.K.Sink.written c.args.out.now) (g.K.Sink.written c.tell.new.out) (returns-in-Err-clause-algorithm_ran g c form named)
 
 pub returns-in-Ok-clause-reserved_ran : goal.returns-in-Ok-clause-reserved_ran
 returns-in-Ok-clause-reserved_ran g c = λ asks. rw c.in-Ok.is at (c.perform-disk.ensures.limits_ran asks)
