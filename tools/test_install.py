@@ -366,7 +366,7 @@ class Completions(unittest.TestCase):
             (["run", "examples/first.scenario", "examples/subs"], ["examples/subscribers.csv"]),
             (["--journal-dir", "exam"], ["examples"]), (["--journal-dir", "examples", "res"], ["reserved"]),
             (["install", "exam"], ["examples"]), (["install", "--r"], ["--remove"]), (["install", "--remove", "exam"], ["examples"]),
-            (["reserved", ""], []), (["vector", ""], []),
+            (["reserved", ""], []), (["vector", ""], []), (["vector", *"abcde", ""], ["autn"]), (["vector", *"abcdef", ""], []),
         ]
         for words, found in cases:
             self.assertEqual(self.offered(*words), found, words)

@@ -11,6 +11,8 @@ FORMS = [
     ("run SCENARIO SUBSCRIBERS", "the same, with the subscribers of the CSV file SUBSCRIBERS"),
     ("reserved", "print up to which number each subscriber's numbers are reserved"),
     ("vector K OPC RAND SQN AMF", "print the functions of Milenage at these hexadecimal values"),
+    ("vector K OPC RAND SQN AMF autn", "the same, and then AUTN"),
+    ("auts K OPC RAND SQN", "print the AUTS with which a USIM whose SQN_MS is SQN answers RAND"),
     ("load KEY SUBSCRIBERS JOBS WORKERS", "let workers draw in many jobs, and print a digest of the vectors"),
     ("prove [--jobs N] [--anew]", "prove and build the program here, N crates side by side"),
     ("install PREFIX", "install the program, its pages and its tools under the folder PREFIX"),

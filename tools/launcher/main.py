@@ -10,7 +10,7 @@ from .explain import Call, explain
 from .help import FOLDER, NO_JOURNAL, NO_WORDS, help_text
 from .places import CRATE, IS_INSTALLED, JOURNAL, NOT_RUN, TOP, Stopped, put, say, tell, version
 
-FORMS = ("run", "reserved", "vector", "load")
+FORMS = ("run", "reserved", "vector", "auts", "load")
 INTERRUPTED = 130
 
 class WrongWords(Exception):
