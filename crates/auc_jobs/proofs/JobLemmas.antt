@@ -8,7 +8,7 @@ use Rattle.auc_lines.specs.declared.part.Line.{Line}
 use Rattle.auc_sqn.specs.Past.{Remembers}
 use Rattle.auc_subs.specs.declared.row.Row.{Row}
 use Rattle.auc_world.specs.Entries.{entries_of_lines}
-use Rattle.auc_world.specs.Given.{Before, is_in, is_released, past_of, GiveGives, LineGives, JobGives}
+use Rattle.auc_world.specs.Given.{Before, is_in, is_released, past_of, LineGives, JobGives}
 use Rattle.auc_world.specs.Net.{Net}
 use Rattle.auc_world.specs.Setting.{Setting}
 use Rattle.auc_world.specs.Lines.{numbers_of, held_of, accepted_by, accepted}
@@ -20,7 +20,7 @@ use Rattle.auc_world.specs.declared.record.LineRecord.TheVariants.{Give}
 use Rattle.auc_world.specs.Released.{Released, has, AreReleased}
 use Rattle.auc_jobs.specs.InnerUsims.{Presents}
 use Rattle.auc_jobs.specs.Usims.{AreBehind}
-use Rattle.auc_jobs.specs.InnerServing.{AreTold, IsTold, Stands, Adds, Serves, ServesLines, IsAnswered, AddsGive, before_at}
+use Rattle.auc_jobs.specs.InnerServing.{AreTold, IsTold, Stands, Adds, Serves, ServesLines, IsAnswered, AddsGive, GivesVerdict, before_at}
 use Rattle.auc_jobs.proofs.LineLemmas.{held_of-append, entries_of_lines-append}
 use Rattle.auc_world.proofs.Facts.{accepted-append}
 use Rattle.auc_jobs.proofs.SayingLemmas.{told_quiet}
@@ -69,11 +69,10 @@ answered_absent rows released early beside own sub n usims are found behind = re
 -- the line of the answer
 pub give_added : (set : Setting) (early beside own new : List LineRecord) (sub n : ℕ) (answer : GiveVerdict) (usims : ℕ → Option Memory) (row : Row)
     → slice_get set.rows sub ≡ Some row → new ≡ own ++ Give sub n answer ∷ [] → IsAnswered set.rows (before_at early beside own) sub n answer usims
-    → AddsGive set (before_at early beside own) sub n usims new
+    → AddsGive set (before_at early beside own) sub n answer usims new
 give_added set early beside own new sub n answer usims row at added is = record {
-  answer = answer;
   added = added;
-  given = record { row = row; there = at; answer = answer; lines_are = refl; given = is.given row at };
+  given = record { gives = record { row = row; there = at; answer = answer; lines_are = refl; given = is.given row at }; is = refl };
   behind = subst (λ (lines : List LineRecord). AreBehind set.rows lines usims)
       (append_assoc (early ++ beside) own (Give sub n answer ∷ []) ∙ ap (λ (lines : List LineRecord). early ++ beside ++ lines) (sym added)) is.behind;
 }
@@ -125,18 +124,18 @@ serves_more goes more whole rows early beside own between new mid kept released 
 
 -- a presented vector
 pub serves_give : (goes : ℕ → List Entry → List (ℕ × Stop) → Type 0) (set : Setting) (early beside own new : List LineRecord) (kept : ℕ → Option ℕ)
-    (released : Released) (old usims : ℕ → Option Memory) (sub n : ℕ) → ((i : ℕ) → goes i [] [])
-    → Stands set.rows (before_at early beside own) kept released old → AddsGive set (before_at early beside own) sub n usims new
-    → Serves goes set.rows (before_at early beside own) kept released usims (GiveGives set (before_at early beside own) sub n) new
-serves_give goes set early beside own new kept released old usims sub n stays s a = record {
-  lines = Give sub n a.answer ∷ [];
+    (released : Released) (old usims : ℕ → Option Memory) (sub n : ℕ) (answer : GiveVerdict) → ((i : ℕ) → goes i [] [])
+    → Stands set.rows (before_at early beside own) kept released old → AddsGive set (before_at early beside own) sub n answer usims new
+    → Serves goes set.rows (before_at early beside own) kept released usims (GivesVerdict set (before_at early beside own) sub n answer) new
+serves_give goes set early beside own new kept released old usims sub n answer stays s a = record {
+  lines = Give sub n answer ∷ [];
   added = a.added;
   given = a.given;
   made = stays;
   stands = record {
     told = λ i. subst (λ (lines : List LineRecord). IsTold i (kept i) lines)
-        (append_assoc beside own (Give sub n a.answer ∷ []) ∙ ap (λ (lines : List LineRecord). beside ++ lines) (sym a.added))
-        (told_quiet i (kept i) (beside ++ own) (Give sub n a.answer) (λ word. refl) (s.told i));
+        (append_assoc beside own (Give sub n answer ∷ []) ∙ ap (λ (lines : List LineRecord). beside ++ lines) (sym a.added))
+        (told_quiet i (kept i) (beside ++ own) (Give sub n answer) (λ word. refl) (s.told i));
     earlier = s.earlier;
     pasts = a.behind;
   };
@@ -208,3 +207,9 @@ pub serves_as : (goes : ℕ → List Entry → List (ℕ × Stop) → Type 0) (r
     (Gives Also : List LineRecord → Type 0) (new : List LineRecord) → ((lines : List LineRecord) → Gives lines → Also lines) → Serves goes rows before kept released usims Gives new
     → Serves goes rows before kept released usims Also new
 serves_as goes rows before kept released usims Gives Also new also s = record { lines = s.lines; added = s.added; given = also s.lines s.given; made = s.made; stands = s.stands }
+
+-- that they are the added ones
+pub serves_marked : (goes : ℕ → List Entry → List (ℕ × Stop) → Type 0) (rows : List Row) (before : Before) (kept : ℕ → Option ℕ) (released : Released) (usims : ℕ → Option Memory)
+    (Gives : List LineRecord → Type 0) (new : List LineRecord) → Serves goes rows before kept released usims Gives new
+    → Serves goes rows before kept released usims (λ lines. (new ≡ before.own ++ lines) × Gives lines) new
+serves_marked goes rows before kept released usims Gives new s = record { lines = s.lines; added = s.added; given = (s.added, s.given); made = s.made; stands = s.stands }

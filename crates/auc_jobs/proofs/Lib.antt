@@ -12,10 +12,12 @@ mod HappenLemmas
 mod PlayLemmas
 mod SyncLemmas
 mod CopyLemmas
+mod RequestLemmas
 mod SettleLemmas
 mod PieceLemmas
 mod PutLemmas
 mod WorkerLemmas
+mod SystemLemmas
 mod SharingLemmas
 mod StateLemmas
 mod TellingLemmas

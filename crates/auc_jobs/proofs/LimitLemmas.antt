@@ -4,7 +4,7 @@ use Rattle.std.specs.Prelude.{if◌then◌else◌}
 use Rattle.std.proofs.lemmas.List.Elements.{All-append, All-cons, All-head, All-map, All-nil, All-tail}
 use Rattle.auc_edge.specs.declared.stop.Stop.{Stop}
 use Rattle.auc_world.specs.declared.record.LineRecord.{LineRecord}
-use Rattle.auc_world.specs.declared.record.LineRecord.TheVariants.{Vector, Withheld, Exhausted, Sync, Give, Event as Happening}
+use Rattle.auc_world.specs.declared.record.LineRecord.TheVariants.{Vector, Withheld, Exhausted, Sync, Give, Further, Event as Happening}
 use Rattle.auc_world.specs.Lines.{numbers_of, withheld_of, held_by, held_of, all_lines}
 use Rattle.auc_lines.specs.Part.{is_that}
 use Rattle.auc_vector.specs.Notes.{withheld_noted}
@@ -105,6 +105,7 @@ names stop count (line ∷ lines) limit own held =
     here (Exhausted s word) is held = tt
     here (Sync s answer) is held = tt
     here (Give s n answer) is held = tt
+    here (Further said) is held = tt
     here (Happening r) is held = of_event (asked_in r.result) (number_in r.result) is (λ sub known. all_front (λ h. (limit sub < h.0) × (Some stop ≡ Some h.1)) (held_by sub (Happening r)) (held_of sub lines) (held sub known))
 
 -- what some lines withhold, if what they name is so by the limits

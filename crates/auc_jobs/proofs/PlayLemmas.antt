@@ -5,7 +5,6 @@ use Rattle.auc_edge.specs.declared.stop.Stop.{Stop}
 use Rattle.auc_history.specs.declared.entry.Entry.{Entry}
 use Rattle.auc_lines.specs.declared.part.End.{End}
 use Rattle.auc_lines.specs.declared.part.End.TheVariants as end
-use Rattle.auc_subs.specs.declared.row.Row.{Row}
 use Rattle.auc_usim.specs.Usim.{Memory}
 use Rattle.auc_world.specs.Ending.{EachDeliveryLeavesFewer, deliveries_left}
 use Rattle.auc_world.specs.Given.{Before, PlainGives, RelayGives, behind}
@@ -16,7 +15,7 @@ use Rattle.auc_world.specs.declared.event.Event.TheVariants as event
 use Rattle.auc_world.specs.declared.record.LineRecord.{LineRecord}
 use Rattle.auc_jobs.specs.InnerPlaying.{Leads}
 use Rattle.auc_jobs.specs.InnerServing.{Happens, Serves, Stands, before_at}
-use Rattle.auc_jobs.proofs.JobLemmas.{serves_more}
+use Rattle.auc_jobs.proofs.JobLemmas.{serves_marked, serves_more}
 
 -- the events so far and what the packet at an end gives are what the session gives
 abbrev pub PlaysOn : Setting → Before → Net → ℕ → Net → End → Option ℕ → List LineRecord → Type 0
@@ -54,11 +53,6 @@ plays_all set before start net session at' made front none on =
     (on [] net (subst (λ (o : Option ℕ). RelayGives set (behind before front) net session at' o [] net) (sym none) nothing))
 
 -- with the lines that are added
-serves_marked : (goes : ℕ → List Entry → List (ℕ × Stop) → Type 0) (rows : List Row) (before : Before) (kept : ℕ → Option ℕ) (released : Released) (usims : ℕ → Option Memory)
-    (Gives : List LineRecord → Type 0) (new : List LineRecord) → Serves goes rows before kept released usims Gives new
-    → Serves goes rows before kept released usims (λ lines. (new ≡ before.own ++ lines) × Gives lines) new
-serves_marked goes rows before kept released usims Gives new s = record { lines = s.lines; added = s.added; given = (s.added, s.given); made = s.made; stands = s.stands }
-
 pub play_more : (goes more whole : ℕ → List Entry → List (ℕ × Stop) → Type 0) (set : Setting) (early beside own between new : List LineRecord) (mid kept : ℕ → Option ℕ)
     (released : Released) (first_usims usims : ℕ → Option Memory) (start net next : Net) (session packet : ℕ) (at' : End) (was made : Option ℕ) → was ≡ Some packet
     → ((i : ℕ) (es fs : List Entry) (ws vs : List (ℕ × Stop)) → goes i es ws → more i fs vs → whole i (es ++ fs) (ws ++ vs))

@@ -34,7 +34,7 @@ use Rattle.auc_world.specs.declared.record.Premise.{Premise}
 use Rattle.auc_world.specs.declared.record.SessionVerdict.{SessionVerdict}
 use Rattle.auc_world.specs.declared.record.Closing.{Closing}
 use Rattle.auc_world.specs.declared.record.LineRecord.{LineRecord}
-use Rattle.auc_world.specs.declared.record.LineRecord.TheVariants.{Vector, Withheld, Exhausted, Sync, Give, Event as Happening}
+use Rattle.auc_world.specs.declared.record.LineRecord.TheVariants.{Vector, Withheld, Exhausted, Sync, Give, Further, Event as Happening}
 use Rattle.auc_world.specs.declared.record.SyncVerdict.{SyncVerdict}
 use Rattle.auc_world.specs.declared.record.SyncVerdict.TheVariants as verdict
 use Rattle.auc_world.specs.declared.counting.Count.{Count}
@@ -104,6 +104,7 @@ passes_line sub before (Exhausted s word) =
     none_if (s == sub) (if is_reported sub word before then [] else Drawn (word + 1) ∷ []) (passes_unless (is_reported sub word before) (Drawn (word + 1)) refl)
 passes_line sub before (Sync s answer) = these_if (s == sub) (entries_of_verdict sub before answer) (passed answer) (passes_verdict sub before answer)
 passes_line sub before (Give s n answer) = refl
+passes_line sub before (Further said) = refl
 passes_line sub before (Happening r) =
     let cut = sum_by-append skipped_by (entries_of_resync sub before (resync_for sub r)) (entries_of_number sub before (number_for sub r)) in
     let first = passes_resync sub before (resync_for sub r) in
@@ -130,6 +131,7 @@ draws_line sub before (Withheld s n stop) = let here = draws_if (s == sub) n in 
 draws_line sub before (Exhausted s word) = omega arith
 draws_line sub before (Sync s answer) = omega arith
 draws_line sub before (Give s n answer) = omega arith
+draws_line sub before (Further said) = omega arith
 draws_line sub before (Happening r) =
     let cut : drawn (entries_of_resync sub before (resync_for sub r) ++ entries_of_number sub before (number_for sub r))
     ≡ drawn (entries_of_resync sub before (resync_for sub r)) ++ drawn (entries_of_number sub before (number_for sub r)) =

@@ -1,7 +1,7 @@
 -- For a job: its lines with its own USIMs, after its worker's earlier lines.
-use Rattle.std.proofs.Common.{◌≡◌, ℕ, zero, suc, ◌<◌, true, List, [], ◌∷◌, ◌++◌, length, refl, sym, ◌∙◌, ap, subst, append-nil, arith}
+use Rattle.std.proofs.Common.{◌≡◌, ℕ, ◌<◌, true, List, [], ◌∷◌, ◌++◌, length, refl, sym, ◌∙◌, ap, subst, append-nil}
 use Rattle.std.specs.Prelude.{Option, Some, None, All}
-use Rattle.std.proofs.lemmas.List.Elements.{All-append}
+use Rattle.std.proofs.lemmas.List.Elements.{All-append, All-nil}
 use Rattle.auc_edge.specs.declared.stop.Stop.{Stop}
 use Rattle.auc_history.specs.declared.entry.Entry.{Entry}
 use Rattle.auc_lines.specs.declared.part.Line.{Line}
@@ -11,10 +11,8 @@ use Rattle.auc_sqn.specs.Past.{Remembers}
 use Rattle.auc_subs.specs.declared.row.Row.{Row}
 use Rattle.auc_usim.specs.Usim.{Memory}
 use Rattle.auc_world.specs.declared.record.LineRecord.{LineRecord}
-use Rattle.auc_world.specs.declared.record.LineRecord.TheVariants.{Vector, Withheld, Exhausted, Sync, Give, Event as Happening}
-use Rattle.auc_world.specs.declared.record.SyncVerdict.{SyncVerdict}
-use Rattle.auc_world.specs.declared.record.SyncVerdict.TheVariants as verdict
-use Rattle.auc_world.specs.Given.{Before, behind, past_of, DrawGives, VectorsFollow, LineGives, JobGives}
+use Rattle.auc_world.specs.declared.record.LineRecord.TheVariants.{Event as Happening}
+use Rattle.auc_world.specs.Given.{Before, behind, past_of, LineGives, JobGives}
 use Rattle.auc_world.specs.Lines.{accepted}
 use Rattle.auc_world.specs.Setting.{Setting}
 use Rattle.auc_world.proofs.Facts.{accepted-append, job_quiet}
@@ -37,6 +35,7 @@ use Rattle.auc_jobs.specs.InnerServing.{before_at, Stands, ServesLines}
 use Rattle.auc_jobs.specs.InnerUsims.{OwnDevices, has_usim, usim_in, AreCopies}
 use Rattle.auc_jobs.proofs.EventLemmas.{IsOwnEvent, IsOwnNumber, event_lines, plain_lines}
 use Rattle.auc_jobs.proofs.CopyLemmas.{copies_found, copies_keyed}
+use Rattle.auc_jobs.proofs.RequestLemmas.{AreSo, draw_lines, eps_lines, fiveg_lines, give_lines, sync_lines}
 
 -- ---- before the job
 
@@ -103,35 +102,16 @@ job_settles goes set early beside old kept released usims stores job lines copie
 
 -- ---- the vectors that a job's lines release
 
--- two lists of such lines
-both_releasable : (set : Setting) (front rest : List LineRecord) → All (IsReleasableLine set) front → All (IsReleasableLine set) rest → All (IsReleasableLine set) (front ++ rest)
-both_releasable set front rest first more = All-append (IsReleasableLine set) front rest first more
-
--- a line and such lines
-one_releasable : (set : Setting) (l : LineRecord) (lines : List LineRecord) → IsReleasableLine set l → All (IsReleasableLine set) lines → All (IsReleasableLine set) (l ∷ lines)
-one_releasable set l lines here rest zero d lt = here
-one_releasable set l lines here rest (suc k) d lt = rest k d (omega arith)
-
-none_releasable : (set : Setting) (lines : List LineRecord) → lines ≡ [] → All (IsReleasableLine set) lines
-none_releasable set lines none = subst (All (IsReleasableLine set)) (sym none) (λ k d lt. absurd (omega arith))
-
--- those of a draw
-draw_releasable : (set : Setting) (sub count : ℕ) (lines : List LineRecord) → DrawGives set sub count lines → All (IsReleasableLine set) lines
-draw_releasable set sub zero lines gives = none_releasable set lines gives
-draw_releasable set sub (suc count) [] gives = absurd gives
-draw_releasable set sub (suc count) (Vector s n ∷ lines) (same, is, more) =
-    one_releasable set (Vector s n) lines (subst (λ (k : ℕ). IsReleasableLine set (Vector k n)) (sym same) is) (draw_releasable set sub count lines more)
-draw_releasable set sub (suc count) (Withheld s n stop ∷ lines) (same, first, last, none) = one_releasable set (Withheld s n stop) lines tt (none_releasable set lines none)
-draw_releasable set sub (suc count) (Exhausted s word ∷ lines) (same, spent, none) = one_releasable set (Exhausted s word) lines tt (none_releasable set lines none)
-draw_releasable set sub (suc count) (Sync s answer ∷ lines) gives = absurd gives
-draw_releasable set sub (suc count) (Give s n answer ∷ lines) gives = absurd gives
-draw_releasable set sub (suc count) (Happening r ∷ lines) gives = absurd gives
-
-follows_releasable : (set : Setting) (sub count : ℕ) (answer : SyncVerdict) (lines : List LineRecord) → VectorsFollow set sub count answer lines → All (IsReleasableLine set) lines
-follows_releasable set sub count (verdict.Moved seen seq_ms) lines follows = draw_releasable set sub count lines follows
-follows_releasable set sub count (verdict.InRange seen seq_ms) lines follows = draw_releasable set sub count lines follows
-follows_releasable set sub count (verdict.Beyond seen seq_ms) lines follows = none_releasable set lines follows
-follows_releasable set sub count verdict.WrongMac lines follows = none_releasable set lines follows
+-- those of a subscriber's requests
+requests_releasable : (set : Setting) (sub : ℕ) → AreSo set sub (IsReleasableLine set)
+requests_releasable set sub = record {
+  vector = λ n is. is;
+  withheld = λ n stop. tt;
+  exhausted = λ word. tt;
+  sync = λ answer. tt;
+  give = λ n answer. tt;
+  further = λ said. tt;
+}
 
 -- those of a line
 event_releasable : (set : Setting) (e : Event) (c : Came) → IsOwnEvent (length set.rows) (asked_in c) (number_in c) → IsReleasableLine set (Happening (record { event = e; result = c }))
@@ -154,14 +134,14 @@ line_releasable set before net next (line.Deliver session at' packet) lines give
 line_releasable set before net next (line.Repeat session) lines gives = event_lines set (IsReleasableLine set) (event_releasable set) before net next (event.Repeat session) lines gives
 line_releasable set before net next (line.GiveUp session at') lines gives = event_lines set (IsReleasableLine set) (event_releasable set) before net next (event.GiveUp session at') lines gives
 line_releasable set before net next (line.Plain session) lines gives = plain_lines set (IsReleasableLine set) (event_releasable set) before net next session lines gives
-line_releasable set before net next (line.Draw sub count) lines (gives, is) = draw_releasable set sub count lines gives
-line_releasable set before net next (line.Sync sub seq bit count) lines (gives, is) =
-    subst (All (IsReleasableLine set)) (sym gives.lines_are) (one_releasable set (Sync sub gives.answer) gives.more tt (follows_releasable set sub count gives.answer gives.more gives.follows))
-line_releasable set before net next (line.Give sub n) lines (gives, is) =
-    subst (All (IsReleasableLine set)) (sym gives.lines_are) (one_releasable set (Give sub n gives.answer) [] tt (none_releasable set [] refl))
+line_releasable set before net next (line.Draw sub count) lines (gives, is) = draw_lines set sub (IsReleasableLine set) (requests_releasable set sub) count lines gives
+line_releasable set before net next (line.Sync sub seq bit count) lines (gives, is) = sync_lines set sub (IsReleasableLine set) (requests_releasable set sub) seq bit count lines gives
+line_releasable set before net next (line.Give sub n) lines (gives, is) = give_lines set sub (IsReleasableLine set) (requests_releasable set sub) before n lines gives
+line_releasable set before net next (line.Eps sub snid) lines (gives, is) = eps_lines set sub (IsReleasableLine set) (requests_releasable set sub) snid lines gives
+line_releasable set before net next (line.Fiveg fiveg) lines (gives, is) = fiveg_lines set fiveg (IsReleasableLine set) (requests_releasable set fiveg.sub) before lines gives
 
 -- those of a job
 pub job_releasable : (set : Setting) (before : Before) (net last : Net) (job : List Line) (lines : List LineRecord) → JobGives set before net job lines last → All (IsReleasableLine set) lines
-job_releasable set before net last [] lines (gives, is) = none_releasable set lines gives
+job_releasable set before net last [] lines (gives, is) = subst (All (IsReleasableLine set)) (sym gives) (All-nil (IsReleasableLine set))
 job_releasable set before net last (l ∷ job) lines (front, rest, next, is, first, more) =
-    subst (All (IsReleasableLine set)) (sym is) (both_releasable set front rest (line_releasable set before net next l front first) (job_releasable set (behind before front) next last job rest more))
+    subst (All (IsReleasableLine set)) (sym is) (All-append (IsReleasableLine set) front rest (line_releasable set before net next l front first) (job_releasable set (behind before front) next last job rest more))

@@ -20,7 +20,7 @@ use Rattle.auc_world.specs.Event.{asked_in, number_for, number_in, resync_for}
 use Rattle.auc_world.specs.Lines.{all_lines, held_by, held_of}
 use Rattle.auc_world.specs.Round.{Withholds}
 use Rattle.auc_world.specs.declared.record.LineRecord.{LineRecord}
-use Rattle.auc_world.specs.declared.record.LineRecord.TheVariants.{Vector, Withheld, Exhausted, Sync, Give, Event as Happening}
+use Rattle.auc_world.specs.declared.record.LineRecord.TheVariants.{Vector, Withheld, Exhausted, Sync, Give, Further, Event as Happening}
 use Rattle.auc_world.proofs.Facts.{none_held}
 use Rattle.auc_jobs.specs.InnerKeeping.{is_withheld, told_stop, withholds}
 use Rattle.auc_jobs.specs.InnerRound.{HoldsFull}
@@ -51,6 +51,7 @@ line_free sub (Withheld s n stop) none = cc
 line_free sub (Exhausted s word) none = refl
 line_free sub (Sync s answer) none = refl
 line_free sub (Give s n answer) none = refl
+line_free sub (Further said) none = refl
 line_free sub (Happening r) none = by (is_that sub (asked_in r.result)) (number_in r.result) none
   where
     by : (b : Bool) (said : Option NumberNote) → is_withheld said ≡ false → withheld_noted (if b then said else None) ≡ []
@@ -90,6 +91,7 @@ line_holds count (Withheld s n stop) own some =
 line_holds count (Exhausted s word) own some = cc
 line_holds count (Sync s answer) own some = cc
 line_holds count (Give s n answer) own some = cc
+line_holds count (Further said) own some = cc
 line_holds count (Happening r) own some = of_event (asked_in r.result) (number_in r.result) own some
   where
     of_number : (s : ℕ) → s < count → (note : Option NumberNote) → is_withheld note ≡ true → HoldsNote count (Some s) note
@@ -187,6 +189,7 @@ line_drawn sub before (Withheld s m cause) n stop has = by (s == sub) has
 line_drawn sub before (Exhausted s word) n stop has = empty (n, stop) has
 line_drawn sub before (Sync s answer) n stop has = empty (n, stop) has
 line_drawn sub before (Give s m answer) n stop has = empty (n, stop) has
+line_drawn sub before (Further said) n stop has = empty (n, stop) has
 line_drawn sub before (Happening r) n stop has =
     let resync = entries_of_resync sub before (resync_for sub r) in
     subst (λ (ns : List ℕ). Contains ns n) (sym (flat_map-append drawn_by resync (entries_of_number sub before (number_for sub r))))

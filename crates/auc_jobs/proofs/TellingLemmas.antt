@@ -1,5 +1,5 @@
 -- For a worker: each number that its jobs' lines release or withhold was released or withheld by its pass.
-use Rattle.std.proofs.Common.{◌≡◌, ℕ, zero, suc, ◌+◌, ◌<◌, ◌≤◌, ◌==◌, Bool, true, false, cond, List, [], ◌∷◌, ◌++◌, length, get_or, All, Contains, flat_map, arith, refl, sym, ap, ◌∙◌, subst, inl, inr}
+use Rattle.std.proofs.Common.{◌≡◌, ℕ, ◌+◌, ◌<◌, ◌≤◌, ◌==◌, Bool, true, false, cond, List, [], ◌∷◌, ◌++◌, length, get_or, All, Contains, flat_map, arith, refl, sym, ap, ◌∙◌, subst, inl, inr}
 use Rattle.std.specs.Prelude.{Option, Some, None, if◌then◌else◌}
 use Rattle.std.proofs.lemmas.Bool.{eqb-true, ne_eqb}
 use Rattle.std.proofs.lemmas.Grind.{flat_map-append}
@@ -16,9 +16,7 @@ use Rattle.auc_lines.specs.declared.part.Line.{Line}
 use Rattle.auc_lines.specs.declared.part.Line.TheVariants as asked
 use Rattle.auc_sqn.specs.Number.{max_seq}
 use Rattle.auc_world.specs.declared.record.LineRecord.{LineRecord}
-use Rattle.auc_world.specs.declared.record.LineRecord.TheVariants.{Vector, Withheld, Exhausted, Sync, Give, Event as Happening}
-use Rattle.auc_world.specs.declared.record.SyncVerdict.{SyncVerdict}
-use Rattle.auc_world.specs.declared.record.SyncVerdict.TheVariants as verdict
+use Rattle.auc_world.specs.declared.record.LineRecord.TheVariants.{Vector, Withheld, Exhausted, Sync, Give, Further, Event as Happening}
 use Rattle.auc_lines.specs.Part.{is_that}
 use Rattle.auc_vector.specs.Notes.{withheld_noted}
 use Rattle.auc_vector.specs.declared.notes.NumberNote.{NumberNote}
@@ -27,13 +25,14 @@ use Rattle.auc_world.specs.declared.event.Event.TheVariants as event
 use Rattle.auc_world.specs.Event.{asked_in, number_for, number_in, number_released, number_withheld, resync_for}
 use Rattle.auc_world.specs.Net.{Net}
 use Rattle.auc_world.specs.Entries.{entries_of_line, entries_of_lines, entries_of_number, entries_of_resync}
-use Rattle.auc_world.specs.Given.{Before, DrawGives, VectorsFollow, LineGives, JobGives, behind}
+use Rattle.auc_world.specs.Given.{Before, LineGives, JobGives, behind}
 use Rattle.auc_world.specs.Lines.{released_by, numbers_of, withheld_by, withheld_of, held_by, held_of}
 use Rattle.auc_world.specs.Setting.{Setting}
 use Rattle.auc_world.proofs.Facts.{withheld_of-held_of}
 use Rattle.auc_jobs.specs.declared.claiming.ClaimedJob.{ClaimedJob}
 use Rattle.auc_jobs.specs.Serving.{IsKnownLine, AreKnown}
 use Rattle.auc_jobs.proofs.EventLemmas.{IsOwnEvent, IsOwnNumber, event_lines, plain_lines}
+use Rattle.auc_jobs.proofs.RequestLemmas.{AreSo, draw_lines, eps_lines, fiveg_lines, give_lines, sync_lines}
 
 -- ---- what a pass did stays
 
@@ -61,37 +60,27 @@ IsOwn count (Withheld s n stop) = s < count
 IsOwn count (Exhausted s word) = Unit {0}
 IsOwn count (Sync s answer) = Unit {0}
 IsOwn count (Give s n answer) = Unit {0}
+IsOwn count (Further said) = Unit {0}
 IsOwn count (Happening r) = IsOwnEvent count (asked_in r.result) (number_in r.result)
 
--- the lines of a draw
-draw_own : (set : Setting) (sub count : ℕ) (lines : List LineRecord) → sub < length set.rows → DrawGives set sub count lines → All (IsOwn (length set.rows)) lines
-draw_own set sub zero lines known gives = subst (All (IsOwn (length set.rows))) (sym gives) (All-nil (IsOwn (length set.rows)))
-draw_own set sub (suc count) [] known gives = absurd gives
-draw_own set sub (suc count) (Vector s n ∷ lines) known (same, is, more) =
-    All-cons (IsOwn (length set.rows)) (Vector s n) lines (omega (arith, same, known), is.last) (draw_own set sub count lines known more)
-draw_own set sub (suc count) (Withheld s n stop ∷ lines) known (same, first, last, none) =
-    All-cons (IsOwn (length set.rows)) (Withheld s n stop) lines (omega (arith, same, known)) (subst (All (IsOwn (length set.rows))) (sym none) (All-nil (IsOwn (length set.rows))))
-draw_own set sub (suc count) (Exhausted s word ∷ lines) known (same, spent, none) =
-    All-cons (IsOwn (length set.rows)) (Exhausted s word) lines tt (subst (All (IsOwn (length set.rows))) (sym none) (All-nil (IsOwn (length set.rows))))
-draw_own set sub (suc count) (Sync s answer ∷ lines) known gives = absurd gives
-draw_own set sub (suc count) (Give s n answer ∷ lines) known gives = absurd gives
-draw_own set sub (suc count) (Happening r ∷ lines) known gives = absurd gives
-
--- those after a verdict
-follow_own : (set : Setting) (sub count : ℕ) (answer : SyncVerdict) (lines : List LineRecord) → sub < length set.rows → VectorsFollow set sub count answer lines → All (IsOwn (length set.rows)) lines
-follow_own set sub count (verdict.Moved seen seq_ms) lines known follow = draw_own set sub count lines known follow
-follow_own set sub count (verdict.InRange seen seq_ms) lines known follow = draw_own set sub count lines known follow
-follow_own set sub count (verdict.Beyond seen seq_ms) lines known follow = subst (All (IsOwn (length set.rows))) (sym follow) (All-nil (IsOwn (length set.rows)))
-follow_own set sub count verdict.WrongMac lines known follow = subst (All (IsOwn (length set.rows))) (sym follow) (All-nil (IsOwn (length set.rows)))
+-- the lines of a subscriber's requests
+requests_own : (set : Setting) (sub : ℕ) → sub < length set.rows → AreSo set sub (IsOwn (length set.rows))
+requests_own set sub known = record {
+  vector = λ n is. (known, is.last);
+  withheld = λ n stop. known;
+  exhausted = λ word. tt;
+  sync = λ answer. tt;
+  give = λ n answer. tt;
+  further = λ said. tt;
+}
 
 -- those of a line
 line_own : (set : Setting) (before : Before) (net next : Net) (line : Line) (lines : List LineRecord) → IsKnownLine (length set.rows) line → LineGives set before net line lines next → All (IsOwn (length set.rows)) lines
-line_own set before net next (asked.Draw sub count) lines known (gives, is) = draw_own set sub count lines known gives
-line_own set before net next (asked.Sync sub seq bit count) lines known (gives, is) =
-    subst (All (IsOwn (length set.rows))) (sym gives.lines_are)
-    (All-cons (IsOwn (length set.rows)) (Sync sub gives.answer) gives.more tt (follow_own set sub count gives.answer gives.more known.0 gives.follows))
-line_own set before net next (asked.Give sub n) lines known (gives, is) =
-    subst (All (IsOwn (length set.rows))) (sym gives.lines_are) (All-cons (IsOwn (length set.rows)) (Give sub n gives.answer) [] tt (All-nil (IsOwn (length set.rows))))
+line_own set before net next (asked.Draw sub count) lines known (gives, is) = draw_lines set sub (IsOwn (length set.rows)) (requests_own set sub known) count lines gives
+line_own set before net next (asked.Sync sub seq bit count) lines known (gives, is) = sync_lines set sub (IsOwn (length set.rows)) (requests_own set sub known.0) seq bit count lines gives
+line_own set before net next (asked.Give sub n) lines known (gives, is) = give_lines set sub (IsOwn (length set.rows)) (requests_own set sub known.0) before n lines gives
+line_own set before net next (asked.Eps sub snid) lines known (gives, is) = eps_lines set sub (IsOwn (length set.rows)) (requests_own set sub known) snid lines gives
+line_own set before net next (asked.Fiveg fiveg) lines known (gives, is) = fiveg_lines set fiveg (IsOwn (length set.rows)) (requests_own set fiveg.sub known.sub) before lines gives
 line_own set before net next (asked.Session opened) lines known gives = event_lines set (IsOwn (length set.rows)) (λ e c own. own) before net next (event.Open opened) lines gives
 line_own set before net next (asked.Start session) lines known gives = event_lines set (IsOwn (length set.rows)) (λ e c own. own) before net next (event.Start session) lines gives
 line_own set before net next (asked.Deliver session at' packet) lines known gives = event_lines set (IsOwn (length set.rows)) (λ e c own. own) before net next (event.Deliver session at' packet) lines gives
@@ -134,6 +123,7 @@ numbers_within count sub (line ∷ lines) own =
     here (Exhausted s word) is = All-nil (λ n. n ≤ max_seq)
     here (Sync s answer) is = All-nil (λ n. n ≤ max_seq)
     here (Give s n answer) is = All-nil (λ n. n ≤ max_seq)
+    here (Further said) is = All-nil (λ n. n ≤ max_seq)
     here (Happening r) is = of_event (asked_in r.result) (number_in r.result) is
 
 -- nothing is withheld from a subscriber beyond them
@@ -152,6 +142,7 @@ held_beyond count sub (line ∷ lines) high own =
     here (Exhausted s word) is = refl
     here (Sync s answer) is = refl
     here (Give s n answer) is = refl
+    here (Further said) is = refl
     here (Happening r) is = of_event (asked_in r.result) (number_in r.result) is
 
 -- ---- no number is drawn twice
@@ -202,6 +193,7 @@ told_line n sub before (Withheld s m stop) = by (s == sub)
 told_line n sub before (Exhausted s word) = omega arith
 told_line n sub before (Sync s answer) = omega arith
 told_line n sub before (Give s m answer) = omega arith
+told_line n sub before (Further said) = omega arith
 told_line n sub before (Happening r) =
     let cut = ap (times n) (flat_map-append drawn_by (entries_of_resync sub before (resync_for sub r)) (entries_of_number sub before (number_for sub r)))
     ∙ times-append n (drawn (entries_of_resync sub before (resync_for sub r))) (drawn (entries_of_number sub before (number_for sub r))) in
@@ -236,6 +228,7 @@ drew_line sub before (Withheld s m stop) = All-nil (Contains (drawn (entries_of_
 drew_line sub before (Exhausted s word) = All-nil (Contains (drawn (entries_of_line sub before (Exhausted s word))))
 drew_line sub before (Sync s answer) = All-nil (Contains (drawn (entries_of_line sub before (Sync s answer))))
 drew_line sub before (Give s m answer) = All-nil (Contains (drawn (entries_of_line sub before (Give s m answer))))
+drew_line sub before (Further said) = All-nil (Contains (drawn (entries_of_line sub before (Further said))))
 drew_line sub before (Happening r) = by (number_for sub r)
   where
     by : (o : Option NumberNote) → All (Contains (drawn (entries_of_resync sub before (resync_for sub r) ++ entries_of_number sub before o))) (number_released o)

@@ -5,6 +5,7 @@ use Rattle.std.proofs.lemmas.Bool.Decides.{eqb_tells}
 use Rattle.std.proofs.lemmas.List.Sums.{fold_push}
 use Rattle.auc_aes.specs.Bytes.{IsBlock}
 use Rattle.auc_hmac.specs.declared.method.Method.TheVariants as method
+use Rattle.auc_milenage.specs.Milenage.{f2, f3, f4, f5}
 use Rattle.auc_milenage.specs.declared.secret.Secret.{Secret}
 use Rattle.auc_sqn.specs.Number.{seq_of, ind_of, sqn_bytes, max_seq}
 use Rattle.auc_sqn.specs.Past.{Past, Remembers, verdict_of, opening_past}
@@ -25,7 +26,8 @@ use Rattle.auc_world.specs.declared.record.GiveVerdict.{GiveVerdict}
 use Rattle.auc_world.specs.declared.record.GiveVerdict.TheVariants as given
 use Rattle.auc_world.specs.declared.record.LineRecord.{LineRecord}
 use Rattle.auc_world.specs.declared.record.LineRecord.TheVariants.{Give}
-use Rattle.auc_jobs.specs.InnerUsims.{has_usim, Challenges, Presents}
+use Rattle.auc_jobs.specs.declared.giving.UsimKeys.{UsimKeys}
+use Rattle.auc_jobs.specs.InnerUsims.{has_usim, usim_keys, Challenges, Presents}
 use Rattle.auc_jobs.specs.Usims.{HaveSecrets, AreBehind}
 use Rattle.auc_world.proofs.Facts.{accepted-append}
 
@@ -89,13 +91,19 @@ never_wrong s past rand autn Fresh is = cc
 never_wrong s past rand autn (Old entry) (sqn_ms, is, e) = cc
 never_wrong s past rand autn (Far greatest) (sqn_ms, is, e) = cc
 
--- an acceptance comes where the verdict is Fresh, and names the SQN that was found
+-- an acceptance comes where the verdict is Fresh
 pub accepts : (s : Secret) (past : Past) (rand autn : List ℕ) (verdict : Verdict) (res ck ik ak amf sqn : List ℕ)
-    → FollowsVerdict s past rand autn verdict (Accepted res ck ik ak amf sqn) → Answers verdict past given.Accepted × (sqn ≡ sqn_in s rand autn)
-unfolding acceptance
-accepts s past rand autn Fresh res ck ik ak amf sqn is = (refl, cc)
+    → FollowsVerdict s past rand autn verdict (Accepted res ck ik ak amf sqn) → Answers verdict past given.Accepted × (Accepted res ck ik ak amf sqn ≡ acceptance s rand autn)
+accepts s past rand autn Fresh res ck ik ak amf sqn is = (refl, is)
 accepts s past rand autn (Old entry) res ck ik ak amf sqn (sqn_ms, is, e) = absurd (cc)
 accepts s past rand autn (Far greatest) res ck ik ak amf sqn (sqn_ms, is, e) = absurd (cc)
+
+-- it has RES, CK, IK and AK of the secret, and names the SQN that was found
+acceptance_keys : (s : Secret) (rand autn res ck ik ak amf sqn : List ℕ) → Accepted res ck ik ak amf sqn ≡ acceptance s rand autn
+    → ◌≡◌ {A = UsimKeys} (record { res = res; ck = ck; ik = ik; ak = ak; sqn = sqn })
+    (record { res = f2 s.k s.opc rand; ck = f3 s.k s.opc rand; ik = f4 s.k s.opc rand; ak = f5 s.k s.opc rand; sqn = sqn_in s rand autn })
+unfolding acceptance
+acceptance_keys s rand autn res ck ik ak amf sqn is = cc
 
 -- a synchronisation failure comes where it isn't, and tells SQN_MS
 pub fails : (s : Secret) (past : Past) (rand autn : List ℕ) (verdict : Verdict) (auts sqn : List ℕ)
@@ -218,20 +226,47 @@ challenged rows lines old sub n rand made answer new row at is e last c secrets 
   behind = behind;
 }
 
--- and the answer isn't that the MAC is wrong
-pub never_wrong_of : (rows : List Row) (old : ℕ → Option Memory) (sub n : ℕ) (rand : List ℕ) (made : Vector) (answer : Answer) (new : ℕ → Option Memory) (row : Row)
+-- the verdict of some past decides the answer
+some_verdict : (rows : List Row) (old : ℕ → Option Memory) (sub n : ℕ) (rand : List ℕ) (made : Vector) (answer : Answer) (new : ℕ → Option Memory) (row : Row)
     → slice_get rows sub ≡ Some row → IsRow row → made ≡ vector_of row.secret method.Aka row.amf [] n rand → n ≤ max_seq
-    → Challenges old sub made.rand made.autn answer new → HaveSecrets rows old → answer ≡ WrongMac → ⊥
-never_wrong_of rows old sub n rand made answer new row at is e last c secrets wrong =
+    → Challenges old sub made.rand made.autn answer new → HaveSecrets rows old
+    → (past : Past) × FollowsVerdict row.secret past rand (autn_of row.secret.k row.secret.opc rand row.amf n) (verdict_of past n (n % 32)) answer
+some_verdict rows old sub n rand made answer new row at is e last c secrets =
     let d : Challenges old sub rand (autn_of row.secret.k row.secret.opc rand row.amf n) answer new =
     subst (λ (v : Vector). Challenges old sub v.rand v.autn answer new) e c in
     let past = some_past d.before.array in
     let secret : d.before.secret ≡ row.secret = secrets sub row d.before at d.there in
-    let answers : IsAnswer row.secret past.0 rand (autn_of row.secret.k row.secret.opc rand row.amf n) WrongMac =
-    subst (λ (a : Answer). IsAnswer row.secret past.0 rand (autn_of row.secret.k row.secret.opc rand row.amf n) a) wrong
-    (subst (λ (s : Secret). IsAnswer s past.0 rand (autn_of row.secret.k row.secret.opc rand row.amf n) answer) secret (d.answers past.0 past.1)) in
-    never_wrong row.secret past.0 rand (autn_of row.secret.k row.secret.opc rand row.amf n) (verdict_of past.0 n (n % 32))
-    (verdict_decides row.secret past.0 rand row.amf n WrongMac is.key is.operator is.management last answers)
+    let answers : IsAnswer row.secret past.0 rand (autn_of row.secret.k row.secret.opc rand row.amf n) answer =
+    subst (λ (s : Secret). IsAnswer s past.0 rand (autn_of row.secret.k row.secret.opc rand row.amf n) answer) secret (d.answers past.0 past.1) in
+    (past.0, verdict_decides row.secret past.0 rand row.amf n answer is.key is.operator is.management last answers)
+
+-- so the answer isn't that the MAC is wrong
+pub never_wrong_of : (rows : List Row) (old : ℕ → Option Memory) (sub n : ℕ) (rand : List ℕ) (made : Vector) (answer : Answer) (new : ℕ → Option Memory) (row : Row)
+    → slice_get rows sub ≡ Some row → IsRow row → made ≡ vector_of row.secret method.Aka row.amf [] n rand → n ≤ max_seq
+    → Challenges old sub made.rand made.autn answer new → HaveSecrets rows old → answer ≡ WrongMac → ⊥
+never_wrong_of rows old sub n rand made answer new row at is e last c secrets wrong =
+    let (past, follows) = some_verdict rows old sub n rand made answer new row at is e last c secrets in
+    never_wrong row.secret past rand (autn_of row.secret.k row.secret.opc rand row.amf n) (verdict_of past n (n % 32))
+    (subst (λ (a : Answer). FollowsVerdict row.secret past rand (autn_of row.secret.k row.secret.opc rand row.amf n) (verdict_of past n (n % 32)) a) wrong follows)
+
+-- and if the USIM accepts, it hands on what the row's secret makes of RAND, and the SQN of the number
+pub accepted_keys : (rows : List Row) (old : ℕ → Option Memory) (sub n : ℕ) (rand : List ℕ) (made : Vector) (res ck ik ak management sqn : List ℕ) (new : ℕ → Option Memory) (row other : Row)
+    → slice_get rows sub ≡ Some row → IsRow row → made ≡ vector_of row.secret method.Aka row.amf [] n rand → n ≤ max_seq
+    → Challenges old sub made.rand made.autn (Accepted res ck ik ak management sqn) new → HaveSecrets rows old → slice_get rows sub ≡ Some other
+    → ◌≡◌ {A = UsimKeys} (record { res = res; ck = ck; ik = ik; ak = ak; sqn = sqn }) (usim_keys other n rand)
+accepted_keys rows old sub n rand made res ck ik ak management sqn new row other at is e last c secrets there =
+    let (past, follows) = some_verdict rows old sub n rand made (Accepted res ck ik ak management sqn) new row at is e last c secrets in
+    let autn : List ℕ = autn_of row.secret.k row.secret.opc rand row.amf n in
+    let (fresh, accepted) = accepts row.secret past rand autn (verdict_of past n (n % 32)) res ck ik ak management sqn follows in
+    acceptance_keys row.secret rand autn res ck ik ak management sqn accepted
+    ∙ ap (λ (q : List ℕ). with_sqn row q) (found_sqn row.secret rand row.amf n is.key is.operator)
+    ∙ ap (λ (r : Row). usim_keys r n rand) (one row other (sym at ∙ there))
+  where
+    with_sqn : Row → List ℕ → UsimKeys
+    with_sqn r q = record { res = f2 r.secret.k r.secret.opc rand; ck = f3 r.secret.k r.secret.opc rand; ik = f4 r.secret.k r.secret.opc rand; ak = f5 r.secret.k r.secret.opc rand; sqn = q }
+
+    one : (a b : Row) → Some a ≡ Some b → a ≡ b
+    one a b same = cc
 
 -- the past of the challenged USIM
 abbrev past_at : List LineRecord → ℕ → Row → Past
@@ -281,12 +316,15 @@ presents_accepted rows lines old sub n rand amf res ck ik ak management sqn new 
     some_is : (a b : Row) → Some a ≡ Some b → a ≡ b
     some_is a b e = cc
 
-    took : Answers (verdict_of (past_at lines sub row) n (n % 32)) (past_at lines sub row) given.Accepted × (sqn ≡ sqn_in row.secret rand (autn_of row.secret.k row.secret.opc rand amf n))
+    took : Answers (verdict_of (past_at lines sub row) n (n % 32)) (past_at lines sub row) given.Accepted
+        × (Accepted res ck ik ak management sqn ≡ acceptance row.secret rand (autn_of row.secret.k row.secret.opc rand amf n))
     took = accepts row.secret (past_at lines sub row) rand (autn_of row.secret.k row.secret.opc rand amf n) (verdict_of (past_at lines sub row) n (n % 32)) res ck ik ak management sqn
         (answer_follows rows lines old sub n rand amf (Accepted res ck ik ak management sqn) new row d)
 
     number : sqn ≡ sqn_bytes n
-    number = took.1 ∙ found_sqn row.secret rand amf n d.k d.opc
+    number =
+        ap (λ (k : UsimKeys). k.sqn) (acceptance_keys row.secret rand (autn_of row.secret.k row.secret.opc rand amf n) res ck ik ak management sqn took.1)
+        ∙ found_sqn row.secret rand amf n d.k d.opc
 
     past : past_after_answer (past_at lines sub row) (Accepted res ck ik ak management sqn) ≡ past_of row.usim (accepted sub (lines ++ Give sub n given.Accepted ∷ []))
     past =

@@ -1,5 +1,5 @@
 -- For workers: what their calls add, and what stands after them.
-use Rattle.std.proofs.Common.{◌≡◌, ℕ, ◌<◌, ◌≤◌, List, [], ◌∷◌, ◌++◌, length, true, All, arith, refl, sym, subst, ap, ◌∙◌}
+use Rattle.std.proofs.Common.{◌≡◌, ℕ, ◌<◌, ◌≤◌, List, [], ◌∷◌, ◌++◌, length, true, All, append-nil, arith, refl, sym, subst, ap, ◌∙◌}
 use Rattle.std.specs.Prelude.{Option, Some, None, flat_map, map, slice_get, if◌then◌else◌}
 use Rattle.std.proofs.lemmas.List.Elements.{All-append, All-cons, All-head, All-map, All-nil, All-tail}
 use Rattle.std.proofs.lemmas.List.{map-append}
@@ -17,7 +17,7 @@ use Rattle.auc_server.specs.declared.setting.HomeRow.{HomeRow}
 use Rattle.auc_subs.specs.Subscriber.{AreSubscribers}
 use Rattle.auc_subs.specs.declared.row.Row.{Row}
 use Rattle.auc_usim.specs.Usim.{Memory}
-use Rattle.auc_world.specs.Given.{Before}
+use Rattle.auc_world.specs.Given.{Before, behind}
 use Rattle.auc_world.specs.Net.{Net, device_place}
 use Rattle.auc_world.specs.Released.{Released}
 use Rattle.auc_world.specs.Sessions.{job_sessions}
@@ -28,13 +28,13 @@ use Rattle.auc_world.specs.World.{WorldState, usim_of}
 use Rattle.auc_world.specs.declared.record.JobSessions.{JobSessions}
 use Rattle.auc_world.specs.declared.record.LineRecord.{LineRecord}
 use Rattle.auc_jobs.specs.InnerRound.{JobBegins, ServesJob}
-use Rattle.auc_jobs.specs.InnerServing.{before_at, Stands, Adds, Serves, ServesLines}
+use Rattle.auc_jobs.specs.InnerServing.{before_at, Stands, Serves, ServesLines}
 use Rattle.auc_jobs.specs.InnerUsims.{AreCopies, has_usim}
 use Rattle.auc_jobs.specs.InnerWorker.{AreForRows, GoesOnWith, IsCentreOf, WorkerState, WorkerStands, WorkerServes, WorkerServesLines, start_world}
 use Rattle.auc_jobs.specs.Serving.{IsKnownLine}
 use Rattle.auc_jobs.specs.Usims.{HaveSecrets, AreOfRows}
 use Rattle.auc_jobs.proofs.CopyLemmas.{copies_keyed}
-use Rattle.auc_jobs.proofs.JobLemmas.{serves_adds, serves_as, ServingLines, job_none}
+use Rattle.auc_jobs.proofs.JobLemmas.{serves_as, serves_marked, serves_more, ServingLines, job_none}
 use Rattle.auc_jobs.proofs.LineLemmas.{some_at}
 use Rattle.auc_jobs.proofs.PlaceLemmas.{same_usims, usim_found}
 use Rattle.auc_jobs.proofs.SettleLemmas.{begins_stands, copies_secrets, job_releasable, job_settles}
@@ -145,14 +145,17 @@ does_hold set usims stores job world rows are known begins sub held =
     (λ i. ap (λ (w : WorldState). usim_of set.rows w i) begins ∙ starts_copies set usims stores job i are rows.sizes known) ∙ held
 
 module _ {C : Type 0} where
-  -- lines that were drawn add what a worker's request gives, if the network stays
-  pub worker_adds : (goes : ℕ → List Entry → List (ℕ × Stop) → Type 0) (old_kept kept : ℕ → Option ℕ) (early beside : List LineRecord) (old : WorkerState C) (world : WorldState)
-      (new : List LineRecord) (Gives : List LineRecord → Type 0) → world ≡ old.world
-      → Stands old.set.rows (before_at early beside old.lines) old_kept old.released (usim_of old.set.rows old.world) → Adds goes kept beside old.lines new Gives
-      → Serves goes old.set.rows (before_at early beside old.lines) kept old.released (usim_of old.set.rows world) Gives new
-  worker_adds goes old_kept kept early beside old world new Gives same stands adds =
-      subst (λ (w : WorldState). Serves goes old.set.rows (before_at early beside old.lines) kept old.released (usim_of old.set.rows w) Gives new) (sym same)
-      (serves_adds goes old.set.rows early beside old.lines new old_kept kept old.released (usim_of old.set.rows old.world) Gives stands adds)
+  -- a worker that does nothing adds nothing
+  pub none_serves : (kept : C → ℕ → Option ℕ) (goes : C → ℕ → List Entry → List (ℕ × Stop) → C → Type 0) (w : WorkerState C) → ((i : ℕ) → goes w.centre i [] [] w.centre)
+      → WorkerServes kept goes w w (λ before lines. lines ≡ [])
+  none_serves kept goes w stays early beside stands = record { lines = []; added = sym (append-nil w.lines); given = refl; made = stays; stands = stands }
+
+  -- lines of which another thing is known
+  pub also_serves : (kept : C → ℕ → Option ℕ) (goes : C → ℕ → List Entry → List (ℕ × Stop) → C → Type 0) (old new : WorkerState C) (Gives Also : Before → List LineRecord → Type 0)
+      → ((before : Before) (lines : List LineRecord) → Gives before lines → Also before lines) → WorkerServes kept goes old new Gives → WorkerServes kept goes old new Also
+  also_serves kept goes old new Gives Also also serves early beside stands =
+      serves_as (λ i es ws. goes old.centre i es ws new.centre) old.set.rows (before_at early beside old.lines) (kept new.centre) old.released (usim_of old.set.rows new.world)
+      (Gives (before_at early beside old.lines)) (Also (before_at early beside old.lines)) new.lines (also (before_at early beside old.lines)) (serves early beside stands)
 
   -- what a worker serves is served with the setting and the released numbers that it began with
   pub same_serves : (kept : C → ℕ → Option ℕ) (goes : C → ℕ → List Entry → List (ℕ × Stop) → C → Type 0) (old new : WorkerState C) (G : Setting → Before → List LineRecord → Type 0)
@@ -171,9 +174,27 @@ module _ {C : Type 0} where
   -- if the network stays, it also gives that
   pub still_serves : (kept : C → ℕ → Option ℕ) (goes : C → ℕ → List Entry → List (ℕ × Stop) → C → Type 0) (old new : WorkerState C) (Gives : Before → List LineRecord → Type 0)
       → new.world.net ≡ old.world.net → WorkerServes kept goes old new Gives → WorkerServes kept goes old new (λ before lines. Gives before lines × (new.world.net ≡ old.world.net))
-  still_serves kept goes old new Gives same serves early beside stands =
-      serves_as (λ i es ws. goes old.centre i es ws new.centre) old.set.rows (before_at early beside old.lines) (kept new.centre) old.released (usim_of old.set.rows new.world)
-      (Gives (before_at early beside old.lines)) (λ lines. Gives (before_at early beside old.lines) lines × (new.world.net ≡ old.world.net)) new.lines (λ lines given. (given, same)) (serves early beside stands)
+  still_serves kept goes old new Gives same serves =
+      also_serves kept goes old new Gives (λ before lines. Gives before lines × (new.world.net ≡ old.world.net)) (λ before lines given. (given, same)) serves
+
+  -- a request and a further one after it, with the same setting and released numbers
+  pub more_serves : (kept : C → ℕ → Option ℕ) (goes : C → ℕ → List Entry → List (ℕ × Stop) → C → Type 0) (old mid new : WorkerState C) (First : Before → List LineRecord → Type 0)
+      (Second : Setting → Before → List LineRecord → Type 0) (Whole : Before → List LineRecord → Type 0)
+      → ((i : ℕ) (es fs : List Entry) (ws vs : List (ℕ × Stop)) → goes old.centre i es ws mid.centre → goes mid.centre i fs vs new.centre → goes old.centre i (es ++ fs) (ws ++ vs) new.centre)
+      → mid.set ≡ old.set → mid.released ≡ old.released → WorkerServes kept goes old mid First → WorkerServes kept goes mid new (Second mid.set)
+      → ((before : Before) (front rest : List LineRecord) → First before front → Second old.set (behind before front) rest → Whole before (front ++ rest))
+      → WorkerServes kept goes old new Whole
+  more_serves kept goes old mid new First Second Whole joins same_set same_released first second both early beside stands =
+      serves_more (λ i es ws. goes old.centre i es ws mid.centre) (λ i es ws. goes mid.centre i es ws new.centre) (λ i es ws. goes old.centre i es ws new.centre) old.set.rows early beside
+      old.lines mid.lines new.lines (kept mid.centre) (kept new.centre) old.released (usim_of old.set.rows mid.world) (usim_of old.set.rows new.world)
+      (λ lines. (mid.lines ≡ old.lines ++ lines) × First before lines) (Second old.set (before_at early beside mid.lines)) (Whole before) joins
+      (serves_marked (λ i es ws. goes old.centre i es ws mid.centre) old.set.rows before (kept mid.centre) old.released (usim_of old.set.rows mid.world) (First before) mid.lines (first early beside stands))
+      (same_serves kept goes mid new Second old.set old.released same_set same_released second early beside)
+      (λ front rest marked given.
+      both before front rest marked.1 (subst (λ (lines : List LineRecord). Second old.set (before_at early beside lines) rest) marked.0 given))
+    where
+      before : Before
+      before = before_at early beside old.lines
 
   -- a worker that goes on twice goes on
   pub goes_on_more : (first second third : ℕ) (old mid new : WorkerState C) → GoesOnWith first second old mid → GoesOnWith second third mid new → GoesOnWith first third old new

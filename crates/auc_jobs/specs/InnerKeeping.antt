@@ -14,7 +14,7 @@ use Rattle.auc_vector.specs.declared.notes.NumberNote.TheVariants as number
 use Rattle.auc_world.specs.Event.{number_in}
 use Rattle.auc_world.specs.Limits.{least_step}
 use Rattle.auc_world.specs.declared.record.LineRecord.{LineRecord}
-use Rattle.auc_world.specs.declared.record.LineRecord.TheVariants.{Vector, Withheld, Exhausted, Sync, Give, Event}
+use Rattle.auc_world.specs.declared.record.LineRecord.TheVariants.{Vector, Withheld, Exhausted, Sync, Give, Further, Event}
 
 -- a keeper can begin a round: its pass is of the round's table, and the limits of its pass are the journal's
 pub record CanKeep {D : Type 0} (table : TableId) (passes : ℕ) (opening : Option (JournalState D)) (journal : JournalState D) (pass : KeeperValue) : Type 0 where
@@ -53,6 +53,7 @@ withholds (Withheld s n stop) = true
 withholds (Exhausted s word) = false
 withholds (Sync s answer) = false
 withholds (Give s n answer) = false
+withholds (Further said) = false
 withholds (Event r) = is_withheld (number_in r.result)
 
 -- why reservations ended in a round whose keeper stopped so, as its lines tell it: that the journal is full is told only if

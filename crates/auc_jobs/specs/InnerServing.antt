@@ -11,7 +11,7 @@ use Rattle.auc_random.specs.Random.{rand_of}
 use Rattle.auc_world.specs.declared.record.SyncVerdict.{SyncVerdict}
 use Rattle.auc_world.specs.declared.record.SyncVerdict.TheVariants as verdict
 use Rattle.auc_world.specs.Entries.{is_reported, entries_of_line, entries_of_lines}
-use Rattle.auc_world.specs.Given.{Before, EventGives, IsReleasable, IsGiven, is_released, packet_of, past_before, GiveGives, JobGives, auts_for}
+use Rattle.auc_world.specs.Given.{Before, EventGives, IsReleasable, IsGiven, OneGives, is_released, packet_of, past_before, GiveGives, JobGives, auts_for}
 use Rattle.auc_world.specs.Net.{Net}
 use Rattle.auc_world.specs.Setting.{Setting}
 use Rattle.auc_world.specs.Lines.{held_by, held_of, accepted}
@@ -19,7 +19,7 @@ use Rattle.auc_usim.specs.Usim.{Memory}
 use Rattle.auc_world.specs.declared.event.Event.{Event as EventOf}
 use Rattle.auc_world.specs.declared.record.GiveVerdict.{GiveVerdict}
 use Rattle.auc_world.specs.declared.record.LineRecord.{LineRecord}
-use Rattle.auc_world.specs.declared.record.LineRecord.TheVariants.{Vector, Withheld, Exhausted, Sync, Give, Event}
+use Rattle.auc_world.specs.declared.record.LineRecord.TheVariants.{Vector, Withheld, Exhausted, Sync, Give, Further, Event}
 use Rattle.auc_world.specs.Released.{Released, AreReleased}
 use Rattle.auc_jobs.specs.Usims.{AreBehind}
 
@@ -55,16 +55,23 @@ IsDrawn set sub (Withheld s n stop) = (s ≡ sub) × (1 ≤ n) × (n ≤ max_seq
 IsDrawn set sub (Exhausted s word) = (s ≡ sub) × (max_seq ≤ word)
 IsDrawn set sub (Sync s answer) = ⊥
 IsDrawn set sub (Give s n answer) = ⊥
+IsDrawn set sub (Further said) = ⊥
 IsDrawn set sub (Event r) = ⊥
 
--- whether a line is a vector
-abbrev pub is_vector : LineRecord → Bool
-is_vector (Vector s n) = true
-is_vector (Withheld s n stop) = false
-is_vector (Exhausted s word) = false
-is_vector (Sync s answer) = false
-is_vector (Give s n answer) = false
-is_vector (Event r) = false
+-- the number of a line, if it is a vector
+abbrev pub vector_number : LineRecord → Option ℕ
+vector_number (Vector s n) = Some n
+vector_number (Withheld s n stop) = None
+vector_number (Exhausted s word) = None
+vector_number (Sync s answer) = None
+vector_number (Give s n answer) = None
+vector_number (Further said) = None
+vector_number (Event r) = None
+
+-- what a request for a vector of a subscriber adds: the vector of a number, or what ends the request
+abbrev pub IsNext : Setting → ℕ → Option ℕ → List LineRecord → Type 0
+IsNext set sub None lines = OneGives set sub (λ n rest. ⊥) lines
+IsNext set sub (Some n) lines = (lines ≡ Vector sub n ∷ []) × IsReleasable set sub n
 
 -- ---- a resynchronisation
 
@@ -134,9 +141,13 @@ pub record IsAnswered (rows : List Row) (before : Before) (sub n : ℕ) (answer 
   pub given : (row : Row) → slice_get rows sub ≡ Some row → IsGiven (is_released before sub n) (past_before before row sub) n answer
   pub behind : AreBehind rows (before.early ++ before.beside ++ before.own ++ Give sub n answer ∷ []) usims
 
+-- what presenting the vector of a number gives, if this is the verdict
+pub record GivesVerdict (set : Setting) (before : Before) (sub n : ℕ) (verdict : GiveVerdict) (lines : List LineRecord) : Type 0 where
+  pub gives : GiveGives set before sub n lines
+  pub is : gives.answer ≡ verdict
+
 -- what the line of a presented vector adds
-pub record AddsGive (set : Setting) (before : Before) (sub n : ℕ) (usims : ℕ → Option Memory) (new : List LineRecord) : Type 0 where
-  pub answer : GiveVerdict
-  pub added : new ≡ before.own ++ Give sub n answer ∷ []
-  pub given : GiveGives set before sub n (Give sub n answer ∷ [])
+pub record AddsGive (set : Setting) (before : Before) (sub n : ℕ) (verdict : GiveVerdict) (usims : ℕ → Option Memory) (new : List LineRecord) : Type 0 where
+  pub added : new ≡ before.own ++ Give sub n verdict ∷ []
+  pub given : GivesVerdict set before sub n verdict (Give sub n verdict ∷ [])
   pub behind : AreBehind set.rows (before.early ++ before.beside ++ new) usims

@@ -1,14 +1,16 @@
 //! Presenting vectors to USIMs.
 
-ghost use Rattle.std.specs.Prelude.{◌≡◌, ◌≤◌, ◌<◌, ◌||◌, ◌++◌, ℕ, true, List, length, IfOk, OnOk};
+ghost use Rattle.std.specs.Prelude.{◌≡◌, ◌≤◌, ◌<◌, ◌||◌, ◌++◌, ℕ, true, Some, List, length, slice_get, IfOk, OnOk};
+ghost use Rattle.auc_random.specs.Random.{rand_of};
 ghost use Rattle.auc_sqn.specs.Number.{max_seq};
 ghost use Rattle.auc_subs.specs.Subscriber.{AreSubscribers};
+ghost use Rattle.auc_subs.specs.declared.row.Row.{Row};
 ghost use Rattle.auc_world.specs.declared.record.LineRecord.{LineRecord};
 ghost use Rattle.auc_world.specs.Given.{is_in, GiveGives};
 ghost use Rattle.auc_world.specs.Lines.{numbers_of};
 ghost use Rattle.auc_world.specs.Released.{has, AreReleased};
-ghost use Rattle.auc_jobs.specs.InnerServing.{before_at, IsAnswered};
-ghost use Rattle.auc_jobs.specs.InnerUsims.{Presents, has_usim, usim_of};
+ghost use Rattle.auc_jobs.specs.InnerServing.{before_at, GivesVerdict, IsAnswered};
+ghost use Rattle.auc_jobs.specs.InnerUsims.{HasKeys, Presents, has_usim, usim_of, verdict_by};
 ghost use Rattle.auc_jobs.specs.InnerWorker.{GoesOnWith, WorkerServes};
 ghost use Rattle.auc_jobs.specs.Usims.{AreBehind, HaveSecrets};
 
@@ -20,8 +22,43 @@ use auc_usim::Answer;
 use auc_vector::Centre;
 use auc_world::{GiveVerdict, LineRecord, Setting, World, vector_at};
 
+/// What a USIM hands its device when it accepts a vector (TS 33.102 §6.3.3): RES, CK and IK; AK, and the SQN that it
+/// accepted.
+#[derive(Clone, Copy)]
+pub(crate) struct UsimKeys {
+    pub(crate) res: [u8; 8],
+    pub(crate) ck: [u8; 16],
+    pub(crate) ik: [u8; 16],
+    pub(crate) ak: [u8; 6],
+    pub(crate) sqn: [u8; 6],
+}
+
+/// What a USIM answers to the vector of a number, if it is asked.
+#[derive(Clone, Copy)]
+pub(crate) enum UsimAnswer {
+    /// It accepts.
+    Accepted(UsimKeys),
+    /// The SQN is out of range, and it reports SQN_MS.
+    Sync([u8; 6]),
+    /// The centre hasn't released the vector.
+    Absent,
+}
+
+impl UsimAnswer {
+    /// The verdict that is recorded.
+    fn verdict(&self) -> GiveVerdict
+        ensures { result ≡ verdict_by self.now }
+    {
+        match *self {
+            UsimAnswer::Accepted(_) => GiveVerdict::Accepted,
+            UsimAnswer::Sync(sqn) => GiveVerdict::Sync(sqn),
+            UsimAnswer::Absent => GiveVerdict::Absent,
+        }
+    }
+}
+
 /// Presents the vector of a subscriber's number, made again, to the subscriber's USIM.
-fn present(set: &Setting, world: &mut World, sub: u32, n: u64) -> GiveVerdict
+fn present(set: &Setting, world: &mut World, sub: u32, n: u64) -> UsimAnswer
     requires subscribers { AreSubscribers set.now.rows }
     requires usims { HaveSecrets set.now.rows (usim_of set.now.rows world.old) }
     requires own { has_usim (usim_of set.now.rows world.old) sub ≡ true }
@@ -30,15 +67,30 @@ fn present(set: &Setting, world: &mut World, sub: u32, n: u64) -> GiveVerdict
     requires last { n ≤ max_seq }
 
     ensures presented { (lines : List LineRecord) → AreBehind set.now.rows lines (usim_of set.now.rows world.old)
-        → Presents set.now.rows lines sub n result (usim_of set.now.rows world.new) }
+        → Presents set.now.rows lines sub n (verdict_by result) (usim_of set.now.rows world.new) }
+    ensures accepted { (row : Row) → slice_get set.now.rows sub ≡ Some row
+        → HasKeys row n (rand_of set.now.key sub n) result }
     ensures usims { HaveSecrets set.now.rows (usim_of set.now.rows world.new) }
     ensures keyed { (i : ℕ) → has_usim (usim_of set.now.rows world.new) i ≡ has_usim (usim_of set.now.rows world.old) i }
     ensures net { world.new.net ≡ world.old.net }
 {
     let made = vector_at(set, sub, n);
     match world.challenge(set, sub, made.rand, made.autn) {
-        Answer::Accepted { .. } => GiveVerdict::Accepted,
-        Answer::SyncFailure { sqn, .. } => GiveVerdict::Sync(sqn),
+        Answer::Accepted {
+            res,
+            ck,
+            ik,
+            ak,
+            sqn,
+            ..
+        } => UsimAnswer::Accepted(UsimKeys {
+            res,
+            ck,
+            ik,
+            ak,
+            sqn,
+        }),
+        Answer::SyncFailure { sqn, .. } => UsimAnswer::Sync(sqn),
         Answer::WrongMac => unreachable!(),
     }
 }
@@ -57,17 +109,19 @@ fn is_released(released: &Numbers, lines: &mut JobLines, sub: u32, n: u64) -> Re
 
 impl<C: Centre> Worker<'_, C> {
     /// What the subscriber's USIM answers to the vector of a number, if it was released.
-    fn answered(&mut self, sub: u32, n: u64) -> Result<GiveVerdict, NoMemory>
+    fn answered(&mut self, sub: u32, n: u64) -> Result<UsimAnswer, NoMemory>
         requires own { has_usim (usim_of self.old.set.rows self.old.world) sub ≡ true }
         requires known { sub < length self.old.set.rows }
         requires first { 1 ≤ n }
         requires last { n ≤ max_seq }
 
-        ensures answered { IfOk result (λ verdict. (early : List LineRecord) (beside : List LineRecord)
+        ensures answered { IfOk result (λ answer. (early : List LineRecord) (beside : List LineRecord)
             → AreReleased self.old.released early
             → AreBehind self.old.set.rows (early ++ beside ++ self.old.lines) (usim_of self.old.set.rows self.old.world)
-            → IsAnswered self.old.set.rows (before_at early beside self.old.lines) sub n verdict
+            → IsAnswered self.old.set.rows (before_at early beside self.old.lines) sub n (verdict_by answer)
             (usim_of self.old.set.rows self.new.world)) }
+        ensures accepted { IfOk result (λ answer. (row : Row) → slice_get self.old.set.rows sub ≡ Some row
+            → HasKeys row n (rand_of self.old.set.key sub n) answer) }
         ensures rest { self.new ≡ record self.old { world = self.new.world } }
         ensures keyed { (i : ℕ) → has_usim (usim_of self.old.set.rows self.new.world) i
             ≡ has_usim (usim_of self.old.set.rows self.old.world) i }
@@ -76,11 +130,32 @@ impl<C: Centre> Worker<'_, C> {
         if is_released(self.released, &mut self.lines, sub, n)? {
             Ok(present(self.set, &mut self.world, sub, n))
         } else {
-            Ok(GiveVerdict::Absent)
+            Ok(UsimAnswer::Absent)
         }
     }
 
-    /// Presents the vector of a number to the subscriber's USIM, if it was released in an earlier round or by the job.
+    /// Presents the vector of a number to the subscriber's USIM, if it was released in an earlier round or by the job. The
+    /// answer is the USIM's.
+    pub(crate) fn presented(&mut self, sub: u32, n: u64) -> Result<UsimAnswer, NoMemory>
+        requires own { has_usim (usim_of self.old.set.rows self.old.world) sub ≡ true }
+        requires known { sub < length self.old.set.rows }
+        requires first { 1 ≤ n }
+        requires last { n ≤ max_seq }
+
+        ensures given { IfOk result (λ answer. WorkerServes C.kept C.goes self.old self.new
+            (λ before. GivesVerdict self.old.set before sub n (verdict_by answer))) }
+        ensures accepted { IfOk result (λ answer. (row : Row) → slice_get self.old.set.rows sub ≡ Some row
+            → HasKeys row n (rand_of self.old.set.key sub n) answer) }
+        ensures same { GoesOnWith (C.name self.old.centre) (C.name self.new.centre) self.old self.new }
+        ensures net { self.new.world.net ≡ self.old.world.net }
+    {
+        let answer = self.answered(sub, n)?;
+        let verdict = answer.verdict();
+        self.lines.push(LineRecord::Give { sub, n, verdict })?;
+        Ok(answer)
+    }
+
+    /// Presents the vector of a number to the subscriber's USIM in this way, and does no more.
     pub(crate) fn give(&mut self, sub: u32, n: u64) -> Result<(), NoMemory>
         requires own { has_usim (usim_of self.old.set.rows self.old.world) sub ≡ true }
         requires known { sub < length self.old.set.rows }
@@ -92,7 +167,7 @@ impl<C: Centre> Worker<'_, C> {
         ensures same { GoesOnWith (C.name self.old.centre) (C.name self.new.centre) self.old self.new }
         ensures net { self.new.world.net ≡ self.old.world.net }
     {
-        let verdict = self.answered(sub, n)?;
-        self.lines.push(LineRecord::Give { sub, n, verdict })
+        self.presented(sub, n)?;
+        Ok(())
     }
 }

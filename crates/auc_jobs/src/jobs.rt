@@ -103,6 +103,8 @@ impl<C: Centre> Worker<'_, C> {
                 count,
             } => self.sync(rt, sub, seq, bit, count),
             Line::Give { sub, n } => self.give(sub, n),
+            Line::Eps { sub, snid } => self.eps(rt, alloc, sub, snid),
+            Line::Fiveg(ref line) => self.fiveg(rt, alloc, line),
             Line::Session(ref line) => self.open(rt, alloc, line),
             Line::Start(session) => self.happen_alone(rt, alloc, Event::Start(session)),
             Line::Deliver {

@@ -52,7 +52,8 @@ fn withholds(line: &LineRecord) -> bool
         LineRecord::Vector { .. }
         | LineRecord::Exhausted { .. }
         | LineRecord::Sync { .. }
-        | LineRecord::Give { .. } => false,
+        | LineRecord::Give { .. }
+        | LineRecord::Further(_) => false,
     }
 }
 

@@ -1,6 +1,6 @@
 use Rattle.auc_jobs.specs.InnerUsims.{usim_of}
 use Rattle.auc_random.specs.Random.{rand_of}
-use Rattle.auc_jobs.proofs.UsimLemmas.{challenged, challenged_keys, never_wrong_of, challenged_secrets, presents_accepted, presents_failure}
+use Rattle.auc_jobs.proofs.UsimLemmas.{challenged, challenged_keys, never_wrong_of, challenged_secrets, accepted_keys, presents_accepted, presents_failure}
 use Rattle.auc_jobs.proofs.giving.present.Goals as goal
 
 pub unreachable-requires : goal.unreachable-requires
@@ -33,3 +33,9 @@ returns-in-Accepted-clause-keyed c = challenged_keys (usim_of c.args.set.now.row
 
 pub returns-in-SyncFailure-clause-keyed : goal.returns-in-SyncFailure-clause-keyed
 returns-in-SyncFailure-clause-keyed c = challenged_keys (usim_of c.args.set.now.rows c.args.world.now) _ c.args.sub _ _ _ c.challenge.ensures.answer
+
+pub returns-in-Accepted-clause-accepted : goal.returns-in-Accepted-clause-accepted
+returns-in-Accepted-clause-accepted c = λ row there. let made = c.vector_at-made.ensures.row in
+    accepted_keys c.args.set.now.rows (usim_of c.args.set.now.rows c.args.world.now) c.args.sub c.args.n (rand_of c.args.set.now.key c.args.sub c.args.n) c.vector_at-made.result
+    c.in-Accepted.res c.in-Accepted.ck c.in-Accepted.ik c.in-Accepted.ak c.in-Accepted.amf c.in-Accepted.sqn _ made.row row
+    made.there made.is_row made.made c.requires.last c.in-Accepted.ensures.answer c.requires.usims there

@@ -1,4 +1,4 @@
-use Rattle.std.proofs.Common.{◌≡◌, ℕ, ◌+◌, ◌<◌, ◌≤◌, List, Option, All, ap, length, map, slice_index, sym, ◌∙◌, subst, if◌then◌else◌, []}
+use Rattle.std.proofs.Common.{◌≡◌, ℕ, ◌+◌, ◌≤◌, List, Option, All, ap, length, map, sym, ◌∙◌, subst, if◌then◌else◌, []}
 use Rattle.std.specs.Global.{Vec}
 use Rattle.std.proofs.lemmas.List.{length-map}
 use Rattle.auc_edge.specs.Identity.{Identity}
@@ -10,7 +10,7 @@ use Rattle.auc_world.specs.Vectors.{vectors_in}
 use Rattle.auc_world.specs.declared.record.LineRecord.{LineRecord}
 use Rattle.auc_jobs.specs.declared.claiming.WorkerJobs.{WorkerJobs}
 use Rattle.auc_jobs.specs.InnerClaims.{ClosesAs, IsDone}
-use Rattle.auc_jobs.specs.InnerKeeping.{StaysNear, TellsStop, told_stop}
+use Rattle.auc_jobs.specs.InnerKeeping.{StaysNear, TellsStop}
 use Rattle.auc_jobs.specs.InnerRound.{AreServed, GoesByLimits}
 use Rattle.auc_jobs.specs.InnerSharing.{Begins}
 use Rattle.auc_jobs.proofs.KeepingLemmas.{all_worked, can_keep, if_ok_map, stays_near, stop_told}

@@ -1,75 +1,56 @@
-use Rattle.std.proofs.Common.{◌≡◌, ◌≤◌, ◌-◌, ◌+◌, ◌++◌, ◌∙◌, arith, ap, length, subst, true, false}
+use Rattle.std.proofs.Common.{◌≡◌, ◌-◌, ◌+◌, ◌∙◌, [], List, arith, refl, sym, subst, ℕ}
 use Rattle.std.proofs.Math.Nat.{sub-zero}
-use Rattle.auc_world.specs.Given.{DrawGives}
-use Rattle.auc_jobs.specs.InnerServing.{AreTold, is_vector}
-use Rattle.auc_jobs.specs.InnerWorker.{AreForRows, WorkerState}
-use Rattle.auc_jobs.proofs.DrawingLemmas.{Adding, adding_none, adding_vector, adding_end, adding_all}
-use Rattle.auc_jobs.proofs.WorkerLemmas.{worker_adds}
+use Rattle.auc_world.specs.Given.{Before, DrawGives}
+use Rattle.auc_world.specs.Setting.{Setting}
+use Rattle.auc_world.specs.declared.record.LineRecord.{LineRecord}
+use Rattle.auc_jobs.specs.InnerServing.{IsNext}
+use Rattle.auc_jobs.proofs.DrawingLemmas.{GoesOn, draw_all, draw_begins, draw_ends, draw_more}
+use Rattle.auc_jobs.proofs.WorkerLemmas.{also_serves, goes_on_more, more_serves, none_serves}
 use Rattle.auc_jobs.proofs.worker.Worker.draw.Goals as goal
 
 pub loop-init : goal.loop-init
 loop-init g c = record {
-  rows = subst (λ (w : WorkerState g.row.C.Denot). AreForRows w.set.rows (g.C.Centre.subs c.self.inside.centre.now) (g.C.Centre.top c.self.inside.centre.now) w.world) c.self.view_is c.self.invariant.0;
-  realm = subst (λ (w : WorkerState g.row.C.Denot). length w.set.realm ≤ 255) c.self.view_is c.self.invariant.1;
-  set = ap (λ (w : WorkerState g.row.C.Denot). w.set) c.self.view_is;
-  released = ap (λ (w : WorkerState g.row.C.Denot). w.released) c.self.view_is;
-  world = ap (λ (w : WorkerState g.row.C.Denot). w.world) c.self.view_is;
-  name = ap (λ (w : WorkerState g.row.C.Denot). g.C.Centre.name w.centre) c.self.view_is;
-  lent = ap (λ (w : WorkerState g.row.C.Denot). w.lent) c.self.view_is;
-  adding = λ beside. subst (λ (w : WorkerState g.row.C.Denot). AreTold (g.C.Centre.kept w.centre) (beside ++ w.lines)
-      → Adding (λ i es ws. g.C.Centre.goes w.centre i es ws c.self.inside.centre.now) (g.C.Centre.kept c.self.inside.centre.now) w.set c.args.sub (c.args.count - 0) c.args.count
-      beside w.lines c.self.inside.lines) c.self.view_is
-      (λ told. rw sub-zero (adding_none (λ i es ws. g.C.Centre.goes c.self.inside.centre.now i es ws c.self.inside.centre.now) (g.C.Centre.kept c.self.inside.centre.now) c.self.inside.set.now
-      c.args.sub c.args.count beside c.self.inside.lines (λ i. g.met.C.Centre.stays c.self.inside.centre.now i) told));
+  same = record {
+    worker = record { borrow = refl; lent = refl; set = refl; released = refl };
+    keyed = λ sub. refl;
+    homes = refl;
+    devices = refl;
+  };
+  net = refl;
+  drawn =
+      also_serves g.C.Centre.kept g.C.Centre.goes c.args.self.now c.args.self.now (λ before lines. lines ≡ []) (λ before. GoesOn c.args.self.now.set c.args.sub (c.args.count - 0) c.args.count)
+      (λ before lines none.
+      subst (λ (left : ℕ). GoesOn c.args.self.now.set c.args.sub left c.args.count lines) (sym (sub-zero c.args.count)) (draw_begins c.args.self.now.set c.args.sub c.args.count lines none))
+      (none_serves g.C.Centre.kept g.C.Centre.goes c.args.self.now (λ i. g.met.C.Centre.stays c.args.self.now.centre i));
 }
-
-pub returns-then-not-goes_on-clause-drawn : goal.returns-then-not-goes_on-clause-drawn
-returns-then-not-goes_on-clause-drawn g c = λ early beside stands.
-    let ends : is_vector c.draw_one-line.result ≡ false = cc in
-    worker_adds (λ i es ws. g.C.Centre.goes c.args.self.now.centre i es ws c.draw_one-line.new.centre) (g.C.Centre.kept c.args.self.now.centre) (g.C.Centre.kept c.draw_one-line.new.centre)
-    early beside c.args.self.now c.loop.self-inside.world c.push.new.self (DrawGives c.args.self.now.set c.args.sub c.args.count) c.loop.invariant.world stands
-    (adding_end (λ i es ws. g.C.Centre.goes c.args.self.now.centre i es ws c.loop.self-inside.centre.now)
-    (λ i es ws. g.C.Centre.goes c.loop.self-inside.centre.now i es ws c.draw_one-line.new.centre)
-    (λ i es ws. g.C.Centre.goes c.args.self.now.centre i es ws c.draw_one-line.new.centre) (g.C.Centre.kept c.loop.self-inside.centre.now) (g.C.Centre.kept c.draw_one-line.new.centre)
-    c.args.self.now.set c.args.sub (c.args.count - c.loop.counter) (c.args.count - (c.loop.counter + 1)) c.args.count
-    beside c.args.self.now.lines c.loop.self-inside.lines _ c.draw_one-line.result
-    (λ i es fs ws vs. g.met.C.Centre.joins c.args.self.now.centre c.loop.self-inside.centre.now c.draw_one-line.new.centre i es fs ws vs)
-    (omega arith) c.in_ok-push.ensures (c.draw_one-line.ensures.line c.args.self.now.set c.requires) ends c.draw_one-line.ensures.said
-    (c.loop.invariant.adding beside stands.told))
 
 pub loop-preserved : goal.loop-preserved
 loop-preserved g c = record {
-  rows = record {
-    is_centre = record {
-      size = c.draw_one-line.ensures.subs ∙ c.loop.invariant.rows.is_centre.size;
-      greatest = λ sub. c.draw_one-line.ensures.top sub ∙ c.loop.invariant.rows.is_centre.greatest sub;
-    };
-    subscribers = c.loop.invariant.rows.subscribers;
-    secrets = c.loop.invariant.rows.secrets;
-    homes = c.loop.invariant.rows.homes;
-    placed = c.loop.invariant.rows.placed;
-  };
-  realm = c.loop.invariant.realm;
-  set = c.loop.invariant.set;
-  released = c.loop.invariant.released;
-  world = c.loop.invariant.world;
-  name = c.draw_one-line.ensures.name ∙ c.loop.invariant.name;
-  lent = c.loop.invariant.lent;
-  adding = λ beside told.
-      let goes_on : is_vector c.draw_one-line.result ≡ true = cc in
-      adding_vector (λ i es ws. g.C.Centre.goes c.args.self.now.centre i es ws c.loop.self-inside.centre.now)
-      (λ i es ws. g.C.Centre.goes c.loop.self-inside.centre.now i es ws c.draw_one-line.new.centre)
-      (λ i es ws. g.C.Centre.goes c.args.self.now.centre i es ws c.draw_one-line.new.centre) (g.C.Centre.kept c.loop.self-inside.centre.now) (g.C.Centre.kept c.draw_one-line.new.centre)
-      c.args.self.now.set c.args.sub (c.args.count - c.loop.counter) (c.args.count - (c.loop.counter + 1)) c.args.count
-      beside c.args.self.now.lines c.loop.self-inside.lines _ c.draw_one-line.result
-      (λ i es fs ws vs. g.met.C.Centre.joins c.args.self.now.centre c.loop.self-inside.centre.now c.draw_one-line.new.centre i es fs ws vs)
-      (omega arith) c.in_ok-push.ensures (c.draw_one-line.ensures.line c.args.self.now.set c.requires) goes_on c.draw_one-line.ensures.said
-      (c.loop.invariant.adding beside told);
+  same = goes_on_more _ _ _ c.args.self.now c.loop.self c.draw_next.new.self c.loop.invariant.same c.in_ok-draw_next.ensures.same;
+  net = c.in_ok-draw_next.ensures.net ∙ c.loop.invariant.net;
+  drawn =
+      more_serves g.C.Centre.kept g.C.Centre.goes c.args.self.now c.loop.self c.draw_next.new.self (λ before. GoesOn c.args.self.now.set c.args.sub (c.args.count - c.loop.counter) c.args.count)
+      (λ (s : Setting) (before : Before) (lines : List LineRecord). IsNext s c.args.sub c.in_ok-draw_next.field-0 lines)
+      (λ before. GoesOn c.args.self.now.set c.args.sub (c.args.count - (c.loop.counter + 1)) c.args.count)
+      (λ i es fs ws vs. g.met.C.Centre.joins c.args.self.now.centre c.loop.self.centre c.draw_next.new.self.centre i es fs ws vs)
+      c.loop.invariant.same.worker.set c.loop.invariant.same.worker.released c.loop.invariant.drawn c.in_ok-draw_next.ensures.drawn
+      (λ before front rest on next.
+      draw_more c.args.self.now.set c.args.sub (c.args.count - c.loop.counter) (c.args.count - (c.loop.counter + 1)) c.args.count c.in_ok-draw_next.field-0 front rest (omega arith)
+      c.if-is_none.ensures on next);
 }
 
+pub returns-then-is_none-clause-drawn : goal.returns-then-is_none-clause-drawn
+returns-then-is_none-clause-drawn g c =
+    more_serves g.C.Centre.kept g.C.Centre.goes c.args.self.now c.loop.self c.draw_next.new.self (λ before. GoesOn c.args.self.now.set c.args.sub (c.args.count - c.loop.counter) c.args.count)
+    (λ (s : Setting) (before : Before) (lines : List LineRecord). IsNext s c.args.sub c.in_ok-draw_next.field-0 lines) (λ before. DrawGives c.args.self.now.set c.args.sub c.args.count)
+    (λ i es fs ws vs. g.met.C.Centre.joins c.args.self.now.centre c.loop.self.centre c.draw_next.new.self.centre i es fs ws vs)
+    c.loop.invariant.same.worker.set c.loop.invariant.same.worker.released c.loop.invariant.drawn c.in_ok-draw_next.ensures.drawn
+    (λ before front rest on next.
+    draw_ends c.args.self.now.set c.args.sub (c.args.count - c.loop.counter) (c.args.count - (c.loop.counter + 1)) c.args.count c.in_ok-draw_next.field-0 front rest (omega arith)
+    c.if-is_none.ensures on next)
+
 pub returns-clause-drawn : goal.returns-clause-drawn
-returns-clause-drawn g c = λ early beside stands.
-    worker_adds (λ i es ws. g.C.Centre.goes c.args.self.now.centre i es ws c.loop.self-inside.centre.now) (g.C.Centre.kept c.args.self.now.centre) (g.C.Centre.kept c.loop.self-inside.centre.now)
-    early beside c.args.self.now c.loop.self-inside.world c.loop.self-inside.lines (DrawGives c.args.self.now.set c.args.sub c.args.count) c.loop.invariant.world stands
-    (adding_all (λ i es ws. g.C.Centre.goes c.args.self.now.centre i es ws c.loop.self-inside.centre.now) (g.C.Centre.kept c.loop.self-inside.centre.now) c.args.self.now.set
-    c.args.sub (c.args.count - c.loop.counter) c.args.count beside c.args.self.now.lines c.loop.self-inside.lines (omega arith) (c.loop.invariant.adding beside stands.told))
+returns-clause-drawn g c =
+    also_serves g.C.Centre.kept g.C.Centre.goes c.args.self.now c.loop.self (λ before. GoesOn c.args.self.now.set c.args.sub (c.args.count - c.loop.counter) c.args.count)
+    (λ before. DrawGives c.args.self.now.set c.args.sub c.args.count)
+    (λ before lines on. draw_all c.args.self.now.set c.args.sub (c.args.count - c.loop.counter) c.args.count lines (omega arith) on) c.loop.invariant.drawn

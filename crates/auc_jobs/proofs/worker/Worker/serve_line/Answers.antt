@@ -1,5 +1,5 @@
 use Rattle.std.proofs.Common.{List}
-use Rattle.auc_world.specs.Given.{Before, DrawGives, GiveGives, SyncGives}
+use Rattle.auc_world.specs.Given.{Before, DrawGives, EpsGives, FivegGives, GiveGives, SyncGives}
 use Rattle.auc_world.specs.declared.record.LineRecord.{LineRecord}
 use Rattle.auc_jobs.proofs.LineLemmas.{on_ok_map}
 use Rattle.auc_jobs.proofs.WorkerLemmas.{still_serves}
@@ -22,6 +22,18 @@ returns-in-Give-clause-served g c =
     rw c.in-Give.is (on_ok_map c.give.result c.give.ensures.given (λ serves.
     still_serves g.C.Centre.kept g.C.Centre.goes c.args.self.now c.give.new.self (λ (before : Before) (lines : List LineRecord). GiveGives c.args.self.now.set before c.in-Give.sub c.in-Give.n lines)
     c.give.ensures.net serves))
+
+pub returns-in-Eps-clause-served : goal.returns-in-Eps-clause-served
+returns-in-Eps-clause-served g c =
+    rw c.in-Eps.is (on_ok_map c.eps.result c.eps.ensures.given (λ serves.
+    still_serves g.C.Centre.kept g.C.Centre.goes c.args.self.now c.eps.new.self (λ (before : Before) (lines : List LineRecord). EpsGives c.args.self.now.set c.in-Eps.sub c.in-Eps.snid lines)
+    c.eps.ensures.net serves))
+
+pub returns-in-Fiveg-clause-served : goal.returns-in-Fiveg-clause-served
+returns-in-Fiveg-clause-served g c =
+    rw c.in-Fiveg.is (on_ok_map c.fiveg.result c.fiveg.ensures.given (λ serves.
+    still_serves g.C.Centre.kept g.C.Centre.goes c.args.self.now c.fiveg.new.self (λ (before : Before) (lines : List LineRecord). FivegGives c.args.self.now.set before c.in-Fiveg.line lines)
+    c.fiveg.ensures.net serves))
 
 pub returns-in-Session-clause-served : goal.returns-in-Session-clause-served
 returns-in-Session-clause-served g c = rw c.in-Session.is c.open.ensures.opened

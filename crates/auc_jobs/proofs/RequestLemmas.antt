@@ -1,0 +1,108 @@
+-- For requests of one subscriber: what holds of each of their lines.
+use Rattle.std.proofs.Common.{◌≡◌, ℕ, zero, suc, Bool, true, false, List, [], ◌∷◌, ◌++◌, map, sym, subst}
+use Rattle.std.specs.Prelude.{All, Option}
+use Rattle.std.proofs.lemmas.List.Elements.{All-append, All-cons, All-nil}
+use Rattle.auc_5g.specs.declared.device_keys.DeviceKeys.{DeviceKeys}
+use Rattle.auc_5g.specs.declared.home_keys.HomeKeys.{HomeKeys}
+use Rattle.auc_5g.specs.Keys.{home_of}
+use Rattle.auc_edge.specs.declared.stop.Stop.{Stop}
+use Rattle.auc_lines.specs.declared.part.FivegLine.{FivegLine}
+use Rattle.auc_random.specs.Random.{rand_of}
+use Rattle.auc_request.specs.Request.{is_separated}
+use Rattle.auc_vector.specs.declared.parts.Vector.{Vector as AuthVector}
+use Rattle.auc_world.specs.declared.further.Further.{Further as Said}
+use Rattle.auc_world.specs.declared.further.Further.TheVariants as further
+use Rattle.auc_world.specs.declared.record.GiveVerdict.{GiveVerdict}
+use Rattle.auc_world.specs.declared.record.GiveVerdict.TheVariants as given
+use Rattle.auc_world.specs.declared.record.LineRecord.{LineRecord}
+use Rattle.auc_world.specs.declared.record.LineRecord.TheVariants.{Vector, Withheld, Exhausted, Sync, Give, Further, Event}
+use Rattle.auc_world.specs.declared.record.SyncVerdict.{SyncVerdict}
+use Rattle.auc_world.specs.declared.record.SyncVerdict.TheVariants as verdict
+use Rattle.auc_world.specs.Given.{AuthenticatesIf, Before, DrawGives, EpsGives, FivegFollows, FivegGives, GiveGives, IsReleasable, OneGives, SyncGives, VectorsFollow, behind, device_of_row, hxres_lines, judged_lines, kasme_line, outcome_of, turned}
+use Rattle.auc_world.specs.Setting.{Setting}
+use Rattle.auc_world.specs.VectorAt.{vector_at, vector_of_row}
+
+-- each line that a request of a subscriber may give is so
+pub record AreSo (set : Setting) (sub : ℕ) (P : LineRecord → Type 0) : Type 0 where
+  pub vector : (n : ℕ) → IsReleasable set sub n → P (Vector sub n)
+  pub withheld : (n : ℕ) (stop : Stop) → P (Withheld sub n stop)
+  pub exhausted : (word : ℕ) → P (Exhausted sub word)
+  pub sync : (answer : SyncVerdict) → P (Sync sub answer)
+  pub give : (n : ℕ) (answer : GiveVerdict) → P (Give sub n answer)
+  pub further : (said : Said) → P (Further said)
+
+module _ (set : Setting) (sub : ℕ) (P : LineRecord → Type 0) (are : AreSo set sub P) where
+  one : (line : LineRecord) → P line → All P (line ∷ [])
+  one line is = All-cons P line [] is (All-nil P)
+
+  none : (lines : List LineRecord) → lines ≡ [] → All P lines
+  none lines is = subst (All P) (sym is) (All-nil P)
+
+  -- a request for a vector, and what follows it
+  one_lines : (Follows : ℕ → List LineRecord → Type 0) (lines : List LineRecord) → ((n : ℕ) (rest : List LineRecord) → Follows n rest → All P rest) → OneGives set sub Follows lines → All P lines
+  one_lines Follows [] follows gives = absurd gives
+  one_lines Follows (Vector s n ∷ lines) follows (same, is, more) = All-cons P (Vector s n) lines (subst (λ (k : ℕ). P (Vector k n)) (sym same) (are.vector n is)) (follows n lines more)
+  one_lines Follows (Withheld s n stop ∷ lines) follows (same, first, last, ends) = All-cons P (Withheld s n stop) lines (subst (λ (k : ℕ). P (Withheld k n stop)) (sym same) (are.withheld n stop)) (none lines ends)
+  one_lines Follows (Exhausted s word ∷ lines) follows (same, spent, ends) = All-cons P (Exhausted s word) lines (subst (λ (k : ℕ). P (Exhausted k word)) (sym same) (are.exhausted word)) (none lines ends)
+  one_lines Follows (Sync s answer ∷ lines) follows gives = absurd gives
+  one_lines Follows (Give s n answer ∷ lines) follows gives = absurd gives
+  one_lines Follows (Further said ∷ lines) follows gives = absurd gives
+  one_lines Follows (Event r ∷ lines) follows gives = absurd gives
+
+  -- so many vectors
+  pub draw_lines : (count : ℕ) (lines : List LineRecord) → DrawGives set sub count lines → All P lines
+  draw_lines zero lines gives = none lines gives
+  draw_lines (suc count) lines gives = one_lines (λ n rest. DrawGives set sub count rest) lines (λ n rest more. draw_lines count rest more) gives
+
+  -- an AUTS, and the vectors that follow
+  follow_lines : (count : ℕ) (answer : SyncVerdict) (lines : List LineRecord) → VectorsFollow set sub count answer lines → All P lines
+  follow_lines count (verdict.Moved seen seq_ms) lines follow = draw_lines count lines follow
+  follow_lines count (verdict.InRange seen seq_ms) lines follow = draw_lines count lines follow
+  follow_lines count (verdict.Beyond seen seq_ms) lines follow = none lines follow
+  follow_lines count verdict.WrongMac lines follow = none lines follow
+
+  pub sync_lines : (seq : ℕ) (bit : Option ℕ) (count : ℕ) (lines : List LineRecord) → SyncGives set sub seq bit count lines → All P lines
+  sync_lines seq bit count lines gives =
+      subst (All P) (sym gives.lines_are) (All-cons P (Sync sub gives.answer) gives.more (are.sync gives.answer) (follow_lines count gives.answer gives.more gives.follows))
+
+  -- a presented vector
+  pub give_lines : (before : Before) (n : ℕ) (lines : List LineRecord) → GiveGives set before sub n lines → All P lines
+  give_lines before n lines gives = subst (All P) (sym gives.lines_are) (one (Give sub n gives.answer) (are.give n gives.answer))
+
+  -- a vector and its K_ASME
+  kasme_lines : (snid : List ℕ) (vectors : List AuthVector) → All P (map (kasme_line snid) vectors)
+  kasme_lines snid [] = All-nil P
+  kasme_lines snid (v ∷ vectors) = All-cons P (kasme_line snid v) (map (kasme_line snid) vectors) (are.further _) (kasme_lines snid vectors)
+
+  pub eps_lines : (snid : List ℕ) (lines : List LineRecord) → EpsGives set sub snid lines → All P lines
+  eps_lines snid lines gives =
+      one_lines (λ n rest. rest ≡ map (kasme_line snid) (vector_at set sub n)) lines (λ n rest is. subst (All P) (sym is) (kasme_lines snid (vector_at set sub n))) gives
+
+-- a 5G authentication
+module _ (set : Setting) (line : FivegLine) (P : LineRecord → Type 0) (are : AreSo set line.sub P) where
+  judged_lines_are : (home : HomeKeys) (device : DeviceKeys) (answer : GiveVerdict) → All P (judged_lines line home device answer)
+  judged_lines_are home device given.Accepted = by line.hxres
+    where
+      last : LineRecord
+      last = Further (further.Fiveg line.sub (outcome_of home device (turned line.bit device.res_star)))
+
+      by : (told : Bool) → All P (hxres_lines told home ++ last ∷ [])
+      by true = All-cons P _ (last ∷ []) (are.further _) (one set line.sub P are last (are.further _))
+      by false = one set line.sub P are last (are.further _)
+  judged_lines_are home device (given.Sync sqn_ms) = All-nil P
+  judged_lines_are home device given.Absent = All-nil P
+
+  follows_lines : (before : Before) (n : ℕ) (lines : List LineRecord) → FivegFollows set before line n lines → All P lines
+  follows_lines before n lines f = by (is_separated (vector_of_row set f.row line.sub n).autn) f.follows
+    where
+      by : (separated : Bool) → AuthenticatesIf separated set before line f.row n lines → All P lines
+      by false is = subst (All P) (sym is) (one set line.sub P are _ (are.further _))
+      by true is =
+          subst (All P) (sym is.lines_are) (All-append P is.front is.more (give_lines set line.sub P are before n is.front is.gives)
+          (subst (All P) (sym is.judged)
+          (judged_lines_are (home_of (vector_of_row set f.row line.sub n) line.home) (device_of_row f.row n (rand_of set.key line.sub n) line.device) is.gives.answer)))
+
+  pub fiveg_lines : (before : Before) (lines : List LineRecord) → FivegGives set before line lines → All P lines
+  fiveg_lines before lines gives =
+      one_lines set line.sub P are (λ n rest. FivegFollows set (behind before (Vector line.sub n ∷ [])) line n rest) lines
+      (λ n rest f. follows_lines (behind before (Vector line.sub n ∷ [])) n rest f) gives
