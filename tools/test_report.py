@@ -140,7 +140,8 @@ class Objects(unittest.TestCase):
             (1, 1, "kasme", "001010000000001", 7), (1, 1, "hxresstar", "001010000000001", 8), (1, 1, "fiveg", "001010000000001", 8),
             (1, 1, "seaf", "001010000000001", 8), (1, 2, "fiveg", "001010000000002", 1), (1, 2, "fiveg", "001010000000001", 9),
             (1, 2, "fiveg", "001010000000001", 10)])
-        self.assertEqual([found[0]["k_asme"], found[1]["hxres_star"], found[3]["home"], found[3]["device"]], ["1a" * 32, "2b" * 16, "3c" * 32, "4d" * 32])
+        values = [found[0]["k_asme"], found[1]["hxres_star"], found[3]["home"], found[3]["device"]]
+        self.assertEqual(values, ["1a" * 32, "2b" * 16, "3c" * 32, "4d" * 32])
         self.assertEqual([it["result"] for it in found if "result" in it], ["confirmed", "noseparation", "servingrefused", "homerefused"])
 
     def test_line_of_eps_or_5g_that_is_of_no_vector_is_refused(self):
