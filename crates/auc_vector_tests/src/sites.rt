@@ -155,7 +155,9 @@ fn lease_is_cut_short_by_the_last_number_and_then_none_is_granted(rt: HostRuntim
         assert!(rt; told == spent);
     }
     assert!(rt; site.outstanding() == Some(asked));
-    assert!(rt; [site.draw(), site.draw(), site.draw()] == [Some(MAX_SEQ - 1), Some(MAX_SEQ), None]);
+    assert!(rt;
+        [site.draw(), site.draw(), site.draw()] == [Some(MAX_SEQ - 1), Some(MAX_SEQ), None]
+    );
 }
 
 // By hand: a grant of the numbers 3 and 7, which is made without a centre.
