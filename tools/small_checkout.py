@@ -38,6 +38,31 @@ case $1 in
     try) printf '%s\\n' "$SAYS"; echo run=ended >&2; exit "${STATUS:-0}" ;;
 esac
 """
+# A stand-in for an rt that keeps in the folder KEPT what `rt ci NAME` passed. It notes its words and jobs when it begins and
+# when it ends, and each crate that it proves. It waits at the crates RT_NAPS, and fails at the crate RT_FAILS once one waits.
+KEEPING_RT = """#!/bin/sh
+[ "$1" != --help ] || { echo "rt ci NAME.. the same for these. ${RT_HELP-What passes is kept}" >&2; exit; }
+if [ "$1" = ci ]; then shift; fi
+echo "begun $* jobs=$RT_JOBS" >>"$CALLS"
+case $* in "" | --anew) names=$(sed 's/:.*//' crates.txt | tac) ;; *) names=$* ;; esac
+for it in $names; do
+    entry=$KEPT/$it-$(cat crates/$it/src/anew 2>/dev/null)
+    [ -z "$RT_BLIND" ] || entry=$KEPT/$it-
+    if [ -e "$entry" ] && [ "$1" != --anew ]; then echo "rt: $it is kept: by an earlier run"; continue; fi
+    while [ "$it" = "$RT_FAILS" ] && [ -n "$RT_NAPS" ] && [ ! -s "$RT_PID" ]; do sleep 0.05; done
+    [ "$it" != "$RT_FAILS" ] || { printf '== %s\\nrt: %s NOT PROVED\\n' $it $it; exit 1; }
+    case " $RT_NAPS " in *" $it "*) echo $$ >>"$RT_PID"; exec sleep 60 ;; esac
+    sleep 0.1
+    echo "proved $it" >>"$CALLS"
+    touch "$entry"
+    printf '== %s\\nrt: %s proved\\n' $it $it
+done
+echo "ended $*" >>"$CALLS"
+case $* in
+    "" | --anew) mkdir -p crates/auc_cli/out; cp "$RT_PROGRAM" crates/auc_cli/out/auc_cli; echo "1 passed, 0 failed" ;;
+    *) echo "rt: $* and the crates below passed${RT_KEEPS-, and that is kept}. This is not the gate" ;;
+esac
+"""
 # A program that writes which of its first nine descriptors are open.
 OPEN = """#!/bin/sh
 exec 9>{}

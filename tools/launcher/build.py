@@ -1,16 +1,15 @@
 """Proves and builds the program.
 
-`rt ci` proves each crate that the program stands on, crates side by side, and builds the program. What an earlier run on
-this machine passed isn't proved again. It works on a copy of these crates alone, without their must-fail edits: the gate
-tries those. The new program is then run at the first test set of TS 35.208, and moved to its place at the very end, so the
-old one stays until then.
+`rt ci` proves each crate that the program stands on and builds the program. What an earlier run on this machine passed isn't
+proved again, and so stages prove the crates before that, which takes less time. It works on a copy of these crates alone,
+without their must-fail edits: the gate tries those. The new program is then run at the first test set of TS 35.208, and moved
+to its place at the very end, so the old one stays until then.
 """
 import contextlib
 import fcntl
 import math
 import os
 import re
-import select
 import shutil
 import signal
 import subprocess
@@ -20,7 +19,8 @@ import time
 from dataclasses import dataclass
 from pathlib import Path
 
-from . import costs, sources
+from . import costs, sources, staging
+from .following import Builders
 from .places import CRATE, OUT, TOP, Stopped, say
 
 PROVED = OUT / "proved/auc"
@@ -29,8 +29,8 @@ LOG = OUT / "build.log"
 LOCK = OUT / "build.lock"
 K, OPC, RAND = "465b5ce8b199b49faa5f0a2ee238a6bc", "cd63cb71954a9f4e48a5994e37a02baf", "23553cbe9637a89d218ae64dae47bf35"
 TRIAL = ["vector", K, OPC, RAND, "ff9bb4d0b607", "b9b9"]
-END_WITH_PARENT = 1
-EVERY = 250
+# The mode of a folder that any user passes through: as root, rt runs what it built as nobody.
+PASSABLE = 0o711
 
 
 def built():
@@ -53,41 +53,6 @@ def need_rt():
         raise Stopped("the command rt of the Rattle kit isn't on the PATH, so nothing can be proved or built here")
 
 
-def end_with_parent():
-    """Has the system end this process if the script ends, however it ends. rt ends its provers itself."""
-    import ctypes  # a run that builds nothing doesn't wait for this
-
-    ctypes.CDLL(None).prctl(END_WITH_PARENT, signal.SIGTERM)
-
-
-class Listener:
-    """Whoever reads standard error. It was there at first, or the build goes on in silence."""
-
-    def __init__(self):
-        self.poll = select.poll()
-        if sys.stderr is not None:
-            self.poll.register(sys.stderr.fileno(), 0)
-
-    def is_gone(self, milliseconds):
-        """Waits so long, or until standard error closes."""
-        return bool(self.poll.poll(milliseconds))
-
-
-class Progress:
-    """Which share of the work is done, by the lines of the log that name a proved crate."""
-
-    def __init__(self):
-        self.minutes, self.shown = costs.minutes_by_crate(), 0
-
-    def tell(self):
-        found = re.findall(r"^(?:== (\w+)|rt: (\w+) is kept: .*)$", LOG.read_text(errors="replace"), re.M)
-        done = {one or other for one, other in found} & set(self.minutes)
-        share = int(100 * sum(self.minutes[it] for it in done) / (sum(self.minutes.values()) or 1))
-        if share > self.shown:
-            self.shown = share
-            say(f"{share} percent of the work is done")
-
-
 @contextlib.contextmanager
 def leaving_nothing():
     """Has a signal that would end this process at once end it by its own clean-up."""
@@ -95,11 +60,20 @@ def leaving_nothing():
         if signal.getsignal(number) is signal.SIG_DFL:
             signal.signal(number, lambda number, _: sys.exit(128 + number))
     with tempfile.TemporaryDirectory(prefix="auc-prove-") as room:
+        os.chmod(room, PASSABLE)
         yield Path(room)
+
+
+def passable(folder):
+    """A new folder that any user passes through."""
+    folder.mkdir()
+    folder.chmod(PASSABLE)
+    return folder
 
 
 def copy_crates(to):
     """Copies the crates that the program stands on into a repository of their own."""
+    to.mkdir()
     names = costs.crates_of_program()
     lines = (TOP / sources.LIST).read_text(encoding="utf-8").splitlines(keepends=True)
     listed = [it for it in lines if re.split(r"[\s:]", it)[0] in names]
@@ -112,29 +86,28 @@ def copy_crates(to):
         shutil.copytree(crate, to / "crates" / name, ignore=lambda at, _, left=left: left.get(str(at), ()))
 
 
-def followed(words, folder, given, log, progress):
-    """Runs the builder to its end and tells how far it is: whether it ended well. It ends early if nobody listens any more.
-    Without a number of jobs rt itself shares the processors and the memory among the crates."""
-    environment = {**os.environ, **({"RT_JOBS": str(given.jobs)} if given.jobs else {})}
-    how = {"cwd": folder, "env": environment, "preexec_fn": end_with_parent}
-    builder = subprocess.Popen(["rt", *words], stdin=subprocess.DEVNULL, stdout=log, stderr=log, **how)
-    listener = Listener()
-    try:
-        while builder.poll() is None:
-            if listener.is_gone(EVERY):
-                raise Stopped("standard error was closed, so the build was ended")
-            progress.tell()
-    finally:
-        if builder.poll() is None:
-            builder.terminate()
-            builder.wait()
-    progress.tell()
-    return builder.returncode == 0
+def pass_crates(given, builders):
+    """Whether the crates passed, by the verdict of one `rt ci` over all. If that is faster, stages prove them before."""
+    # What an earlier build passed is likely to be kept; a given number of jobs has to hold even if it isn't.
+    earlier = None if given.anew or given.jobs else last()
+    plan = staging.Plan(staging.room(given.jobs), staging.passed_for(earlier) if earlier else ())
+    is_anew = given.anew
+    if plan.is_faster() and staging.can_be_used():
+        try:
+            if is_anew:
+                staging.mark(builders.folder / "crates")
+            staging.prove(plan, builders, is_anew, leaves_row=not given.jobs)
+            is_anew = False
+        except staging.Failed:
+            return False
+        except staging.NotKept:
+            builders.end()
+    return builders.run(["ci", "--anew"] if is_anew else ["ci"], given.jobs)
 
 
 def announce(jobs):
     measured = costs.build()
-    how = f"{jobs} crates side by side" if jobs > 1 else "one crate after the other"
+    how = f"{jobs} jobs side by side" if jobs > 1 else "one crate after the other"
     say(
         f"proving and building the program, {how}: {measured.work} minutes of processor time, about"
         f" {math.ceil(measured.minutes(jobs))} minutes in all, less if some crates are proved; the log is {LOG}"
@@ -157,16 +130,18 @@ def passes_trial(program, log):
 
 def prove(given):
     """Proves and builds. The caller holds the lock."""
-    began, progress = time.time_ns(), Progress()
+    began = time.time_ns()
     announce(given.jobs or costs.jobs_here())
-    with leaving_nothing() as room, LOG.open("w") as log:
-        copy_crates(room)
-        crate = room / "crates" / CRATE.name
+    with contextlib.ExitStack() as stack:
+        room, log = stack.enter_context(leaving_nothing()), stack.enter_context(LOG.open("w", encoding="utf-8"))
+        builders = stack.enter_context(Builders(room / "repository", passable(room / "aside"), log))
+        copy_crates(builders.folder)
+        crate = builders.folder / "crates" / CRATE.name
         made = crate / "out" / CRATE.name
-        is_proved = followed(["ci", *(["--anew"] if given.anew else [])], room, given, log, progress)
+        is_proved = pass_crates(given, builders)
         if is_proved and not made.exists():
             # (the gate of this kit leaves no program)
-            followed(["run", "--", *TRIAL], crate, given, log, progress)
+            builders.run(["run", "--", *TRIAL], given.jobs, crate)
         if not is_proved or not passes_trial(made, log):
             raise Stopped(
                 f"the program was not built; see {LOG}. If the memory ran out, `./auc prove --jobs 1` takes less"
@@ -178,7 +153,7 @@ def prove(given):
 
 @dataclass
 class Options:
-    """How to build: with so many crates side by side, and whether a crate is proved anew that an earlier run passed."""
+    """How to build: with so many jobs side by side, and whether a crate is proved anew that an earlier run passed."""
 
     jobs: int = None
     anew: bool = False

@@ -1,6 +1,8 @@
-"""What a build costs, by CONTRIBUTING.md: the minutes of the whole build, and of each crate's proof."""
+"""What a build costs, by CONTRIBUTING.md: the minutes of the whole build, and of each crate's proof; and what this machine has
+for it."""
 import os
 import re
+from pathlib import Path
 from typing import NamedTuple
 
 from .places import TOP
@@ -8,8 +10,13 @@ from .places import TOP
 TABLE = re.compile(r"<!-- begin: bench/gate\.py -->\n(.*?)<!-- end: bench/gate\.py -->", re.S)
 MEASURED = re.compile(r"it took (\d+) minutes of\s+processor time\b[^.]*?(\d+) minutes on (\d+)\s+free processors")
 PROGRAM = "auc_cli"
-# The memory for one prover, in KiB.
-PROVER = 3 * 1024 * 1024
+# The memory for one prover, in KiB, and for one of the crates that take most.
+PROVER, LARGE_PROVER = 3 * 1024 * 1024, 6 * 1024 * 1024
+LARGE = ("auc_jobs", "auc_run", "auc_transcript", "auc_world")
+# What each further job for one proof adds to its memory, and the part of its time that more jobs don't shorten.
+MORE, ALONE = 0.6, 0.2
+# The most jobs that rt gives one proof.
+MOST = 4
 
 
 def uses():
@@ -32,6 +39,12 @@ def crates_of_program():
     return found
 
 
+def uses_of_program():
+    """These crates in this order, each with those of them that it uses."""
+    used, crates = uses(), crates_of_program()
+    return {it: [below for below in used[it] if below in used] for it in crates}
+
+
 def page():
     return (TOP / "CONTRIBUTING.md").read_text(encoding="utf-8")
 
@@ -47,6 +60,16 @@ def minutes_by_crate():
         elif column and column < len(cells) and re.fullmatch(r"\d+(\.\d+)?", cells[column]):
             found.setdefault(cells[0], float(cells[column]))
     return {it: found.get(it, 1.0) for it in crates_of_program()}
+
+
+def shortened(minutes, jobs):
+    """What a proof of these minutes takes with so many jobs."""
+    return minutes * (ALONE + (1 - ALONE) / jobs)
+
+
+def memory(crate, jobs):
+    """The memory that a crate's proof takes with so many jobs, in KiB."""
+    return int((LARGE_PROVER if crate in LARGE else PROVER) * (1 + MORE * (jobs - 1)))
 
 
 class Build(NamedTuple):
@@ -70,8 +93,36 @@ def build():
     return Build(*map(int, found.groups())) if found else Build(60, 60, 1)
 
 
+# ---- what this machine has
+
+
+def number_in(file, pattern):
+    """The number that a file of the system has there; nothing if it has none."""
+    try:
+        return int(re.search(pattern, Path(file).read_text(encoding="ascii"), re.M)[1])
+    except (OSError, TypeError):
+        return None
+
+
+def processors():
+    """How many processors rt counts: those that this process may run on, or fewer if its control group has a quota."""
+    found = len(os.sched_getaffinity(0))
+    quota, period = (number_in("/sys/fs/cgroup/cpu.max", it) for it in (r"^(\d+)", r" (\d+)"))
+    return max(1, min(found, quota // period)) if quota and period else found
+
+
+def free_memory():
+    """The memory that is available, in KiB, also within the limit of the control group."""
+    free = number_in("/proc/meminfo", r"^MemAvailable:\s+(\d+)")
+    limit, held = number_in("/sys/fs/cgroup/memory.max", r"^(\d+)"), number_in("/sys/fs/cgroup/memory.stat", r"^anon (\d+)")
+    return free if limit is None or held is None else min(free, (limit - held) // 1024)
+
+
 def jobs_here():
-    """How many crates this machine proves side by side: one a processor, as far as the memory goes."""
-    with open("/proc/meminfo", encoding="ascii") as file:
-        free = int(re.search(r"MemAvailable:\s+(\d+)", file.read())[1])
-    return max(1, min(len(os.sched_getaffinity(0)), free // PROVER))
+    """How many jobs a build has on this machine: one a processor, as far as the memory goes."""
+    return max(1, min(processors(), free_memory() // PROVER))
+
+
+def jobs_of_one(processors):
+    """How many jobs rt gives a crate's proof, of so many processors, if nothing else is ready but the crate's tests."""
+    return max(1, min(MOST, processors // 2))

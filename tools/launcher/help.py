@@ -14,7 +14,7 @@ FORMS = [
     ("vector K OPC RAND SQN AMF autn", "the same, and then AUTN"),
     ("auts K OPC RAND SQN", "print the AUTS with which a USIM whose SQN_MS is SQN answers RAND"),
     ("load KEY SUBSCRIBERS JOBS WORKERS", "let workers draw in many jobs, and print a digest of the vectors"),
-    ("prove [--jobs N] [--anew]", "prove and build the program here, N crates side by side"),
+    ("prove [--jobs N] [--anew]", "prove and build the program here, with N jobs side by side"),
     ("install PREFIX", "install the program, its pages and its tools under the folder PREFIX"),
     ("install --remove PREFIX", "take away what was installed there"),
     ("--version", "print the version, and whether the program is proved"),
