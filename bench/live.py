@@ -158,10 +158,10 @@ def all_sessions(given):
 class Client(threading.Thread):
     """Asks for vectors, one after the other, until it is told to end, and keeps each SQN that it received."""
 
-    def __init__(self, folder, place, seed):
+    def __init__(self, folder, place, seed, subscribers=SUBSCRIBERS):
         super().__init__(daemon=True)
         self.gateway, self.own = str(folder / "centre"), folder / f"client{place}"
-        self.chance, self.rows = random.Random(seed), [row_of(it) for it in range(SUBSCRIBERS)]
+        self.chance, self.rows = random.Random(seed), [row_of(it) for it in range(subscribers)]
         self.sqns, self.auts, self.refused, self.ending = [], {}, 0, False
 
     def run(self):

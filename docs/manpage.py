@@ -49,6 +49,7 @@ TOOLS = [
     ("auc-import", "brings over the subscribers of hostapd or osmo-hlr"),
     ("auc-seqs", "states SEQ anew for all subscribers, from what `auc reserved` printed"),
     ("auc-gateway", "serves vectors to hostapd"),
+    ("auc-master", "leases the numbers of a store to several gateways"),
     ("auc-usim", "plays a USIM for eapol_test or wpa_supplicant"),
     ("auc-chart", "draws the sessions of an output"),
     ("auc-pcap", "writes their packets as a capture"),

@@ -9,6 +9,7 @@ import os
 import re
 import subprocess
 from collections import OrderedDict, defaultdict, deque
+from itertools import islice
 from typing import NamedTuple
 
 from eap.milenage import Aes, Functions, opc_of
@@ -197,13 +198,24 @@ class Centre:
     def move(self, imsi, seq):
         self.moves[imsi] = max(self.moves.get(imsi, 0), seq)
 
+    def batch(self, waiting, most):
+        """Those who wait and whom the next run can serve, at most so many."""
+        return list(islice(waiting, most))
+
+    def needs(self, waiting):
+        """What has to be asked before a run can serve those who wait: here nothing, since the journal says where a run begins."""
+        return {}
+
+    def row(self, imsi):
+        """A subscriber as the program reads it, and how many numbers the next run draws of it."""
+        return self.subscribers[imsi], AHEAD
+
     def scenario(self, batch):
         """One round with a job for each subscriber. Its RANDs follow from bytes that no other run has."""
-        rows = [self.subscribers[imsi].line() for imsi in batch]
-        lines = [f"randkey {os.urandom(32).hex()}", "print full", *rows, "round"]
-        for imsi in batch:
-            asked = f"sync {imsi} {self.moves[imsi]} - {AHEAD}" if imsi in self.moves else f"draw {imsi} {AHEAD}"
-            lines += ["job", asked]
+        rows = [(*self.row(imsi), self.moves.get(imsi)) for imsi in batch]
+        lines = [f"randkey {os.urandom(32).hex()}", "print full", *(row.line() for row, _, _ in rows), "round"]
+        for row, count, move in rows:
+            lines += ["job", f"draw {row.imsi} {count}" if move is None else f"sync {row.imsi} {move} - {count}"]
         return "\n".join([*lines, ""]).encode("ascii")
 
     def learn(self, batch, text):

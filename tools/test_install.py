@@ -21,7 +21,7 @@ from small_checkout import PIPES, SECONDS, TOP, Checkout
 # The stand-in for a program that runs while it is replaced.
 SLOW = "#!/bin/sh\necho $$ >{0}/pid\nwhile [ ! -e {0}/gate ]; do sleep 0.05; done\necho old\n"
 PLACES = [
-    "bin/auc", "bin/auc-import", "bin/auc-seqs", "bin/auc-gateway", "bin/auc-usim", "bin/auc-chart", "bin/auc-pcap",
+    "bin/auc", "bin/auc-import", "bin/auc-seqs", "bin/auc-gateway", "bin/auc-master", "bin/auc-usim", "bin/auc-chart", "bin/auc-pcap",
     "bin/auc-report", "bin/auc-transcript", "lib/auc/tools/report_page.html",
     "lib/auc/program", "lib/auc/installed.json", "share/man/man1/auc.1", "share/bash-completion/completions/auc",
     "share/doc/auc/docs/USER-GUIDE.md", "share/doc/auc/docs/OPERATOR.md", "share/doc/auc/examples/first.scenario",
