@@ -6,7 +6,7 @@ use Rattle.auc_sites.specs.declared.site.Taken.{Taken}
 use Rattle.auc_sites.specs.declared.site.Taken.TheVariants as taken
 use Rattle.auc_sites.specs.Request.{same_request}
 
--- a site: its number; its boot number, which says how often it has started; how often it has asked since; whether it waits for
+-- a site: its number; its boot number, which rises at each start; how often it has asked since; whether it waits for
 -- a grant of its last request; and the numbers that it holds, the least one first
 pub record SiteState : Type 0 where
   pub id : ℕ

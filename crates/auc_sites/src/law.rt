@@ -10,7 +10,8 @@ pub fn each_number_is_handed_out_once()
     ensures { EachNumberIsHandedOutOnce }
 {}
 
-/// So it is if the numbers come of a [`Centre`], whichever other calls it has, for as long as it is one value.
+/// The same holds, without a premise on the numbers, if they are those of a [`Centre`], whatever else it is called for
+/// between the events, for as long as it is one value.
 pub fn each_run_hands_out_once<C: Centre>()
     ensures { EachRunHandsOutOnce C.goes C.kept C.top }
 {}

@@ -97,8 +97,8 @@ impl Master {
         grant
     }
 
-    /// Replies to a request of a site. If it is new, up to `size` numbers of the subscriber are drawn for it, which has to be the
-    /// same one in all calls. It takes no memory.
+    /// Replies to a request of a site. If it is new, up to `size` numbers of the subscriber are drawn for it. The subscriber has
+    /// to be the same one in all calls. It takes no memory.
     pub fn on_request<C: Centre, R: Wait>(
         &mut self,
         rt: &R,
@@ -111,7 +111,8 @@ impl Master {
         requires site { HasSite self.old r.site }
         requires sub { sub < C.subs centre.old }
 
-        ensures reply { Replies C.goes C.kept C.top sub size self.old r centre.old result self.new centre.new }
+        ensures reply { Replies C.goes C.kept C.top sub size self.old r centre.old
+            result self.new centre.new }
 
         ensures sites { length self.new ≡ length self.old }
         ensures subs { C.subs centre.new ≡ C.subs centre.old }
