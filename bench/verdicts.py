@@ -46,11 +46,15 @@ LAST_RUN = re.compile(r"(?m)^(The last run [^#]*?)\n\n")
 
 @dataclass
 class Edit:
-    """An edit: its crate, its file, and whether it stands in the gate."""
+    """An edit: its crate, its file, whether it stands in the gate, and a checksum of its text, which outlives the file."""
 
     crate: str
     path: Path
     of_gate: bool
+    text: str = field(init=False)
+
+    def __post_init__(self):
+        self.text = hashlib.sha256(self.path.read_bytes()).hexdigest()[:8]
 
     @property
     def name(self):
@@ -59,11 +63,6 @@ class Edit:
     @property
     def stands(self):
         return "gate" if self.of_gate else "outside"
-
-    @property
-    def text(self):
-        """A checksum of its text."""
-        return hashlib.sha256(self.path.read_bytes()).hexdigest()[:8]
 
 
 @dataclass
