@@ -17,6 +17,7 @@ use Rattle.auc_transcript.specs.Counters.{EachTranscriptKeepsContexts}
 use Rattle.auc_transcript.specs.Keys.{EachAuthenticationAgrees, EachBreachIsTold, EachTranscriptHasItsNets}
 use Rattle.auc_transcript.specs.OneTold.{EachToldTranscriptIsOne}
 use Rattle.auc_transcript.specs.Presented.{EachFailureInSessionsIsByPlace, EachPresentedVectorHasARightMac}
+use Rattle.auc_transcript.specs.Systems.{EachHonestAuthenticationIsConfirmed}
 use Rattle.auc_world.proofs.Facts.{length-opened, sixteen_block}
 use Rattle.auc_world.specs.Agreement.{IsRealm}
 use Rattle.auc_world.specs.Transcript.{Course, Leads, beginning}
@@ -43,6 +44,7 @@ pub record Laws : Type 0 where
   pub contexts : EachTranscriptKeepsContexts
   pub plain : EachPlainSessionAgrees
   pub resumed : EachResumedSessionAgrees
+  pub authentications : EachHonestAuthenticationIsConfirmed
 
 -- subscribers, a realm, and parts that can be served
 record Fits (rows : List Row) (script : Script) (parts : List Part) : Type 0 where
@@ -100,6 +102,7 @@ is_output laws rows script reserved stop parts records end fits fit leads =
       contexts = laws.contexts set reserved stop parts records own.0 fits.subscribers names apart (end, leads) own.1;
       plain = laws.plain set reserved stop parts records own.0 fits.subscribers fits.realm (end, leads) own.1;
       resumed = laws.resumed set reserved stop parts records own.0 fits.subscribers fits.realm (end, leads) own.1;
+      authentications = laws.authentications set parts records own.0 fits.subscribers own.1;
     }
 
 -- what holds of some parts holds of the first of them

@@ -12,6 +12,7 @@ use Rattle.auc_transcript.specs.Counters.{KeepsContexts}
 use Rattle.auc_transcript.specs.Headline.{AreAboveReserved, VectorsDiffer, AcceptsNoneTwice, FailsExactlyByPlace}
 use Rattle.auc_transcript.specs.Keys.{AreNets, BreachesAreTold, EndsAgree}
 use Rattle.auc_transcript.specs.Presented.{FailsExactlyByPlaceInSessions, FindsRightMacs}
+use Rattle.auc_transcript.specs.Systems.{AuthenticationsAreConfirmed}
 use Rattle.auc_world.specs.Net.{Net}
 use Rattle.auc_world.specs.Transcript.{Course, Leads, IsLawful, beginning, lines_of}
 use Rattle.auc_world.specs.declared.record.PartRecord.{PartRecord}
@@ -37,7 +38,9 @@ text_of rows script records = transcript_text (setting_of rows script) script.fu
 -- jobs, and each round tells of a breach exactly if one did. No counter is used twice under the keys of one full
 -- authentication. A session that has its plain line and no other event line ends in Success at both ends, and its round says that
 -- they agree, unless a record of it tells why not, or its line gives a text for the first identity or has options that keep the
--- peer from accepting a challenge; and so does one whose server takes up a context again that its device has with the same counter
+-- peer from accepting a challenge; and so does one whose server takes up a context again that its device has with the same counter.
+-- A 5G authentication with one name of the serving network at both ends and with no bit turned over is confirmed exactly if the
+-- USIM accepts the vector, and both ends have the same XRES*, K_AUSF and K_SEAF
 pub record IsOutput (rows : List Row) (script : Script) (reserved : List ℕ) (stop : Option Stop) (parts : List Part) (end : Course) (text : List ℕ) : Type 0 where
   pub transcript : List PartRecord
   -- it is lawful, and this is where it ends
@@ -60,3 +63,4 @@ pub record IsOutput (rows : List Row) (script : Script) (reserved : List ℕ) (s
   pub contexts : KeepsContexts (setting_of rows script) parts transcript nets
   pub plain : PlainSessionsAgree rows parts transcript nets
   pub resumed : ResumedSessionsAgree (setting_of rows script) parts transcript nets
+  pub authentications : AuthenticationsAreConfirmed (setting_of rows script) parts transcript nets
