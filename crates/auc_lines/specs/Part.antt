@@ -1,26 +1,31 @@
 -- What the parts of a scenario ask for, and whose USIMs their jobs hold.
-use Rattle.std.specs.Prelude.{◌≡◌, ℕ, ◌==◌, ◌≤◌, Bool, true, false, List, [], ◌∷◌, ◌++◌, length, fold, sum_by, Option, Some, None, if◌then◌else◌}
+use Rattle.std.specs.Prelude.{◌≡◌, ℕ, ◌*◌, zero, suc, ◌==◌, ◌≤◌, Bool, true, false, List, [], ◌∷◌, ◌++◌, length, fold, sum_by, Option, Some, None, if◌then◌else◌}
 use Rattle.std.specs.List.{list_any}
 use Rattle.auc_lines.specs.declared.part.Identity.{Identity}
 use Rattle.auc_lines.specs.declared.part.Identity.TheVariants.{Held, Permanent, Text}
 use Rattle.auc_lines.specs.declared.part.Line.{Line}
-use Rattle.auc_lines.specs.declared.part.Line.TheVariants.{Draw, Give, Sync, Eps, Fiveg, Session, Start, Deliver, Repeat, GiveUp, Plain}
+use Rattle.auc_lines.specs.declared.part.Line.TheVariants.{Draw, Give, Sync, Eps, Fiveg, Sites, Session, Start, Deliver, Repeat, GiveUp, Plain, Tamper, Cut}
+use Rattle.auc_lines.specs.Sites.{deliveries_in}
 use Rattle.auc_lines.specs.declared.part.Part.{Part}
 use Rattle.auc_lines.specs.declared.part.Part.TheVariants.{Round, Restart}
 
--- how many vectors a line asks for, a session for two; and all lines of some jobs
+-- how many vectors a line asks for at most, a session for two and a line for sites for a lease at each delivery; and all lines of
+-- some jobs
 abbrev pub asked_by : Line → ℕ
 asked_by (Draw sub count) = count
 asked_by (Sync sub seq bit count) = count
 asked_by (Give sub number) = 0
 asked_by (Eps sub snid) = 1
 asked_by (Fiveg line) = 1
+asked_by (Sites line) = line.size * deliveries_in line.schedule
 asked_by (Session line) = 2
 asked_by (Start session) = 0
 asked_by (Deliver session end packet) = 0
 asked_by (Repeat session) = 0
 asked_by (GiveUp session end) = 0
 asked_by (Plain session) = 0
+asked_by (Tamper packet place byte) = 0
+asked_by (Cut packet length) = 0
 
 abbrev pub asked : List (List Line) → ℕ
 asked jobs = sum_by (λ job. sum_by asked_by job) jobs
@@ -38,12 +43,33 @@ held_by (Sync sub seq bit count) = None
 held_by (Give sub number) = Some sub
 held_by (Eps sub snid) = None
 held_by (Fiveg line) = Some line.sub
+held_by (Sites line) = None
 held_by (Session line) = Some line.sub
 held_by (Start session) = None
 held_by (Deliver session end packet) = None
 held_by (Repeat session) = None
 held_by (GiveUp session end) = None
 held_by (Plain session) = None
+held_by (Tamper packet place byte) = None
+held_by (Cut packet length) = None
+
+-- the subscriber for whom a line may ask the centre for a number
+abbrev pub asks_for : Line → Option ℕ
+asks_for (Draw sub count) = Some sub
+asks_for (Sync sub seq bit zero) = None
+asks_for (Sync sub seq bit (suc count)) = Some sub
+asks_for (Give sub number) = None
+asks_for (Eps sub snid) = Some sub
+asks_for (Fiveg line) = Some line.sub
+asks_for (Sites line) = Some line.sub
+asks_for (Session line) = Some line.sub
+asks_for (Start session) = None
+asks_for (Deliver session end packet) = None
+asks_for (Repeat session) = None
+asks_for (GiveUp session end) = None
+asks_for (Plain session) = None
+asks_for (Tamper packet place byte) = None
+asks_for (Cut packet length) = None
 
 abbrev pub is_that : ℕ → Option ℕ → Bool
 is_that sub None = false

@@ -5,5 +5,7 @@
 #![tactic(auto)]
 
 mod part;
+mod sites;
 
 pub use part::{End, FivegLine, Identity, JobPart, Line, Part, RoundPart, SessionLine};
+pub use sites::{SiteEvent, SitesLine};

@@ -1,5 +1,6 @@
 //! The parts of a scenario.
 
+use crate::sites::SitesLine;
 use auc_edge::{Items, Octets};
 use auc_hmac::Method;
 
@@ -99,6 +100,8 @@ pub enum Line {
     },
     /// Asks for a vector, and authenticates the subscriber's device with it as in 5G.
     Fiveg(FivegLine),
+    /// Runs sites that hand out the numbers that a master leases to them.
+    Sites(SitesLine),
     /// Opens a session.
     Session(SessionLine),
     /// The session's server starts, and sends its first request.
@@ -119,26 +122,42 @@ pub enum Line {
     /// The session's server starts, and each packet that follows is delivered once to the other end, until one makes
     /// none.
     Plain(u32),
+    /// The network changes a byte of a copy of a packet: the one at the place, from 0, becomes `byte`. The copy is a further
+    /// packet.
+    Tamper {
+        packet: u32,
+        place: u32,
+        byte: u8,
+    },
+    /// The network keeps so many bytes from the front of a copy of a packet, which are fewer than it has. The copy is a further
+    /// packet.
+    Cut {
+        packet: u32,
+        length: u32,
+    },
 }
 
 impl Line {
     ghost use Rattle.std.specs.Prelude.{◌≡◌};
-    ghost use Rattle.auc_lines.specs.Part.{asked_by, held_by};
+    ghost use Rattle.auc_lines.specs.Part.{asked_by, asks_for, held_by};
 
-    /// How many vectors it asks for at most: a session for 2.
+    /// How many vectors it asks for at most: a session for 2, a line for sites for a lease at each delivery.
     pub fn count(&self) -> u32
         ensures { result ≡ asked_by self.now }
     {
         match *self {
             Line::Draw { count, .. } | Line::Sync { count, .. } => count,
             Line::Eps { .. } | Line::Fiveg(_) => 1,
+            Line::Sites(ref line) => line.count(),
             Line::Session(_) => 2,
             Line::Give { .. }
             | Line::Start(_)
             | Line::Deliver { .. }
             | Line::Repeat(_)
             | Line::GiveUp { .. }
-            | Line::Plain(_) => 0,
+            | Line::Plain(_)
+            | Line::Tamper { .. }
+            | Line::Cut { .. } => 0,
         }
     }
 
@@ -154,11 +173,36 @@ impl Line {
             Line::Draw { .. }
             | Line::Sync { .. }
             | Line::Eps { .. }
+            | Line::Sites(_)
             | Line::Start(_)
             | Line::Deliver { .. }
             | Line::Repeat(_)
             | Line::GiveUp { .. }
-            | Line::Plain(_) => None,
+            | Line::Plain(_)
+            | Line::Tamper { .. }
+            | Line::Cut { .. } => None,
+        }
+    }
+
+    /// The subscriber for whom the line may ask the centre for a number: it draws, or opens a session.
+    pub fn asks(&self) -> Option<u32>
+        ensures { result ≡ asks_for self.now }
+    {
+        match *self {
+            Line::Draw { sub, .. } | Line::Eps { sub, .. } => Some(sub),
+            Line::Sync { sub, count, .. } if count > 0 => Some(sub),
+            Line::Fiveg(ref line) => Some(line.sub),
+            Line::Sites(ref line) => Some(line.sub()),
+            Line::Session(ref line) => Some(line.sub),
+            Line::Sync { .. }
+            | Line::Give { .. }
+            | Line::Start(_)
+            | Line::Deliver { .. }
+            | Line::Repeat(_)
+            | Line::GiveUp { .. }
+            | Line::Plain(_)
+            | Line::Tamper { .. }
+            | Line::Cut { .. } => None,
         }
     }
 }
