@@ -1,5 +1,8 @@
+pub mod Facts
 mod DrawingLemmas
 mod EventLemmas
 mod ListLemmas
+mod NetLemmas
 mod RunLemmas
 mod SoundLemmas
+mod StateLemmas

@@ -5,5 +5,6 @@ pub mod Master
 pub mod Drawing
 pub mod Reply
 pub mod Network
+pub mod SiteNet
 pub mod Run
 pub mod Law

@@ -5,14 +5,11 @@ use Rattle.auc_sites.specs.declared.grant.Grant.{Grant}
 use Rattle.auc_sites.specs.declared.master.Reply.{Reply}
 use Rattle.auc_sites.specs.declared.master.Reply.TheVariants.{Granted, Again, Old, Refused}
 use Rattle.auc_sites.specs.declared.request.Request.{Request}
+pub use Rattle.auc_sites.specs.declared.packet.Packet.{Packet}
+pub use Rattle.auc_sites.specs.declared.packet.Packet.TheVariants.{Asking, Granting}
 use Rattle.auc_sites.specs.Master.{place_of, last_grant, judgement, nothing_granted}
 use Rattle.auc_sites.specs.Reply.{reply_by, last_after}
 use Rattle.auc_sites.specs.Site.{SiteState, new_site, last_request, after_ask, after_grant, after_draw, after_restart, next_number}
-
--- a packet: a request on its way to the master, or a grant on its way to its site
-pub data Packet : Type 0 where
-  Asking : Request → Packet
-  Granting : Grant → Packet
 
 -- an event. Sites and packets are told by their places, from 0, and an event of one that isn't there changes nothing
 pub data Event : Type 0 where

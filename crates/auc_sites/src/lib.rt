@@ -16,8 +16,10 @@ mod grant;
 mod law;
 mod lease;
 mod master;
+mod packet;
 mod request;
 mod site;
+mod site_net;
 
 pub use grant::Grant;
 pub use law::{
@@ -25,5 +27,7 @@ pub use law::{
 };
 pub use lease::{LEASE_SIZE, Lease};
 pub use master::{Judged, Master, Reply};
+pub use packet::Packet;
 pub use request::Request;
 pub use site::{Site, Taken};
+pub use site_net::{Delivery, SiteNet};

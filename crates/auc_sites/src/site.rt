@@ -74,6 +74,18 @@ impl Site {
         self.asks < u32::MAX
     }
 
+    // The request that it makes next.
+    pub(crate) fn next_request(&self) -> Request
+        requires { self.now.asks < greatest_u32 }
+        ensures { result ≡ last_request (after_ask self.now) }
+    {
+        Request {
+            site: self.id,
+            boot: self.boot,
+            ask: self.asks + 1,
+        }
+    }
+
     /// Makes a new request, and waits for a grant of this one alone. It keeps the numbers that it holds. The request may be sent
     /// any number of times.
     pub fn ask(&mut self) -> Request
