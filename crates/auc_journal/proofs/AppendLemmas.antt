@@ -1,36 +1,28 @@
 -- What a crash leaves in each step of an append.
 use Rattle.std.proofs.Common.{◌≡◌, ◌≢◌, ◌⊎◌, inl, inr, ℕ, ◌+◌, ◌≤◌, List, [], ◌∷◌, ◌++◌, length, get_or, take, drop, refl, sym, ◌∙◌, ap, subst, arith, append_assoc, length-append, length-drop, take-append-drop}
-use Rattle.std.specs.Prelude.{true, false, ◌==◌, min, Result, Ok}
+use Rattle.std.specs.Prelude.{false, ◌==◌, min, Result, Ok}
 use Rattle.std.proofs.lemmas.Bool.Decides.{nat_tests}
 use Rattle.std.proofs.lemmas.Bool.{cases_eq}
 use Rattle.std.proofs.lemmas.List.{take_at, drop_at, drop_more, drop-drop}
 use Rattle.auc_disk.specs.Disk.{Torn, put}
 use Rattle.auc_disk.proofs.Facts.{put-within}
-use Rattle.auc_journal.specs.Image.{Frame, Reading, header, most, is_body, frame_in, before, read_frames, read_image}
-use Rattle.auc_journal.specs.Settled.{AtRest, HasBody, IsAppending, IsClosable}
-use Rattle.auc_journal.proofs.FrameLemmas.{behind, behind-more, ok_is, open_gate, pass_over}
+use Rattle.auc_journal.specs.Image.{Frame, Reading, behind, header, is_body, most, read_frames, read_image, size_in}
+use Rattle.auc_journal.specs.InnerBody.{IsBody}
+use Rattle.auc_journal.specs.Settled.{AtRest, HasBody, IsAppendingAll, IsClosable}
+use Rattle.auc_journal.proofs.FrameLemmas.{behind-more, ok_is, open_gate, pass_over}
 use Rattle.auc_journal.proofs.PartLemmas.{IsFrames, Parts, length-file, parts_of, reads}
 
--- bytes are a body, and are read as this frame
-pub record IsBody (body : List ℕ) (frame : Frame) : Type 0 where
-  pub size : length body ≡ 18
-  pub is : is_body body ≡ true
-  pub reads_as : frame_in body ≡ frame
-
--- one more frame behind the others
-pub one_more : (octets body : List ℕ) (frames : List Frame) (place : ℕ) (frame : Frame) → IsBody body frame → IsFrames octets frames place → IsFrames (octets ++ 1 ∷ body) (frames ++ frame ∷ []) (place + 19)
-one_more octets body frames place frame good are = record {
-  size = omega (arith, length-append octets (1 ∷ body), are.size, good.size);
+-- a body behind the others
+pub one_more : (octets body : List ℕ) (frames added : List Frame) (place : ℕ) → IsBody body added → IsFrames octets frames place → IsFrames (octets ++ 1 ∷ body) (frames ++ added) (place + 1 + length body)
+one_more octets body frames added place good are = record {
+  size = omega (arith, length-append octets (1 ∷ body), are.size);
   again = λ tail.
-      let front : take 18 (body ++ tail) ≡ body = take_at body tail 18 good.size in
       ap (λ (l : List ℕ). read_frames 0 16 l) (append_assoc octets (1 ∷ body) tail)
       ∙ are.again (1 ∷ body ++ tail)
-      ∙ ap (behind frames) (open_gate place (body ++ tail) (ap is_body front ∙ good.is))
-      ∙ (λ i. behind frames (before (frame_in (front i)) (read_frames 18 (place + 19) (body ++ tail))))
-      ∙ ap (λ (r : Frame). behind frames (before r (read_frames 18 (place + 19) (body ++ tail)))) good.reads_as
-      ∙ ap (λ (n : ℕ). behind frames (before frame (read_frames n (place + 19) (body ++ tail)))) (sym good.size)
-      ∙ ap (λ (r : Result Reading ℕ). behind frames (before frame r)) (pass_over (place + 19) body tail)
-      ∙ behind-more frames frame (read_frames 0 (place + 19) tail);
+      ∙ ap (behind frames) (open_gate place (body ++ tail) (good.is tail))
+      ∙ (λ i. behind frames (behind (good.says tail i) (read_frames (good.size tail i) (place + 1 + good.size tail i) (body ++ tail))))
+      ∙ ap (λ (r : Result Reading ℕ). behind frames (behind added r)) (pass_over (place + 1 + length body) body tail)
+      ∙ behind-more frames added (read_frames 0 (place + 1 + length body) tail);
 }
 
 module _ (octets : List ℕ) (frames : List Frame) (place : ℕ) (are : IsFrames octets frames place) where
@@ -73,16 +65,16 @@ module _ (octets : List ℕ) (frames : List Frame) (place : ℕ) (are : IsFrames
   }
 
   -- a body and a closed gate behind a gate
-  pub has_body : (gate : ℕ) (body tail : List ℕ) → length body ≡ 18 → is_body body ≡ true → HasBody (file_with gate (body ++ 0 ∷ tail)) place
-  has_body gate body tail size is =
+  pub has_body : (gate : ℕ) (body tail : List ℕ) (added : List Frame) → IsBody body added → HasBody (file_with gate (body ++ 0 ∷ tail)) place
+  has_body gate body tail added good =
       let file = file_with gate (body ++ 0 ∷ tail) in
       let behind_gate : drop (place + 1) file ≡ body ++ 0 ∷ tail = drop_gate gate (body ++ 0 ∷ tail) in
-      let at : place + 19 ≡ place + 1 + 18 = omega arith in
-      let next : drop (place + 19) file ≡ 0 ∷ tail =
-      ap (λ (k : ℕ). drop k file) at ∙ sym (drop-drop 18 (place + 1) file) ∙ ap (λ (l : List ℕ). drop 18 l) behind_gate ∙ drop_at body (0 ∷ tail) 18 size in (
-        ap (λ (l : List ℕ). is_body (take 18 l)) behind_gate ∙ ap is_body (take_at body (0 ∷ tail) 18 size) ∙ is,
-        ap (λ (l : List ℕ). take 1 l) next,
-      )
+      let size : size_in (drop (place + 1) file) ≡ length body = ap size_in behind_gate ∙ good.size (0 ∷ tail) in
+      let next : drop (place + 1 + size_in (drop (place + 1) file)) file ≡ 0 ∷ tail =
+      ap (λ (k : ℕ). drop (place + 1 + k) file) size
+      ∙ sym (drop-drop (length body) (place + 1) file)
+      ∙ ap (λ (l : List ℕ). drop (length body) l) behind_gate
+      ∙ drop_at body (0 ∷ tail) (length body) refl in (ap is_body behind_gate ∙ good.is (0 ∷ tail), ap (λ (l : List ℕ). take 1 l) next)
 
   -- a write behind the closed gate leaves the gate, whatever a crash leaves of the write
   pub torn_behind : (stale : List ℕ) (n : ℕ) (image : List ℕ) → Torn (place + 1) n (file_with 0 stale) image → length (file_with 0 stale) ≤ most → place + 1 + n ≤ most → AtRest image frames place
@@ -142,37 +134,47 @@ body_closable file frames place read body = λ reading is.
     let same : record { frames = frames; end = place } ≡ reading = ok_is (sym read ∙ is) in
     inr (inr (subst (λ (r : Reading). HasBody file r.end) same body))
 
--- a file of frames, some gate, and a frame's body with a closed gate behind it
-module _ (octets : List ℕ) (frames : List Frame) (place : ℕ) (are : IsFrames octets frames place) (body : List ℕ) (frame : Frame) (good : IsBody body frame) (tail : List ℕ) where
-  -- with an open gate it is at rest with the frame
-  pub opened_rests : length (file_with octets frames place are 1 (body ++ 0 ∷ tail)) ≤ most → AtRest (file_with octets frames place are 1 (body ++ 0 ∷ tail)) (frames ++ frame ∷ []) (place + 19)
+-- a file of frames, some gate, and a body with a closed gate behind it
+module _ (octets : List ℕ) (frames : List Frame) (place : ℕ) (are : IsFrames octets frames place) (body : List ℕ) (added : List Frame) (good : IsBody body added) (tail : List ℕ) where
+  more : IsFrames (octets ++ 1 ∷ body) (frames ++ added) (place + (1 + length body))
+  more = subst (IsFrames (octets ++ 1 ∷ body) (frames ++ added)) (sums place (length body)) (one_more octets body frames added place good are)
+    where
+      sums : (a b : ℕ) → a + 1 + b ≡ a + (1 + b)
+      sums a b = omega arith
+
+  -- with an open gate it is at rest with what the body says
+  pub opened_rests : length (file_with octets frames place are 1 (body ++ 0 ∷ tail)) ≤ most → AtRest (file_with octets frames place are 1 (body ++ 0 ∷ tail)) (frames ++ added) (place + (1 + length body))
   opened_rests fits =
       let as_more : file_with octets frames place are 1 (body ++ 0 ∷ tail) ≡ header ++ ((octets ++ 1 ∷ body) ++ 0 ∷ tail) = ap (λ (l : List ℕ). header ++ l) (sym (append_assoc octets (1 ∷ body) (0 ∷ tail))) in
-      subst (λ (l : List ℕ). AtRest l (frames ++ frame ∷ []) (place + 19)) (sym as_more)
-      (at_rest_of (octets ++ 1 ∷ body) tail (frames ++ frame ∷ []) (place + 19) (one_more octets body frames place frame good are) (subst (λ (l : List ℕ). length l ≤ most) as_more fits))
+      subst (λ (l : List ℕ). AtRest l (frames ++ added) (place + (1 + length body))) (sym as_more)
+      (at_rest_of (octets ++ 1 ∷ body) tail (frames ++ added) (place + (1 + length body)) more (subst (λ (l : List ℕ). length l ≤ most) as_more fits))
 
-  -- and with any gate it is read as the frames, or as these with the frame
-  pub by_gate : (gate : ℕ) → length (file_with octets frames place are gate (body ++ 0 ∷ tail)) ≤ most → IsAppending frames place frame (file_with octets frames place are gate (body ++ 0 ∷ tail))
+  -- and with any gate it is read as the frames, or as these with what the body says
+  pub by_gate : (gate : ℕ) → length (file_with octets frames place are gate (body ++ 0 ∷ tail)) ≤ most → IsAppendingAll frames place added (1 + length body) (file_with octets frames place are gate (body ++ 0 ∷ tail))
   by_gate gate fits = by (cases_eq gate 1)
     where
-      opens : gate ≡ 1 → AtRest (file_with octets frames place are gate (body ++ 0 ∷ tail)) (frames ++ frame ∷ []) (place + 19)
+      opens : gate ≡ 1 → AtRest (file_with octets frames place are gate (body ++ 0 ∷ tail)) (frames ++ added) (place + (1 + length body))
       opens is =
-          subst (λ (g : ℕ). AtRest (file_with octets frames place are g (body ++ 0 ∷ tail)) (frames ++ frame ∷ []) (place + 19)) (sym is)
+          subst (λ (g : ℕ). AtRest (file_with octets frames place are g (body ++ 0 ∷ tail)) (frames ++ added) (place + (1 + length body))) (sym is)
           (opened_rests (subst (λ (g : ℕ). length (file_with octets frames place are g (body ++ 0 ∷ tail)) ≤ most) is fits))
 
-      by : (gate ≡ 1) ⊎ (gate ≢ 1) → IsAppending frames place frame (file_with octets frames place are gate (body ++ 0 ∷ tail))
-      by (inl is) = (inr (opens is).read, rest_closable (file_with octets frames place are gate (body ++ 0 ∷ tail)) (frames ++ frame ∷ []) (place + 19) (opens is))
+      by : (gate ≡ 1) ⊎ (gate ≢ 1) → IsAppendingAll frames place added (1 + length body) (file_with octets frames place are gate (body ++ 0 ∷ tail))
+      by (inl is) = (inr (opens is).read, rest_closable (file_with octets frames place are gate (body ++ 0 ∷ tail)) (frames ++ added) (place + (1 + length body)) (opens is))
       by (inr shut) =
           let read = reads frames place gate (body ++ 0 ∷ tail) (is_shut gate shut) octets are fits in
-          (inl read, body_closable (file_with octets frames place are gate (body ++ 0 ∷ tail)) frames place read (has_body octets frames place are gate body tail good.size good.is))
+          (inl read, body_closable (file_with octets frames place are gate (body ++ 0 ∷ tail)) frames place read (has_body octets frames place are gate body tail added good))
 
--- the steps of an append of a frame's body to a file at rest
-module _ (file : List ℕ) (frames : List Frame) (place : ℕ) (frame : Frame) (body : List ℕ) (good : IsBody body frame) (rest : AtRest file frames place) (room : place + 20 ≤ most) where
+-- the steps of an append of a body to a file at rest
+module _ (file : List ℕ) (frames : List Frame) (place : ℕ) (added : List Frame) (body : List ℕ) (good : IsBody body added) (rest : AtRest file frames place) (room : place + 2 + length body ≤ most) where
   abbrev pub parts : Parts file frames place
   parts = parts_of file frames place rest
 
+  -- how many bytes the gate and the body have
+  abbrev pub step : ℕ
+  step = 1 + length body
+
   abbrev pub after : List ℕ
-  after = body ++ 0 ∷ drop 19 parts.stale
+  after = body ++ 0 ∷ drop step parts.stale
 
   -- the file with the body behind a gate
   abbrev pub staged : ℕ → List ℕ
@@ -189,31 +191,30 @@ module _ (file : List ℕ) (frames : List Frame) (place : ℕ) (frame : Frame) (
         fits,
         length-with parts.octets frames place parts.are gate after,
         length-with parts.octets frames place parts.are 0 parts.stale,
-        length-append body (0 ∷ drop 19 parts.stale),
-        good.size,
-        length-drop 19 parts.stale,
+        length-append body (0 ∷ drop step parts.stale),
+        length-drop step parts.stale,
       )
 
-  pub write_behind : (image : List ℕ) → Torn (place + 1) 19 file image → IsAppending frames place frame image
+  pub write_behind : (image : List ℕ) → Torn (place + 1) step file image → IsAppendingAll frames place added step image
   write_behind image torn =
       let left : AtRest image frames place =
-      torn_behind parts.octets frames place parts.are parts.stale 19 image (subst (λ (l : List ℕ). Torn (place + 1) 19 l image) parts.whole torn) fits (omega (arith, room)) in
+      torn_behind parts.octets frames place parts.are parts.stale step image (subst (λ (l : List ℕ). Torn (place + 1) step l image) parts.whole torn) fits (omega (arith, room)) in
       (inl left.read, rest_closable image frames place left)
 
   pub put_staged : put file (place + 1) (body ++ 0 ∷ []) ≡ staged 0
   put_staged =
-      let long : length (body ++ 0 ∷ []) ≡ 19 = omega (arith, length-append body (0 ∷ []), good.size) in
+      let long : length (body ++ 0 ∷ []) ≡ step = omega (arith, length-append body (0 ∷ [])) in
       ap (λ (l : List ℕ). put l (place + 1) (body ++ 0 ∷ [])) parts.whole
       ∙ put_behind parts.octets frames place parts.are parts.stale (body ++ 0 ∷ [])
       ∙ ap (λ (n : ℕ). file_with parts.octets frames place parts.are 0 ((body ++ 0 ∷ []) ++ drop n parts.stale)) long
-      ∙ ap (λ (l : List ℕ). file_with parts.octets frames place parts.are 0 l) (append_assoc body (0 ∷ []) (drop 19 parts.stale))
+      ∙ ap (λ (l : List ℕ). file_with parts.octets frames place parts.are 0 l) (append_assoc body (0 ∷ []) (drop step parts.stale))
 
-  pub write_gate : (image : List ℕ) → Torn place 1 (staged 0) image → IsAppending frames place frame image
+  pub write_gate : (image : List ℕ) → Torn place 1 (staged 0) image → IsAppendingAll frames place added step image
   write_gate image torn =
       let left = torn_gate parts.octets frames place parts.are 0 after image torn in
-      subst (IsAppending frames place frame) (sym left.1) (by_gate parts.octets frames place parts.are body frame good (drop 19 parts.stale) left.0 (staged_fits left.0))
+      subst (IsAppendingAll frames place added step) (sym left.1) (by_gate parts.octets frames place parts.are body added good (drop step parts.stale) left.0 (staged_fits left.0))
 
-  pub written : AtRest (put (staged 0) place (1 ∷ [])) (frames ++ frame ∷ []) (place + 19)
+  pub written : AtRest (put (staged 0) place (1 ∷ [])) (frames ++ added) (place + step)
   written =
-      subst (λ (l : List ℕ). AtRest l (frames ++ frame ∷ []) (place + 19)) (sym (put_gate parts.octets frames place parts.are 0 1 after))
-      (opened_rests parts.octets frames place parts.are body frame good (drop 19 parts.stale) (staged_fits 1))
+      subst (λ (l : List ℕ). AtRest l (frames ++ added) (place + step)) (sym (put_gate parts.octets frames place parts.are 0 1 after))
+      (opened_rests parts.octets frames place parts.are body added good (drop step parts.stale) (staged_fits 1))

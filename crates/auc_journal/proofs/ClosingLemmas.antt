@@ -1,18 +1,18 @@
 -- What an opening that closes a gate takes away: nothing, if the gate can be closed. For refused openings.
 use Rattle.std.proofs.Common.{◌≡◌, ◌⊎◌, inl, inr, ⊎_elim, ℕ, ◌+◌, ◌≤◌, List, [], ◌∷◌, ◌++◌, length, get_or, take, drop, Option, refl, sym, ◌∙◌, ap, subst, arith, length-append, length-drop, take-append-drop}
 use Rattle.std.specs.Prelude.{◌<◌, max, true, Result, Ok, Err}
-use Rattle.std.proofs.lemmas.Bool.{and_parts}
-use Rattle.std.proofs.lemmas.Bool.Decides.{Decides-eqb}
-use Rattle.std.proofs.lemmas.List.{drop_more, drop-drop, length-take}
+use Rattle.std.proofs.lemmas.List.{drop_more, drop-drop, length-take, take_at}
 use Rattle.auc_edge.specs.Identity.{Identity}
 use Rattle.auc_disk.specs.Disk.{put}
 use Rattle.auc_disk.proofs.Facts.{put-within}
-use Rattle.auc_journal.specs.Image.{Frame, Keeps, Reading, frame_in, header, most, is_body, read_image, reserved_by, reserved_in}
+use Rattle.auc_journal.specs.Image.{Frame, Keeps, Reading, frames_in, header, is_body, most, read_image, reserved_by, reserved_in, size_in}
+use Rattle.auc_journal.specs.InnerBody.{IsBody}
 use Rattle.auc_journal.specs.Opening.{IsOpening, LeavesFound}
-use Rattle.auc_journal.specs.Settled.{HasBody, IsAppending, IsClosable}
+use Rattle.auc_journal.specs.Settled.{HasBody, IsAppendingAll, IsClosable}
 use Rattle.auc_journal.specs.declared.open_why.OpenWhy.{OpenWhy}
-use Rattle.auc_journal.proofs.AppendLemmas.{IsBody, by_gate, file_with, length-with, put_gate}
+use Rattle.auc_journal.proofs.AppendLemmas.{by_gate, file_with, length-with, put_gate}
 use Rattle.auc_journal.proofs.DurableLemmas.{keeps_append, reserved-read}
+use Rattle.auc_journal.proofs.FrontLemmas.{SameBody, body_front, body_parts, size_least}
 use Rattle.auc_journal.proofs.OpenLemmas.{end_within, new_or_none}
 use Rattle.auc_journal.proofs.PartLemmas.{Read, drop_end, read_of, zero_first}
 
@@ -51,44 +51,56 @@ short_kept file image reading byte some short is torn =
     let long = length-put file reading.end byte within in
     (short_keeps file image reading short is, short_closable image (omega (arith, ap length torn, long, end, short)))
 
--- a body has 18 bytes
-body_size : (body : List ℕ) → is_body body ≡ true → length body ≡ 18
-body_size body is = (Decides-eqb (length body) 18).0 (and_parts _ _ (and_parts _ _ is).0).0
+-- the bytes of a body say the same, whatever stands behind them
+body_says : (rest : List ℕ) → is_body rest ≡ true → IsBody (take (size_in rest) rest) (frames_in rest)
+body_says rest is = record {
+  size = λ tail. (same tail).size ∙ sym size;
+  is = λ tail. (same tail).is;
+  says = λ tail. (same tail).says;
+}
+  where
+    size : length (take (size_in rest) rest) ≡ size_in rest
+    size = omega (arith, length-take (size_in rest) rest, (body_parts rest is).0)
+
+    same : (tail : List ℕ) → SameBody rest (take (size_in rest) rest ++ tail)
+    same tail = body_front rest (take (size_in rest) rest ++ tail) (size_in rest) is (omega arith) (sym (take_at (take (size_in rest) rest) tail (size_in rest) size))
 
 -- a file whose gate has a body, of which a crash leaves some byte on the gate
 body_kept : (file image : List ℕ) (reading : Reading) (byte : ℕ) → 1 ≤ length file → read_image file ≡ Ok reading → HasBody file reading.end → image ≡ put file reading.end (byte ∷ []) → IsKeptBy file image
 body_kept file image reading byte some is has torn =
-    (keeps_append file image reading.frames reading.end frame low appended.0, appended.1)
+    (keeps_append file image reading.frames reading.end added (1 + length body) low appended.0, appended.1)
   where
     read : Read file reading.frames reading.end
     read = read_of file reading.frames reading.end some is
 
+    beyond : List ℕ
+    beyond = drop (reading.end + 1) file
+
+    n : ℕ
+    n = size_in beyond
+
     body : List ℕ
-    body = take 18 (drop (reading.end + 1) file)
+    body = take n beyond
 
-    frame : Frame
-    frame = frame_in body
+    added : List Frame
+    added = frames_in beyond
 
-    size : length body ≡ 18
-    size = body_size body has.0
-
-    good : IsBody body frame
-    good = record { size = size; is = has.0; reads_as = refl }
+    good : IsBody body added
+    good = body_says beyond has.0
 
     tail : List ℕ
-    tail = drop 1 (drop (reading.end + 19) file)
+    tail = drop 1 (drop (reading.end + 1 + n) file)
 
     gate : ℕ
     gate = get_or file reading.end 0
 
     long : reading.end < length file
-    long = omega (arith, size, length-take 18 (drop (reading.end + 1) file), length-drop (reading.end + 1) file)
+    long = omega (arith, size_least beyond has.0, (body_parts beyond has.0).0, length-drop (reading.end + 1) file)
 
-    behind : drop (reading.end + 1) file ≡ body ++ 0 ∷ tail
+    behind : beyond ≡ body ++ 0 ∷ tail
     behind =
-        let at : reading.end + 1 + 18 ≡ reading.end + 19 = omega arith in
-        sym (take-append-drop 18 (drop (reading.end + 1) file))
-        ∙ ap (λ (l : List ℕ). body ++ l) (drop-drop 18 (reading.end + 1) file ∙ ap (λ (k : ℕ). drop k file) at ∙ zero_first (drop (reading.end + 19) file) has.1)
+        sym (take-append-drop n beyond)
+        ∙ ap (λ (l : List ℕ). body ++ l) (drop-drop n (reading.end + 1) file ∙ zero_first (drop (reading.end + 1 + n) file) has.1)
 
     rest : read.rest ≡ gate ∷ (body ++ 0 ∷ tail)
     rest = sym (drop_end file reading.frames reading.end read) ∙ drop_more file reading.end 0 long ∙ ap (λ (l : List ℕ). gate ∷ l) behind
@@ -103,8 +115,8 @@ body_kept file image reading byte some is has torn =
     fits =
         omega (arith, read.fits, ap length whole, length-with read.octets reading.frames reading.end read.are gate (body ++ 0 ∷ tail), length-with read.octets reading.frames reading.end read.are byte (body ++ 0 ∷ tail))
 
-    appended : IsAppending reading.frames reading.end frame image
-    appended = subst (IsAppending reading.frames reading.end frame) (sym left) (by_gate read.octets reading.frames reading.end read.are body frame good tail byte fits)
+    appended : IsAppendingAll reading.frames reading.end added (1 + length body) image
+    appended = subst (IsAppendingAll reading.frames reading.end added (1 + length body)) (sym left) (by_gate read.octets reading.frames reading.end read.are body added good tail byte fits)
 
     low : (imsi : Identity) → reserved_by file imsi ≤ reserved_in reading.frames imsi
     low = λ imsi. let same = reserved-read file reading.frames reading.end imsi is in omega (arith, same)

@@ -3,14 +3,14 @@ use Rattle.std.proofs.Common.{◌≡◌, inl, inr, ⊎_elim, ℕ, ◌+◌, ◌�
 use Rattle.std.specs.Prelude.{Bool, true, false, max, if◌then◌else◌, Result, Ok}
 use Rattle.auc_edge.specs.Identity.{Identity}
 use Rattle.auc_disk.specs.Disk.{Puts}
-use Rattle.auc_journal.specs.Durable.{Admits, AreBetween, IsBetween, IsDurable, IsReady, IsTold}
+use Rattle.auc_journal.specs.Durable.{AdmitsAll, AreBetween, IsBetween, IsDurable, IsReady, IsTold}
 use Rattle.auc_journal.specs.Image.{Frame, Keeps, Reading, read_image, reserved_as, reserved_by, reserved_in, same_identity}
 use Rattle.auc_journal.specs.Journal.{JournalState, imsi_at, reserved_at}
 use Rattle.auc_journal.specs.Limits.{AreLimits}
 use Rattle.auc_journal.specs.Opening.{Opens}
-use Rattle.auc_journal.specs.Settled.{AtRest, IsAppending, IsBeforeOrAfter, IsClosable, IsSettled, LeavesOnly}
+use Rattle.auc_journal.specs.Settled.{AtRest, IsAppendingAll, IsBeforeOrAfter, IsClosable, IsSettled, LeavesOnly}
 use Rattle.auc_journal.proofs.AppendLemmas.{rest_closable}
-use Rattle.auc_journal.proofs.LimitLemmas.{reserved-push, rises_by, same_is}
+use Rattle.auc_journal.proofs.LimitLemmas.{reserved-append, same_is}
 use Rattle.auc_journal.proofs.MomentLemmas.{leaves_now}
 
 -- a write doesn't change whether a disk tells its bytes
@@ -23,10 +23,6 @@ pub told_file : (told : Option (List ℕ)) → is_some told ≡ true → (file :
 told_file None is = absurd (cc)
 told_file (Some file) is = (file, refl)
 
-push_below : (b : Bool) (was to most : ℕ) → was ≤ most → (b ≡ true → to ≤ most) → (if b then max was to else was) ≤ most
-push_below true was to most low top = omega (arith, low, top refl)
-push_below false was to most low top = low
-
 -- what bytes reserve that are read as some frames
 pub reserved-read : (file : List ℕ) (frames : List Frame) (place : ℕ) (imsi : Identity) → read_image file ≡ Ok (record { frames = frames; end = place }) → reserved_by file imsi ≡ reserved_in frames imsi
 reserved-read file frames place imsi read = ap (λ (r : Result Reading ℕ). reserved_as r imsi) read
@@ -36,16 +32,15 @@ pub keeps_read : (file image : List ℕ) (frames : List Frame) (place : ℕ) →
     → read_image image ≡ Ok (record { frames = frames; end = place }) → Keeps file image
 keeps_read file image frames place low read = λ imsi. subst (λ (n : ℕ). reserved_by file imsi ≤ n) (sym (reserved-read image frames place imsi read)) (low imsi)
 
--- one more frame takes nothing away
-pub keeps_push : (frames : List Frame) (frame : Frame) (imsi : Identity) (least : ℕ) → least ≤ reserved_in frames imsi → least ≤ reserved_in (frames ++ frame ∷ []) imsi
-keeps_push frames frame imsi least low =
-    let rise = rises_by (same_identity frame.imsi imsi) (reserved_in frames imsi) frame.limit in
-    subst (λ (n : ℕ). least ≤ n) (sym (reserved-push frames frame imsi)) (omega (arith, low, rise))
+-- further frames take nothing away
+pub keeps_more : (frames added : List Frame) (imsi : Identity) (least : ℕ) → least ≤ reserved_in frames imsi → least ≤ reserved_in (frames ++ added) imsi
+keeps_more frames added imsi least low = let both = reserved-append frames added imsi in omega (arith, low, both)
 
 -- nor does an append that is broken off
-pub keeps_append : (file image : List ℕ) (frames : List Frame) (place : ℕ) (frame : Frame) → ((imsi : Identity) → reserved_by file imsi ≤ reserved_in frames imsi) → IsBeforeOrAfter frames place frame image → Keeps file image
-keeps_append file image frames place frame low (inl before) = keeps_read file image frames place low before
-keeps_append file image frames place frame low (inr after) = keeps_read file image (frames ++ frame ∷ []) (place + 19) (λ imsi. keeps_push frames frame imsi (reserved_by file imsi) (low imsi)) after
+pub keeps_append : (file image : List ℕ) (frames : List Frame) (place : ℕ) (added : List Frame) (size : ℕ) → ((imsi : Identity) → reserved_by file imsi ≤ reserved_in frames imsi)
+    → IsBeforeOrAfter frames place added size image → Keeps file image
+keeps_append file image frames place added size low (inl before) = keeps_read file image frames place low before
+keeps_append file image frames place added size low (inr after) = keeps_read file image (frames ++ added) (place + size) (λ imsi. keeps_more frames added imsi (reserved_by file imsi) (low imsi)) after
 
 module _ {D : Type 0} (seen : D → Option (List ℕ)) (may_leave : D → List ℕ → Type 0) where
   -- an image of a journal that is ready is at rest with its frames
@@ -103,30 +98,28 @@ module _ {D : Type 0} (seen : D → Option (List ℕ)) (may_leave : D → List �
     tells = tells ∙ ap is_some told.1;
   })
 
-  module _ (from : D) (most : ℕ → ℕ) (old new : JournalState D) (sub : ℕ) (frame : Frame) (own : frame.imsi ≡ imsi_at old.imsis sub) (going : old.failed ≡ false) (imsis : new.imsis ≡ old.imsis)
-      (top : Admits old sub frame.limit most) (was : IsDurable seen may_leave from most old) where
-    below_after : (file : List ℕ) → IsReady seen may_leave file most old → (i : ℕ) → i < length old.imsis
-        → (if same_identity frame.imsi (imsi_at old.imsis i) then max (reserved_at old i) frame.limit else reserved_at old i) ≤ most i
-    below_after file ready i inside =
-        push_below (same_identity frame.imsi (imsi_at old.imsis i)) (reserved_at old i) frame.limit (most i) (ready.below i inside) (λ same. top i inside (sym (same_is frame.imsi (imsi_at old.imsis i) same) ∙ own))
+  module _ (from : D) (most : ℕ → ℕ) (old new : JournalState D) (added : List Frame) (going : old.failed ≡ false) (imsis : new.imsis ≡ old.imsis)
+      (top : AdmitsAll old added most) (was : IsDurable seen may_leave from most old) where
+    below_after : (file : List ℕ) → IsReady seen may_leave file most old → (i : ℕ) → i < length old.imsis → max (reserved_at old i) (reserved_in added (imsi_at old.imsis i)) ≤ most i
+    below_after file ready i inside = omega (arith, ready.below i inside, top i inside)
 
     -- after an append that succeeded
-    pub appended_durable : AreLimits new.limits (old.limits ++ frame ∷ [])
-        → ((frames : List Frame) → IsSettled seen may_leave old.disk frames old.place → IsSettled seen may_leave new.disk (frames ++ frame ∷ []) new.place)
+    pub appended_durable : AreLimits new.limits (old.limits ++ added)
+        → ((frames : List Frame) → IsSettled seen may_leave old.disk frames old.place → IsSettled seen may_leave new.disk (frames ++ added) new.place)
         → is_some (seen new.disk) ≡ is_some (seen old.disk) → IsDurable seen may_leave from most new
     appended_durable are settles tells = ready_durable from most new (λ told.
         let ready = was.ready told going in
         record {
-          frames = ready.frames ++ frame ∷ [];
+          frames = ready.frames ++ added;
           settled = settles ready.frames ready.settled;
-          keeps = λ imsi. keeps_push ready.frames frame imsi (reserved_by told.0 imsi) (ready.keeps imsi);
+          keeps = λ imsi. keeps_more ready.frames added imsi (reserved_by told.0 imsi) (ready.keeps imsi);
           same = λ imsi.
-              are.same imsi ∙ reserved-push old.limits frame imsi
-              ∙ ap (λ (n : ℕ). if same_identity frame.imsi imsi then max n frame.limit else n) (ready.same imsi)
-              ∙ sym (reserved-push ready.frames frame imsi);
+              are.same imsi ∙ reserved-append old.limits added imsi
+              ∙ ap (λ (n : ℕ). max n (reserved_in added imsi)) (ready.same imsi)
+              ∙ sym (reserved-append ready.frames added imsi);
           below = λ i inside.
               subst (λ (l : List Identity). reserved_in new.limits (imsi_at l i) ≤ most i) (sym imsis)
-              (subst (λ (n : ℕ). n ≤ most i) (sym (are.same (imsi_at old.imsis i) ∙ reserved-push old.limits frame (imsi_at old.imsis i))) (below_after told.0 ready i (subst (λ (l : List Identity). i < length l) imsis inside)));
+              (subst (λ (n : ℕ). n ≤ most i) (sym (are.same (imsi_at old.imsis i) ∙ reserved-append old.limits added (imsi_at old.imsis i))) (below_after told.0 ready i (subst (λ (l : List Identity). i < length l) imsis inside)));
           tells = tells ∙ ready.tells;
         })
 
@@ -144,37 +137,47 @@ module _ {D : Type 0} (seen : D → Option (List ℕ)) (may_leave : D → List �
       subst (λ (n : ℕ). n ≤ most i) (ready.same (imsi_at old.imsis i)) (ready.below i inside),
     )
 
-    -- and so are these with the new one
-    after_is : (file : List ℕ) (ready : IsReady seen may_leave file most old) → Between old.limits old.imsis (ready.frames ++ frame ∷ [])
+    -- and so are these with the new ones
+    after_is : (file : List ℕ) (ready : IsReady seen may_leave file most old) → Between old.limits old.imsis (ready.frames ++ added)
     after_is file ready i inside =
         let imsi = imsi_at old.imsis i in
-        let is : (if same_identity frame.imsi imsi then max (reserved_at old i) frame.limit else reserved_at old i) ≡ reserved_in (ready.frames ++ frame ∷ []) imsi =
-        ap (λ (n : ℕ). if same_identity frame.imsi imsi then max n frame.limit else n) (ready.same imsi) ∙ sym (reserved-push ready.frames frame imsi) in (
-          subst (λ (n : ℕ). reserved_at old i ≤ n) is (rises_by (same_identity frame.imsi imsi) (reserved_at old i) frame.limit),
+        let is : max (reserved_at old i) (reserved_in added imsi) ≡ reserved_in (ready.frames ++ added) imsi =
+        ap (λ (n : ℕ). max n (reserved_in added imsi)) (ready.same imsi) ∙ sym (reserved-append ready.frames added imsi) in (
+          subst (λ (n : ℕ). reserved_at old i ≤ n) is (omega arith),
           subst (λ (n : ℕ). n ≤ most i) is (below_after file ready i inside),
         )
 
     -- after one that failed
-    pub failed_durable : (moment : D → ℕ) (left_since : D → ℕ → List ℕ → Type 0) (counts_now : (disk : D) (t : ℕ) (image : List ℕ) → t ≤ moment disk → may_leave disk image → left_since disk t image)
+    pub failed_durable : (size : ℕ) (moment : D → ℕ) (left_since : D → ℕ → List ℕ → Type 0) (counts_now : (disk : D) (t : ℕ) (image : List ℕ) → t ≤ moment disk → may_leave disk image → left_since disk t image)
         → new.failed ≡ true → new.limits ≡ old.limits
-        → ((frames : List Frame) → IsSettled seen may_leave old.disk frames old.place → (file : List ℕ) → seen old.disk ≡ Some file → LeavesOnly moment left_since old.disk new.disk (IsAppending frames old.place frame))
+        → ((frames : List Frame) → IsSettled seen may_leave old.disk frames old.place → (file : List ℕ) → seen old.disk ≡ Some file → LeavesOnly moment left_since old.disk new.disk (IsAppendingAll frames old.place added size))
         → IsDurable seen may_leave from most new
-    failed_durable moment left_since counts_now failed limits leaves = record { images = images; keeps = keeps; ready = λ told kept. absurd (true≢false (sym failed ∙ kept)) }
+    failed_durable size moment left_since counts_now failed limits leaves = record { images = images; keeps = keeps; ready = λ told kept. absurd (true≢false (sym failed ∙ kept)) }
       where
-        left : (file : List ℕ) (ready : IsReady seen may_leave file most old) (image : List ℕ) → may_leave new.disk image → IsAppending ready.frames old.place frame image
+        left : (file : List ℕ) (ready : IsReady seen may_leave file most old) (image : List ℕ) → may_leave new.disk image → IsAppendingAll ready.frames old.place added size image
         left file ready image now =
             let told = told_file (seen old.disk) ready.tells in
-            leaves_now moment left_since may_leave counts_now old.disk new.disk (IsAppending ready.frames old.place frame) (leaves ready.frames ready.settled told.0 told.1) image now
+            leaves_now moment left_since may_leave counts_now old.disk new.disk (IsAppendingAll ready.frames old.place added size) (leaves ready.frames ready.settled told.0 told.1) image now
 
         images : IsTold seen may_leave from → (image : List ℕ) → may_leave new.disk image → IsBetween new most image
         images told image now =
             let ready = was.ready told going in
             ⊎_elim (λ before. (record { frames = ready.frames; end = old.place }, before, between_old ready.frames limits (before_is told.0 ready)))
-            (λ after. (record { frames = ready.frames ++ frame ∷ []; end = old.place + 19 }, after, between_old (ready.frames ++ frame ∷ []) limits (after_is told.0 ready)))
+            (λ after. (record { frames = ready.frames ++ added; end = old.place + size }, after, between_old (ready.frames ++ added) limits (after_is told.0 ready)))
             (left told.0 ready image now).0
 
         keeps : (told : IsTold seen may_leave from) → (image : List ℕ) → may_leave new.disk image → Keeps told.0 image × IsClosable image
         keeps told image now =
             let ready = was.ready told going in
             let is = left told.0 ready image now in
-            (keeps_append told.0 image ready.frames old.place frame ready.keeps is.0, is.1)
+            (keeps_append told.0 image ready.frames old.place added size ready.keeps is.0, is.1)
+
+-- a bound for a subscriber's limit is one for its frame
+pub admits_frame : (imsis : List Identity) (sub : ℕ) (frame : Frame) (most : ℕ → ℕ) → frame.imsi ≡ imsi_at imsis sub → ((i : ℕ) → i < length imsis → imsi_at imsis i ≡ imsi_at imsis sub → frame.limit ≤ most i)
+    → (i : ℕ) → i < length imsis → reserved_in (frame ∷ []) (imsi_at imsis i) ≤ most i
+admits_frame imsis sub frame most own admits i inside =
+    by (same_identity frame.imsi (imsi_at imsis i)) (λ same. admits i inside (sym (same_is frame.imsi (imsi_at imsis i) same) ∙ own))
+  where
+    by : (b : Bool) → (b ≡ true → frame.limit ≤ most i) → (if b then max frame.limit 0 else 0) ≤ most i
+    by true low = omega (arith, low refl)
+    by false low = omega arith

@@ -4,8 +4,11 @@ mod AppendLemmas
 mod BodyLemmas
 mod ClosingLemmas
 mod DurableLemmas
+mod EntryLemmas
 mod FillLemmas
 mod FrameLemmas
+mod FrontLemmas
+mod GroupLemmas
 mod ImageExamples
 mod LimitLemmas
 mod LookupLemmas
@@ -17,4 +20,5 @@ mod PartLemmas
 mod QuietLemmas
 mod RoomLemmas
 mod ScanLemmas
+mod SpellLemmas
 mod SubscriberLemmas

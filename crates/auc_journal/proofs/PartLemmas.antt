@@ -5,9 +5,9 @@ use Rattle.std.specs.Str.{bytes_eq}
 use Rattle.std.proofs.lemmas.Bool.Decides.{nat_tests}
 use Rattle.std.proofs.lemmas.Slice.Eq.{bytes_eq-Decides}
 use Rattle.std.proofs.lemmas.List.{length-take, drop_at}
-use Rattle.auc_journal.specs.Image.{Frame, Reading, header, most, read_frames, read_image, with_gate}
+use Rattle.auc_journal.specs.Image.{Frame, Reading, behind, header, most, read_frames, read_image, with_gate}
 use Rattle.auc_journal.specs.Settled.{AtRest}
-use Rattle.auc_journal.proofs.FrameLemmas.{Front, behind, behind-end, front_of, ok_is, shut_gate}
+use Rattle.auc_journal.proofs.FrameLemmas.{Front, behind-end, front_of, ok_is, shut_gate}
 
 -- bytes that are these frames, up to a place
 pub record IsFrames (octets : List ℕ) (frames : List Frame) (place : ℕ) : Type 0 where

@@ -35,6 +35,10 @@ pub record IsReady {D : Type 0} (seen : D → Option (List ℕ)) (may_leave : D 
 abbrev pub Admits : {D : Type 0} → JournalState D → ℕ → ℕ → (ℕ → ℕ) → Type 0
 Admits journal sub limit most = (i : ℕ) → i < length journal.imsis → imsi_at journal.imsis i ≡ imsi_at journal.imsis sub → limit ≤ most i
 
+-- a bound admits what some frames reserve for each subscriber
+abbrev pub AdmitsAll : {D : Type 0} → JournalState D → List Frame → (ℕ → ℕ) → Type 0
+AdmitsAll journal frames most = (i : ℕ) → i < length journal.imsis → reserved_in frames (imsi_at journal.imsis i) ≤ most i
+
 -- if its disk was such a one at first, what a crash may leave of a journal
 pub record IsDurable {D : Type 0} (seen : D → Option (List ℕ)) (may_leave : D → List ℕ → Type 0) (from : D) (most : ℕ → ℕ) (journal : JournalState D) : Type 0 where
   pub images : IsTold seen may_leave from → (image : List ℕ) → may_leave journal.disk image → IsBetween journal most image

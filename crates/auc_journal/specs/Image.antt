@@ -1,6 +1,6 @@
--- What a journal's bytes say: a header, frames of one limit each behind an open gate, and a gate that ends the reading.
-use Rattle.std.specs.Prelude.{◌≤◌, ℕ, zero, suc, ◌+◌, ◌^◌, max, ◌==◌, ◌&&◌, nat_le, nat_lt, Bool, if◌then◌else◌, List, [], ◌∷◌, ◌++◌, length, take, drop, slice_index, Result, Ok, Err}
-use Rattle.std.specs.Int.{to_be_bytes, from_be_bytes, w64}
+-- What a journal's bytes say: a header, frames of one limit or several behind an open gate, and a gate that ends the reading.
+use Rattle.std.specs.Prelude.{◌≤◌, ℕ, zero, suc, ◌+◌, ◌*◌, ◌^◌, max, ◌==◌, ◌&&◌, ◌||◌, nat_le, nat_lt, Bool, true, if◌then◌else◌, List, [], ◌∷◌, ◌++◌, flat_map, length, take, drop, slice_index, Result, Ok, Err}
+use Rattle.std.specs.Int.{to_be_bytes, from_be_bytes, w16, w64}
 use Rattle.std.specs.Str.{bytes_eq}
 use Rattle.auc_edge.specs.Identity.{Identity, is_imsi}
 use Rattle.auc_sqn.specs.Number.{max_seq}
@@ -13,26 +13,64 @@ most = 2 ^ 30
 abbrev pub header : List ℕ
 header = 65 ∷ 85 ∷ 67 ∷ 45 ∷ 83 ∷ 81 ∷ 78 ∷ 45 ∷ 74 ∷ 79 ∷ 85 ∷ 82 ∷ 78 ∷ 65 ∷ 76 ∷ 49 ∷ []
 
--- a frame's content: an identity, and the limit up to which its numbers are reserved
+-- what a frame says of an identity: the limit up to which its numbers are reserved
 pub record Frame : Type 0 where
   pub imsi : Identity
   pub limit : ℕ
 
--- the body of a frame: the kind 1, the number of digits, the identity's number in 8 bytes, the limit in 8 bytes
+-- its 17 bytes: the number of digits, the identity's number in 8 bytes, the limit in 8 bytes
+abbrev pub entry_of : Frame → List ℕ
+entry_of frame = frame.imsi.digits ∷ to_be_bytes w64 frame.imsi.number ++ to_be_bytes w64 frame.limit
+
+-- the body of a frame of kind 1: the kind, and one entry
 abbrev pub body_of : Frame → List ℕ
-body_of frame = 1 ∷ frame.imsi.digits ∷ to_be_bytes w64 frame.imsi.number ++ to_be_bytes w64 frame.limit
+body_of frame = 1 ∷ entry_of frame
 
--- the content that the 18 bytes of a body are
-abbrev pub frame_in : List ℕ → Frame
-frame_in body = record { imsi = record { digits = slice_index body 1; number = from_be_bytes w64 (take 8 (drop 2 body)) }; limit = from_be_bytes w64 (drop 10 body) }
+-- the body of a frame of kind 2: the kind, how many entries there are in 2 bytes, and the entries
+abbrev pub group_of : List Frame → List ℕ
+group_of frames = 2 ∷ to_be_bytes w16 (length frames) ++ flat_map entry_of frames
 
--- whether a content is a frame's: an identity, and a limit from 1 to the greatest number
+-- what 17 bytes say
+abbrev pub entry_in : List ℕ → Frame
+entry_in bytes = record { imsi = record { digits = slice_index bytes 0; number = from_be_bytes w64 (take 8 (drop 1 bytes)) }; limit = from_be_bytes w64 (drop 9 bytes) }
+
+-- whether that is a frame's: an identity, and a limit from 1 to the greatest number
 abbrev pub is_frame : Frame → Bool
 is_frame frame = is_imsi frame.imsi.digits frame.imsi.number && nat_le 1 frame.limit && nat_le frame.limit max_seq
 
--- whether bytes are a body: 18 bytes of kind 1 whose content is a frame's
+-- so many entries, one after the other
+abbrev pub entries_in : ℕ → List ℕ → List Frame
+entries_in zero bytes = []
+entries_in (suc count) bytes = entry_in (take 17 bytes) ∷ entries_in count (drop 17 bytes)
+
+abbrev pub are_entries : ℕ → List ℕ → Bool
+are_entries zero bytes = true
+are_entries (suc count) bytes = is_frame (entry_in (take 17 bytes)) && are_entries count (drop 17 bytes)
+
+-- of bytes that begin with a body: its kind, where its entries begin, how many there are, and how many bytes it has
+abbrev pub kind_in : List ℕ → ℕ
+kind_in rest = slice_index rest 0
+
+abbrev pub first_in : List ℕ → ℕ
+first_in rest = if kind_in rest == 2 then 3 else 1
+
+abbrev pub count_in : List ℕ → ℕ
+count_in rest = if kind_in rest == 2 then from_be_bytes w16 (take 2 (drop 1 rest)) else 1
+
+abbrev pub size_in : List ℕ → ℕ
+size_in rest = first_in rest + 17 * count_in rest
+
+-- what it says
+abbrev pub frames_in : List ℕ → List Frame
+frames_in rest = entries_in (count_in rest) (drop (first_in rest) rest)
+
+-- whether a kind is one that there is, with so many entries: one in kind 1, and 2 to 256 in kind 2
+abbrev pub is_kind : ℕ → ℕ → Bool
+is_kind kind count = (kind == 1) || ((kind == 2) && (nat_le 2 count && nat_le count 256))
+
+-- whether bytes begin with a body: it is whole, of a kind that there is, and its entries are frames'
 abbrev pub is_body : List ℕ → Bool
-is_body body = (length body == 18) && (slice_index body 0 == 1) && is_frame (frame_in body)
+is_body rest = nat_le (size_in rest) (length rest) && (is_kind (kind_in rest) (count_in rest) && are_entries (count_in rest) (drop (first_in rest) rest))
 
 -- the frames in their order, and the place at which their reading ended
 pub record Reading : Type 0 where
@@ -44,13 +82,18 @@ abbrev pub before : Frame → Result Reading ℕ → Result Reading ℕ
 before frame (Ok reading) = Ok (record { frames = frame ∷ reading.frames; end = reading.end })
 before frame (Err place) = Err place
 
+-- frames that stand before it, in their order
+abbrev pub behind : List Frame → Result Reading ℕ → Result Reading ℕ
+behind [] result = result
+behind (frame ∷ frames) result = before frame (behind frames result)
+
 -- the frames from a place on, after so many bytes that belong to the frame before; if an open gate has no body behind it, its place
 abbrev pub read_frames : ℕ → ℕ → List ℕ → Result Reading ℕ
 read_frames inside at [] = Ok (record { frames = []; end = at })
 read_frames (suc inside) at (byte ∷ rest) = read_frames inside at rest
 read_frames zero at (gate ∷ rest) =
     if gate == 1
-    then (if is_body (take 18 rest) then before (frame_in (take 18 rest)) (read_frames 18 (at + 19) rest) else Err at)
+    then (if is_body rest then behind (frames_in rest) (read_frames (size_in rest) (at + 1 + size_in rest) rest) else Err at)
     else Ok (record { frames = []; end = at })
 
 -- a file of the greatest length whose reading ended at its end has no room for a gate

@@ -31,6 +31,17 @@ limits_of journal = map (λ imsi. reserved_in journal.limits imsi) journal.imsis
 abbrev pub frame_for : {D : Type 0} → JournalState D → ℕ → ℕ → Frame
 frame_for journal sub limit = record { imsi = imsi_at journal.imsis sub; limit = limit }
 
+-- the frames of several subscribers, each with its limit
+abbrev pub frame_at : List Identity → ℕ × ℕ → Frame
+frame_at imsis item = record { imsi = imsi_at imsis item.0; limit = item.1 }
+
+abbrev pub frames_at : List Identity → List (ℕ × ℕ) → List Frame
+frames_at imsis items = map (frame_at imsis) items
+
+-- the frames that an append for several subscribers adds
+abbrev pub frames_for : {D : Type 0} → JournalState D → List (ℕ × ℕ) → List Frame
+frames_for journal items = frames_at journal.imsis items
+
 -- a number of some subscriber is above the limit that it has: the journal needs a frame for it
 abbrev pub NeedsFrame : {D : Type 0} → JournalState D → List ℕ → Type 0
 NeedsFrame journal numbers = (sub : ℕ) × (sub < length journal.imsis) × (reserved_at journal sub < slice_index numbers sub)

@@ -1,7 +1,7 @@
 -- Journals on a disk: what is read of one at rest, and what a crash may leave of it.
 use Rattle.std.specs.Prelude.{◌≡◌, ◌⊎◌, ℕ, ◌+◌, List, [], ◌∷◌, ◌++◌, ◌≤◌, length, take, drop, true, Option, Some, Ok}
 use Rattle.auc_disk.specs.Disk.{Only}
-use Rattle.auc_journal.specs.Image.{Frame, Reading, is_body, read_image}
+use Rattle.auc_journal.specs.Image.{Frame, Reading, is_body, read_image, size_in}
 
 -- a file is read as these frames, and their reading ends at a closed gate
 pub record AtRest (file : List ℕ) (frames : List Frame) (place : ℕ) : Type 0 where
@@ -10,7 +10,7 @@ pub record AtRest (file : List ℕ) (frames : List Frame) (place : ℕ) : Type 0
 
 -- a body and a closed gate stand behind a gate
 abbrev pub HasBody : List ℕ → ℕ → Type 0
-HasBody file gate = (is_body (take 18 (drop (gate + 1) file)) ≡ true) × (take 1 (drop (gate + 19) file) ≡ 0 ∷ [])
+HasBody file gate = (is_body (drop (gate + 1) file) ≡ true) × (take 1 (drop (gate + 1 + size_in (drop (gate + 1) file)) file) ≡ 0 ∷ [])
 
 -- the gate at which the reading of a file ends costs no frame, whatever byte a crash leaves there while it is closed: the file
 -- has no room for a frame, or the gate is closed, or it has a body
@@ -30,11 +30,15 @@ pub record LeavesOnly {D : Type 0} (moment : D → ℕ) (left_since : D → ℕ 
   -- for a stretch of calls that began earlier
   pub before : (t : ℕ) (image : List ℕ) → t ≤ moment old → left_since new t image → left_since old t image ⊎ P image
 
--- an image is read as the frames, or as these with one more behind them
-abbrev pub IsBeforeOrAfter : List Frame → ℕ → Frame → List ℕ → Type 0
-IsBeforeOrAfter frames place frame image =
-    (read_image image ≡ Ok (record { frames = frames; end = place })) ⊎ (read_image image ≡ Ok (record { frames = frames ++ frame ∷ []; end = place + 19 }))
+-- an image is read as the frames, or as these with further ones behind them, which with their gate have so many bytes
+abbrev pub IsBeforeOrAfter : List Frame → ℕ → List Frame → ℕ → List ℕ → Type 0
+IsBeforeOrAfter frames place added size image =
+    (read_image image ≡ Ok (record { frames = frames; end = place })) ⊎ (read_image image ≡ Ok (record { frames = frames ++ added; end = place + size }))
 
 -- what a crash may leave during an append: such an image, whose gate can be closed
+abbrev pub IsAppendingAll : List Frame → ℕ → List Frame → ℕ → List ℕ → Type 0
+IsAppendingAll frames place added size image = IsBeforeOrAfter frames place added size image × IsClosable image
+
+-- and during an append of one frame
 abbrev pub IsAppending : List Frame → ℕ → Frame → List ℕ → Type 0
-IsAppending frames place frame image = IsBeforeOrAfter frames place frame image × IsClosable image
+IsAppending frames place frame image = IsAppendingAll frames place (frame ∷ []) 19 image

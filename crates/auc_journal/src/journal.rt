@@ -1,16 +1,16 @@
 //! Journals.
 
-ghost use Rattle.std.specs.Prelude.{◌≡◌, ◌≢◌, ◌≤◌, ◌<◌, ◌+◌, ◌^◌, ◌++◌, [], ◌∷◌, ◌↔◌, ℕ, List, Some, Err, false, true, length, ◌==◌, if◌then◌else◌, IfOk, IfErr, OnOk, OnErr, IsErrOf};
+ghost use Rattle.std.specs.Prelude.{◌≡◌, ◌≢◌, ◌≤◌, ◌<◌, ◌+◌, ◌*◌, ◌^◌, ◌++◌, [], ◌∷◌, ◌↔◌, ℕ, List, Some, Err, false, true, length, All, ◌==◌, if◌then◌else◌, IfOk, IfErr, OnOk, OnErr, IsErrOf};
 ghost use Rattle.std.specs.Option.{is_some};
 ghost use Rattle.auc_edge.specs.Faults.{Rose};
 ghost use Rattle.auc_sqn.specs.Number.{max_seq};
 ghost use Rattle.auc_journal.specs.Image.{Frame, read_image, reserved_in};
-ghost use Rattle.auc_journal.specs.Durable.{Admits, IsDurable};
-ghost use Rattle.auc_journal.specs.Journal.{frame_for, reserved_at};
-ghost use Rattle.auc_journal.specs.InnerLookup.{raised_by};
+ghost use Rattle.auc_journal.specs.Durable.{Admits, AdmitsAll, IsDurable};
+ghost use Rattle.auc_journal.specs.Journal.{frame_for, frames_at, frames_for, reserved_at};
+ghost use Rattle.auc_journal.specs.InnerLookup.{missing, raised_by};
 ghost use Rattle.auc_journal.specs.Limits.{AreLimits, AreSingle};
 ghost use Rattle.auc_journal.specs.Opening.{IsAsBefore, LeavesFound, LeavesOpening, Opens};
-ghost use Rattle.auc_journal.specs.Settled.{IsAppending, IsSettled, LeavesOnly};
+ghost use Rattle.auc_journal.specs.Settled.{IsAppending, IsAppendingAll, IsSettled, LeavesOnly};
 ghost use Rattle.auc_journal.specs.declared.open_why.OpenWhy.TheVariants as why;
 
 use crate::append_refusal::AppendRefusal;
@@ -19,6 +19,7 @@ use crate::log::Log;
 use crate::open_refused::OpenRefused;
 use crate::open_why::OpenWhy;
 use crate::opening::open_file;
+use crate::spelling::spell;
 use auc_disk::Disk;
 use auc_edge::Imsi;
 use std::alloc::Global;
@@ -171,6 +172,68 @@ impl<D: Disk + Drop> Journal<D> {
         }
     }
 
+    /// Appends the limits of 2 to 256 subscribers, each at its place, in one frame. After `Ok` all of them are
+    /// durable; a crash before that leaves all of them or none. A limit that isn't greater than the one of its
+    /// subscriber changes nothing. It takes no memory, and makes at most four calls of the disk.
+    pub fn append_group(&mut self, items: &[(u32, u64)]) -> Result<(), AppendRefusal>
+        requires count { (2 ≤ length items.now) × (length items.now ≤ 256) }
+        requires subs { All (λ item. item.0 < length self.old.imsis) items.now }
+        requires limits { All (λ item. (1 ≤ item.1) × (item.1 ≤ max_seq)) items.now }
+        requires ready { self.old.failed ≡ false }
+
+        ensures limits { OnOk result
+            (AreLimits self.new.limits (self.old.limits ++ frames_for self.old items.now)) }
+        ensures place { OnOk result (self.new.place ≡ self.old.place + (4 + 17 * length items.now)) }
+        ensures subscribers { self.new.imsis ≡ self.old.imsis }
+        ensures kept { OnErr result
+            ((self.new.limits ≡ self.old.limits) × (self.new.place ≡ self.old.place)) }
+        ensures failed { (self.new.failed ≡ true) ↔ (result ≡ Err AppendRefusal.StoreFault) }
+
+        // After Ok every crash leaves the frames with all the new ones.
+        ensures durable { OnOk result ((frames : List Frame)
+            → IsSettled D.seen D.may_leave self.old.disk frames self.old.place
+            → IsSettled D.seen D.may_leave self.new.disk (frames ++ frames_for self.old items.now) self.new.place) }
+
+        // A crash at any moment, also of a call that fails, leaves the frames as they were or with all the new ones.
+        ensures any_moment { (frames : List Frame)
+            → IsSettled D.seen D.may_leave self.old.disk frames self.old.place
+            → (file : List ℕ) → D.seen self.old.disk ≡ Some file
+            → LeavesOnly D.moment D.left_since self.old.disk self.new.disk
+            (IsAppendingAll frames self.old.place (frames_for self.old items.now) (4 + 17 * length items.now)) }
+
+        // Whatever it answers, a crash leaves limits that are no lower, and none above a bound that admits the
+        // new ones.
+        ensures bounded { (from : D) (most : ℕ → ℕ) → AdmitsAll self.old (frames_for self.old items.now) most
+            → IsDurable D.seen D.may_leave from most self.old
+            → IsDurable D.seen D.may_leave from most self.new }
+
+        // It fails only if the count rose, and is full exactly if the file would have more than 2^30 bytes.
+        ensures fault { IsErrOf result AppendRefusal.StoreFault
+            → Rose (D.faults self.old.disk) (D.faults self.new.disk) }
+        ensures quiet { result ≢ Err AppendRefusal.StoreFault
+            → D.faults self.new.disk ≡ D.faults self.old.disk }
+        ensures full { (len : ℕ) → result ≡ Err (AppendRefusal.StoreFull len)
+            → (len ≡ self.old.place + 1) × (2 ^ 30 < len + (4 + 17 * length items.now)) × (self.new ≡ self.old) }
+        ensures is_full { 2 ^ 30 < self.old.place + 1 + (4 + 17 * length items.now)
+            → result ≡ Err (AppendRefusal.StoreFull (self.old.place + 1)) }
+
+        // It makes four calls of the disk at most.
+        ensures calls { D.calls self.new.disk ≤ D.calls self.old.disk + 4 }
+    {
+        let group = spell(&self.imsis, items);
+        match self.log.append_bytes(&group.bytes[..group.len]) {
+            Ok(()) => {
+                raise_group(&mut self.limits, &self.imsis, items);
+                Ok(())
+            }
+            Err(AppendRefusal::StoreFault) => {
+                self.failed = true;
+                Err(AppendRefusal::StoreFault)
+            }
+            Err(AppendRefusal::StoreFull(len)) => Err(AppendRefusal::StoreFull(len)),
+        }
+    }
+
     // The journal of an opened disk.
     fn of(disk: D, opened: Opened) -> Journal<D>
         requires place { opened.place ≤ 2 ^ 30 }
@@ -244,5 +307,19 @@ fn raise(limits: &mut LimitList, imsi: Imsi, limit: u64)
     match limits.raise(imsi, limit) {
         Ok(()) => {}
         Err(_) => unreachable!(),
+    }
+}
+
+// Raises the limits of several subscribers, for which there is room.
+fn raise_group(limits: &mut LimitList, imsis: &[Imsi], items: &[(u32, u64)])
+    requires some { 1 ≤ length items.now }
+    requires subs { All (λ item. item.0 < length imsis.now) items.now }
+    requires limits { All (λ item. (1 ≤ item.1) × (item.1 ≤ max_seq)) items.now }
+    requires room { missing imsis.now limits.old.written ≤ limits.old.left }
+    ensures are { AreLimits limits.new.written (limits.old.written ++ frames_at imsis.now items.now) }
+    ensures room { missing imsis.now limits.new.written ≤ limits.new.left }
+{
+    for item in items {
+        raise(limits, imsis[item.0 as usize], item.1);
     }
 }

@@ -24,6 +24,7 @@ mod open_refused;
 mod open_why;
 mod opening;
 mod reading;
+mod spelling;
 
 pub use append_refusal::AppendRefusal;
 pub use journal::Journal;

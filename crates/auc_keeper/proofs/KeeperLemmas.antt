@@ -1,6 +1,7 @@
 -- What holds since a round began, after a limit was reserved: for the keeper.
-use Rattle.std.proofs.Common.{◌≡◌, ◌≢◌, ℕ, zero, suc, ◌+◌, ◌≤◌, ◌<◌, List, [], ◌∷◌, ◌++◌, length, ◌↔◌, refl, sym, ◌∙◌, ap, subst, arith, true≢false}
+use Rattle.std.proofs.Common.{◌≡◌, ◌≢◌, ℕ, zero, suc, ◌+◌, ◌≤◌, ◌<◌, List, [], ◌∷◌, ◌++◌, All, get_or, length, ◌↔◌, refl, sym, ◌∙◌, ap, subst, arith, true≢false}
 use Rattle.std.specs.Prelude.{AllPairs, Bool, true, false, max, map, ◌^◌, slice_index, slice_set, Option, Some, None, Result, Ok, Err}
+use Rattle.std.proofs.lemmas.List.{length-map}
 use Rattle.auc_edge.specs.Faults.{Rose}
 use Rattle.auc_edge.specs.Identity.{Identity}
 use Rattle.auc_edge.specs.declared.stop.Stop.{Stop}
@@ -9,11 +10,12 @@ use Rattle.auc_draw.specs.Values.{KeeperValue}
 use Rattle.auc_journal.specs.declared.append_refusal.AppendRefusal.{AppendRefusal}
 use Rattle.auc_journal.specs.declared.append_refusal.AppendRefusal.TheVariants.{StoreFault, StoreFull}
 use Rattle.auc_journal.specs.Image.{reserved_in}
-use Rattle.auc_journal.specs.Durable.{Admits, IsDurable}
-use Rattle.auc_journal.specs.Journal.{JournalState, frame_for, imsi_at, limits_of, reserved_at}
+use Rattle.auc_journal.specs.Durable.{Admits, AdmitsAll, IsDurable}
+use Rattle.auc_journal.specs.Journal.{JournalState, frame_for, frames_for, imsi_at, limits_of, reserved_at}
 use Rattle.auc_journal.specs.Limits.{AreLimits}
-use Rattle.auc_journal.proofs.Facts.{durable_more, limits_raised, one_place, reserved_rises}
-use Rattle.auc_keeper.specs.Keeper.{KeeperState, Since}
+use Rattle.auc_journal.proofs.Facts.{durable_more, limits_at, limits_raised, one_place, reserved_rises}
+use Rattle.auc_keeper.specs.Keeper.{KeeperState, MayRise, Since, set_all}
+use Rattle.auc_keeper.proofs.GroupLemmas.{AreApart, admits_group, limits_set, reserved_all, set_own}
 
 none_some : (stop : Option Stop) (why : Stop) → stop ≡ None → stop ≡ Some why → ⊥
 none_some stop why none some = cc
@@ -45,6 +47,27 @@ seen_rises (n ∷ seen) zero word zero le = le
 seen_rises (n ∷ seen) zero word (suc i) le = omega arith
 seen_rises (n ∷ seen) (suc sub) word zero le = omega arith
 seen_rises (n ∷ seen) (suc sub) word (suc i) le = seen_rises seen sub word i le
+
+-- the limits of the pass are the journal's, after a group
+pub group_limits : {D : Type 0} (old : KeeperState D) (journal : JournalState D) (items : List (ℕ × ℕ)) → AllPairs (λ a b. a ≢ b) old.journal.imsis → old.pass.limits ≡ limits_of old.journal → AreApart items
+    → All (λ item. item.0 < length old.journal.imsis) items → All (λ item. MayRise old.pass item.0 item.1) items → journal.imsis ≡ old.journal.imsis
+    → AreLimits journal.limits (old.journal.limits ++ frames_for old.journal items) → set_all old.pass.limits items ≡ limits_of journal
+group_limits old journal items differ limits apart known rise imsis are =
+    ap (λ (l : List ℕ). set_all l items) limits
+    ∙ sym (limits_set old.journal journal items imsis are differ apart known (λ j d more. subst (λ (l : List ℕ). slice_index l (get_or items j d).0 < (get_or items j d).1) limits (rise j d more).above))
+
+-- and each limit of the group is in both
+pub group_each : {D : Type 0} (old : KeeperState D) (journal : JournalState D) (items : List (ℕ × ℕ)) → AllPairs (λ a b. a ≢ b) old.journal.imsis → old.pass.limits ≡ limits_of old.journal → AreApart items
+    → All (λ item. item.0 < length old.journal.imsis) items → All (λ item. MayRise old.pass item.0 item.1) items → journal.imsis ≡ old.journal.imsis
+    → AreLimits journal.limits (old.journal.limits ++ frames_for old.journal items)
+    → All (λ item. (reserved_at journal item.0 ≡ item.1) × (slice_index (set_all old.pass.limits items) item.0 ≡ item.1)) items
+group_each old journal items differ limits apart known rise imsis are = λ j d more.
+    let size : length old.pass.limits ≡ length old.journal.imsis = ap length limits ∙ length-map old.journal.imsis (reserved_in old.journal.limits) in
+    let own = set_own items old.pass.limits apart (λ k e inside. omega (arith, known k e inside, size)) j d more in
+    let same : slice_index (set_all old.pass.limits items) (get_or items j d).0 ≡ slice_index (limits_of journal) (get_or items j d).0 =
+    ap (λ (l : List ℕ). slice_index l (get_or items j d).0) (group_limits old journal items differ limits apart known rise imsis are) in
+    let there : (get_or items j d).0 < length journal.imsis = subst (λ (l : List Identity). (get_or items j d).0 < length l) (sym imsis) (known j d more) in
+    (sym (limits_at journal (get_or items j d).0 there) ∙ sym same ∙ own, own)
 
 module _ {D : Type 0} (seen : D → Option (List ℕ)) (may_leave : D → List ℕ → Type 0) (faults : D → ℕ) where
   -- as the round begins
@@ -130,3 +153,53 @@ module _ {D : Type 0} (seen : D → Option (List ℕ)) (may_leave : D → List �
         (λ i inside same. near_each old.pass.seen most limit sub i (one_place old.journal.imsis differ i sub inside there same) near)
         (since.durable from most was);
   }
+
+  -- a bound for the number words is one for the limits of a group
+  group_admitted : (old : KeeperState D) (most : ℕ → ℕ) (items : List (ℕ × ℕ)) → AllPairs (λ a b. a ≢ b) old.journal.imsis → All (λ item. item.0 < length old.journal.imsis) items
+      → All (λ item. MayRise old.pass item.0 item.1) items → AdmitsAll old.journal (frames_for old.journal items) (λ i. max (most i) (slice_index old.pass.seen i + 64))
+  group_admitted old most items differ known rise =
+      admits_group old.journal.imsis differ (λ i. max (most i) (slice_index old.pass.seen i + 64)) items known (λ j d more. omega (arith, (rise j d more).near))
+
+  -- after a group was reserved
+  pub group_since : (opening : JournalState D) (old : KeeperState D) (journal : JournalState D) (items : List (ℕ × ℕ))
+      → old.pass.stop ≡ None → AllPairs (λ a b. a ≢ b) old.journal.imsis → old.pass.limits ≡ limits_of old.journal → AreApart items → All (λ item. item.0 < length old.journal.imsis) items
+      → All (λ item. MayRise old.pass item.0 item.1) items → journal.imsis ≡ old.journal.imsis → journal.failed ≡ false → faults journal.disk ≡ faults old.journal.disk
+      → AreLimits journal.limits (old.journal.limits ++ frames_for old.journal items)
+      → ((from : D) (most : ℕ → ℕ) → AdmitsAll old.journal (frames_for old.journal items) most
+      → IsDurable seen may_leave from most old.journal → IsDurable seen may_leave from most journal)
+      → Since seen may_leave faults opening old → Since seen may_leave faults opening (record { journal = journal; pass = record old.pass { limits = set_all old.pass.limits items } })
+  group_since opening old journal items running differ limits apart known rise imsis ready quiet are bounded since = record {
+    subscribers = imsis ∙ since.subscribers;
+    limits = group_limits old journal items differ limits apart known rise imsis are;
+    rises = λ i inside. omega (arith, since.rises i inside, reserved_all old.journal journal items imsis are i);
+    failed = (λ is. absurd (true≢false (sym is ∙ ready)), λ is. absurd (none_some old.pass.stop _ running is));
+    fault = λ is. absurd (none_some old.pass.stop _ running is);
+    quiet = λ other. quiet ∙ since.quiet other;
+    full = λ is. absurd (none_some old.pass.stop _ running is);
+    durable = λ from most was. bounded from (λ i. max (most i) (slice_index old.pass.seen i + 64)) (group_admitted old most items differ known rise) (since.durable from most was);
+  }
+
+  -- after the append of a group failed
+  pub group_stopped_since : (opening : JournalState D) (old : KeeperState D) (journal : JournalState D) (items : List (ℕ × ℕ))
+      → old.pass.stop ≡ None → AllPairs (λ a b. a ≢ b) old.journal.imsis → All (λ item. item.0 < length old.journal.imsis) items → All (λ item. MayRise old.pass item.0 item.1) items
+      → journal.imsis ≡ old.journal.imsis → journal.limits ≡ old.journal.limits → journal.failed ≡ true → Rose (faults old.journal.disk) (faults journal.disk)
+      → ((from : D) (most : ℕ → ℕ) → AdmitsAll old.journal (frames_for old.journal items) most
+      → IsDurable seen may_leave from most old.journal → IsDurable seen may_leave from most journal)
+      → Since seen may_leave faults opening old → Since seen may_leave faults opening (record { journal = journal; pass = record old.pass { stop = Some Fault } })
+  group_stopped_since opening old journal items running differ known rise imsis limits failed rose bounded since =
+      let before : faults old.journal.disk ≡ faults opening.disk = since.quiet (λ is. none_some old.pass.stop _ running is) in
+      record {
+        subscribers = imsis ∙ since.subscribers;
+        limits = since.limits ∙ sym (λ i. map (λ imsi. reserved_in (limits i) imsi) (imsis i));
+        rises = λ i inside.
+            let same : reserved_at journal i ≡ reserved_at old.journal i = λ k. reserved_in (limits k) (imsi_at (imsis k) i) in
+            omega (arith, since.rises i inside, same);
+        failed = (λ is. refl, λ is. failed);
+        fault = λ is. subst (λ (count : ℕ). Rose count (faults journal.disk)) before rose;
+        quiet = λ other. absurd (other refl);
+        full = λ is. absurd (no_full is);
+        durable = λ from most was. bounded from (λ i. max (most i) (slice_index old.pass.seen i + 64)) (group_admitted old most items differ known rise) (since.durable from most was);
+      }
+    where
+      no_full : (let stop : Option Stop = Some Fault in stop) ≡ Some Full → ⊥
+      no_full is = cc

@@ -1,15 +1,17 @@
 -- Keepers: what a reservation answers and leaves, and what holds of a keeper since its round began.
-use Rattle.std.specs.Prelude.{◌≡◌, ◌≢◌, ◌↔◌, ℕ, ◌+◌, ◌^◌, ◌<◌, ◌≤◌, max, min, List, [], ◌∷◌, ◌++◌, length, slice_index, slice_set, true, false, Option, Some, None}
+use Rattle.std.specs.Prelude.{◌≡◌, ◌≢◌, ◌↔◌, ◌⊎◌, ℕ, ◌+◌, ◌*◌, ◌^◌, ◌<◌, ◌≤◌, max, min, List, [], ◌∷◌, ◌++◌, All, length, slice_index, slice_set, true, false, Option, Some, None}
 use Rattle.auc_edge.specs.Faults.{Rose}
 use Rattle.auc_edge.specs.declared.stop.Stop.{Stop}
 use Rattle.auc_edge.specs.declared.stop.Stop.TheVariants.{Fault, Full}
 use Rattle.auc_sqn.specs.Number.{max_seq}
 use Rattle.auc_draw.specs.Values.{KeeperValue}
 use Rattle.auc_journal.specs.Durable.{IsDurable}
-use Rattle.auc_journal.specs.Journal.{JournalState, NeedsFrame, frame_for, limits_of, reserved_at}
+use Rattle.auc_journal.specs.Journal.{JournalState, NeedsFrame, frame_for, frames_for, limits_of, reserved_at}
 use Rattle.auc_journal.specs.Limits.{AreLimits}
 use Rattle.auc_keeper.specs.declared.keeper.Ensured.{Ensured}
 use Rattle.auc_keeper.specs.declared.keeper.Ensured.TheVariants.{Yes, Stopped}
+use Rattle.auc_keeper.specs.declared.keeper.Prepared.{Prepared}
+use Rattle.auc_keeper.specs.declared.keeper.Prepared.TheVariants as prepared
 
 -- what contracts see of a keeper: its journal, and its pass
 pub record KeeperState (D : Type 0) : Type 0 where
@@ -62,6 +64,44 @@ looked sub word k = record k { pass = record k.pass { seen = slice_set k.pass.se
 abbrev pub Tells : {D : Type 0} → ℕ → ℕ → Ensured → KeeperState D → Type 0
 Tells sub n (Yes limit) new = (n ≤ limit) × (slice_index new.pass.limits sub ≡ limit) × (reserved_at new.journal sub ≡ limit)
 Tells sub n (Stopped stop) new = new.pass.stop ≡ Some stop
+
+-- limits after those of several subscribers were set
+abbrev pub set_all : List ℕ → List (ℕ × ℕ) → List ℕ
+set_all limits [] = limits
+set_all limits (item ∷ items) = set_all (slice_set limits item.0 item.1) items
+
+-- a subscriber's limit may be raised to this one: it is a greater number, and at most 64 above the number word as the
+-- keeper last looked at it; and it rises by 64 at least, unless to the greatest number
+pub record MayRise (pass : KeeperValue) (sub limit : ℕ) : Type 0 where
+  pub above : slice_index pass.limits sub < limit
+  pub number : limit ≤ max_seq
+  pub near : limit ≤ slice_index pass.seen sub + 64
+  pub step : (limit ≡ max_seq) ⊎ (slice_index pass.limits sub + 64 ≤ limit)
+
+-- the limits of a group were appended to the journal, and after that they were raised in the pass
+pub record ReservesAll {D : Type 0} (items : List (ℕ × ℕ)) (old new : KeeperState D) : Type 0 where
+  pub limits : AreLimits new.journal.limits (old.journal.limits ++ frames_for old.journal items)
+  pub place : new.journal.place ≡ old.journal.place + (4 + 17 * length items)
+  pub imsis : new.journal.imsis ≡ old.journal.imsis
+  pub ready : new.journal.failed ≡ false
+  pub raised : new.pass ≡ record old.pass { limits = set_all old.pass.limits items }
+  -- so each of these subscribers has its limit, on the disk and in the pass
+  pub each : All (λ item. (reserved_at new.journal item.0 ≡ item.1) × (slice_index new.pass.limits item.0 ≡ item.1)) items
+
+-- the answer to a group of a keeper that hasn't stopped, and what it leaves
+abbrev pub AnswersGroup : {D : Type 0} → List (ℕ × ℕ) → KeeperState D → Prepared → KeeperState D → Type 0
+AnswersGroup items old prepared.Done new = ReservesAll items old new
+AnswersGroup items old (prepared.Passed len) new = (len ≡ old.journal.place + 1) × (2 ^ 30 < len + (4 + 17 * length items)) × (new ≡ old)
+AnswersGroup items old (prepared.Stopped stop) new = (stop ≡ Fault) × Stops stop old new
+
+-- what is answered for a group, and what that leaves
+pub record Prepares {D : Type 0} (items : List (ℕ × ℕ)) (old : KeeperState D) (result : Prepared) (new : KeeperState D) : Type 0 where
+  -- a keeper that has stopped answers that
+  pub stopped : (stop : Stop) → old.pass.stop ≡ Some stop → (result ≡ prepared.Stopped stop) × (new ≡ old)
+  -- otherwise the limits are appended, or the append is refused
+  pub going : old.pass.stop ≡ None → AnswersGroup items old result new
+  -- and the group is passed, if the file would have more than 2^30 bytes
+  pub full : old.pass.stop ≡ None → 2 ^ 30 < old.journal.place + 1 + (4 + 17 * length items) → result ≡ prepared.Passed (old.journal.place + 1)
 
 -- what holds of a keeper since its round began with this journal
 pub record Since {D : Type 0} (seen : D → Option (List ℕ)) (may_leave : D → List ℕ → Type 0) (faults : D → ℕ) (opening : JournalState D) (k : KeeperState D) : Type 0 where

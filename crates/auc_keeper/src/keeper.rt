@@ -1,10 +1,10 @@
 //! Keepers.
 
-ghost use Rattle.std.specs.Prelude.{◌≡◌, ◌≢◌, ◌≤◌, ◌<◌, ◌+◌, ◌^◌, ◌↔◌, ℕ, List, AllPairs, None, Some, false, length, max, slice_index, slice_set};
+ghost use Rattle.std.specs.Prelude.{◌≡◌, ◌≢◌, ◌≤◌, ◌<◌, ◌+◌, ◌*◌, ◌^◌, ◌↔◌, ℕ, List, All, AllPairs, None, Some, false, length, max, slice_index, slice_set};
 ghost use Rattle.auc_edge.specs.declared.stop.Stop.TheVariants as stop;
 ghost use Rattle.auc_sqn.specs.Number.{max_seq};
 ghost use Rattle.auc_journal.specs.Journal.{JournalState, limits_of, reserved_at};
-ghost use Rattle.auc_keeper.specs.Keeper.{AnswersAbove, Ensures, Since, Tells, limit_for, looked};
+ghost use Rattle.auc_keeper.specs.Keeper.{AnswersAbove, AnswersGroup, Ensures, MayRise, Prepares, Since, Tells, limit_for, looked, set_all};
 
 use auc_disk::Disk;
 use auc_draw::{Book, KeeperPass};
@@ -18,6 +18,18 @@ use std::marker::Model;
 pub enum Ensured {
     /// They are reserved up to this limit, on the disk and in the shared words.
     Yes(u64),
+    /// The keeper has stopped for this cause: no limit rises any more.
+    Stopped(Stop),
+}
+
+/// Whether the limits of a group are reserved.
+#[derive(Clone, Copy)]
+pub enum Prepared {
+    /// All of them are reserved, on the disk and in the shared words.
+    Done,
+    /// The file would have more than 2^30 bytes. The number is how many it has up to its closed gate, that gate among
+    /// them. Nothing changed, and the keeper goes on.
+    Passed(u64),
     /// The keeper has stopped for this cause: no limit rises any more.
     Stopped(Stop),
 }
@@ -108,6 +120,38 @@ impl<D: Disk + Drop> Keeper<D> {
         self.reserve(book, sub, n)
     }
 
+    /// Reserves the numbers of 2 to 256 different subscribers, each up to its limit, by one frame of the journal: it
+    /// appends the limits, and raises the shared ones after that. It takes no memory, and makes at most four calls of the
+    /// disk, two syncs among them.
+    pub fn prepare(&mut self, book: &Book, items: &[(u32, u64)]) -> Prepared
+        requires own { self.old.pass.id ≡ book.now.id }
+        requires count { (2 ≤ length items.now) × (length items.now ≤ 256) }
+        requires differ { AllPairs (λ a b. a.0 ≢ b.0) items.now }
+        requires subs { All (λ item. (item.0 < length book.now.openings) × (item.0 < length self.old.journal.imsis)) items.now }
+        requires limits { All (λ item. MayRise self.old.pass item.0 item.1) items.now }
+
+        ensures exact { Prepares items.now self.old result self.new }
+
+        // Of the pass only the limits of these subscribers and the stop change.
+        ensures book { (self.new.pass.id ≡ self.old.pass.id) × (self.new.pass.passes ≡ self.old.pass.passes) }
+        ensures seen { self.new.pass.seen ≡ self.old.pass.seen }
+        ensures others { (sub : ℕ) → All (λ item. sub ≢ item.0) items.now
+            → slice_index self.new.pass.limits sub ≡ slice_index self.old.pass.limits sub }
+        ensures subscribers { self.new.journal.imsis ≡ self.old.journal.imsis }
+
+        // It makes four calls of the disk at most.
+        ensures calls { D.calls self.new.journal.disk ≤ D.calls self.old.journal.disk + 4 }
+
+        // What held since the round began, holds.
+        ensures since { (opening : JournalState D) → Since D.seen D.may_leave D.faults opening self.old
+            → Since D.seen D.may_leave D.faults opening self.new }
+    {
+        match self.stop {
+            Some(stop) => Prepared::Stopped(stop),
+            None => self.reserve_all(book, items),
+        }
+    }
+
     /// Why the keeper stopped, if it did.
     pub fn stop(&self) -> Option<Stop>
         ensures { result ≡ self.now.pass.stop }
@@ -152,6 +196,55 @@ impl<D: Disk + Drop> Keeper<D> {
                 Ensured::Stopped(why)
             }
         }
+    }
+
+    // Appends the limits of a group, and raises the shared ones after that; or passes it, or stops.
+    fn reserve_all(&mut self, book: &Book, items: &[(u32, u64)]) -> Prepared
+        requires own { self.old.pass.id ≡ book.now.id }
+        requires count { (2 ≤ length items.now) × (length items.now ≤ 256) }
+        requires differ { AllPairs (λ a b. a.0 ≢ b.0) items.now }
+        requires subs { All (λ item. (item.0 < length book.now.openings) × (item.0 < length self.old.journal.imsis)) items.now }
+        requires limits { All (λ item. MayRise self.old.pass item.0 item.1) items.now }
+        requires running { self.old.pass.stop ≡ None }
+
+        ensures answers { AnswersGroup items.now self.old result self.new }
+        ensures full { 2 ^ 30 < self.old.journal.place + 1 + (4 + 17 * length items.now)
+            → result ≡ Prepared.Passed (self.old.journal.place + 1) }
+        ensures pass { (self.new.pass.id ≡ self.old.pass.id) × (self.new.pass.passes ≡ self.old.pass.passes)
+            × (self.new.pass.seen ≡ self.old.pass.seen) }
+        ensures others { (sub : ℕ) → All (λ item. sub ≢ item.0) items.now
+            → slice_index self.new.pass.limits sub ≡ slice_index self.old.pass.limits sub }
+        ensures subscribers { self.new.journal.imsis ≡ self.old.journal.imsis }
+        ensures calls { D.calls self.new.journal.disk ≤ D.calls self.old.journal.disk + 4 }
+        ensures since { (opening : JournalState D) → Since D.seen D.may_leave D.faults opening self.old
+            → Since D.seen D.may_leave D.faults opening self.new }
+    {
+        match self.journal.append_group(items) {
+            Ok(()) => {
+                raise_all(&mut self.pass, book, items);
+                Prepared::Done
+            }
+            Err(AppendRefusal::StoreFault) => {
+                self.pass.stop(book, Stop::Fault);
+                self.stop = Some(Stop::Fault);
+                Prepared::Stopped(Stop::Fault)
+            }
+            Err(AppendRefusal::StoreFull(len)) => Prepared::Passed(len),
+        }
+    }
+}
+
+// Raises the shared limits of several subscribers.
+fn raise_all(pass: &mut KeeperPass, book: &Book, items: &[(u32, u64)])
+    requires own { pass.old.id ≡ book.now.id }
+    requires differ { AllPairs (λ a b. a.0 ≢ b.0) items.now }
+    requires subs { All (λ item. item.0 < length book.now.openings) items.now }
+    requires running { pass.old.stop ≡ None }
+    requires limits { All (λ item. MayRise pass.old item.0 item.1) items.now }
+    ensures { pass.new ≡ record pass.old { limits = set_all pass.old.limits items.now } }
+{
+    for item in items {
+        pass.raise(book, item.0, item.1);
     }
 }
 
