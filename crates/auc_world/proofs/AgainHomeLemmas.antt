@@ -1,5 +1,5 @@
 -- For runs of jobs: each context of a home can be sent, whatever befell the network.
-use Rattle.std.proofs.Common.{◌≡◌, ◌⊎◌, ℕ, true, List, [], ◌∷◌, Option, Some, None, slice_get, slice_set, refl, ap, ◌∙◌, subst, ⊎_elim}
+use Rattle.std.proofs.Common.{◌≡◌, ℕ, true, List, [], ◌∷◌, Option, Some, None, slice_get, slice_set, refl, ap, ◌∙◌, subst, ⊎_elim}
 use Rattle.auc_hmac.specs.declared.keys.KeySet.{KeySet}
 use Rattle.auc_lines.specs.declared.part.End.{End}
 use Rattle.auc_lines.specs.declared.part.End.TheVariants as end
@@ -197,6 +197,8 @@ moved_fit set w (event.Start session) told = session_fit set w session (λ place
 moved_fit set w (event.Deliver session at' packet) told = delivered_fit set w at' told packet (session_place w.sessions session)
 moved_fit set w (event.Repeat session) told = session_fit set w session (λ place s. repeat w place s s.server) (λ place s there. repeat_fit set w place s s.server refl there)
 moved_fit set w (event.GiveUp session at') told = session_fit set w session (give_up w at') (λ place s there. give_up_fit set w at' place s there)
+moved_fit set w (event.Tamper packet place byte) told = λ f. f
+moved_fit set w (event.Cut packet count) told = λ f. f
 
 -- ---- a run
 

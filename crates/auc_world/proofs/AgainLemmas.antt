@@ -1,5 +1,5 @@
 -- For Agreement: in an honest run, in which each identity was resumed once, the ends of one fast re-authentication have equal keys.
-use Rattle.std.proofs.Common.{◌≡◌, ◌⊎◌, ℕ, zero, suc, Bool, true, false, List, [], ◌∷◌, ◌++◌, Option, Some, None, slice_get, slice_set, Contains, arith, refl, sym, ap, ◌∙◌, subst, ⊎_elim}
+use Rattle.std.proofs.Common.{◌≡◌, ℕ, zero, suc, Bool, true, false, List, [], ◌∷◌, ◌++◌, Option, Some, None, slice_get, slice_set, Contains, arith, refl, sym, ap, ◌∙◌, subst, ⊎_elim, append-nil}
 use Rattle.std.proofs.lemmas.List.Elements.{Contains-push_cases}
 use Rattle.auc_hmac.specs.declared.keys.KeySet.{KeySet}
 use Rattle.auc_ident.specs.Permanent.{username}
@@ -41,8 +41,8 @@ use Rattle.auc_vector.specs.declared.turn.Step.TheVariants as step
 use Rattle.auc_vector.specs.declared.turn.Turn.{Turn}
 use Rattle.auc_world.specs.Agreement.{Agree, AreOfOneResumption, AreReleasedOnce, AreSized, AreTold, DecryptsIn, EachHonestRunAgrees, Happening, IsFresh, IsHonest, IsHonestAt, IsHonestFinding, IsRealm, IsToldAt, Noted, Occurs, PeerWon, SentBefore, ServerWon, after, after_one}
 use Rattle.auc_world.specs.Came.{AreReceived, presented_at, presented_in, received_at, received_by}
-use Rattle.auc_world.specs.Happened.{Delivery, Told, at_place, at_session, delivered, delivery_at, delivery_of, found, found_by, give_up, in_session, keys_won, moved, new_session, opened, peer_finds, peer_turn, repeat, sent_by, server_gives_up, server_turn, start, to_peer, to_server}
-use Rattle.auc_world.specs.Net.{Net, device_place, inputs_accepted, inputs_of_context, inputs_of_peer, inputs_of_server, inputs_sent, keeps_at, packet_at, posted, session_place}
+use Rattle.auc_world.specs.Happened.{Delivery, Told, at_place, at_session, delivered, delivery_at, delivery_of, found, found_by, give_up, in_session, keys_won, moved, new_session, opened, peer_finds, peer_turn, repeat, sent_by, server_gives_up, server_turn, start, to_peer, to_server, changed_in, with_copy}
+use Rattle.auc_world.specs.Net.{Net, device_place, inputs_accepted, inputs_of_context, inputs_of_peer, inputs_of_server, inputs_sent, keeps_at, packet_at, posted, session_place, copies}
 use Rattle.auc_world.specs.Resumption.{AreResumedOnce, resumptions}
 use Rattle.auc_world.specs.declared.event.Event.{Event}
 use Rattle.auc_world.specs.declared.event.Event.TheVariants as event
@@ -83,7 +83,7 @@ pub record IsSent (set : Setting) (sessions : List Session) (bytes : List ℕ) (
 
 abbrev pub AllSent : Setting → List Session → List SentPacket → Type 0
 AllSent set sessions packets =
-    (packet : SentPacket) (i : FastInputs) → Contains packets packet → packet.sender ≡ end.Server → packet.inputs ≡ Some (inputs_of.Fast i) → IsSent set sessions packet.bytes i
+    (packet : SentPacket) (i : FastInputs) → Contains packets packet → packet.sender ≡ Some end.Server → packet.inputs ≡ Some (inputs_of.Fast i) → IsSent set sessions packet.bytes i
 
 abbrev pub inputs_at : ℕ → Context → Peer → FastInputs
 inputs_at sub c p = inputs_of_context p.options.method sub (text_or_none p.identity) c
@@ -131,16 +131,19 @@ session_later set old new a grows f = record {
   won = λ keys c e is. peer_later old new a.sub a.peer keys c grows (f.won keys c e is);
 }
 
+one_end : (a b : End) → ◌≡◌ {A = Option End} (Some a) (Some b) → a ≡ b
+one_end a b e = cc
+
 posted_again : (set : Setting) (sessions : List Session) (packets : List SentPacket) (from : End) (inputs : Option Inputs) (sent : Option (List ℕ)) → AllSent set sessions packets
     → ((bytes : List ℕ) (i : FastInputs) → from ≡ end.Server → sent ≡ Some bytes → inputs ≡ Some (inputs_of.Fast i) → IsSent set sessions bytes i)
     → AllSent set sessions (posted packets from inputs sent)
 posted_again set sessions packets from inputs None all own packet i is_in role with_inputs = all packet i is_in role with_inputs
 posted_again set sessions packets from inputs (Some bytes) all own packet i is_in role with_inputs =
-    let new : SentPacket = record { bytes = bytes; sender = from; inputs = inputs } in
+    let new : SentPacket = record { bytes = bytes; sender = Some from; inputs = inputs } in
     ⊎_elim (λ there. all packet i there role with_inputs)
     (λ (same : new ≡ packet).
     subst (λ (x : SentPacket). IsSent set sessions x.bytes i) same
-    (own bytes i (ap (λ (x : SentPacket). x.sender) same ∙ role) refl (ap (λ (x : SentPacket). x.inputs) same ∙ with_inputs)))
+    (own bytes i (one_end from end.Server (ap (λ (x : SentPacket). x.sender) same ∙ role)) refl (ap (λ (x : SentPacket). x.inputs) same ∙ with_inputs)))
     (Contains-push_cases packets new packet is_in)
 
 -- ---- inputs
@@ -612,6 +615,20 @@ opened_again set w opening None (Some place) h again =
           (push_cases w.sessions other new a e);
     }
 
+-- a changed packet is no server's
+no_sender : (e : Option End) → None ≡ e → e ≡ Some end.Server → ⊥
+no_sender e f g = cc
+
+copied_again : (set : Setting) (w : Net) (copy : Option (List ℕ)) → NextAgain set w (with_copy w copy)
+copied_again set w copy h again = record { sized = again.sized; sent = sent copy; each = again.each }
+  where
+    sent : (copy : Option (List ℕ)) → AllSent set w.sessions (w.packets ++ copies copy)
+    sent None packet i is_in role with_inputs = again.sent packet i (subst (λ (l : List SentPacket). Contains l packet) (append-nil w.packets) is_in) role with_inputs
+    sent (Some bytes) packet i is_in role with_inputs =
+        ⊎_elim (λ there. again.sent packet i there role with_inputs)
+        (λ (same : record { bytes = bytes; sender = None; inputs = None } ≡ packet). absurd (no_sender packet.sender (ap (λ (x : SentPacket). x.sender) same) role))
+        (Contains-push_cases w.packets (record { bytes = bytes; sender = None; inputs = None }) packet is_in)
+
 -- ---- a run
 
 moved_again : AllLaws → (set : Setting) (w : Net) (e : Event) (told : Told) → IsRealm set.realm → IsToldAt w (Occurs e told) → IsHonestFinding w.packets (found set w e told)
@@ -626,6 +643,8 @@ moved_again laws set w (event.Deliver session end.Peer packet) told realm is hon
 moved_again laws set w (event.Repeat session) told realm is honest =
     session_again set w session (λ place s. repeat w place s s.server) (λ place s there. repeat_again set w place s s.server refl there)
 moved_again laws set w (event.GiveUp session at') told realm is honest = session_again set w session (give_up w at') (λ place s there. give_up_again set w at' place s there)
+moved_again laws set w (event.Tamper packet place byte) told realm is honest = copied_again set w (changed_in w.packets (event.Tamper packet place byte))
+moved_again laws set w (event.Cut packet count) told realm is honest = copied_again set w (changed_in w.packets (event.Cut packet count))
 
 one_again : AllLaws → (set : Setting) (w : Net) (h : Happening) → IsRealm set.realm → IsToldAt w h → IsHonestAt set w h → NextAgain set w (after_one set w h)
 one_again laws set w (Occurs e told) realm is honest = moved_again laws set w e told realm is honest

@@ -14,7 +14,7 @@ use Rattle.auc_packet.specs.Received.{Seen}
 use Rattle.auc_packet.specs.Spelling.{packet_text}
 use Rattle.auc_packet.specs.declared.packet.Packet.TheVariants as packet
 use Rattle.auc_packet.specs.declared.subtype.Subtype.TheVariants as subtype
-use Rattle.auc_reauth.specs.Server.{Contexts, entry_named, if_named, unless_named}
+use Rattle.auc_reauth.specs.Server.{Contexts, if_named, unless_named}
 use Rattle.auc_reauth.specs.Store.{entry, with_entry}
 use Rattle.auc_reauth.specs.declared.context.Context.{Context}
 use Rattle.auc_request.specs.declared.identities.IdentityRequest.{IdentityRequest}

@@ -1,6 +1,6 @@
 -- For Agreement: in an honest run, in which each number was released once, the ends of one challenge have equal keys.
-use Rattle.std.proofs.Common.{◌≡◌, ◌⊎◌, ℕ, ◌≤◌, true, List, [], ◌∷◌, ◌++◌, length, Option, Some, None, slice_get, slice_set, All, Contains, arith, refl, sym, ap, ◌∙◌, subst, inl, inr, ⊎_elim, append_assoc, length-append}
-use Rattle.std.proofs.lemmas.List.{append-nil, get_or_append_left, get_or_push, length_push}
+use Rattle.std.proofs.Common.{◌≡◌, ◌⊎◌, ℕ, ◌≤◌, true, List, [], ◌∷◌, ◌++◌, length, Option, Some, None, slice_get, slice_set, All, Contains, arith, refl, sym, ap, ◌∙◌, subst, inl, inr, ⊎_elim, append_assoc, length-append, append-nil}
+use Rattle.std.proofs.lemmas.List.{get_or_append_left, get_or_push, length_push}
 use Rattle.std.proofs.lemmas.List.Elements.{All-nil, All-push, All-set, All-weaker, Contains-append_left, Contains-push, Contains-push_cases}
 use Rattle.std.proofs.lemmas.Option.{get_or_from_slice_get, slice_get_within}
 use Rattle.auc_hmac.specs.declared.keys.KeySet.{KeySet}
@@ -44,8 +44,8 @@ use Rattle.auc_vector.specs.declared.turn.Outcome.TheVariants as outcome
 use Rattle.auc_vector.specs.declared.turn.Step.{Step}
 use Rattle.auc_vector.specs.declared.turn.Step.TheVariants as step
 use Rattle.auc_world.specs.Agreement.{AreOfOneChallenge, AreReleasedOnce, Happening, HaveSecrets, IsFresh, IsHonest, IsHonestAt, IsHonestFinding, Noted, Occurs, PeerWon, ServerWon, after, after_one}
-use Rattle.auc_world.specs.Happened.{Delivery, Told, at_place, at_session, delivered, delivery_at, delivery_of, found, found_by, give_up, in_session, keys_won, moved, opened, peer_finds, peer_turn, drawn_in_turn, repeat, sent_by, server_gives_up, server_turn, start, to_peer, to_server, with_peer, with_server}
-use Rattle.auc_world.specs.Net.{Net, device_place, inputs_accepted, inputs_of_peer, inputs_of_server, inputs_sent, keeps_at, packet_at, posted, session_place}
+use Rattle.auc_world.specs.Happened.{Delivery, Told, at_place, at_session, delivered, delivery_at, delivery_of, found, found_by, give_up, in_session, keys_won, moved, opened, peer_finds, peer_turn, drawn_in_turn, repeat, sent_by, server_gives_up, server_turn, start, to_peer, to_server, with_peer, with_server, changed_in, with_copy}
+use Rattle.auc_world.specs.Net.{Net, device_place, inputs_accepted, inputs_of_peer, inputs_of_server, inputs_sent, keeps_at, packet_at, posted, session_place, copies}
 use Rattle.auc_lines.specs.declared.part.SessionLine.{SessionLine}
 use Rattle.auc_lines.specs.declared.part.End.{End}
 use Rattle.auc_lines.specs.declared.part.End.TheVariants as end
@@ -106,14 +106,14 @@ number_fits released x o c = let (place, within, is) = c in subst (λ (r : Numbe
 pub record IsPosted (packets : List SentPacket) (i : FullInputs) : Type 0 where
   pub packet : SentPacket
   pub is_in : Contains packets packet
-  pub role : packet.sender ≡ end.Server
+  pub role : packet.sender ≡ Some end.Server
   pub with_inputs : packet.inputs ≡ Some (inputs_of.Full i)
 
 posted_after : (packets : List SentPacket) (from : End) (inputs : Option Inputs) (sent : Option (List ℕ)) (i : FullInputs) → IsPosted packets i → IsPosted (posted packets from inputs sent) i
 posted_after packets from inputs None i p = p
 posted_after packets from inputs (Some bytes) i p = record {
   packet = p.packet;
-  is_in = Contains-append_left packets (record { bytes = bytes; sender = from; inputs = inputs } ∷ []) p.packet p.is_in;
+  is_in = Contains-append_left packets (record { bytes = bytes; sender = Some from; inputs = inputs } ∷ []) p.packet p.is_in;
   role = p.role;
   with_inputs = p.with_inputs;
 }
@@ -122,7 +122,7 @@ posted_after packets from inputs (Some bytes) i p = record {
 posted_cases : (packets : List SentPacket) (inputs : Option Inputs) (sent : Option (List ℕ)) (i : FullInputs) → IsPosted (posted packets end.Server inputs sent) i → IsPosted packets i ⊎ (inputs ≡ Some (inputs_of.Full i))
 posted_cases packets inputs None i p = inl p
 posted_cases packets inputs (Some bytes) i p =
-    let new : SentPacket = record { bytes = bytes; sender = end.Server; inputs = inputs } in
+    let new : SentPacket = record { bytes = bytes; sender = Some end.Server; inputs = inputs } in
     ⊎_elim (λ there. inl (record { packet = p.packet; is_in = there; role = p.role; with_inputs = p.with_inputs }))
     (λ (same : new ≡ p.packet). inr (ap (λ (x : SentPacket). x.inputs) same ∙ p.with_inputs))
     (Contains-push_cases packets new p.packet p.is_in)
@@ -131,13 +131,34 @@ posted_cases packets inputs (Some bytes) i p =
 peer_posts : (packets : List SentPacket) (inputs : Option Inputs) (sent : Option (List ℕ)) (i : FullInputs) → IsPosted (posted packets end.Peer inputs sent) i → IsPosted packets i
 peer_posts packets inputs None i p = p
 peer_posts packets inputs (Some bytes) i p =
-    let new : SentPacket = record { bytes = bytes; sender = end.Peer; inputs = inputs } in
+    let new : SentPacket = record { bytes = bytes; sender = Some end.Peer; inputs = inputs } in
     ⊎_elim (λ there. record { packet = p.packet; is_in = there; role = p.role; with_inputs = p.with_inputs })
     (λ (same : new ≡ p.packet). absurd (roles p.packet.sender (ap (λ (x : SentPacket). x.sender) same) p.role))
     (Contains-push_cases packets new p.packet p.is_in)
   where
-    roles : (e : End) → end.Peer ≡ e → e ≡ end.Server → ⊥
+    roles : (e : Option End) → Some end.Peer ≡ e → e ≡ Some end.Server → ⊥
     roles e f g = cc
+
+-- nor is a changed one
+copied_before : (packets : List SentPacket) (copy : Option (List ℕ)) (i : FullInputs) → IsPosted (packets ++ copies copy) i → IsPosted packets i
+copied_before packets None i p = subst (λ (l : List SentPacket). IsPosted l i) (append-nil packets) p
+copied_before packets (Some bytes) i p =
+    let new : SentPacket = record { bytes = bytes; sender = None; inputs = None } in
+    ⊎_elim (λ there. record { packet = p.packet; is_in = there; role = p.role; with_inputs = p.with_inputs })
+    (λ (same : new ≡ p.packet). absurd (roles p.packet.sender (ap (λ (x : SentPacket). x.sender) same) p.role))
+    (Contains-push_cases packets new p.packet p.is_in)
+  where
+    roles : (e : Option End) → None ≡ e → e ≡ Some end.Server → ⊥
+    roles e f g = cc
+
+-- what was posted before one is posted after it
+copied_after : (packets : List SentPacket) (copy : Option (List ℕ)) (i : FullInputs) → IsPosted packets i → IsPosted (packets ++ copies copy) i
+copied_after packets copy i p = record {
+  packet = p.packet;
+  is_in = Contains-append_left packets (copies copy) p.packet p.is_in;
+  role = p.role;
+  with_inputs = p.with_inputs;
+}
 
 -- ---- what holds of a network
 
@@ -216,40 +237,41 @@ HoldsOf set w = Holds set w.devices w.packets w.sessions w.released
 
 -- ---- what stays as packets are posted
 
-server_later : (set : Setting) (packets : List SentPacket) (from : End) (inputs : Option Inputs) (sent : Option (List ℕ)) (s : ServerEnd) → ServerFine set packets s
-    → ServerFine set (posted packets from inputs sent) s
-server_later set packets from inputs sent s f = record {
+-- what was posted is posted later too
+abbrev pub Later : List SentPacket → List SentPacket → Type 0
+Later old new = (i : FullInputs) → IsPosted old i → IsPosted new i
+
+server_later : (set : Setting) (old new : List SentPacket) (s : ServerEnd) → Later old new → ServerFine set old s → ServerFine set new s
+server_later set old new s later f = record {
   fits = f.fits;
-  was_posted = λ i e. posted_after packets from inputs sent i (f.was_posted i e);
+  was_posted = λ i e. later i (f.was_posted i e);
   drawn = f.drawn;
   renewed = f.renewed;
 }
 
-is_later : (device : Subscription) (packets : List SentPacket) (from : End) (inputs : Option Inputs) (sent : Option (List ℕ)) (sub : ℕ) (p : Peer) (keys : KeySet) → PeerIs device packets sub p keys
-    → PeerIs device (posted packets from inputs sent) sub p keys
-is_later device packets from inputs sent sub p keys f = record {
+is_later : (device : Subscription) (old new : List SentPacket) (sub : ℕ) (p : Peer) (keys : KeySet) → Later old new → PeerIs device old sub p keys → PeerIs device new sub p keys
+is_later device old new sub p keys later f = record {
   challenge = f.challenge;
   was_accepted = f.was_accepted;
   same = f.same;
-  was_posted = posted_after packets from inputs sent (inputs_at sub f.challenge p) f.was_posted;
+  was_posted = later (inputs_at sub f.challenge p) f.was_posted;
 }
 
-done_later : (devices : List Subscription) (packets : List SentPacket) (from : End) (inputs : Option Inputs) (sent : Option (List ℕ)) (place sub : ℕ) (p : Peer) (keys : KeySet) → Done devices packets place sub p keys
-    → Done devices (posted packets from inputs sent) place sub p keys
-done_later devices packets from inputs sent place sub p keys f = record {
+done_later : (devices : List Subscription) (old new : List SentPacket) (place sub : ℕ) (p : Peer) (keys : KeySet) → Later old new → Done devices old place sub p keys
+    → Done devices new place sub p keys
+done_later devices old new place sub p keys later f = record {
   ended = f.ended;
   device = f.device;
   there = f.there;
-  is = is_later f.device packets from inputs sent sub p keys f.is;
+  is = is_later f.device old new sub p keys later f.is;
 }
 
-session_later : (set : Setting) (devices : List Subscription) (packets : List SentPacket) (from : End) (inputs : Option Inputs) (sent : Option (List ℕ)) (a : Session) → SessionFine set devices packets a
-    → SessionFine set devices (posted packets from inputs sent) a
-session_later set devices packets from inputs sent a f = record {
-  server = λ s e. server_later set packets from inputs sent s (f.server s e);
+session_later : (set : Setting) (devices : List Subscription) (old new : List SentPacket) (a : Session) → Later old new → SessionFine set devices old a → SessionFine set devices new a
+session_later set devices old new a later f = record {
+  server = λ s e. server_later set old new s later (f.server s e);
   card = f.card;
-  live = λ device keys there e none. is_later device packets from inputs sent a.sub a.peer keys (f.live device keys there e none);
-  done = λ keys e none. done_later devices packets from inputs sent a.device a.sub a.peer keys (f.done keys e none);
+  live = λ device keys there e none. is_later device old new a.sub a.peer keys later (f.live device keys there e none);
+  done = λ keys e none. done_later devices old new a.device a.sub a.peer keys later (f.done keys e none);
   over = f.over;
   suits = f.suits;
 }
@@ -296,7 +318,8 @@ set_server : (set : Setting) (devices : List Subscription) (packets : List SentP
     → All (SessionFine set devices (posted packets end.Server (inputs_of_server s) sent)) (slice_set sessions place (record session { server = Some s }))
 set_server set devices packets sessions place session s sent all there fine =
     let after' = posted packets end.Server (inputs_of_server s) sent in
-    let old = session_later set devices packets end.Server (inputs_of_server s) sent session (at (SessionFine set devices packets) sessions place session all there) in
+    let later = posted_after packets end.Server (inputs_of_server s) sent in
+    let old = session_later set devices packets after' session later (at (SessionFine set devices packets) sessions place session all there) in
     All-set (SessionFine set devices after') sessions place (record session { server = Some s })
     (record {
       server = λ t e. subst (ServerFine set after') (one (Some s) s t refl e) fine;
@@ -306,7 +329,7 @@ set_server set devices packets sessions place session s sent all there fine =
       over = old.over;
       suits = old.suits;
     })
-    (All-weaker (SessionFine set devices packets) (SessionFine set devices after') (λ a f. session_later set devices packets end.Server (inputs_of_server s) sent a f) sessions all)
+    (All-weaker (SessionFine set devices packets) (SessionFine set devices after') (λ a f. session_later set devices packets after' a later f) sessions all)
 
 -- a turn after which the server's inputs are posted already
 server_kept : (set : Setting) (w : Net) (place : ℕ) (session : Session) (s : ServerEnd) (did : Step ServerWhy) (more : List Number) → HoldsOf set w → slice_get w.sessions place ≡ Some session
@@ -318,14 +341,14 @@ server_kept set w place session s did more h there fine =
       secrets = h.secrets;
       drawn = λ i p. drawn_later set w.released more i (h.drawn i (back i p));
       alike = λ i j p q. h.alike i j (back i p) (back j q);
-      fine = set_server set w.devices w.packets w.sessions place session s (sent_by did) h.fine there (server_later set w.packets end.Server (inputs_of_server s) (sent_by did) s fine);
+      fine = set_server set w.devices w.packets w.sessions place session s (sent_by did) h.fine there (server_later set w.packets (posted w.packets end.Server (inputs_of_server s) (sent_by did)) s (posted_after w.packets end.Server (inputs_of_server s) (sent_by did)) fine);
     }
 
 -- what a server posts with a packet
 posts : (packets : List SentPacket) (inputs : Option Inputs) (bytes : List ℕ) (i : FullInputs) → inputs ≡ Some (inputs_of.Full i) → IsPosted (posted packets end.Server inputs (Some bytes)) i
 posts packets inputs bytes i e = record {
-  packet = record { bytes = bytes; sender = end.Server; inputs = inputs };
-  is_in = Contains-push packets (record { bytes = bytes; sender = end.Server; inputs = inputs });
+  packet = record { bytes = bytes; sender = Some end.Server; inputs = inputs };
+  is_in = Contains-push packets (record { bytes = bytes; sender = Some end.Server; inputs = inputs });
   role = refl;
   with_inputs = e;
 }
@@ -409,7 +432,8 @@ set_peer set w place session p did h there live done over suits =
     let inputs = inputs_of_peer session.sub p in
     let sent = sent_by did in
     let after' = posted w.packets end.Peer inputs sent in
-    let old = session_later set w.devices w.packets end.Peer inputs sent session (at (SessionFine set w.devices w.packets) w.sessions place session h.fine there) in
+    let later = posted_after w.packets end.Peer inputs sent in
+    let old = session_later set w.devices w.packets after' session later (at (SessionFine set w.devices w.packets) w.sessions place session h.fine there) in
     let new : Session = record session { peer = p; peer_keys = keys_won session.peer_keys did } in
     record {
       secrets = h.secrets;
@@ -419,12 +443,12 @@ set_peer set w place session p did h there live done over suits =
           (record {
             server = old.server;
             card = old.card;
-            live = λ device keys is e none. is_later device w.packets end.Peer inputs sent session.sub p keys (live device keys is e none);
-            done = λ keys e none. done_later w.devices w.packets end.Peer inputs sent session.device session.sub p keys (done keys e none);
+            live = λ device keys is e none. is_later device w.packets after' session.sub p keys later (live device keys is e none);
+            done = λ keys e none. done_later w.devices w.packets after' session.device session.sub p keys later (done keys e none);
             over = over;
             suits = suits;
           })
-          (All-weaker (SessionFine set w.devices w.packets) (SessionFine set w.devices after') (λ a f. session_later set w.devices w.packets end.Peer inputs sent a f) w.sessions h.fine);
+          (All-weaker (SessionFine set w.devices w.packets) (SessionFine set w.devices after') (λ a f. session_later set w.devices w.packets after' a later f) w.sessions h.fine);
     }
 
 -- ---- agreement
@@ -840,6 +864,20 @@ opened_next set w opening None (Some place) e = record {
   };
 }
 
+-- a changed packet is posted by no server
+copied_next : (set : Setting) (w : Net) (copy : Option (List ℕ)) → Next set w (with_copy w copy)
+copied_next set w copy = record {
+  more = [];
+  grows = sym (append-nil w.released);
+  holds = λ h o. record {
+    secrets = h.secrets;
+    drawn = λ i p. h.drawn i (copied_before w.packets copy i p);
+    alike = λ i j p q. h.alike i j (copied_before w.packets copy i p) (copied_before w.packets copy j q);
+    fine = All-weaker (SessionFine set w.devices w.packets) (SessionFine set w.devices (w.packets ++ copies copy))
+        (λ a f. session_later set w.devices w.packets (w.packets ++ copies copy) a (copied_after w.packets copy) f) w.sessions h.fine;
+  };
+}
+
 -- ---- a run
 
 moved_next : Laws → (set : Setting) (w : Net) (e : Event) (told : Told) → AreSubscribers set.rows → IsHonestFinding w.packets (found set w e told) → Next set w (moved set w e told)
@@ -852,6 +890,8 @@ moved_next laws set w (event.Deliver session end.Peer packet) told subscribers h
 moved_next laws set w (event.Repeat session) told subscribers honest =
     session_next set w session (λ place s. repeat w place s s.server) (λ place s there. repeat_next set w place s s.server refl there)
 moved_next laws set w (event.GiveUp session at') told subscribers honest = session_next set w session (give_up w at') (λ place s there. give_up_next set w at' place s there)
+moved_next laws set w (event.Tamper packet place byte) told subscribers honest = copied_next set w (changed_in w.packets (event.Tamper packet place byte))
+moved_next laws set w (event.Cut packet count) told subscribers honest = copied_next set w (changed_in w.packets (event.Cut packet count))
 
 one_next : Laws → (set : Setting) (w : Net) (h : Happening) → AreSubscribers set.rows → IsHonestAt set w h → Next set w (after_one set w h)
 one_next laws set w (Occurs e told) subscribers honest =

@@ -11,12 +11,17 @@ use Rattle.auc_lines.specs.declared.part.Line.{Line}
 use Rattle.auc_lines.specs.declared.part.Line.TheVariants as line
 use Rattle.auc_lines.specs.declared.part.End.{End}
 use Rattle.auc_lines.specs.declared.part.End.TheVariants as end
+use Rattle.auc_lines.specs.declared.sites.SiteEvent.{SiteEvent}
 use Rattle.auc_lines.specs.Part.{AreApart, holds, is_held_by, is_that}
 use Rattle.auc_sqn.specs.Past.{Past}
 use Rattle.auc_subs.specs.declared.row.Row.{Row}
 use Rattle.auc_5g.specs.Keys.{home_of}
 use Rattle.auc_random.specs.Random.{rand_of}
 use Rattle.auc_request.specs.Request.{is_separated}
+use Rattle.auc_sites.specs.Network.{Network, Turn, after_event}
+use Rattle.auc_sites.specs.Run.{judgement_in}
+use Rattle.auc_sites.specs.declared.master.Judged.{Judged}
+use Rattle.auc_sites.specs.declared.master.Judged.TheVariants as judged
 use Rattle.auc_vector.specs.declared.parts.Vector.{Vector as AuthVector}
 use Rattle.auc_world.specs.declared.further.Further.TheVariants as further
 use Rattle.auc_world.specs.declared.record.GiveVerdict.{GiveVerdict}
@@ -37,6 +42,7 @@ use Rattle.auc_world.specs.declared.event.EventRecord.{EventRecord}
 use Rattle.auc_world.proofs.NetLemmas.{AreOf, IsOf, IsPresentedTo, Opens, device_is_of, presented_is_of, sessions_stay}
 use Rattle.auc_world.specs.Setting.{Setting}
 use Rattle.auc_world.specs.Given.{AuthenticatesIf, Before, DrawGives, EventGives, FivegFollows, GiveGives, IsUsimAsked, JobGives, JobsGive, LineGives, OneGives, PlainGives, RelayGives, UsimNotes, VectorsFollow, IsGiven, behind, hxres_lines, is_released, judged_lines, device_of_row, kasme_line, outcome_of, packet_of, past_of, past_before, turned}
+use Rattle.auc_world.specs.Sites.{LeaseGives, SiteEventGives, SitesGo, event_of, note_of, sites_start}
 use Rattle.auc_world.specs.VectorAt.{vector_at, vector_of_row}
 use Rattle.auc_world.specs.Pieces.{Piece, lines_of_pieces, IsQuiet, PiecesGive, JobsGiveAfterAllLines}
 
@@ -104,6 +110,26 @@ fiveg_quiet set before l n sub lines other f = by (is_separated (vector_of_row s
         ∙ ap (λ (sqns : List (List ℕ)). sqns ++ accepted sub is.more) (ap (accepted sub) is.gives.lines_are ∙ give_quiet sub l.sub n is.gives.answer other)
         ∙ ap (accepted sub) is.judged ∙ judged_quiet l (home_of (vector_of_row set f.row l.sub n) l.home) (device_of_row f.row n (rand_of set.key l.sub n) l.device) is.gives.answer sub
 
+-- nor by sites
+lease_quiet : (set : Setting) (who size sub : ℕ) (o : Option Judged) (lines : List LineRecord) → LeaseGives set who size o lines → accepted sub lines ≡ []
+lease_quiet set who size sub None lines gives = ap (accepted sub) gives
+lease_quiet set who size sub (Some (judged.Again g)) lines gives = ap (accepted sub) gives
+lease_quiet set who size sub (Some (judged.Old last)) lines gives = ap (accepted sub) gives
+lease_quiet set who size sub (Some judged.New) lines gives = draw_quiet set who size sub lines gives
+
+site_event_quiet : (set : Setting) (who size sub : ℕ) (w : Network) (e : SiteEvent) (lines : List LineRecord) (turn : Turn) → SiteEventGives set who size w e lines turn → accepted sub lines ≡ []
+site_event_quiet set who size sub w e lines turn gives =
+    ap (accepted sub) gives.lines_are ∙ accepted-append sub gives.drawn (Further (further.Sites who (note_of w e turn)) ∷ [])
+    ∙ ap (λ (sqns : List (List ℕ)). sqns ++ []) (lease_quiet set who size sub (judgement_in w (event_of w e)) gives.drawn gives.draws)
+
+sites_quiet : (set : Setting) (who size sub : ℕ) (w : Network) (events : List SiteEvent) (lines : List LineRecord) (turns : List Turn) → SitesGo set who size w events lines turns
+    → accepted sub lines ≡ []
+sites_quiet set who size sub w [] lines turns (none, ends) = ap (accepted sub) none
+sites_quiet set who size sub w (e ∷ events) lines [] go = absurd go
+sites_quiet set who size sub w (e ∷ events) lines (turn ∷ turns) (front, rest, is, first, more) =
+    ap (accepted sub) is ∙ accepted-append sub front rest ∙ ap (λ (sqns : List (List ℕ)). sqns ++ accepted sub rest) (site_event_quiet set who size sub w e front turn first)
+    ∙ sites_quiet set who size sub (after_event w turn.event turn.numbers turn.end) events rest turns more
+
 -- nor in an event, if its device is another's
 event_quiet : (sub : ℕ) (r : EventRecord) → IsOf (λ other. (other == sub) ≡ false) (device_in r.result) → accepted sub (Told r ∷ []) ≡ []
 event_quiet sub r other = by (device_in r.result) other
@@ -162,6 +188,8 @@ line_quiet set before net next (line.Fiveg l) sub lines (gives, is) none others 
       (λ n rest f. fiveg_quiet set (behind before (Vector l.sub n ∷ [])) l n sub rest none f),
   subst (AreOthers sub) (sym is) others,
 )
+line_quiet set before net next (line.Sites l) sub lines ((turns, go), is) none others =
+    (sites_quiet set l.sub l.size sub (sites_start l) l.schedule lines turns go, subst (AreOthers sub) (sym is) others)
 line_quiet set before net next (line.Session opening) sub lines gives none others =
     (event_line_quiet set before net next (event.Open opening) sub lines gives others, others_stay set before net next (event.Open opening) sub lines gives others none)
 line_quiet set before net next (line.Start session) sub lines gives none others =
@@ -173,6 +201,10 @@ line_quiet set before net next (line.Repeat session) sub lines gives none others
 line_quiet set before net next (line.GiveUp session at') sub lines gives none others =
     (event_line_quiet set before net next (event.GiveUp session at') sub lines gives others, others_stay set before net next (event.GiveUp session at') sub lines gives others tt)
 line_quiet set before net next (line.Plain session) sub lines gives none others = plain_quiet set before net next session sub lines gives others
+line_quiet set before net next (line.Tamper packet at' byte) sub lines gives none others =
+    (event_line_quiet set before net next (event.Tamper packet at' byte) sub lines gives others, others_stay set before net next (event.Tamper packet at' byte) sub lines gives others tt)
+line_quiet set before net next (line.Cut packet count) sub lines gives none others =
+    (event_line_quiet set before net next (event.Cut packet count) sub lines gives others, others_stay set before net next (event.Cut packet count) sub lines gives others tt)
 
 -- a job that doesn't
 lines_quiet : (set : Setting) (before : Before) (net last : Net) (job : List Line) (sub : ℕ) (lines : List LineRecord) → JobGives set before net job lines last → holds sub job ≡ false → AreOthers sub net
@@ -313,6 +345,7 @@ line_beside set early own beside done net next (line.Fiveg l) lines held still (
   ),
   subst (λ (w : Net). AreOf (IsStill own beside) w.sessions) (sym is) still,
 )
+line_beside set early own beside done net next (line.Sites l) lines held still gives = (gives, subst (λ (w : Net). AreOf (IsStill own beside) w.sessions) (sym gives.1) still)
 line_beside set early own beside done net next (line.Session opening) lines held still gives =
     let e = event.Open opening in
     (event_beside set early own beside done net next e lines still gives, event_still set (place early own done) own beside net next e lines still (held opening.sub (eq-eqb opening.sub opening.sub refl)) gives)
@@ -325,6 +358,10 @@ line_beside set early own beside done net next (line.Repeat session) lines held 
 line_beside set early own beside done net next (line.GiveUp session at') lines held still gives =
     let e = event.GiveUp session at' in (event_beside set early own beside done net next e lines still gives, event_still set (place early own done) own beside net next e lines still tt gives)
 line_beside set early own beside done net next (line.Plain session) lines held still gives = plain_beside set early own beside done net next session lines still gives
+line_beside set early own beside done net next (line.Tamper packet at' byte) lines held still gives =
+    let e = event.Tamper packet at' byte in (event_beside set early own beside done net next e lines still gives, event_still set (place early own done) own beside net next e lines still tt gives)
+line_beside set early own beside done net next (line.Cut packet count) lines held still gives =
+    let e = event.Cut packet count in (event_beside set early own beside done net next e lines still gives, event_still set (place early own done) own beside net next e lines still tt gives)
 
 -- so does a job
 job_beside : (set : Setting) (early own beside done : List LineRecord) (net last : Net) (job : List Line) (lines : List LineRecord) → ((sub : ℕ) → holds sub job ≡ true → IsStill own beside sub)

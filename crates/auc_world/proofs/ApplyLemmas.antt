@@ -12,13 +12,14 @@ use Rattle.auc_server.specs.Setting.{Setting}
 use Rattle.auc_server.specs.declared.setting.HomeRow.{HomeRow}
 use Rattle.auc_vector.specs.Notes.{Asked}
 use Rattle.auc_world.proofs.ServingLemmas.{delivery_to, has_packet, nothing_told, unjudged}
-use Rattle.auc_world.specs.Came.{AreReceived, Came, AsksIn, RepliesIn, TellsNotes, asking_in, came, came_delivered, came_in, came_opened, came_repeated, came_started, presented_in, received_at, server_came_to_give_up, session_of}
-use Rattle.auc_world.specs.Happened.{Delivery, Told, at_place, at_session, delivered, delivery_at, delivery_in, found_by, happened, in_session, opened, repeat, server_gives_up, start}
-use Rattle.auc_world.specs.InnerWorld.{Answers, IsReached, IsUnreached, Serves, came_of, net_of, refusal_of}
+use Rattle.auc_world.specs.Came.{AreReceived, Came, AsksIn, RepliesIn, TellsNotes, asking_in, came, came_delivered, came_in, came_opened, came_repeated, came_started, presented_in, received_at, server_came_to_give_up, session_of, came_changed}
+use Rattle.auc_world.specs.Happened.{Delivery, Told, at_place, at_session, delivered, delivery_at, delivery_in, found_by, happened, in_session, opened, repeat, server_gives_up, start, with_copy}
+use Rattle.auc_world.specs.InnerWorld.{Answers, IsReached, IsUnreached, Serves, came_of, net_of, refusal_of, copy_by}
 use Rattle.auc_world.specs.Net.{Net, device_place, judged, packet_at, session_place}
 use Rattle.auc_world.specs.World.{Applies, AreHanded, AreOfSame, WorldState}
 use Rattle.auc_world.specs.declared.acting.Deed.{Deed}
 use Rattle.auc_world.specs.declared.acting.Deed.TheVariants as deed
+use Rattle.auc_world.specs.declared.changing.Change.TheVariants as change
 use Rattle.auc_world.specs.declared.event.Event.TheVariants as event
 use Rattle.auc_world.specs.declared.event.WorldRefusal.{WorldRefusal}
 use Rattle.auc_world.specs.declared.net.SentPacket.{SentPacket}
@@ -123,6 +124,11 @@ session_tells : (w : Net) (what : Deed) (s : Option Session) → TellsNotes noth
 session_tells w what None = tt
 session_tells w what (Some session) = server_tells w session session.server what refl
 
+change_tells : (packets : List SentPacket) (sent : Option SentPacket) (copy : Option (List ℕ)) → TellsNotes nothing_told (came_changed packets sent copy)
+change_tells packets None copy = tt
+change_tells packets (Some sent) None = tt
+change_tells packets (Some sent) (Some bytes) = refl
+
 has_session : (sessions : List Session) (place : ℕ) → place < length sessions → (session : Session) × (slice_get sessions place ≡ Some session)
 has_session [] place within = absurd (omega arith)
 has_session (session ∷ sessions) zero within = (session, refl)
@@ -195,6 +201,46 @@ module _ {S : Type 0} (goes : S → ℕ → List Entry → List (ℕ × Stop) �
       drawn = tt;
       usims = ap (λ (w : WorldState). w.devices) leads;
     }
+
+  -- a packet is changed
+  module _ (packet : ℕ) (result : Came) where
+    copy_leads : (copy : Option (List ℕ)) → new ≡ record old { net = with_copy old.net copy }
+        → new.net ≡ record (with_copy old.net copy) { broken = judged old.net.packets old.net.broken None }
+    copy_leads copy leads = ap (λ (w : WorldState). w.net) leads ∙ kept_breach old.net (with_copy old.net copy) refl
+
+    pub tamper_applies : (place byte : ℕ)
+        → result ≡ came_changed old.net.packets (packet_at old.net.packets packet) (copy_by (change.Byte place byte) (packet_at old.net.packets packet))
+        → new ≡ record old { net = with_copy old.net (copy_by (change.Byte place byte) (packet_at old.net.packets packet)) }
+        → Applies goes kept top set old (event.Tamper packet place byte) before new result before
+    tamper_applies place byte is leads =
+        let copy = copy_by (change.Byte place byte) (packet_at old.net.packets packet) in record {
+          told = nothing_told;
+          is = is;
+          leads = copy_leads copy leads;
+          received = tt;
+          notes = change_tells old.net.packets (packet_at old.net.packets packet) copy;
+          replies = tt;
+          centre = ((λ i. stays before i), (λ i. refl));
+          drawn = tt;
+          usims = ap (λ (w : WorldState). w.devices) leads;
+        }
+
+    pub cut_applies : (count : ℕ)
+        → result ≡ came_changed old.net.packets (packet_at old.net.packets packet) (copy_by (change.Cut count) (packet_at old.net.packets packet))
+        → new ≡ record old { net = with_copy old.net (copy_by (change.Cut count) (packet_at old.net.packets packet)) }
+        → Applies goes kept top set old (event.Cut packet count) before new result before
+    cut_applies count is leads =
+        let copy = copy_by (change.Cut count) (packet_at old.net.packets packet) in record {
+          told = nothing_told;
+          is = is;
+          leads = copy_leads copy leads;
+          received = tt;
+          notes = change_tells old.net.packets (packet_at old.net.packets packet) copy;
+          replies = tt;
+          centre = ((λ i. stays before i), (λ i. refl));
+          drawn = tt;
+          usims = ap (λ (w : WorldState). w.devices) leads;
+        }
 
   -- ---- a delivery
 

@@ -1,9 +1,6 @@
 -- The bytes of a mask with one bit, for the crates that turn a bit over.
-use Rattle.std.proofs.Common.{◌≡◌, ℕ, zero, suc, ◌-◌, ◌*◌, ◌/◌, ◌%◌, ◌^◌, ◌<◌, Bool, true, ◌&&◌, nat_lt, drop, replicate, slice_index, slice_set, inl, inr, refl, sym, subst, arith}
-use Rattle.std.specs.Int.{to_be_bytes, w128}
-use Rattle.std.specs.Str.{bytes_eq}
+use Rattle.std.proofs.Common.{◌≡◌, ℕ, zero, suc, ◌-◌, ◌/◌, ◌%◌, ◌^◌, ◌<◌, Bool, true, ◌&&◌, nat_lt, replicate, slice_index, slice_set, inl, inr, refl, sym, subst, arith}
 use Rattle.std.proofs.lemmas.Bool.{and_parts, cases_order}
-use Rattle.std.proofs.lemmas.Slice.Eq.{bytes_eq-Decides}
 use Rattle.auc_aes.specs.Bytes.{IsBytes}
 use Rattle.auc_world.specs.Given.{bit_mask}
 

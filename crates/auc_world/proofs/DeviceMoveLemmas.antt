@@ -31,7 +31,7 @@ use Rattle.auc_vector.specs.declared.notes.CounterNote.TheVariants as counts
 use Rattle.auc_vector.specs.declared.notes.Notes.{Notes}
 use Rattle.auc_world.specs.Agreement.{Happening, IsFresh, Noted, Occurs, after, after_one}
 use Rattle.auc_world.specs.Came.{TellsNotes, came, came_at_peer, came_delivered}
-use Rattle.auc_world.specs.Happened.{Delivery, Told, at_place, at_session, delivered, delivery_at, delivery_of, give_up, happened, in_session, kept_after, keys_won, moved, new_session, opened, peer_turn, repeat, server_gives_up, server_turn, start, to_peer, to_server}
+use Rattle.auc_world.specs.Happened.{Delivery, Told, at_place, at_session, delivered, delivery_at, delivery_of, give_up, happened, in_session, kept_after, keys_won, moved, new_session, opened, peer_turn, repeat, server_gives_up, server_turn, start, to_peer, to_server, changed_in, with_copy}
 use Rattle.auc_world.specs.Net.{Net, device_place, keeps_at, keeps_or, packet_at, same_method, session_place}
 use Rattle.auc_world.specs.Places.{DeviceMoves, EachEventMovesDevicesOnce, EachMoves, IsDeviceMove, TellsItsNotes, device_places, only, peer_at}
 use Rattle.auc_world.specs.Resumption.{accepted_for, accepted_of, counters_accepted}
@@ -571,6 +571,18 @@ opened_next set w notes T opening None (Some place) is =
     places m at' zero = refl
     places m at' (suc i) = pushed_puts m at' w.sessions (new_session opening place) i (new_puts m at' opening place)
 
+-- a changed packet moves nothing
+copy_next : (set : Setting) (w : Net) (notes : Notes) (T : Type 0) (copy : Option (List ℕ)) → DeviceNext set w (with_copy w copy) notes T
+copy_next set w notes T copy = record {
+  devices = refl;
+  fine = λ h. h;
+  moves = λ told h are m sub place e. unmoved m sub place w (with_copy w copy) notes (copy_places m place) refl;
+}
+  where
+    copy_places : (m : Method) (place i : ℕ) → device_places m place (with_copy w copy) i ≡ device_places m place w i
+    copy_places m place zero = refl
+    copy_places m place (suc i) = refl
+
 moved_next : PeerLaws → (set : Setting) (w : Net) (e : Event) (told : Told) → DeviceNext set w (moved set w e told) told.notes (TellsNotes told (came set w e told))
 moved_next laws set w (event.Open opening) told =
     opened_next set w told.notes (TellsNotes told (came set w (event.Open opening) told)) opening (session_place w.sessions opening.session) (device_place set.rows w.devices opening.sub) refl
@@ -586,6 +598,10 @@ moved_next laws set w (event.Repeat session) told =
 moved_next laws set w (event.GiveUp session at') told =
     session_next set w told.notes (TellsNotes told (came set w (event.GiveUp session at') told)) session (give_up w at')
     (λ t s there. give_up_next set w told.notes (TellsNotes told (came set w (event.GiveUp session at') told)) at' t s there)
+moved_next laws set w (event.Tamper packet place byte) told =
+    copy_next set w told.notes (TellsNotes told (came set w (event.Tamper packet place byte) told)) (changed_in w.packets (event.Tamper packet place byte))
+moved_next laws set w (event.Cut packet count) told =
+    copy_next set w told.notes (TellsNotes told (came set w (event.Cut packet count) told)) (changed_in w.packets (event.Cut packet count))
 
 event_next : PeerLaws → (set : Setting) (w : Net) (e : Event) (told : Told) → DeviceNext set w (happened set w e told) told.notes (TellsNotes told (came set w e told))
 event_next laws set w e told = let n = moved_next laws set w e told in record { devices = n.devices; fine = n.fine; moves = n.moves }

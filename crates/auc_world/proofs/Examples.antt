@@ -1,10 +1,12 @@
 -- For Net: the premise of a few deliveries, by hand.
-use Rattle.std.proofs.Common.{◌≡◌, ℕ, true, false, List, [], ◌∷◌, Option, Some, None, refl}
+use Rattle.std.proofs.Common.{◌≡◌, ℕ, true, false, List, [], ◌∷◌, ◌++◌, Option, Some, None, refl}
 use Rattle.auc_hmac.specs.declared.keys.Master.TheVariants as master
 use Rattle.auc_hmac.specs.declared.method.Method.TheVariants as method
-use Rattle.auc_world.specs.Net.{Finding, judged}
+use Rattle.auc_world.specs.Happened.{changed_in}
+use Rattle.auc_world.specs.Net.{Finding, copies, judged}
 use Rattle.auc_lines.specs.declared.part.End.{End}
 use Rattle.auc_lines.specs.declared.part.End.TheVariants as end
+use Rattle.auc_world.specs.declared.event.Event.TheVariants as event
 use Rattle.auc_world.specs.declared.net.Breach.{Breach}
 use Rattle.auc_world.specs.declared.net.FastInputs.{FastInputs}
 use Rattle.auc_world.specs.declared.net.FullInputs.{FullInputs}
@@ -35,8 +37,8 @@ of_other_context = inputs.Fast (record fast { master = master.Prime (4 ∷ []) }
 -- a request without keys, a challenge, and its answer
 abbrev packets : List SentPacket
 packets =
-    record { bytes = 1 ∷ []; sender = end.Server; inputs = None } ∷ record { bytes = 1 ∷ 2 ∷ []; sender = end.Server; inputs = Some own }
-    ∷ record { bytes = 2 ∷ 2 ∷ []; sender = end.Peer; inputs = Some own } ∷ record { bytes = 3 ∷ 3 ∷ []; sender = end.Server; inputs = Some resumed } ∷ []
+    record { bytes = 1 ∷ []; sender = Some end.Server; inputs = None } ∷ record { bytes = 1 ∷ 2 ∷ []; sender = Some end.Server; inputs = Some own }
+    ∷ record { bytes = 2 ∷ 2 ∷ []; sender = Some end.Peer; inputs = Some own } ∷ record { bytes = 3 ∷ 3 ∷ []; sender = Some end.Server; inputs = Some resumed } ∷ []
 
 abbrev to : End → ℕ → Breach
 to at' packet = record { session = 1; end = at'; packet = packet }
@@ -96,3 +98,28 @@ wrong_mac_breaks_nothing = refl
 
 first_breach_stays : judged packets (Some (to end.Peer 2)) (right end.Peer 3 own (9 ∷ [])) ≡ Some (to end.Peer 2)
 first_breach_stays = refl
+
+-- ---- changed packets
+
+-- a byte of packet 3 is another; all of it is cut away; and it has two bytes
+tampered_answer : changed_in packets (event.Tamper 3 1 9) ≡ Some (2 ∷ 9 ∷ [])
+tampered_answer = refl
+
+cut_answer : changed_in packets (event.Cut 3 0) ≡ Some []
+cut_answer = refl
+
+no_third_byte : changed_in packets (event.Tamper 3 2 9) ≡ None
+no_third_byte = refl
+
+cut_keeps_fewer : changed_in packets (event.Cut 3 2) ≡ None
+cut_keeps_fewer = refl
+
+-- a changed challenge is no server's; one that a server sent stays its own
+abbrev after_changes : List SentPacket
+after_changes = packets ++ (copies (Some (1 ∷ 5 ∷ [])) ++ copies (Some (1 ∷ 2 ∷ [])))
+
+changed_challenge_breaks : judged after_changes None (right end.Peer 5 own (1 ∷ 5 ∷ [])) ≡ Some (to end.Peer 5)
+changed_challenge_breaks = refl
+
+challenge_changed_back_is_honest : judged after_changes None (right end.Peer 6 own (1 ∷ 2 ∷ [])) ≡ None
+challenge_changed_back_is_honest = refl

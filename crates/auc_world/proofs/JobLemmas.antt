@@ -14,16 +14,17 @@ use Rattle.auc_vector.specs.Notes.{Asking}
 use Rattle.auc_vector.specs.declared.notes.Notes.{Notes}
 use Rattle.auc_vector.specs.declared.notes.NumberNote.{NumberNote}
 use Rattle.auc_vector.specs.declared.notes.NumberNote.TheVariants as number
-use Rattle.auc_world.specs.Came.{Came, asked_sub, asking_at, asking_in, asking_of, came, came_at_peer, came_at_server, came_delivered, came_given_up, came_in, came_opened, came_repeated, came_started, server_came_to_give_up, session_at}
+use Rattle.auc_world.specs.Came.{Came, asked_sub, asking_at, asking_in, asking_of, came, came_at_peer, came_at_server, came_delivered, came_given_up, came_in, came_opened, came_repeated, came_started, server_came_to_give_up, session_at, came_changed}
 use Rattle.auc_world.specs.Event.{event_number, number_released, number_with}
 use Rattle.auc_world.specs.Given.{IsCentreAsked}
-use Rattle.auc_world.specs.Happened.{Delivery, Told, at_place, delivered, delivery_at, delivery_of, give_up, in_session, moved, opened, drawn_in_turn, repeat, server_gives_up, server_turn, start, to_peer, to_server}
+use Rattle.auc_world.specs.Happened.{Delivery, Told, at_place, delivered, delivery_at, delivery_of, give_up, in_session, moved, opened, drawn_in_turn, repeat, server_gives_up, server_turn, start, to_peer, to_server, changed_in, with_copy}
 use Rattle.auc_world.specs.Net.{Net, device_place, packet_at, session_place}
 use Rattle.auc_world.specs.Setting.{Setting}
 use Rattle.auc_world.specs.declared.event.Event.{Event}
 use Rattle.auc_world.specs.declared.event.Event.TheVariants as event
 use Rattle.auc_world.specs.declared.net.SentPacket.{SentPacket}
 use Rattle.auc_world.specs.declared.net.Session.{Session}
+use Rattle.auc_world.proofs.CopyLemmas.{changed_is_silent}
 
 -- ---- the number of an event
 
@@ -138,6 +139,9 @@ open_releases set w opening (Some first) place = stays set w w (came_opened (Som
 open_releases set w opening None None = stays set w w (came_opened None None) refl refl
 open_releases set w opening None (Some place) = stays set w (opened w opening None (Some place)) (came_opened None (Some place)) refl refl
 
+copy_releases : (set : Setting) (w : Net) (sent : Option SentPacket) (copy : Option (List ℕ)) → Releases set w (with_copy w copy) (came_changed w.packets sent copy)
+copy_releases set w sent copy = stays set w (with_copy w copy) (came_changed w.packets sent copy) refl (changed_is_silent w.packets sent copy).released
+
 pub moved_releases : (set : Setting) (w : Net) (e : Event) (told : Told) → IsCentreAsked set (asking_of set w e told) told.notes → Releases set w (moved set w e told) (came set w e told)
 moved_releases set w (event.Open opening) told is = open_releases set w opening (session_place w.sessions opening.session) (device_place set.rows w.devices opening.sub)
 moved_releases set w (event.Start session) told is =
@@ -147,6 +151,8 @@ moved_releases set w (event.Repeat session) told is =
     session_releases set w (λ place s. repeat w place s s.server) (λ s. came_repeated w s.server) (session_place w.sessions session) (λ place s. repeat_releases set w place s s.server)
 moved_releases set w (event.GiveUp session at') told is =
     session_releases set w (give_up w at') (came_given_up w at') (session_place w.sessions session) (λ place s. give_up_releases set w at' place s)
+moved_releases set w (event.Tamper packet place byte) told is = copy_releases set w (packet_at w.packets packet) (changed_in w.packets (event.Tamper packet place byte))
+moved_releases set w (event.Cut packet count) told is = copy_releases set w (packet_at w.packets packet) (changed_in w.packets (event.Cut packet count))
 
 -- ---- the numbers of lines
 

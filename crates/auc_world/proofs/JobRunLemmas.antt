@@ -129,12 +129,15 @@ line_runs set before w next (line.Sync sub seq bit count) lines (gives, is) = st
 line_runs set before w next (line.Give sub n) lines (gives, is) = stands set w next lines is
 line_runs set before w next (line.Eps sub snid) lines (gives, is) = stands set w next lines is
 line_runs set before w next (line.Fiveg l) lines (gives, is) = stands set w next lines is
+line_runs set before w next (line.Sites l) lines (gives, is) = stands set w next lines is
 line_runs set before w next (line.Session opening) lines gives = event_runs set before w next (event.Open opening) lines gives
 line_runs set before w next (line.Start session) lines gives = event_runs set before w next (event.Start session) lines gives
 line_runs set before w next (line.Deliver session at' packet) lines gives = event_runs set before w next (event.Deliver session at' packet) lines gives
 line_runs set before w next (line.Repeat session) lines gives = event_runs set before w next (event.Repeat session) lines gives
 line_runs set before w next (line.GiveUp session at') lines gives = event_runs set before w next (event.GiveUp session at') lines gives
 line_runs set before w next (line.Plain session) lines gives = plain_runs set before w next session lines gives
+line_runs set before w next (line.Tamper packet place byte) lines gives = event_runs set before w next (event.Tamper packet place byte) lines gives
+line_runs set before w next (line.Cut packet count) lines gives = event_runs set before w next (event.Cut packet count) lines gives
 
 lines_run : (set : Setting) (before : Before) (w last : Net) (job : List Line) (lines : List LineRecord) → JobGives set before w job lines last → Runs set w last lines
 lines_run set before w last [] lines (none, is) = stands set w last lines is

@@ -1,6 +1,7 @@
 pub mod Facts
 mod ApartLemmas
 mod BitLemmas
+mod CopyLemmas
 mod CountLemmas
 mod HeldLemmas
 mod PieceLemmas
@@ -20,6 +21,8 @@ mod AgainLemmas
 mod AgainHomeLemmas
 mod JobLemmas
 mod RunLemmas
+mod SitesLemmas
+mod SitesExamples
 mod JobRunLemmas
 mod PlaceLemmas
 mod HomeMoveLemmas

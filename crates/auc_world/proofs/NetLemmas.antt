@@ -20,7 +20,7 @@ use Rattle.auc_vector.specs.declared.turn.Step.{Step}
 use Rattle.auc_vector.specs.declared.turn.Step.TheVariants as step
 use Rattle.auc_world.specs.Came.{Came, Presented, came, came_at_peer, came_at_server, came_delivered, came_given_up, came_in, came_opened, came_repeated, came_started, presented_by, presented_in, presented_at, server_came_to_give_up, session_of}
 use Rattle.auc_world.specs.Event.{device_in}
-use Rattle.auc_world.specs.Happened.{Delivery, Told, at_place, delivered, delivery_at, delivery_of, give_up, happened, in_session, new_session, opened, peer_turn, drawn_in_turn, repeat, server_gives_up, server_turn, start, to_peer, to_server, with_peer, with_server}
+use Rattle.auc_world.specs.Happened.{Delivery, Told, at_place, delivered, delivery_at, delivery_of, give_up, happened, in_session, new_session, opened, peer_turn, drawn_in_turn, repeat, server_gives_up, server_turn, start, to_peer, to_server, with_peer, with_server, changed_in}
 use Rattle.auc_world.specs.Net.{Net, device_place, keeps_at, packet_at, session_place}
 use Rattle.auc_world.specs.declared.event.Event.{Event}
 use Rattle.auc_world.specs.declared.event.Event.TheVariants as event
@@ -28,6 +28,7 @@ use Rattle.auc_world.specs.declared.net.SentPacket.{SentPacket}
 use Rattle.auc_world.specs.declared.net.Session.{Session}
 use Rattle.auc_released.specs.declared.numbers.Number.{Number}
 use Rattle.auc_world.proofs.VectorLemmas.{all_at}
+use Rattle.auc_world.proofs.CopyLemmas.{changed_is_silent}
 
 -- the subscriber of each session is one of these
 abbrev pub AreOf : (ℕ → Type 0) → List Session → Type 0
@@ -115,6 +116,8 @@ OpensAt Q set w (event.Start session) = Unit {0}
 OpensAt Q set w (event.Deliver session at' packet) = Unit {0}
 OpensAt Q set w (event.Repeat session) = Unit {0}
 OpensAt Q set w (event.GiveUp session at') = Unit {0}
+OpensAt Q set w (event.Tamper packet place byte) = Unit {0}
+OpensAt Q set w (event.Cut packet count) = Unit {0}
 
 pub places_stay : (Q : ℕ → ℕ → Type 0) (set : Setting) (w : Net) (e : Event) (told : Told) → AreAt Q w.sessions → OpensAt Q set w e → AreAt Q (happened set w e told).sessions
 places_stay Q set w (event.Open opening) told all own =
@@ -125,6 +128,8 @@ places_stay Q set w (event.Deliver session at' packet) told all own = delivered_
 places_stay Q set w (event.Repeat session) told all own =
     at_stays Q w (λ place s. repeat w place s s.server) (session_place w.sessions session) all (λ place s. repeat_stays Q w place s s.server all)
 places_stay Q set w (event.GiveUp session at') told all own = at_stays Q w (give_up w at') (session_place w.sessions session) all (λ place s. give_stays Q w at' place s all)
+places_stay Q set w (event.Tamper packet place byte) told all own = all
+places_stay Q set w (event.Cut packet count) told all own = all
 
 -- the subscriber of a session that an event opens is one of these
 abbrev pub Opens : (ℕ → Type 0) → Event → Type 0
@@ -133,6 +138,8 @@ Opens P (event.Start session) = Unit {0}
 Opens P (event.Deliver session at' packet) = Unit {0}
 Opens P (event.Repeat session) = Unit {0}
 Opens P (event.GiveUp session at') = Unit {0}
+Opens P (event.Tamper packet place byte) = Unit {0}
+Opens P (event.Cut packet count) = Unit {0}
 
 opens_at : (P : ℕ → Type 0) (set : Setting) (w : Net) (e : Event) → Opens P e → OpensAt (λ sub place. P sub) set w e
 opens_at P set w (event.Open opening) own = λ place is. own
@@ -140,6 +147,8 @@ opens_at P set w (event.Start session) own = tt
 opens_at P set w (event.Deliver session at' packet) own = tt
 opens_at P set w (event.Repeat session) own = tt
 opens_at P set w (event.GiveUp session at') own = tt
+opens_at P set w (event.Tamper packet place byte) own = tt
+opens_at P set w (event.Cut packet count) own = tt
 
 pub sessions_stay : (P : ℕ → Type 0) (set : Setting) (w : Net) (e : Event) (told : Told) → AreOf P w.sessions → Opens P e → AreOf P (happened set w e told).sessions
 sessions_stay P set w e told all own = places_stay (λ sub place. P sub) set w e told all (opens_at P set w e own)
@@ -153,13 +162,13 @@ IsOf P (Some sub) = P sub
 some_none : (sub : ℕ) → ◌≡◌ {A = Option ℕ} (Some sub) None → ⊥
 some_none sub e = cc
 
+none_of : (P : ℕ → Type 0) (o : Option ℕ) → o ≡ None → IsOf P o
+none_of P None is = tt
+none_of P (Some sub) is = absurd (some_none sub is)
+
 came_in_of : (P : ℕ → Type 0) (does : Session → Came) (o : Option Session) → ((s : Session) → device_in (does s) ≡ None) → IsOf P (device_in (came_in does o))
 came_in_of P does None each = tt
-came_in_of P does (Some session) each = by (device_in (does session)) (each session)
-  where
-    by : (o : Option ℕ) → o ≡ None → IsOf P o
-    by None is = tt
-    by (Some sub) is = absurd (some_none sub is)
+came_in_of P does (Some session) each = none_of P (device_in (does session)) (each session)
 
 -- it is that of a session
 pub device_is_of : (P : ℕ → Type 0) (set : Setting) (w : Net) (e : Event) (told : Told) → AreOf P w.sessions → IsOf P (device_in (came set w e told))
@@ -188,6 +197,10 @@ device_is_of P set w (event.GiveUp session at') told all = came_in_of P (came_gi
     of : (e : End) (s : Session) → device_in (came_given_up w e s) ≡ None
     of end.Server s = by s.server
     of end.Peer s = refl
+device_is_of P set w (event.Tamper packet place byte) told all =
+    none_of P _ (changed_is_silent w.packets (packet_at w.packets packet) (changed_in w.packets (event.Tamper packet place byte))).device
+device_is_of P set w (event.Cut packet count) told all =
+    none_of P _ (changed_is_silent w.packets (packet_at w.packets packet) (changed_in w.packets (event.Cut packet count))).device
 device_is_of P set w (event.Deliver session at' packet) told all = at_number (session_place w.sessions session)
   where
     at_server : (o : Option ServerEnd) → IsOf P (device_in (came_at_server set w told o))
@@ -224,6 +237,8 @@ presented_is_at Q w (event.Open opening) told all = tt
 presented_is_at Q w (event.Start session) told all = tt
 presented_is_at Q w (event.Repeat session) told all = tt
 presented_is_at Q w (event.GiveUp session at') told all = tt
+presented_is_at Q w (event.Tamper packet place byte) told all = tt
+presented_is_at Q w (event.Cut packet count) told all = tt
 presented_is_at Q w (event.Deliver session at' packet) told all = at_number (session_place w.sessions session)
   where
     to : (d : Delivery) (o : Option Subscription) → Q d.session.sub d.session.device → IsPresentedAt Q (presented_at w d told o)

@@ -32,7 +32,7 @@ use Rattle.auc_server.specs.declared.why.ServerWhy.TheVariants as why
 use Rattle.auc_vector.specs.declared.notes.Notes.{Notes}
 use Rattle.auc_vector.specs.declared.turn.Outcome.TheVariants as outcome
 use Rattle.auc_world.specs.Agreement.{Happening, Noted, Occurs, after, after_one}
-use Rattle.auc_world.specs.Happened.{Delivery, Told, at_place, at_session, delivered, delivery_at, delivery_of, give_up, happened, in_session, keys_won, moved, new_session, opened, peer_turn, repeat, server_gives_up, server_turn, start, to_peer, to_server}
+use Rattle.auc_world.specs.Happened.{Delivery, Told, at_place, at_session, delivered, delivery_at, delivery_of, give_up, happened, in_session, keys_won, moved, new_session, opened, peer_turn, repeat, server_gives_up, server_turn, start, to_peer, to_server, changed_in, with_copy}
 use Rattle.auc_world.specs.Net.{Net, device_place, keeps_at, packet_at, same_method, session_place}
 use Rattle.auc_world.specs.Places.{EachEventMovesHomesOnce, EachMoves, HomeMoves, IsHomeMove, home_places, only, server_at, server_leaves}
 use Rattle.auc_world.specs.Resumption.{counters_in, counters_resumed, resumed_for}
@@ -429,6 +429,18 @@ opened_next set w notes opening None (Some place) =
     places m at' zero = refl
     places m at' (suc i) = new_leaves m at' w.homes w.sessions (new_session opening place) i refl
 
+-- a changed packet moves nothing
+copy_next : (set : Setting) (w : Net) (notes : Notes) (copy : Option (List ℕ)) → HomeNext set w (with_copy w copy) notes
+copy_next set w notes copy = record {
+  alike = refl;
+  fits = λ h. h;
+  moves = λ h m sub place e. unmoved set w (with_copy w copy) notes m sub place (copy_places m place) refl;
+}
+  where
+    copy_places : (m : Method) (place i : ℕ) → home_places m place (with_copy w copy) i ≡ home_places m place w i
+    copy_places m place zero = refl
+    copy_places m place (suc i) = refl
+
 moved_next : EachTurnFits → (set : Setting) (w : Net) (e : Event) (told : Told) → HomeNext set w (moved set w e told) told.notes
 moved_next law set w (event.Open opening) told =
     opened_next set w told.notes opening (session_place w.sessions opening.session) (device_place set.rows w.devices opening.sub)
@@ -437,6 +449,8 @@ moved_next law set w (event.Deliver session end.Server packet) told = server_del
 moved_next law set w (event.Deliver session end.Peer packet) told = peer_delivered set w told packet (session_place w.sessions session)
 moved_next law set w (event.Repeat session) told = session_next set w told.notes session (λ t s. repeat w t s s.server) (λ t s there. repeat_next set w told.notes t s s.server refl there)
 moved_next law set w (event.GiveUp session at') told = session_next set w told.notes session (give_up w at') (λ t s there. give_up_next set w told.notes at' t s there)
+moved_next law set w (event.Tamper packet place byte) told = copy_next set w told.notes (changed_in w.packets (event.Tamper packet place byte))
+moved_next law set w (event.Cut packet count) told = copy_next set w told.notes (changed_in w.packets (event.Cut packet count))
 
 event_next : EachTurnFits → (set : Setting) (w : Net) (e : Event) (told : Told) → HomeNext set w (happened set w e told) told.notes
 event_next law set w e told = let n = moved_next law set w e told in record { alike = n.alike; fits = n.fits; moves = n.moves }

@@ -118,7 +118,7 @@ goes_on : (set : Setting) (stage : Stage) (number : ℕ) (to from : End) (place 
     → Stands w number place s → new.number ≡ s.number → slice_get w.devices new.device ≡ Some device → Steps w mid place new keeps from inputs sent
     → RelayGives set before mid number to (packet_number w sent) lines next → TellSo stage new.sub syncs lines → IsSizedAt stage mid.homes new.sub → Goes set stage number to new device keeps sent syncs lines next
 goes_on set stage number to from place s new device keeps syncs before w mid next inputs (Some bytes) lines st same card steps gives well sized =
-    let sent : SentPacket = record { bytes = bytes; sender = from; inputs = inputs } in (
+    let sent : SentPacket = record { bytes = bytes; sender = Some from; inputs = inputs } in (
       record {
         before = before;
         w = mid;

@@ -11,7 +11,7 @@ use Rattle.auc_hmac.specs.declared.method.Method.TheVariants as method
 use Rattle.auc_server.specs.Setting.{Setting}
 use Rattle.auc_world.specs.Agreement.{BreachIsFirst, BrokenTells, Happening, IsFirst, IsHonest, IsHonestAt, IsHonestFinding, Noted, Occurs, SentBefore, after, after_one}
 use Rattle.auc_world.specs.Happened.{found}
-use Rattle.auc_world.specs.Net.{Finding, Net, breaks, judged, other, same_challenge, same_end, same_fast, same_full, same_inputs, same_fast_keys, same_master, same_method, share_inputs, was_sent}
+use Rattle.auc_world.specs.Net.{Finding, Net, breaks, judged, other, same_challenge, same_end, same_fast, same_full, same_inputs, same_fast_keys, same_master, same_method, share_inputs, was_sent, is_sender}
 use Rattle.auc_lines.specs.declared.part.End.{End}
 use Rattle.auc_lines.specs.declared.part.End.TheVariants as end
 use Rattle.auc_world.specs.declared.net.Breach.{Breach}
@@ -118,20 +118,24 @@ shared None None e = absurd (false≢true e)
 share : (a b : Option Inputs) (own : Inputs) → a ≡ Some own → b ≡ Some own → share_inputs a b ≡ true
 share a b own e f = ap (λ (o : Option Inputs). share_inputs o b) e ∙ ap (λ (o : Option Inputs). share_inputs (Some own) o) f ∙ inputs_itself own
 
+one_sender : (a : Option End) (b : End) → is_sender a b ≡ true → a ≡ Some b
+one_sender None b e = absurd (false≢true e)
+one_sender (Some a) b e = ap Some (one_end a b e)
+
 -- whether a packet is one that was sent so
 abbrev test : End → Option Inputs → List ℕ → SentPacket → Bool
-test from inputs bytes p = same_end p.sender from && (share_inputs p.inputs inputs && bytes_eq p.bytes bytes)
+test from inputs bytes p = is_sender p.sender from && (share_inputs p.inputs inputs && bytes_eq p.bytes bytes)
 
 tells_sent : (from : End) (inputs : Option Inputs) (bytes : List ℕ) (packets : List SentPacket) → was_sent from inputs bytes packets ≡ true → SentBefore from inputs bytes packets
 tells_sent from inputs bytes packets e =
     let (place, p, within, at', passes) = Any-from_list_any (test from inputs bytes) packets e in
-    let (role, rest) = and_parts (same_end p.sender from) (share_inputs p.inputs inputs && bytes_eq p.bytes bytes) passes in
+    let (role, rest) = and_parts (is_sender p.sender from) (share_inputs p.inputs inputs && bytes_eq p.bytes bytes) passes in
     let (shares, same) = and_parts (share_inputs p.inputs inputs) (bytes_eq p.bytes bytes) rest in
     let (own, here, there) = shared p.inputs inputs shares in
     record {
       packet = p;
       is_in = (place, within, at');
-      role = one_end p.sender from role;
+      role = one_sender p.sender from role;
       own = own;
       with_inputs = here;
       same_inputs = there;
@@ -146,7 +150,7 @@ sent_tells from inputs bytes packets s =
       p,
       s.is_in.1,
       s.is_in.2,
-      and_from (same_end p.sender from) (share_inputs p.inputs inputs && bytes_eq p.bytes bytes) (ap (λ (x : End). same_end x from) s.role ∙ end_itself from)
+      and_from (is_sender p.sender from) (share_inputs p.inputs inputs && bytes_eq p.bytes bytes) (ap (λ (x : Option End). is_sender x from) s.role ∙ end_itself from)
           (and_from (share_inputs p.inputs inputs) (bytes_eq p.bytes bytes) (share p.inputs inputs s.own s.with_inputs s.same_inputs) ((bytes_eq-Decides p.bytes bytes).1 s.with_bytes)),
     )
 

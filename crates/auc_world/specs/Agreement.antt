@@ -76,7 +76,7 @@ AreTold set w (h ∷ hs) = IsToldAt w h × AreTold set (after_one set w h) hs
 pub record SentBefore (from : End) (inputs : Option Inputs) (bytes : List ℕ) (packets : List SentPacket) : Type 0 where
   pub packet : SentPacket
   pub is_in : Contains packets packet
-  pub role : packet.sender ≡ from
+  pub role : packet.sender ≡ Some from
   pub own : Inputs
   pub with_inputs : packet.inputs ≡ Some own
   pub same_inputs : inputs ≡ Some own

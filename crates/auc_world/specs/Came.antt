@@ -25,7 +25,7 @@ use Rattle.auc_vector.specs.declared.notes.NumberNote.TheVariants as number
 use Rattle.auc_vector.specs.declared.parts.Vector.{Vector}
 use Rattle.auc_vector.specs.declared.turn.Step.{Step}
 use Rattle.auc_vector.specs.declared.turn.Step.TheVariants as step
-use Rattle.auc_world.specs.Happened.{Delivery, Told, delivery_in, peer_turn, sent_by, server_turn}
+use Rattle.auc_world.specs.Happened.{Delivery, Told, changed_in, delivery_in, peer_turn, sent_by, server_turn}
 use Rattle.auc_world.specs.Net.{Net, device_place, keeps_at, packet_at, session_place}
 use Rattle.auc_world.specs.declared.event.Event.{Event}
 use Rattle.auc_world.specs.declared.event.Event.TheVariants as event
@@ -140,6 +140,25 @@ session_at w (Some place) = slice_get w.sessions place
 abbrev pub session_of : Net → ℕ → Option Session
 session_of w number = session_at w (session_place w.sessions number)
 
+-- ---- changed packets
+
+-- a note of a changed copy behind some packets
+abbrev pub by_network : List SentPacket → List ℕ → Note
+by_network packets bytes = record {
+  notes = silent;
+  step = did.Made bytes;
+  packet = Some (length packets + 1);
+  asked = None;
+  device = None;
+  vector = None;
+}
+
+-- the packet is looked for before the place
+abbrev pub came_changed : List SentPacket → Option SentPacket → Option (List ℕ) → Came
+came_changed packets None copy = Err refused.NoSuchPacket
+came_changed packets (Some sent) None = Err refused.NoSuchPlace
+came_changed packets (Some sent) (Some bytes) = Ok (by_network packets bytes)
+
 -- ---- an event
 
 abbrev pub came : Setting → Net → Event → Told → Came
@@ -148,6 +167,10 @@ came set w (event.Start session) told = came_in (λ s. came_started w s.options 
 came set w (event.Deliver session at' packet) told = came_delivered set w at' told (packet_at w.packets packet) (delivery_in w session packet)
 came set w (event.Repeat session) told = came_in (λ s. came_repeated w s.server) (session_of w session)
 came set w (event.GiveUp session at') told = came_in (came_given_up w at') (session_of w session)
+came set w (event.Tamper packet place byte) told =
+    came_changed w.packets (packet_at w.packets packet) (changed_in w.packets (event.Tamper packet place byte))
+came set w (event.Cut packet count) told =
+    came_changed w.packets (packet_at w.packets packet) (changed_in w.packets (event.Cut packet count))
 
 -- ---- what is told of an event
 

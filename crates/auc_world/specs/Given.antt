@@ -1,6 +1,6 @@
 -- What the lines of a job give, by what came before them and in the network of its sessions. The centre's answers are free
 -- here; the rule of the round (`specs/Round`) says which of them a legal history allows.
-use Rattle.std.specs.Prelude.{◌≡◌, ℕ, ◌-◌, ◌/◌, ◌%◌, ◌^◌, ◌<◌, ◌≤◌, ◌||◌, ◌==◌, zero, suc, Bool, true, false, Option, Some, None, Ok, Err, List, [], ◌∷◌, ◌++◌, length, map, not, replicate, fold, slice_get, slice_set, take, All, Contains, if◌then◌else◌}
+use Rattle.std.specs.Prelude.{◌≡◌, ℕ, ◌-◌, ◌/◌, ◌%◌, ◌^◌, ◌<◌, ◌≤◌, ◌||◌, ◌==◌, Bool, true, false, Option, Some, None, Ok, Err, List, [], ◌∷◌, ◌++◌, length, map, not, replicate, fold, slice_get, slice_set, take, All, Contains, if◌then◌else◌}
 use Rattle.std.specs.List.{list_any}
 use Rattle.std.specs.Str.{bytes_eq}
 use Rattle.auc_5g.specs.Keys.{asme_of, device_of, front_of, home_of, standard_of}
@@ -39,9 +39,11 @@ use Rattle.auc_vector.specs.declared.notes.NumberNote.TheVariants as number
 use Rattle.auc_vector.specs.declared.notes.ResyncNote.{ResyncNote}
 use Rattle.auc_vector.specs.declared.notes.ResyncNote.TheVariants as resync
 use Rattle.auc_vector.specs.declared.notes.UsimNote.{UsimNote}
+pub use Rattle.auc_world.specs.Draws.{DrawGives, IsReleasable, OneGives}
 use Rattle.auc_world.specs.Came.{AreReceived, Came, Presented, TellsNotes, TellsReply, asking_of, bytes_named, came, presented_by}
 use Rattle.auc_world.specs.Happened.{Told, happened}
 use Rattle.auc_world.specs.Net.{Net, other}
+use Rattle.auc_world.specs.Sites.{SitesGives}
 use Rattle.auc_world.specs.Start.{Kept, start_of}
 use Rattle.auc_world.specs.declared.event.Event.{Event}
 use Rattle.auc_world.specs.declared.event.Event.TheVariants as event
@@ -68,31 +70,6 @@ pub record Before : Type 0 where
 -- the lines before what comes after some lines of the same job
 abbrev pub behind : Before → List LineRecord → Before
 behind before lines = record { early = before.early; beside = before.beside; own = before.own ++ lines }
-
--- ---- draw
-
--- a released vector has a number that a vector may have, and its subscriber has a row
-pub record IsReleasable (set : Setting) (sub n : ℕ) : Type 0 where
-  pub known : sub < length set.rows
-  pub first : 1 ≤ n
-  pub last : n ≤ max_seq
-
--- what a request for a vector of a subscriber gives: a vector, and what follows its number; or a withheld number or the word
--- of a spent subscriber, which is at least the greatest number, and nothing else
-abbrev pub OneGives : Setting → ℕ → (ℕ → List LineRecord → Type 0) → List LineRecord → Type 0
-OneGives set sub Follows [] = ⊥
-OneGives set sub Follows (record_of.Vector s n ∷ lines) = (s ≡ sub) × IsReleasable set sub n × Follows n lines
-OneGives set sub Follows (record_of.Withheld s n stop ∷ lines) = (s ≡ sub) × (1 ≤ n) × (n ≤ max_seq) × (lines ≡ [])
-OneGives set sub Follows (record_of.Exhausted s word ∷ lines) = (s ≡ sub) × (max_seq ≤ word) × (lines ≡ [])
-OneGives set sub Follows (record_of.Sync s answer ∷ lines) = ⊥
-OneGives set sub Follows (record_of.Give s n answer ∷ lines) = ⊥
-OneGives set sub Follows (record_of.Further said ∷ lines) = ⊥
-OneGives set sub Follows (record_of.Event r ∷ lines) = ⊥
-
--- what a request for so many vectors gives: as many, or fewer and then what ends it
-abbrev pub DrawGives : Setting → ℕ → ℕ → List LineRecord → Type 0
-DrawGives set sub zero lines = lines ≡ []
-DrawGives set sub (suc count) lines = OneGives set sub (λ n rest. DrawGives set sub count rest) lines
 
 -- ---- sync
 
@@ -347,12 +324,15 @@ LineGives set before net (line.Sync sub seq bit count) lines next = SyncGives se
 LineGives set before net (line.Give sub n) lines next = GiveGives set before sub n lines × (next ≡ net)
 LineGives set before net (line.Eps sub snid) lines next = EpsGives set sub snid lines × (next ≡ net)
 LineGives set before net (line.Fiveg line) lines next = FivegGives set before line lines × (next ≡ net)
+LineGives set before net (line.Sites line) lines next = SitesGives set line lines × (next ≡ net)
 LineGives set before net (line.Session opening) lines next = EventGives set before net (event.Open opening) lines next
 LineGives set before net (line.Start session) lines next = EventGives set before net (event.Start session) lines next
 LineGives set before net (line.Deliver session at' packet) lines next = EventGives set before net (event.Deliver session at' packet) lines next
 LineGives set before net (line.Repeat session) lines next = EventGives set before net (event.Repeat session) lines next
 LineGives set before net (line.GiveUp session at') lines next = EventGives set before net (event.GiveUp session at') lines next
 LineGives set before net (line.Plain session) lines next = PlainGives set before net session lines next
+LineGives set before net (line.Tamper packet place byte) lines next = EventGives set before net (event.Tamper packet place byte) lines next
+LineGives set before net (line.Cut packet count) lines next = EventGives set before net (event.Cut packet count) lines next
 
 -- what the lines of a job give, one line after the other, and the network after the last
 abbrev pub JobGives : Setting → Before → Net → List Line → List LineRecord → Net → Type 0

@@ -1,5 +1,5 @@
 -- What an event does to the network of a job's sessions.
-use Rattle.std.specs.Prelude.{ℕ, List, [], ◌∷◌, ◌++◌, Option, Some, None, slice_get, slice_set}
+use Rattle.std.specs.Prelude.{ℕ, nat_lt, List, [], ◌∷◌, ◌++◌, length, take, Option, Some, None, slice_get, slice_set, if◌then◌else◌}
 use Rattle.auc_hmac.specs.declared.keys.KeySet.{KeySet}
 use Rattle.auc_packet.specs.Received.{Seen}
 use Rattle.auc_peer.specs.Rows.{peer_row}
@@ -28,7 +28,7 @@ use Rattle.auc_vector.specs.declared.turn.Outcome.TheVariants as outcome
 use Rattle.auc_vector.specs.declared.turn.Step.{Step}
 use Rattle.auc_vector.specs.declared.turn.Step.TheVariants as step
 use Rattle.auc_vector.specs.declared.turn.Turn.{Turn}
-use Rattle.auc_world.specs.Net.{Finding, Net, device_place, keeps_at, inputs_of_peer, inputs_of_server, judged, packet_at, posted, session_place}
+use Rattle.auc_world.specs.Net.{Finding, Net, device_place, keeps_at, inputs_of_peer, inputs_of_server, copies, judged, packet_at, posted, session_place}
 use Rattle.auc_lines.specs.declared.part.Identity.{Identity}
 use Rattle.auc_lines.specs.declared.part.Identity.TheVariants as identity
 use Rattle.auc_lines.specs.declared.part.SessionLine.{SessionLine}
@@ -240,6 +240,23 @@ at_place w does (Some place) = in_session w does place (slice_get w.sessions pla
 abbrev pub at_session : Net → ℕ → (ℕ → Session → Net) → Net
 at_session w session does = at_place w does (session_place w.sessions session)
 
+-- ---- changed packets
+
+-- a changed copy of a packet's bytes, if the packet is there and has the place, from 0
+abbrev pub changed_at : ℕ → (List ℕ → List ℕ) → Option SentPacket → Option (List ℕ)
+changed_at place by None = None
+changed_at place by (Some sent) = if nat_lt place (length sent.bytes) then Some (by sent.bytes) else None
+
+-- the changed copy that the network makes in an event: the byte of a place is another, or so many bytes stay from the front
+abbrev pub changed_in : List SentPacket → Event → Option (List ℕ)
+changed_in packets (event.Tamper packet place byte) = changed_at place (λ bytes. slice_set bytes place byte) (packet_at packets packet)
+changed_in packets (event.Cut packet count) = changed_at count (take count) (packet_at packets packet)
+changed_in packets other = None
+
+-- the copy, if there is one, is one packet more; nothing else changes
+abbrev pub with_copy : Net → Option (List ℕ) → Net
+with_copy w bytes = record w { packets = w.packets ++ copies bytes }
+
 -- ---- an event
 
 -- sessions and packets after an event; a refused event changes nothing
@@ -249,6 +266,8 @@ moved set w (event.Start session) told = at_session w session (λ place s. start
 moved set w (event.Deliver session at' packet) told = delivered set w at' told (delivery_in w session packet)
 moved set w (event.Repeat session) told = at_session w session (λ place s. repeat w place s s.server)
 moved set w (event.GiveUp session at') told = at_session w session (give_up w at')
+moved set w (event.Tamper packet place byte) told = with_copy w (changed_in w.packets (event.Tamper packet place byte))
+moved set w (event.Cut packet count) told = with_copy w (changed_in w.packets (event.Cut packet count))
 
 -- what an end finds in an event
 abbrev pub found : Setting → Net → Event → Told → Option Finding

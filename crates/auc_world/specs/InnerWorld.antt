@@ -1,5 +1,5 @@
 -- What only private contracts of this crate cite: how a job's network is kept, and what an end does by itself.
-use Rattle.std.specs.Prelude.{ℕ, ◌≡◌, ◌<◌, ◌≤◌, ◌+◌, ◌-◌, ◌^◌, ◌==◌, ◌&&◌, Bool, List, [], ◌∷◌, map, length, position, Option, Some, None, slice_get, slice_set}
+use Rattle.std.specs.Prelude.{ℕ, ◌≡◌, ◌<◌, ◌≤◌, ◌+◌, ◌-◌, ◌^◌, ◌==◌, ◌&&◌, Bool, List, [], ◌∷◌, map, length, position, Option, Some, None, slice_get, slice_set, take}
 use Rattle.std.specs.Global.{Vec}
 use Rattle.std.specs.Vec.{vec_len, vec_capacity}
 use Rattle.auc_edge.specs.Identity.{Identity}
@@ -15,11 +15,13 @@ use Rattle.auc_vector.specs.Notes.{Asked}
 use Rattle.auc_vector.specs.declared.notes.NumberNote.{NumberNote}
 use Rattle.auc_vector.specs.declared.notes.NumberNote.TheVariants as number
 use Rattle.auc_world.specs.Came.{AreReceived, Came, AsksAt, RepliesAt, TellsNotes, asking_at, came_at_peer, came_at_server, came_given_up, came_repeated, came_started, presented_at, received_by}
-use Rattle.auc_world.specs.Happened.{Delivery, Told, delivery_in, give_up, peer_finds, repeat, server_finds, start, to_peer, to_server}
+use Rattle.auc_world.specs.Happened.{Delivery, Told, changed_at, delivery_in, give_up, peer_finds, repeat, server_finds, start, to_peer, to_server}
 use Rattle.auc_world.specs.Net.{Net, judged, packet_at}
 use Rattle.auc_world.specs.World.{AreHanded, HasHeld, IsWorld, WorldState}
 use Rattle.auc_world.specs.declared.acting.Deed.{Deed}
 use Rattle.auc_world.specs.declared.acting.Deed.TheVariants as deed
+use Rattle.auc_world.specs.declared.changing.Change.{Change}
+use Rattle.auc_world.specs.declared.changing.Change.TheVariants as change
 use Rattle.auc_world.specs.declared.event.WorldRefusal.{WorldRefusal}
 use Rattle.auc_world.specs.declared.event.WorldRefusal.TheVariants as refused
 use Rattle.auc_world.specs.declared.net.Breach.{Breach}
@@ -109,6 +111,21 @@ pub record Acts (what : Deed) (packets : List SentPacket) (session : Session) (s
   pub number : changed.number ≡ session.number
   pub options : changed.options ≡ session.options
   pub held : (homes : List HomeRow) → HasHeld homes session.server → HasHeld homes changed.server
+
+-- ---- changed packets
+
+-- the place that a packet needs to be changed so, and its bytes after the change
+abbrev pub place_of : Change → ℕ
+place_of (change.Byte place byte) = place
+place_of (change.Cut count) = count
+
+abbrev pub bytes_after : Change → List ℕ → List ℕ
+bytes_after (change.Byte place byte) bytes = slice_set bytes place byte
+bytes_after (change.Cut count) bytes = take count bytes
+
+-- the changed copy of a packet, if it is there and has the place
+abbrev pub copy_by : Change → Option SentPacket → Option (List ℕ)
+copy_by change sent = changed_at (place_of change) (bytes_after change) sent
 
 -- ---- deliveries
 

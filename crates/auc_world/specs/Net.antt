@@ -102,7 +102,12 @@ packet_at packets (suc place) = slice_get packets place
 -- the packets after one that was sent, if one was
 abbrev pub posted : List SentPacket → End → Option Inputs → Option (List ℕ) → List SentPacket
 posted packets from inputs None = packets
-posted packets from inputs (Some bytes) = packets ++ record { bytes = bytes; sender = from; inputs = inputs } ∷ []
+posted packets from inputs (Some bytes) = packets ++ record { bytes = bytes; sender = Some from; inputs = inputs } ∷ []
+
+-- a changed copy of a packet, if there is one: no end sent it
+abbrev pub copies : Option (List ℕ) → List SentPacket
+copies None = []
+copies (Some bytes) = record { bytes = bytes; sender = None; inputs = None } ∷ []
 
 -- the end that sends to an end
 abbrev pub other : End → End
@@ -118,6 +123,11 @@ abbrev pub same_method : Method → Method → Bool
 same_method method.Aka method.Aka = true
 same_method method.Prime method.Prime = true
 same_method _ _ = false
+
+-- whether it is an end of a role that sent a packet
+abbrev pub is_sender : Option End → End → Bool
+is_sender None from = false
+is_sender (Some sender) from = same_end sender from
 
 -- of one challenge, under one identity
 abbrev pub same_challenge : FullInputs → FullInputs → Bool
@@ -153,7 +163,7 @@ share_inputs _ _ = false
 -- whether an end of a role sent some bytes, with some inputs
 abbrev pub was_sent : End → Option Inputs → List ℕ → List SentPacket → Bool
 was_sent from inputs bytes packets =
-    list_any (λ p. same_end p.sender from && (share_inputs p.inputs inputs && bytes_eq p.bytes bytes)) packets
+    list_any (λ p. is_sender p.sender from && (share_inputs p.inputs inputs && bytes_eq p.bytes bytes)) packets
 
 -- ---- the premise
 

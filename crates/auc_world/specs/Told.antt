@@ -42,6 +42,7 @@ abbrev pub told_step : NoteStep → NoteStep
 told_step did.Opened = did.Opened
 told_step (did.Server what) = did.Server (told_what what)
 told_step (did.Peer what) = did.Peer (told_what what)
+told_step (did.Made bytes) = did.Made []
 
 -- nor are subscribers and vectors
 abbrev pub told_came : Came → Came
@@ -70,6 +71,8 @@ told_event (event.Start session) = event.Start session
 told_event (event.Deliver session at' packet) = event.Deliver session at' packet
 told_event (event.Repeat session) = event.Repeat session
 told_event (event.GiveUp session at') = event.GiveUp session at'
+told_event (event.Tamper packet place byte) = event.Tamper packet place byte
+told_event (event.Cut packet count) = event.Cut packet count
 
 abbrev pub told_record : EventRecord → EventRecord
 told_record r = record { event = told_event r.event; result = told_came r.result }
@@ -85,6 +88,7 @@ abbrev pub told_further : Further → Further
 told_further (further.Kasme key) = further.Kasme key
 told_further (further.HxresStar half) = further.HxresStar half
 told_further (further.Fiveg sub outcome) = further.Fiveg sub (told_outcome_of_5g outcome)
+told_further (further.Sites sub note) = further.Sites sub note
 
 -- the other lines are told whole
 abbrev pub told_line : LineRecord → LineRecord

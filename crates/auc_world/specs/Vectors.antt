@@ -1,5 +1,5 @@
 -- The vectors of a transcript's records. Those of draws are a function of the subscriber, the number and the setting.
-use Rattle.std.specs.Prelude.{◌≡◌, ℕ, List, [], ◌∷◌, flat_map, Option, Some, None, slice_get}
+use Rattle.std.specs.Prelude.{◌≡◌, ℕ, List, [], flat_map, Option, Some, None, slice_get}
 use Rattle.std.specs.Option.{option_to_list}
 use Rattle.auc_hmac.specs.declared.method.Method.TheVariants as method
 pub use Rattle.auc_world.specs.VectorAt.{vector_with, vector_at}

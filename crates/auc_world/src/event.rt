@@ -3,7 +3,7 @@
 ghost use Rattle.std.specs.Prelude.{◌≡◌, IfOk};
 
 use crate::copying::{copy_identity, copy_if_any, copy_of};
-use auc_edge::NoMemory;
+use auc_edge::{NoMemory, Octets};
 use auc_lines::{End, SessionLine};
 use auc_peer::PeerWhy;
 use auc_released::Number;
@@ -25,6 +25,10 @@ pub enum Event {
     Repeat(u32),
     /// An end of the session gives up.
     GiveUp { session: u32, end: End },
+    /// The network changes a byte of a copy of a packet: the one at the place, from 0, becomes `byte`.
+    Tamper { packet: u32, place: u32, byte: u8 },
+    /// The network keeps so many bytes from the front of a copy of a packet, which are fewer than it has.
+    Cut { packet: u32, length: u32 },
 }
 
 impl Event {
@@ -50,7 +54,7 @@ impl Event {
     }
 }
 
-/// What the end that an event concerns did.
+/// What the end that an event concerns did, or the network.
 #[derive(Drop)]
 pub enum NoteStep {
     /// The session was opened.
@@ -59,6 +63,8 @@ pub enum NoteStep {
     Server(Step<ServerWhy>),
     /// The peer did this.
     Peer(Step<PeerWhy>),
+    /// The network made a packet of these bytes, which may be none.
+    Made(Octets),
 }
 
 /// What came of an event.
@@ -66,9 +72,9 @@ pub enum NoteStep {
 pub struct Note {
     /// What the centre and the USIM answered.
     pub notes: Notes,
-    /// What the end did.
+    /// What the end did, or the network.
     pub step: NoteStep,
-    /// The number of the packet that it sent, if it sent one.
+    /// The number of the packet that was sent or made, if one was.
     pub packet: Option<u32>,
     /// The subscriber for whom the centre was asked, if it was asked.
     pub asked: Option<u32>,
@@ -87,6 +93,8 @@ pub enum WorldRefusal {
     NoSuchEnd,
     /// The server had started before.
     Started,
+    /// The packet has no byte at the place, or no more bytes than are to stay.
+    NoSuchPlace,
 }
 
 /// An event with what came of it.

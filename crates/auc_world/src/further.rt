@@ -1,7 +1,8 @@
-//! What lines say that follows from a released vector.
+//! What lines say that follows from a released vector, and what lines for sites say.
 
 ghost use Rattle.std.specs.Prelude.{◌≡◌, IfOk};
 
+use crate::sites::SitesNote;
 use auc_edge::NoMemory;
 use std::alloc::Global;
 use std::marker::Model;
@@ -19,7 +20,7 @@ pub enum FivegOutcome {
     Confirmed { home: [u8; 32], device: [u8; 32] },
 }
 
-/// What a line says that follows from a released vector.
+/// What a line says that follows from a released vector, or what a line for sites says.
 #[derive(Clone, Copy)]
 pub enum Further {
     /// K_ASME of the vector for the line's serving network (TS 33.401 Annex A.2).
@@ -28,6 +29,8 @@ pub enum Further {
     HxresStar([u8; 16]),
     /// What became of the subscriber's 5G authentication with the vector.
     Fiveg { sub: u32, outcome: FivegOutcome },
+    /// What happened in an event of the subscriber's sites.
+    Sites { sub: u32, note: SitesNote },
 }
 
 impl Further {
@@ -40,7 +43,7 @@ impl Further {
     {
         match *self {
             Further::Kasme(_) | Further::HxresStar(_) => None,
-            Further::Fiveg { sub, .. } => Some(sub),
+            Further::Fiveg { sub, .. } | Further::Sites { sub, .. } => Some(sub),
         }
     }
 }

@@ -4,7 +4,7 @@
 ghost use Rattle.std.specs.Prelude.{◌≡◌, ◌≤◌, ◌<◌, ◌&&◌, [], length, Some, IfOk};
 ghost use Rattle.std.specs.Str.{bytes_eq};
 ghost use Rattle.auc_peer.specs.Table.{text_or_none};
-ghost use Rattle.auc_world.specs.Net.{inputs_of_context, inputs_of_peer, inputs_of_server, inputs_sent, judged, other, same_challenge, same_end, same_fast, same_full, same_inputs, same_fast_keys, same_master, same_method, share_inputs, was_sent};
+ghost use Rattle.auc_world.specs.Net.{inputs_of_context, inputs_of_peer, inputs_of_server, inputs_sent, is_sender, judged, other, same_challenge, same_end, same_fast, same_full, same_inputs, same_fast_keys, same_master, same_method, share_inputs, was_sent};
 
 use crate::copying::copy_of;
 use crate::net::{Breach, FastInputs, FullInputs, Inputs, SentPacket};
@@ -146,6 +146,16 @@ fn sends_to(end: End, to: End) -> bool
     }
 }
 
+/// Whether the sender of a packet, if it has one, sends to an end.
+fn was_sent_to(sender: Option<End>, to: End) -> bool
+    ensures { result ≡ is_sender sender (other to) }
+{
+    match sender {
+        Some(end) => sends_to(end, to),
+        None => false,
+    }
+}
+
 fn same_method(a: Method, b: Method) -> bool
     ensures { result ≡ same_method a b }
 {
@@ -217,10 +227,10 @@ fn share_inputs(a: &Option<Inputs>, b: &Option<Inputs>) -> bool
 
 /// Whether a packet was sent to an end of a role, with these inputs and bytes.
 fn is_sent(packet: &SentPacket, to: End, inputs: &Option<Inputs>, bytes: &[u8]) -> bool
-    ensures { result ≡ (same_end packet.now.sender (other to)
+    ensures { result ≡ (is_sender packet.now.sender (other to)
         && (share_inputs packet.now.inputs inputs.now && bytes_eq packet.now.bytes bytes.now)) }
 {
-    sends_to(packet.sender, to)
+    was_sent_to(packet.sender, to)
         && (share_inputs(&packet.inputs, inputs) && packet.bytes.as_slice() == bytes)
 }
 

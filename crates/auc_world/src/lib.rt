@@ -34,6 +34,7 @@ mod acting;
 mod agreement;
 mod bits;
 mod bytes;
+mod changing;
 mod closing;
 mod copying;
 mod counting;
@@ -47,6 +48,7 @@ mod opening;
 mod places;
 mod posting;
 mod record;
+mod sites;
 mod turning;
 mod verdicts;
 mod world;
@@ -74,5 +76,6 @@ pub use record::{
     Closing, GiveVerdict, JobRecord, JobSessions, JobVectors, LineRecord, PartRecord, Premise,
     RoundRecord, SessionVerdict, SyncVerdict,
 };
+pub use sites::{SitesNote, SitesOutcome};
 pub use verdicts::{round_premise, round_verdicts};
 pub use world::{DeviceList, HomeList, World};

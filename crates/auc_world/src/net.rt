@@ -39,11 +39,12 @@ pub enum Inputs {
     Fast(FastInputs),
 }
 
-/// A packet that an end sent.
+/// A packet that an end sent, or a changed copy of one.
 #[derive(Drop)]
 pub struct SentPacket {
     pub bytes: Octets,
-    pub sender: End,
+    /// The end that sent it, or `None` if the network made it of another.
+    pub sender: Option<End>,
     /// What the sender derived its keys from when it sent the packet, or `None` if it had no keys.
     pub inputs: Option<Inputs>,
 }

@@ -1,11 +1,11 @@
 //! The packets of a job, and the bytes that ends send.
 
-ghost use Rattle.std.specs.Prelude.{◌≡◌, ◌≤◌, [], length, IfOk, OnOk};
+ghost use Rattle.std.specs.Prelude.{◌≡◌, ◌≤◌, ◌+◌, ◌++◌, ◌∷◌, [], length, Some, IfOk, OnOk};
 ghost use Rattle.std.specs.Option.{option_copied};
 ghost use Rattle.auc_server.specs.Steps.{bytes_of};
 ghost use Rattle.auc_world.specs.Happened.{sent_by};
 ghost use Rattle.auc_world.specs.InnerWorld.{HasPlace, number_after};
-ghost use Rattle.auc_world.specs.Net.{posted};
+ghost use Rattle.auc_world.specs.Net.{copies, posted};
 
 use crate::net::{Inputs, SentPacket};
 use auc_edge::{NoMemory, Octets, Room};
@@ -59,6 +59,18 @@ pub(crate) fn make_place(packets: &mut Vec<SentPacket>) -> Result<(), NoMemory>
     Ok(())
 }
 
+/// Puts a packet behind the others, and answers its number.
+fn add(packets: &mut Vec<SentPacket>, packet: SentPacket) -> u32
+    requires { HasPlace packets.old }
+    ensures added { packets.new.items ≡ packets.old.items ++ packet ∷ [] }
+    ensures number { result ≡ length packets.old.items + 1 }
+{
+    match packets.push(packet) {
+        Ok(()) => packets.len() as u32,
+        Err(_) => unreachable!(),
+    }
+}
+
 /// Posts what an end sent, if it sent something, and answers the packet's number.
 pub(crate) fn post(
     packets: &mut Vec<SentPacket>,
@@ -73,11 +85,22 @@ pub(crate) fn post(
     let bytes = sent?;
     let packet = SentPacket {
         bytes,
-        sender,
+        sender: Some(sender),
         inputs,
     };
-    match packets.push(packet) {
-        Ok(()) => Some(packets.len() as u32),
-        Err(_) => unreachable!(),
-    }
+    Some(add(packets, packet))
+}
+
+/// Posts a changed copy of a packet, and answers its number.
+pub(crate) fn post_made(packets: &mut Vec<SentPacket>, bytes: Octets) -> u32
+    requires { HasPlace packets.old }
+    ensures made { packets.new.items ≡ packets.old.items ++ copies (Some bytes) }
+    ensures number { result ≡ length packets.old.items + 1 }
+{
+    let packet = SentPacket {
+        bytes,
+        sender: None,
+        inputs: None,
+    };
+    add(packets, packet)
 }

@@ -38,7 +38,7 @@ pub enum LineRecord {
         n: u64,
         verdict: GiveVerdict,
     },
-    /// What follows from a vector that was released for the line.
+    /// What follows from a vector that was released for the line, or an event of the line's sites.
     Further(BoxedFurther),
     /// An event of the job's sessions.
     Event(BoxedEvent),

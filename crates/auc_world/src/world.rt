@@ -1,11 +1,11 @@
 //! A job's network, with the devices of its subscribers.
 
 ghost use Rattle.std.specs.Prelude.{◌≡◌, ◌≤◌, ◌<◌, ◌++◌, ℕ, [], Some, None, All, length, map, IfOk, IfErr, IfSome, OnErr, OnOk, is_some, true, vec_capacity, vec_len};
-ghost use Rattle.auc_world.specs.Came.{came_in, came_opened, session_of, vector_sent};
+ghost use Rattle.auc_world.specs.Came.{came_changed, came_in, came_opened, session_of, vector_sent};
 ghost use Rattle.auc_world.specs.Event.{asked_in};
-ghost use Rattle.auc_world.specs.Happened.{Delivery, at_session, delivery_at, opened};
-ghost use Rattle.auc_world.specs.InnerWorld.{Answers, HasPlace, IsReached, IsUnreached, Serves, came_of, net_of, number_after, released_for};
-ghost use Rattle.auc_world.specs.Net.{device_place, posted, session_place};
+ghost use Rattle.auc_world.specs.Happened.{Delivery, at_session, delivery_at, opened, with_copy};
+ghost use Rattle.auc_world.specs.InnerWorld.{Answers, HasPlace, IsReached, IsUnreached, Serves, came_of, copy_by, net_of, number_after, released_for};
+ghost use Rattle.auc_world.specs.Net.{device_place, packet_at, posted, session_place};
 ghost use Rattle.auc_lines.specs.Part.{IsShortIdentity};
 ghost use Rattle.auc_lines.specs.declared.part.End.TheVariants as end;
 ghost use Rattle.auc_peer.specs.Subscription.{subscription_of};
@@ -15,6 +15,7 @@ ghost use Rattle.auc_world.specs.declared.event.NoteStep.TheVariants as did;
 ghost use Rattle.auc_world.specs.World.{Applies, AreHomes, AreOfSame, Challenges, IsKnownEvent, IsName, RememberPasts, usim_of};
 
 use crate::acting::{Came, Deed, act, note};
+use crate::changing::{Change, change_packet};
 use crate::event::{Event, Note, NoteStep, WorldRefusal};
 use crate::inputs::judged;
 use crate::net::{Breach, SentPacket, Session};
@@ -175,6 +176,12 @@ impl World {
             Event::Start(session) => self.act(alloc, session, Deed::Start),
             Event::Repeat(session) => self.act(alloc, session, Deed::Repeat),
             Event::GiveUp { session, end } => self.act(alloc, session, Deed::GiveUp(end)),
+            Event::Tamper {
+                packet,
+                place,
+                byte,
+            } => self.change(alloc, packet, Change::Byte { place, byte }),
+            Event::Cut { packet, length } => self.change(alloc, packet, Change::Cut(length)),
             Event::Deliver {
                 session,
                 end,
@@ -223,6 +230,17 @@ impl World {
         };
         let came = act(alloc, &mut self.packets, &mut self.sessions[place], deed)?;
         Ok(came)
+    }
+
+    /// Makes a changed copy of a packet.
+    fn change(&mut self, alloc: Global, packet: u32, change: Change) -> Result<Came, NoMemory>
+        ensures came { IfOk result (λ came. came ≡ came_changed self.old.net.packets (packet_at self.old.net.packets packet)
+            (copy_by change (packet_at self.old.net.packets packet))) }
+        ensures made { IfOk result (λ _. self.new
+            ≡ record self.old { net = with_copy self.old.net (copy_by change (packet_at self.old.net.packets packet)) }) }
+        ensures kept { OnErr result (self.new ≡ self.old) }
+    {
+        change_packet(alloc, &mut self.packets, packet, change)
     }
 
     /// The place of the session that a packet reaches. The packet is looked for first.

@@ -1,6 +1,7 @@
 use Rattle.std.proofs.Common.{Err, ◌∙◌, ap, map, refl, sym, subst}
-use Rattle.auc_world.proofs.ApplyLemmas.{acted_ends, answered_applies, both_ok, each_ok, give_up_applies, open_applies, opened_ends, repeat_applies, same_devices, same_homes, served_applies, start_applies, unreached_applies}
+use Rattle.auc_world.proofs.ApplyLemmas.{acted_ends, answered_applies, both_ok, each_ok, give_up_applies, open_applies, opened_ends, repeat_applies, same_devices, same_homes, served_applies, start_applies, unreached_applies, cut_applies, tamper_applies}
 use Rattle.auc_world.proofs.AskedLemmas.{acted_asks_nobody, asks_nobody, opened_asks_nobody}
+use Rattle.auc_world.proofs.CopyLemmas.{changed_is_silent}
 use Rattle.auc_world.specs.Came.{session_of}
 use Rattle.auc_world.specs.Event.{asked_in}
 use Rattle.auc_world.specs.declared.acting.Deed.TheVariants as deed
@@ -52,6 +53,26 @@ returns-in-GiveUp-clause-applied g c =
     (give_up_applies g.C.Centre.goes g.C.Centre.kept g.C.Centre.top c.args.set.now now new centre centre g.met.C.Centre.stays c.in-GiveUp.session came c.in-GiveUp.end is leads))
     c.act-in-GiveUp.ensures.came c.act-in-GiveUp.ensures.acted
 
+pub returns-in-Tamper-clause-applied : goal.returns-in-Tamper-clause-applied
+returns-in-Tamper-clause-applied g c =
+    let now = c.args.self.now in
+    let new = c.change.new.self in
+    let centre = c.args.centre.now in
+    both_ok c.change.result _ _ _
+    (λ came is leads pasts. subst (λ (e : Event). Applies g.C.Centre.goes g.C.Centre.kept g.C.Centre.top c.args.set.now now e centre new came centre) (sym c.in-Tamper.is)
+    (tamper_applies g.C.Centre.goes g.C.Centre.kept g.C.Centre.top c.args.set.now now new centre centre g.met.C.Centre.stays c.in-Tamper.packet came c.in-Tamper.place c.in-Tamper.byte is leads))
+    c.change.ensures.came c.change.ensures.made
+
+pub returns-in-Cut-clause-applied : goal.returns-in-Cut-clause-applied
+returns-in-Cut-clause-applied g c =
+    let now = c.args.self.now in
+    let new = c.change-in-Cut.new.self in
+    let centre = c.args.centre.now in
+    both_ok c.change-in-Cut.result _ _ _
+    (λ came is leads pasts. subst (λ (e : Event). Applies g.C.Centre.goes g.C.Centre.kept g.C.Centre.top c.args.set.now now e centre new came centre) (sym c.in-Cut.is)
+    (cut_applies g.C.Centre.goes g.C.Centre.kept g.C.Centre.top c.args.set.now now new centre centre g.met.C.Centre.stays c.in-Cut.packet came c.in-Cut.length is leads))
+    c.change-in-Cut.ensures.came c.change-in-Cut.ensures.made
+
 pub returns-in-Err-default-clause-applied : goal.returns-in-Err-default-clause-applied
 returns-in-Err-default-clause-applied g c pasts =
     let now = c.args.self.now in
@@ -98,6 +119,12 @@ returns-in-Repeat-clause-asked g c =
 pub returns-in-GiveUp-clause-asked : goal.returns-in-GiveUp-clause-asked
 returns-in-GiveUp-clause-asked g c =
     each_ok c.act-in-GiveUp.result _ _ (λ came is. asks_nobody _ _ (ap asked_in is ∙ acted_asks_nobody c.args.self.now.net (deed.GiveUp c.in-GiveUp.end) (session_of c.args.self.now.net c.in-GiveUp.session))) c.act-in-GiveUp.ensures.came
+
+pub returns-in-Tamper-clause-asked : goal.returns-in-Tamper-clause-asked
+returns-in-Tamper-clause-asked g c = each_ok c.change.result _ _ (λ came is. asks_nobody _ _ (ap asked_in is ∙ (changed_is_silent _ _ _).asked)) c.change.ensures.came
+
+pub returns-in-Cut-clause-asked : goal.returns-in-Cut-clause-asked
+returns-in-Cut-clause-asked g c = each_ok c.change-in-Cut.result _ _ (λ came is. asks_nobody _ _ (ap asked_in is ∙ (changed_is_silent _ _ _).asked)) c.change-in-Cut.ensures.came
 
 pub returns-in-Ok-Peer-clause-asked : goal.returns-in-Ok-Peer-clause-asked
 returns-in-Ok-Peer-clause-asked g c = each_ok c.to_peer.result _ _ (λ came is. asks_nobody _ _ is) c.to_peer.ensures.asked
@@ -151,6 +178,30 @@ returns-in-GiveUp-clause-world g c = c.act-in-GiveUp.ensures.kept
 
 pub returns-in-GiveUp-clause-centre : goal.returns-in-GiveUp-clause-centre
 returns-in-GiveUp-clause-centre g c = on_error c.act-in-GiveUp.result _ refl
+
+pub returns-in-Tamper-clause-homes : goal.returns-in-Tamper-clause-homes
+returns-in-Tamper-clause-homes g c = same_homes c.change.result c.args.self.now c.change.new.self _ refl c.change.ensures.made c.change.ensures.kept
+
+pub returns-in-Tamper-clause-devices : goal.returns-in-Tamper-clause-devices
+returns-in-Tamper-clause-devices g c = same_devices c.change.result c.args.self.now c.change.new.self _ refl c.change.ensures.made c.change.ensures.kept
+
+pub returns-in-Tamper-clause-world : goal.returns-in-Tamper-clause-world
+returns-in-Tamper-clause-world g c = c.change.ensures.kept
+
+pub returns-in-Tamper-clause-centre : goal.returns-in-Tamper-clause-centre
+returns-in-Tamper-clause-centre g c = on_error c.change.result _ refl
+
+pub returns-in-Cut-clause-homes : goal.returns-in-Cut-clause-homes
+returns-in-Cut-clause-homes g c = same_homes c.change-in-Cut.result c.args.self.now c.change-in-Cut.new.self _ refl c.change-in-Cut.ensures.made c.change-in-Cut.ensures.kept
+
+pub returns-in-Cut-clause-devices : goal.returns-in-Cut-clause-devices
+returns-in-Cut-clause-devices g c = same_devices c.change-in-Cut.result c.args.self.now c.change-in-Cut.new.self _ refl c.change-in-Cut.ensures.made c.change-in-Cut.ensures.kept
+
+pub returns-in-Cut-clause-world : goal.returns-in-Cut-clause-world
+returns-in-Cut-clause-world g c = c.change-in-Cut.ensures.kept
+
+pub returns-in-Cut-clause-centre : goal.returns-in-Cut-clause-centre
+returns-in-Cut-clause-centre g c = on_error c.change-in-Cut.result _ refl
 
 pub returns-in-Ok-Server-clause-homes : goal.returns-in-Ok-Server-clause-homes
 returns-in-Ok-Server-clause-homes g c = c.to_server.ensures.homes
