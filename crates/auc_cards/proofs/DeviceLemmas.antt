@@ -62,12 +62,15 @@ line_few count (line.Sync sub seq bit n) known = tt
 line_few count (line.Give sub n) known = known.0
 line_few count (line.Eps sub snid) known = tt
 line_few count (line.Fiveg fiveg) known = known.sub
+line_few count (line.Sites sites) known = tt
 line_few count (line.Session opening) known = known.0
 line_few count (line.Start session) known = tt
 line_few count (line.Deliver session at' packet) known = tt
 line_few count (line.Repeat session) known = tt
 line_few count (line.GiveUp session at') known = tt
 line_few count (line.Plain session) known = tt
+line_few count (line.Tamper packet place byte) known = tt
+line_few count (line.Cut packet length) known = tt
 
 held_from : (count : ℕ) (subs : List ℕ) (job : List Line) → All (IsKnownLine count) job → All (λ sub. sub < count) subs
     → All (λ sub. sub < count) (fold (λ have l. with_held have (held_by l)) subs job)

@@ -4,6 +4,7 @@ use Rattle.auc_lines.specs.declared.part.FivegLine.{FivegLine}
 use Rattle.auc_lines.specs.declared.part.Line.{Line}
 use Rattle.auc_lines.specs.declared.part.Line.TheVariants as line
 use Rattle.auc_lines.specs.Part.{IsBit, IsShortIdentity, IsStarBit}
+use Rattle.auc_lines.specs.Sites.{IsSitesValue}
 use Rattle.auc_sqn.specs.Number.{max_seq}
 
 -- the name of a serving network has 1 to 255 bytes
@@ -26,12 +27,15 @@ IsKnownLine subs (line.Sync sub seq bit count) = (sub < subs) × (seq ≤ max_se
 IsKnownLine subs (line.Give sub n) = (sub < subs) × (1 ≤ n) × (n ≤ max_seq)
 IsKnownLine subs (line.Eps sub snid) = sub < subs
 IsKnownLine subs (line.Fiveg fiveg) = IsKnownFiveg subs fiveg
+IsKnownLine subs (line.Sites sites) = (sites.sub < subs) × IsSitesValue sites
 IsKnownLine subs (line.Session opening) = (opening.sub < subs) × (length opening.name ≤ 255) × IsShortIdentity opening.identity
 IsKnownLine subs (line.Start session) = Unit {0}
 IsKnownLine subs (line.Deliver session end packet) = Unit {0}
 IsKnownLine subs (line.Repeat session) = Unit {0}
 IsKnownLine subs (line.GiveUp session end) = Unit {0}
 IsKnownLine subs (line.Plain session) = Unit {0}
+IsKnownLine subs (line.Tamper packet place byte) = Unit {0}
+IsKnownLine subs (line.Cut packet length) = Unit {0}
 
 -- the lines of a job
 abbrev pub AreKnown : ℕ → List Line → Type 0

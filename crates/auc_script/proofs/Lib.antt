@@ -6,4 +6,5 @@ mod LineLemmas
 mod NameLemmas
 mod ReadingLemmas
 mod SessionLemmas
+mod SitesLemmas
 mod SoFarLemmas

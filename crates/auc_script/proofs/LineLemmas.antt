@@ -2,7 +2,7 @@
 use Rattle.std.proofs.Common.{◌≡◌, ◌<◌, true, List, length, Result, Ok, Err, IfOk, IfSome, refl}
 use Rattle.auc_subs.specs.declared.row.Row.{Row}
 use Rattle.auc_lines.specs.declared.part.Line.{Line}
-use Rattle.auc_lines.specs.declared.part.Line.TheVariants.{Draw, Give, Sync, Eps, Fiveg, Session, Start, Deliver, Repeat, GiveUp, Plain}
+use Rattle.auc_lines.specs.declared.part.Line.TheVariants.{Draw, Give, Sync, Eps, Fiveg, Sites, Session, Start, Deliver, Repeat, GiveUp, Plain, Tamper, Cut}
 use Rattle.auc_lines.specs.Part.{held_by}
 use Rattle.auc_script.specs.declared.refusal.ScriptWhy.{ScriptWhy}
 use Rattle.auc_script.specs.InnerRefusal.{Says, as_said}
@@ -21,12 +21,15 @@ known_line rows (Sync sub seq bit count) is = tt
 known_line rows (Give sub number) is = is.0
 known_line rows (Eps sub snid) is = tt
 known_line rows (Fiveg line) is = is.0
+known_line rows (Sites line) is = tt
 known_line rows (Session line) is = is.0
 known_line rows (Start session) is = tt
 known_line rows (Deliver session end packet) is = tt
 known_line rows (Repeat session) is = tt
 known_line rows (GiveUp session end) is = tt
 known_line rows (Plain session) is = tt
+known_line rows (Tamper packet place byte) is = tt
+known_line rows (Cut packet length) is = tt
 
 pub known_said : (rows : List Row) (read : Result Line ScriptWhy) → IfOk read (IsLine rows) → IfOk (as_said read) (λ line. IfSome (held_by line) (λ sub. sub < length rows))
 known_said rows (Ok line) is = known_line rows line is

@@ -13,7 +13,7 @@ use Rattle.std.proofs.lemmas.List.Sums.{sum_by-append}
 use Rattle.std.proofs.lemmas.Option.{get_or_from_slice_get, slice_get-get_or, slice_get_within}
 use Rattle.std.proofs.Math.Seq.{get_or-append_seam, take-append_seam}
 use Rattle.auc_lines.specs.declared.part.Line.{Line}
-use Rattle.auc_lines.specs.declared.part.Line.TheVariants.{Draw, Give, Sync, Eps, Fiveg, Session, Start, Deliver, Repeat, GiveUp, Plain}
+use Rattle.auc_lines.specs.declared.part.Line.TheVariants.{Draw, Give, Sync, Eps, Fiveg, Sites, Session, Start, Deliver, Repeat, GiveUp, Plain, Tamper, Cut}
 use Rattle.auc_script.specs.declared.refusal.ScriptWhy.{ScriptWhy}
 use Rattle.auc_script.specs.declared.refusal.ScriptWhy.TheVariants as why
 use Rattle.auc_subs.specs.Steps.{◌>>=◌}
@@ -73,11 +73,14 @@ fresh all here begun (Sync sub seq bit count) order = tt
 fresh all here begun (Give sub number) order = tt
 fresh all here begun (Eps sub snid) order = tt
 fresh all here begun (Fiveg line) order = tt
+fresh all here begun (Sites line) order = tt
 fresh all here begun (Start session) order = tt
 fresh all here begun (Deliver session end packet) order = tt
 fresh all here begun (Repeat session) order = tt
 fresh all here begun (GiveUp session end) order = tt
 fresh all here begun (Plain session) order = tt
+fresh all here begun (Tamper packet place byte) order = tt
+fresh all here begun (Cut packet length) order = tt
 
 pub known : (all here begun : List ℕ) (line : Line) → in_order all here begun line ≡ Ok tt → IsOpened here (named_by line)
 known all here begun (Session line) order = tt
@@ -86,6 +89,7 @@ known all here begun (Sync sub seq bit count) order = tt
 known all here begun (Give sub number) order = tt
 known all here begun (Eps sub snid) order = tt
 known all here begun (Fiveg line) order = tt
+known all here begun (Sites line) order = tt
 known all here begun (Start session) order = first (is_among session here) order
   where
     first : (b : Bool) → (require b why.UnknownSession >>= λ known. is_new begun session) ≡ Ok tt → b ≡ true
@@ -95,6 +99,8 @@ known all here begun (Deliver session end packet) order = holds_true (is_among s
 known all here begun (Repeat session) order = holds_true (is_among session here) why.UnknownSession order
 known all here begun (GiveUp session end) order = holds_true (is_among session here) why.UnknownSession order
 known all here begun (Plain session) order = holds_true (is_among session here) why.UnknownSession order
+known all here begun (Tamper packet place byte) order = tt
+known all here begun (Cut packet length) order = tt
 
 -- different numbers stay so with one more that is new
 pub numbers_push : (all : List ℕ) (session : Option ℕ) → AllPairs ◌≢◌ all → IsFresh all session → AllPairs ◌≢◌ (all ++ option_to_list session)

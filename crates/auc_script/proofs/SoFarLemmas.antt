@@ -10,7 +10,8 @@ use Rattle.std.proofs.lemmas.List.Elements.{All-from_get_or, All-nil, All-pop, A
 use Rattle.std.proofs.lemmas.Grind.{flat_map-append}
 use Rattle.std.proofs.lemmas.List.Folds.{list_any-append, list_any_at}
 use Rattle.std.proofs.lemmas.List.Quantifiers.{all_pairs_push}
-use Rattle.std.proofs.lemmas.List.Sums.{sum_by-append}
+use Rattle.std.proofs.Math.Nat.{mul-le-mul_left, mul-le-mul_right}
+use Rattle.std.proofs.lemmas.List.Sums.{count_by-le-length, sum_by-append}
 use Rattle.std.proofs.lemmas.Option.{slice_get_within}
 use Rattle.auc_subs.specs.declared.row.Row.{Row}
 use Rattle.auc_subs.specs.declared.refusal.SubsWhy.{SubsWhy}
@@ -19,10 +20,11 @@ use Rattle.auc_script.specs.declared.holders.Holders.{Holders}
 use Rattle.auc_script.specs.declared.sessions.Sessions.{Sessions}
 use Rattle.auc_script.specs.declared.so_far.SoFar.{SoFar}
 use Rattle.auc_lines.specs.declared.part.Line.{Line}
-use Rattle.auc_lines.specs.declared.part.Line.TheVariants.{Draw, Give, Sync, Eps, Fiveg, Session, Start, Deliver, Repeat, GiveUp, Plain}
+use Rattle.auc_lines.specs.declared.part.Line.TheVariants.{Draw, Give, Sync, Eps, Fiveg, Sites, Session, Start, Deliver, Repeat, GiveUp, Plain, Tamper, Cut}
 use Rattle.auc_lines.specs.declared.part.Part.{Part}
 use Rattle.auc_lines.specs.declared.part.Part.TheVariants.{Round, Restart}
-use Rattle.auc_script.specs.Numbers.{most_count, most_jobs, most_packets, most_rounds, most_sessions, most_vectors}
+use Rattle.auc_lines.specs.Sites.{IsSitesValue, SitesValue, deliveries_in, is_delivery}
+use Rattle.auc_script.specs.Numbers.{most_events, most_jobs, most_leased, most_packets, most_rounds, most_sessions, most_vectors}
 use Rattle.auc_script.specs.declared.round_so_far.RoundSoFar.{RoundSoFar}
 use Rattle.auc_script.specs.declared.word.JobWord.{JobWord}
 use Rattle.auc_script.specs.Limits.{AreJobs, AreWithin, IsLine, IsOpened, IsPart, SessionsAreOpened}
@@ -592,19 +594,34 @@ four true true false d is = cc
 four true false c d is = cc
 four false b c d is = cc
 
+-- the most vectors that a line asks for: a whole lease in each event
+abbrev pub most_by_line : ℕ
+most_by_line = most_leased * most_events
+
+-- a line for sites asks for few vectors
+few_leased : (line : SitesValue) → IsSitesValue line → line.size * deliveries_in line.schedule ≤ most_by_line
+few_leased line is =
+    let few : deliveries_in line.schedule ≤ most_events = omega (arith, count_by-le-length is_delivery line.schedule, is.few) in
+    let less = mul-le-mul_left line.size few in
+    let more = mul-le-mul_right most_events is.most in
+    omega (arith, less, more)
+
 -- a line asks for few vectors
-few_asked : (rows : List Row) (line : Line) → (has_fit_texts line ≡ true → IsLine rows line) → asked_by line ≤ most_count
-few_asked rows (Draw sub count) is = (is refl).2
-few_asked rows (Sync sub seq bit count) is = (is refl).3
+few_asked : (rows : List Row) (line : Line) → (has_fit_texts line ≡ true → IsLine rows line) → asked_by line ≤ most_by_line
+few_asked rows (Draw sub count) is = omega (arith, (is refl).2)
+few_asked rows (Sync sub seq bit count) is = omega (arith, (is refl).3)
 few_asked rows (Session line) is = omega arith
 few_asked rows (Give sub number) is = omega arith
 few_asked rows (Eps sub snid) is = omega arith
 few_asked rows (Fiveg line) is = omega arith
+few_asked rows (Sites line) is = few_leased line (is refl).1
 few_asked rows (Start session) is = omega arith
 few_asked rows (Deliver session end packet) is = omega arith
 few_asked rows (Repeat session) is = omega arith
 few_asked rows (GiveUp session end) is = omega arith
 few_asked rows (Plain session) is = omega arith
+few_asked rows (Tamper packet place byte) is = omega arith
+few_asked rows (Cut packet length) is = omega arith
 
 -- a line of the present job can be tested
 pub ready : (rows : List Row) (s : SoFar) (round : RoundSoFar) (job : List Line) (line : Line) → IsSoFar rows s → s.round ≡ Some round → round.job ≡ Some job

@@ -1,8 +1,11 @@
 -- The forms of a line's fields, each with the cause that a field of another form gives.
-use Rattle.std.specs.Prelude.{ℕ, ◌&&◌, nat_le, Bool, true, false, List, [], ◌∷◌, length, codes, Option, Some, None, Result, Ok, Err, if◌then◌else◌}
+use Rattle.std.specs.Prelude.{ℕ, ◌&&◌, nat_le, Bool, true, false, List, [], ◌∷◌, length, codes, Option, Some, None, Result, Ok, Err, slice_index, if◌then◌else◌}
 use Rattle.std.specs.List.{list_all}
+use Rattle.std.specs.Option.{ok_or}
 use Rattle.std.specs.Char.{is_ascii_digit}
 use Rattle.auc_edge.specs.Identity.{number_of}
+use Rattle.auc_subs.specs.Steps.{◌>>=◌}
+use Rattle.auc_text.specs.Field.{octets_in}
 use Rattle.auc_text.specs.Text.{is_text}
 use Rattle.auc_script.specs.declared.refusal.ScriptWhy.{ScriptWhy}
 use Rattle.auc_script.specs.declared.refusal.ScriptWhy.TheVariants as why
@@ -58,6 +61,10 @@ some_bit (Err cause) = Err cause
 -- a bit up to the last one, or - for none
 abbrev pub bit_in : ℕ → List ℕ → Result (Option ℕ) ScriptWhy
 bit_in last text = if is_text text (codes "-") then Ok None else some_bit (number_between 0 last text)
+
+-- a byte of two hexadecimal digits
+abbrev pub byte_in : List ℕ → Result ℕ ScriptWhy
+byte_in text = ok_or (octets_in 1 text) why.Hex >>= λ octets. Ok (slice_index octets 0)
 
 -- an end of a session
 abbrev pub end_in : List ℕ → Result End ScriptWhy

@@ -10,4 +10,5 @@ pub mod Reading
 pub mod Scenario
 pub mod Session
 pub mod SessionLine
+pub mod SitesLine
 pub mod Word

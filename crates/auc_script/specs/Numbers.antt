@@ -25,6 +25,10 @@ last_session = 999999
 abbrev pub last_packet : ℕ
 last_packet = 4294967295
 
+-- the greatest place in a packet, and the greatest length of its front
+abbrev pub last_place : ℕ
+last_place = 4294967295
+
 -- how many packets a `plain` line counts for, and all lines of a job may
 abbrev pub packets_of_plain : ℕ
 packets_of_plain = 40
@@ -45,3 +49,13 @@ longest_name = 255
 
 abbrev pub longest_text : ℕ
 longest_text = 255
+
+-- how many sites a line for sites may have, how many numbers a lease, and how many events its schedule
+abbrev pub most_sites : ℕ
+most_sites = 64
+
+abbrev pub most_leased : ℕ
+most_leased = 32
+
+abbrev pub most_events : ℕ
+most_events = 200

@@ -30,10 +30,15 @@
 --   deliver T END P                          the same; END server or peer, P to 4294967295
 --   giveup T END                             the same; END server or peer
 --   plain T                                  the same
+--   tamper P PLACE BYTE                      in a job; P and PLACE to 4294967295, BYTE of two hexadecimal digits
+--   cut P LENGTH                             in a job; P and LENGTH to 4294967295
+--   sites IMSI SITES SIZE SCHEDULE           in a job; SITES 1 to 64, SIZE 1 to 32; SCHEDULE of 1 to 200 events
+--                                            between commas, each of them ask:S, draw:S or re:S with S from 1
+--                                            to SITES, dP with P to 4294967295, or master; a subscriber's IMSI
 --
--- All lines together ask for 1000000 vectors at most: a session for two, an eps and a fiveg for one. The lines of sessions
--- in a job count for 1000000 packets at most, a plain for 40 and each other for one. A line without a word and a comment say
--- nothing. What isn't served so far is told before all else: tamper and cut.
+-- All lines together ask for 1000000 vectors at most: a session for two, an eps and a fiveg for one, and a line of sites for
+-- SIZE in each event dP. The lines of sessions, tamper and cut in a job count for 1000000 packets at most, a plain for 40 and
+-- each other for one. A line without a word and a comment say nothing.
 use Rattle.std.specs.Prelude.{ℕ, ◌+◌, ◌==◌, ◌++◌, ◌&&◌, not, nat_le, nat_lt, Bool, false, List, [], ◌∷◌, length, Option, Some, None, is_some, Result, Ok, Err, if◌then◌else◌}
 use Rattle.std.specs.List.{join_with_byte, list_any}
 use Rattle.std.specs.Option.{ok_or, option_to_list}
@@ -45,11 +50,11 @@ use Rattle.auc_text.specs.Field.{octets_in}
 use Rattle.auc_text.specs.Text.{words_of}
 use Rattle.auc_subs.specs.Subscriber.{place_of, rows_after}
 use Rattle.auc_lines.specs.declared.part.Line.{Line}
-use Rattle.auc_lines.specs.declared.part.Line.TheVariants.{Draw, Give, Sync, Eps, Fiveg, Session, Start, Deliver, Repeat, GiveUp, Plain}
+use Rattle.auc_lines.specs.declared.part.Line.TheVariants.{Draw, Give, Sync, Eps, Fiveg, Sites, Session, Start, Deliver, Repeat, GiveUp, Plain, Tamper, Cut}
 use Rattle.auc_lines.specs.declared.part.Part.{Part}
 use Rattle.auc_lines.specs.declared.part.Part.TheVariants.{Round, Restart}
 use Rattle.auc_lines.specs.Part.{asked, asked_by, held_by, holds, jobs_of, last_bit, last_star_bit}
-use Rattle.auc_script.specs.Numbers.{last_packet, last_session, longest_realm, most_count, most_jobs, most_packets, most_rounds, most_sessions, most_vectors, most_workers}
+use Rattle.auc_script.specs.Numbers.{last_packet, last_place, last_session, longest_realm, most_count, most_jobs, most_leased, most_packets, most_rounds, most_sessions, most_sites, most_vectors, most_workers}
 use Rattle.auc_script.specs.declared.refusal.ScriptWhy.{ScriptWhy}
 use Rattle.auc_script.specs.declared.refusal.ScriptWhy.TheVariants as why
 use Rattle.auc_script.specs.declared.header.Header.{Header}
@@ -61,11 +66,12 @@ use Rattle.auc_script.specs.declared.word.JobWord.TheVariants as job
 use Rattle.auc_script.specs.declared.word.Word.{Word}
 use Rattle.auc_script.specs.declared.word.Word.TheVariants as word
 use Rattle.auc_subs.specs.Steps.{◌>>=◌}
-use Rattle.auc_script.specs.Field.{bit_in, end_in, four_fields, full_in, no_field, number_between, one_field, require, three_fields, two_fields}
+use Rattle.auc_script.specs.Field.{bit_in, byte_in, end_in, four_fields, full_in, no_field, number_between, one_field, require, three_fields, two_fields}
 use Rattle.auc_script.specs.FivegLine.{fiveg_fields, fiveg_line, hxres_in}
 use Rattle.auc_script.specs.Session.{has_fit_texts, is_among, opened, opened_by, packets, packets_by, sessions_of, started}
+use Rattle.auc_script.specs.SitesLine.{schedule_of}
 use Rattle.auc_script.specs.SessionLine.{are_names, are_options, is_identity, method_in, seven_fields, session_line}
-use Rattle.auc_script.specs.Word.{is_comment, is_later, word_of}
+use Rattle.auc_script.specs.Word.{is_comment, word_of}
 
 -- what some lines say: the subscribers, the words of the header, the parts before the present round, and
 -- the present round, if there is one
@@ -231,6 +237,16 @@ fiveg_of rows fields = do
   sub ← ok_or (place_of rows identity) why.UnknownSubscriber
   Ok (Fiveg (fiveg_line sub bit hxres all))
 
+abbrev pub sites_of : List Row → List (List ℕ) → Result Line ScriptWhy
+sites_of rows fields = do
+  four ← four_fields fields
+  identity ← ok_or (identity_of four.0) why.Fields
+  sites ← number_between 1 most_sites four.1
+  size ← number_between 1 most_leased four.2
+  events ← schedule_of sites four.3
+  sub ← ok_or (place_of rows identity) why.UnknownSubscriber
+  Ok (Sites (record { sub = sub; sites = sites; size = size; schedule = events }))
+
 abbrev pub session_of : List Row → List (List ℕ) → Result Line ScriptWhy
 session_of rows fields = do
   seven ← seven_fields fields
@@ -264,18 +280,36 @@ give_up_of fields = do
   end ← end_in two.1
   Ok (GiveUp session end)
 
+abbrev pub tamper_of : List (List ℕ) → Result Line ScriptWhy
+tamper_of fields = do
+  three ← three_fields fields
+  packet ← number_between 0 last_packet three.0
+  place ← number_between 0 last_place three.1
+  byte ← byte_in three.2
+  Ok (Tamper packet place byte)
+
+abbrev pub cut_of : List (List ℕ) → Result Line ScriptWhy
+cut_of fields = do
+  two ← two_fields fields
+  packet ← number_between 0 last_packet two.0
+  length ← number_between 0 last_place two.1
+  Ok (Cut packet length)
+
 abbrev pub line_of : List Row → JobWord → List (List ℕ) → Result Line ScriptWhy
 line_of rows job.Draw fields = draw_of rows fields
 line_of rows job.Sync fields = sync_of rows fields
 line_of rows job.Give fields = give_of rows fields
 line_of rows job.Eps fields = eps_of rows fields
 line_of rows job.Fiveg fields = fiveg_of rows fields
+line_of rows job.Sites fields = sites_of rows fields
 line_of rows job.Session fields = session_of rows fields
 line_of rows job.Start fields = number_of_session fields >>= λ session. Ok (Start session)
 line_of rows job.Deliver fields = deliver_of fields
 line_of rows job.Repeat fields = number_of_session fields >>= λ session. Ok (Repeat session)
 line_of rows job.GiveUp fields = give_up_of fields
 line_of rows job.Plain fields = number_of_session fields >>= λ session. Ok (Plain session)
+line_of rows job.Tamper fields = tamper_of fields
+line_of rows job.Cut fields = cut_of fields
 
 -- a session is among those that its job opened; it isn't among those before
 abbrev pub is_open : List ℕ → ℕ → Result (Unit {0}) ScriptWhy
@@ -292,12 +326,15 @@ in_order all own begun (Sync sub seq bit count) = Ok tt
 in_order all own begun (Give sub number) = Ok tt
 in_order all own begun (Eps sub snid) = Ok tt
 in_order all own begun (Fiveg line) = Ok tt
+in_order all own begun (Sites line) = Ok tt
 in_order all own begun (Session line) = is_new all line.session
 in_order all own begun (Start session) = is_open own session >>= λ known. is_new begun session
 in_order all own begun (Deliver session end packet) = is_open own session
 in_order all own begun (Repeat session) = is_open own session
 in_order all own begun (GiveUp session end) = is_open own session
 in_order all own begun (Plain session) = is_open own session
+in_order all own begun (Tamper packet place byte) = Ok tt
+in_order all own begun (Cut packet length) = Ok tt
 
 -- the limits of some parts with one line more in their last job
 abbrev pub has_room : List Part → List Line → Line → Bool
@@ -327,17 +364,10 @@ word_line s word.Job fields = job_line s fields
 word_line s word.Restart fields = restart_line s fields
 word_line s (word.OfJob which) fields = of_job_line s which fields
 
--- a line that begins with a word
-abbrev pub served_line : Scenario → List ℕ → List (List ℕ) → Result Scenario ScriptWhy
-served_line s text fields = do
-  served ← require (not (is_later text)) why.NotYet
-  which ← ok_or (word_of text) why.UnknownWord
-  word_line s which fields
-
 -- a line of some words
 abbrev pub line_of_words : Scenario → List (List ℕ) → Result Scenario ScriptWhy
 line_of_words s [] = Ok s
-line_of_words s (text ∷ fields) = served_line s text fields
+line_of_words s (text ∷ fields) = ok_or (word_of text) why.UnknownWord >>= λ which. word_line s which fields
 
 -- what the scenario is after a line, or the first cause why the line is wrong
 abbrev pub after_line : Scenario → List ℕ → Result Scenario ScriptWhy

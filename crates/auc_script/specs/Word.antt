@@ -1,5 +1,5 @@
 -- How a line begins: with the # of a comment, or with a word.
-use Rattle.std.specs.Prelude.{ℕ, ◌==◌, ◌||◌, Bool, List, codes, Option, Some, None, if◌then◌else◌, slice_index_or}
+use Rattle.std.specs.Prelude.{ℕ, ◌==◌, Bool, List, codes, Option, Some, None, if◌then◌else◌, slice_index_or}
 use Rattle.auc_text.specs.Text.{is_text}
 use Rattle.auc_script.specs.declared.word.HeaderWord.{HeaderWord}
 use Rattle.auc_script.specs.declared.word.HeaderWord.TheVariants as header
@@ -29,12 +29,15 @@ job_word_of text =
     else if is_text text (codes "give") then Some job.Give
     else if is_text text (codes "eps") then Some job.Eps
     else if is_text text (codes "fiveg") then Some job.Fiveg
+    else if is_text text (codes "sites") then Some job.Sites
     else if is_text text (codes "session") then Some job.Session
     else if is_text text (codes "start") then Some job.Start
     else if is_text text (codes "deliver") then Some job.Deliver
     else if is_text text (codes "repeat") then Some job.Repeat
     else if is_text text (codes "giveup") then Some job.GiveUp
     else if is_text text (codes "plain") then Some job.Plain
+    else if is_text text (codes "tamper") then Some job.Tamper
+    else if is_text text (codes "cut") then Some job.Cut
     else None
 
 abbrev pub of_header : Option HeaderWord → Option Word
@@ -57,7 +60,3 @@ word_of text =
     else if is_text text (codes "round") then Some word.Round
     else if is_text text (codes "job") then Some word.Job
     else other_word_of text
-
--- whether a line with this first word isn't served so far
-abbrev pub is_later : List ℕ → Bool
-is_later text = is_text text (codes "tamper") || is_text text (codes "cut")

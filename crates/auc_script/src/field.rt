@@ -4,12 +4,12 @@ ghost use Rattle.std.specs.Prelude.{◌≡◌, ◌≤◌, [], ◌∷◌, ◌<◌
 ghost use Rattle.std.specs.Option.{option_copied};
 ghost use Rattle.auc_edge.specs.Identity.{number_of};
 ghost use Rattle.auc_text.specs.Text.{is_text, words_of};
-ghost use Rattle.auc_script.specs.Field.{bit_in, end_in, four_fields, full_in, is_number, no_field, number_between, one_field, optional_field, three_fields, two_fields};
+ghost use Rattle.auc_script.specs.Field.{bit_in, byte_in, end_in, four_fields, full_in, is_number, no_field, number_between, one_field, optional_field, three_fields, two_fields};
 ghost use Rattle.auc_script.specs.declared.refusal.ScriptWhy.TheVariants as cause;
 
 use crate::refusal::ScriptWhy;
 use auc_lines::End;
-use auc_text::{are_digits, next_word, read_decimal};
+use auc_text::{are_digits, next_word, read_decimal, read_octets};
 
 /// The last of the 112 bits of an AUTS (TS 33.102 §6.3.3).
 pub const LAST_BIT: u8 = 111;
@@ -136,6 +136,14 @@ pub fn read_bit(text: &[u8], last: u8) -> Result<Option<u8>, ScriptWhy>
         return Ok(None);
     }
     Ok(Some(read_number(text, 0, u64::from(last))? as u8))
+}
+
+/// The byte that a field of two hexadecimal digits is.
+pub fn read_byte(text: &[u8]) -> Result<u8, ScriptWhy>
+    ensures { result ≡ byte_in text.now }
+{
+    let octets = read_octets::<1>(text).ok_or(ScriptWhy::Hex)?;
+    Ok(octets[0])
 }
 
 /// The end of a session that a field is.

@@ -1,18 +1,22 @@
 //! The lines of a job.
 
-ghost use Rattle.std.specs.Prelude.{◌≡◌, ◌<◌, true, length, IfOk, IfSome};
+ghost use Rattle.std.specs.Prelude.{◌≡◌, ◌<◌, true, List, length, IfOk, IfSome};
 ghost use Rattle.auc_lines.specs.Part.{held_by};
+ghost use Rattle.auc_subs.specs.declared.row.Row.{Row};
 ghost use Rattle.auc_text.specs.Text.{words_of};
 ghost use Rattle.auc_script.specs.InnerRefusal.{Says, as_said};
 ghost use Rattle.auc_script.specs.Limits.{IsLine};
-ghost use Rattle.auc_script.specs.Scenario.{draw_of, eps_of, give_of, line_of, sync_of};
+ghost use Rattle.auc_script.specs.Scenario.{cut_of, draw_of, eps_of, give_of, line_of, sync_of, tamper_of};
 ghost use Rattle.auc_script.specs.Session.{has_fit_texts};
 
-use crate::field::{LAST_BIT, four_fields, read_bit, read_number, two_fields};
+use crate::field::{
+    LAST_BIT, four_fields, read_bit, read_byte, read_number, three_fields, two_fields,
+};
 use crate::fiveg_line::read_fiveg;
-use crate::limits::MAX_COUNT;
+use crate::limits::{LAST_PACKET, LAST_PLACE, MAX_COUNT};
 use crate::refusal::{LineRefusal, ScriptWhy};
 use crate::session_line::{read_deliver, read_give_up, read_one_number, read_session};
+use crate::sites_line::read_sites;
 use crate::word::JobWord;
 use auc_edge::Imsi;
 use auc_lines::Line;
@@ -38,12 +42,15 @@ pub fn read_line(
         JobWord::Give => said(read_give(subs, fields)),
         JobWord::Eps => said(read_eps(subs, fields)),
         JobWord::Fiveg => read_fiveg(alloc, subs, fields),
+        JobWord::Sites => read_sites(alloc, subs, fields),
         JobWord::Session => read_session(alloc, subs, fields),
         JobWord::Start => Ok(Line::Start(read_one_number(fields)?)),
         JobWord::Deliver => said(read_deliver(fields)),
         JobWord::Repeat => Ok(Line::Repeat(read_one_number(fields)?)),
         JobWord::GiveUp => said(read_give_up(fields)),
         JobWord::Plain => Ok(Line::Plain(read_one_number(fields)?)),
+        JobWord::Tamper => said(read_tamper(fields)),
+        JobWord::Cut => said(read_cut(fields)),
     }
 }
 
@@ -110,4 +117,34 @@ fn read_eps(subs: &Subscribers, fields: &[u8]) -> Result<Line, ScriptWhy>
     let snid = read_octets::<3>(snid).ok_or(ScriptWhy::Hex)?;
     let sub = subs.find(imsi).ok_or(ScriptWhy::UnknownSubscriber)?;
     Ok(Line::Eps { sub, snid })
+}
+
+/// What the fields `P PLACE BYTE` say.
+fn read_tamper(fields: &[u8]) -> Result<Line, ScriptWhy>
+    ensures value { result ≡ tamper_of (words_of fields.now) }
+    ensures line { (rows : List Row) → IfOk result (IsLine rows) }
+{
+    let (packet, place, byte) = three_fields(fields)?;
+    let packet = read_number(packet, 0, LAST_PACKET)?;
+    let place = read_number(place, 0, LAST_PLACE)?;
+    let byte = read_byte(byte)?;
+    Ok(Line::Tamper {
+        packet: packet as u32,
+        place: place as u32,
+        byte,
+    })
+}
+
+/// What the fields `P LENGTH` say.
+fn read_cut(fields: &[u8]) -> Result<Line, ScriptWhy>
+    ensures value { result ≡ cut_of (words_of fields.now) }
+    ensures line { (rows : List Row) → IfOk result (IsLine rows) }
+{
+    let (packet, length) = two_fields(fields)?;
+    let packet = read_number(packet, 0, LAST_PACKET)?;
+    let length = read_number(length, 0, LAST_PLACE)?;
+    Ok(Line::Cut {
+        packet: packet as u32,
+        length: length as u32,
+    })
 }

@@ -2,10 +2,10 @@
 //!
 //! [`Script::read`] reads a scenario's text: lines of words, each line with the first word that says what
 //! it is. `randkey`, `workers`, `print`, `realm` and the scenario's own `subscriber`s come before the first
-//! `round`; a round has `job`s, and a job has lines `draw`, `sync`, `give`, `eps` and `fiveg`, and those of sessions:
-//! `session`, `start`, `deliver`, `repeat`, `giveup` and `plain`. A `restart` may stand once after each round. The first
-//! line that is none of these, or stands in a wrong place, or has a wrong field, or passes a limit, is refused by its
-//! number and its first cause, a [`ScriptWhy`].
+//! `round`; a round has `job`s, and a job has lines `draw`, `sync`, `give`, `eps`, `fiveg` and `sites`, those of sessions,
+//! `session`, `start`, `deliver`, `repeat`, `giveup` and `plain`, and `tamper` and `cut` for a changed packet. A `restart`
+//! may stand once after each round. The first line that is none of these, or stands in a wrong place, or has a wrong field,
+//! or passes a limit, is refused by its number and its first cause, a [`ScriptWhy`].
 //!
 //! The parts and lines of a scenario are types of `auc_lines`. Contracts see the lists of a [`Script`] as
 //! lists; its subscribers go to `auc_subs`.
@@ -24,16 +24,20 @@ mod round_so_far;
 mod script;
 mod session_line;
 mod sessions;
+mod sites_line;
 mod so_far;
 mod word;
 
-pub use auc_lines::{End, FivegLine, Identity, JobPart, Line, Part, RoundPart, SessionLine};
+pub use auc_lines::{
+    End, FivegLine, Identity, JobPart, Line, Part, RoundPart, SessionLine, SiteEvent, SitesLine,
+};
 pub use law::{
     refused_line_is_the_first_wrong, right_text_is_read_whole, text_that_is_read_is_right,
 };
 pub use limits::{
-    LAST_PACKET, LAST_SESSION, MAX_COUNT, MAX_JOBS, MAX_NAME, MAX_PACKETS, MAX_REALM, MAX_ROUNDS,
-    MAX_SESSIONS, MAX_TEXT, MAX_VECTORS, MAX_WORKERS, PACKETS_OF_PLAIN,
+    LAST_PACKET, LAST_PLACE, LAST_SESSION, MAX_COUNT, MAX_EVENTS, MAX_JOBS, MAX_LEASED, MAX_NAME,
+    MAX_PACKETS, MAX_REALM, MAX_ROUNDS, MAX_SESSIONS, MAX_SITES, MAX_TEXT, MAX_VECTORS,
+    MAX_WORKERS, PACKETS_OF_PLAIN,
 };
 pub use refusal::{ScriptRefusal, ScriptWhy};
 pub use script::Script;

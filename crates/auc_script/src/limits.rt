@@ -14,6 +14,8 @@ pub const MAX_SESSIONS: usize = 100000;
 pub const LAST_SESSION: u64 = 999999;
 /// The greatest number of a packet that a line may name.
 pub const LAST_PACKET: u64 = 4294967295;
+/// The greatest place in a packet that a line may name, and the greatest length of its front.
+pub const LAST_PLACE: u64 = 4294967295;
 /// How many packets a `plain` line counts for.
 pub const PACKETS_OF_PLAIN: u32 = 40;
 /// How many packets the lines of a job may count for together.
@@ -26,3 +28,9 @@ pub const MAX_REALM: usize = 255;
 pub const MAX_NAME: usize = 255;
 /// How many bytes the text of an identity may have.
 pub const MAX_TEXT: usize = 255;
+/// How many sites a line for sites may have.
+pub const MAX_SITES: u64 = 64;
+/// How many numbers a lease may have.
+pub const MAX_LEASED: u64 = 32;
+/// How many events the schedule of a line for sites may have.
+pub const MAX_EVENTS: usize = 200;

@@ -34,8 +34,6 @@ pub enum ScriptWhy {
     UsimBusy,
     /// A limit of the scenario is passed.
     Limit,
-    /// The line or a value of a session's line is known, but isn't served so far. This is tested before all else.
-    NotYet,
 }
 
 /// A test that has to hold, else the cause.

@@ -60,7 +60,10 @@ impl Sessions {
             | Line::Sync { .. }
             | Line::Give { .. }
             | Line::Eps { .. }
-            | Line::Fiveg(_) => Ok(()),
+            | Line::Fiveg(_)
+            | Line::Sites(_)
+            | Line::Tamper { .. }
+            | Line::Cut { .. } => Ok(()),
             Line::Session(ref line) => require(!self.all.has(line.session), ScriptWhy::Twice),
             Line::Start(session) => {
                 require(self.opened.has(session), ScriptWhy::UnknownSession)?;
@@ -118,7 +121,8 @@ fn packets_by(line: &Line) -> u32
         | Line::Sync { .. }
         | Line::Give { .. }
         | Line::Eps { .. }
-        | Line::Fiveg(_) => 0,
+        | Line::Fiveg(_)
+        | Line::Sites(_) => 0,
         Line::Plain(_) => PACKETS_OF_PLAIN,
         _ => 1,
     }

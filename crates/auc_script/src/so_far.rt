@@ -21,7 +21,7 @@ use crate::round_so_far::RoundSoFar;
 use crate::script::Script;
 use crate::session_line::has_fit_texts;
 use crate::sessions::Sessions;
-use crate::word::{HeaderWord, JobWord, Word, is_comment, is_later, read_word};
+use crate::word::{HeaderWord, JobWord, Word, is_comment, read_word};
 use auc_edge::{Items, NoMemory, Octets};
 use auc_lines::{Line, Part};
 use auc_subs::{AddRefusal, Subscribers};
@@ -95,7 +95,6 @@ impl SoFar {
         let Some((text, fields)) = next_word(line) else {
             return Ok(());
         };
-        require(!is_later(text), ScriptWhy::NotYet)?;
         let word = read_word(text).ok_or(ScriptWhy::UnknownWord)?;
         self.put_word(alloc, subs, word, fields)
     }

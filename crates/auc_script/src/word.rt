@@ -1,7 +1,7 @@
 //! How a line begins: with the `#` of a comment, or with a word.
 
 ghost use Rattle.std.specs.Prelude.{◌≡◌};
-ghost use Rattle.auc_script.specs.Word.{header_word_of, is_comment, is_later, job_word_of, other_word_of, word_of};
+ghost use Rattle.auc_script.specs.Word.{header_word_of, is_comment, job_word_of, other_word_of, word_of};
 
 use crate::field::is_text;
 
@@ -31,6 +31,8 @@ pub enum JobWord {
     Eps,
     /// `fiveg IMSI HOMENAME DEVICENAME BIT`, or with `hxresstar` as a fifth field
     Fiveg,
+    /// `sites IMSI SITES SIZE SCHEDULE`
+    Sites,
     /// `session T IMSI METHOD SNAME PNAME OPTIONS IDENTITY`
     Session,
     /// `start T`
@@ -43,6 +45,10 @@ pub enum JobWord {
     GiveUp,
     /// `plain T`
     Plain,
+    /// `tamper P PLACE BYTE`
+    Tamper,
+    /// `cut P LENGTH`
+    Cut,
 }
 
 /// The first word of a line.
@@ -117,6 +123,9 @@ fn read_job_word(text: &[u8]) -> Option<JobWord>
     if is_text(text, b"fiveg") {
         return Some(JobWord::Fiveg);
     }
+    if is_text(text, b"sites") {
+        return Some(JobWord::Sites);
+    }
     if is_text(text, b"session") {
         return Some(JobWord::Session);
     }
@@ -134,6 +143,12 @@ fn read_job_word(text: &[u8]) -> Option<JobWord>
     }
     if is_text(text, b"plain") {
         return Some(JobWord::Plain);
+    }
+    if is_text(text, b"tamper") {
+        return Some(JobWord::Tamper);
+    }
+    if is_text(text, b"cut") {
+        return Some(JobWord::Cut);
     }
     None
 }
@@ -155,11 +170,4 @@ fn read_header_word(text: &[u8]) -> Option<HeaderWord>
         return Some(HeaderWord::Realm);
     }
     None
-}
-
-/// Whether a line with this first word isn't served so far.
-pub fn is_later(text: &[u8]) -> bool
-    ensures { result ≡ is_later text.now }
-{
-    is_text(text, b"tamper") || is_text(text, b"cut")
 }

@@ -1,5 +1,5 @@
 use Rattle.auc_text.specs.Text.{words_of}
-use Rattle.auc_script.specs.Scenario.{deliver_of, draw_of, eps_of, give_of, give_up_of, sync_of}
+use Rattle.auc_script.specs.Scenario.{cut_of, deliver_of, draw_of, eps_of, give_of, give_up_of, sync_of, tamper_of}
 use Rattle.auc_script.proofs.LineLemmas.{known_said, line_said, says_same}
 use Rattle.auc_script.proofs.job_line.read_line.Goals as goal
 
@@ -56,3 +56,21 @@ returns-in-GiveUp-clause-known c = rw c.said-in-GiveUp.ensures (known_said c.arg
 
 pub returns-in-GiveUp-clause-line : goal.returns-in-GiveUp-clause-line
 returns-in-GiveUp-clause-line c = rw c.said-in-GiveUp.ensures (line_said c.args.subs.now c.read_give_up.result (c.read_give_up.ensures.line c.args.subs.now))
+
+pub returns-in-Tamper-clause-value : goal.returns-in-Tamper-clause-value
+returns-in-Tamper-clause-value c = rw (c.in-Tamper.is, c.said-in-Tamper.ensures, c.read_tamper.ensures.value) (says_same (tamper_of (words_of c.args.fields.now)))
+
+pub returns-in-Tamper-clause-known : goal.returns-in-Tamper-clause-known
+returns-in-Tamper-clause-known c = rw c.said-in-Tamper.ensures (known_said c.args.subs.now c.read_tamper.result (c.read_tamper.ensures.line c.args.subs.now))
+
+pub returns-in-Tamper-clause-line : goal.returns-in-Tamper-clause-line
+returns-in-Tamper-clause-line c = rw c.said-in-Tamper.ensures (line_said c.args.subs.now c.read_tamper.result (c.read_tamper.ensures.line c.args.subs.now))
+
+pub returns-in-Cut-clause-value : goal.returns-in-Cut-clause-value
+returns-in-Cut-clause-value c = rw (c.in-Cut.is, c.said-in-Cut.ensures, c.read_cut.ensures.value) (says_same (cut_of (words_of c.args.fields.now)))
+
+pub returns-in-Cut-clause-known : goal.returns-in-Cut-clause-known
+returns-in-Cut-clause-known c = rw c.said-in-Cut.ensures (known_said c.args.subs.now c.read_cut.result (c.read_cut.ensures.line c.args.subs.now))
+
+pub returns-in-Cut-clause-line : goal.returns-in-Cut-clause-line
+returns-in-Cut-clause-line c = rw c.said-in-Cut.ensures (line_said c.args.subs.now c.read_cut.result (c.read_cut.ensures.line c.args.subs.now))
