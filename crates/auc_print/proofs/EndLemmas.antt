@@ -12,18 +12,25 @@ use Rattle.auc_lines.specs.declared.part.Line.{Line}
 use Rattle.auc_lines.specs.declared.part.Line.TheVariants as line
 use Rattle.auc_lines.specs.declared.part.Part.{Part}
 use Rattle.auc_lines.specs.declared.part.Part.TheVariants as part
+use Rattle.auc_lines.specs.declared.sites.SiteEvent.{SiteEvent}
 use Rattle.auc_peer.specs.Subscription.{Subscription}
 use Rattle.auc_random.specs.Random.{rand_of}
 use Rattle.auc_request.specs.Request.{is_separated}
 use Rattle.auc_server.specs.Server.{ServerEnd}
 use Rattle.auc_server.specs.declared.options.ServerOptions.{ServerOptions}
+use Rattle.auc_sites.specs.Network.{Network, Turn, after_event}
+use Rattle.auc_sites.specs.Run.{judgement_in}
+use Rattle.auc_sites.specs.declared.master.Judged.{Judged}
+use Rattle.auc_sites.specs.declared.master.Judged.TheVariants as judged
 use Rattle.auc_subs.specs.declared.row.Row.{Row}
 use Rattle.auc_vector.specs.declared.parts.Vector.{Vector as AuthVector}
-use Rattle.auc_world.specs.Came.{Came, came, came_at_peer, came_at_server, came_delivered, came_given_up, came_in, came_opened, came_repeated, came_started, server_came_to_give_up, session_of}
-use Rattle.auc_world.specs.Given.{Authenticates, AuthenticatesIf, Before, DrawGives, EventGives, FivegFollows, GiveGives, JobGives, JobsGive, LineGives, OneGives, PlainGives, RelayGives, VectorsFollow, behind, device_of_row, hxres_lines, judged_lines, kasme_line, outcome_of, packet_of, turned}
-use Rattle.auc_world.specs.Happened.{Delivery, Told, delivery_in}
+use Rattle.auc_world.specs.Came.{Came, came, came_at_peer, came_at_server, came_changed, came_delivered, came_given_up, came_in, came_opened, came_repeated, came_started, server_came_to_give_up, session_of}
+use Rattle.auc_world.specs.Draws.{DrawGives, OneGives}
+use Rattle.auc_world.specs.Given.{Authenticates, AuthenticatesIf, Before, EventGives, FivegFollows, GiveGives, JobGives, JobsGive, LineGives, PlainGives, RelayGives, VectorsFollow, behind, device_of_row, hxres_lines, judged_lines, kasme_line, outcome_of, packet_of, turned}
+use Rattle.auc_world.specs.Happened.{Delivery, Told, changed_in, delivery_in}
 use Rattle.auc_world.specs.Net.{Net, device_place, other, packet_at, session_place}
 use Rattle.auc_world.specs.Setting.{Setting}
+use Rattle.auc_world.specs.Sites.{LeaseGives, SiteEventGives, SitesGo, event_of, note_of, sites_start}
 use Rattle.auc_world.specs.Start.{Kept, start_of}
 use Rattle.auc_world.specs.Transcript.{Course, Leads, ServesPart, stop_before}
 use Rattle.auc_world.specs.declared.event.Event.{Event}
@@ -86,6 +93,11 @@ in_session : (at' : Option End) (does : Session → Came) → ((s : Session) →
 in_session at' does each None = tt
 in_session at' does each (Some s) = each s
 
+changed_at_none : (packets : List SentPacket) (sent : Option SentPacket) (copy : Option (List ℕ)) → CameAt None (came_changed packets sent copy)
+changed_at_none packets None copy = tt
+changed_at_none packets (Some sent) None = tt
+changed_at_none packets (Some sent) (Some bytes) = tt
+
 -- what comes of an event is a step of its end
 pub came_at_end : (set : Setting) (w : Net) (e : Event) (told : Told) → CameAt (end_of e) (came set w e told)
 came_at_end set w (event.Open opening) told = opened_at (session_place w.sessions opening.session) (device_place set.rows w.devices opening.sub)
@@ -95,6 +107,10 @@ came_at_end set w (event.Deliver session at' packet) told = delivered_at set w a
 came_at_end set w (event.Repeat session) told =
     in_session (Some end.Server) (λ s. came_repeated w s.server) (λ s. repeated_at w s.server) (session_of w session)
 came_at_end set w (event.GiveUp session at') told = in_session (Some at') (came_given_up w at') (given_up_at w at') (session_of w session)
+came_at_end set w (event.Tamper packet place byte) told =
+    changed_at_none w.packets (packet_at w.packets packet) (changed_in w.packets (event.Tamper packet place byte))
+came_at_end set w (event.Cut packet count) told =
+    changed_at_none w.packets (packet_at w.packets packet) (changed_in w.packets (event.Cut packet count))
 
 -- ---- lines
 
@@ -191,6 +207,30 @@ fiveg_at set before l n lines f = by (is_separated (vector_of_row set f.row l.su
     by false is = further_at (further.Fiveg l.sub fiveg.NoSeparation) lines is
     by true is = authenticates_at set before l f.row n lines is
 
+-- what the events of a line for sites give
+lease_at : (set : Setting) (sub size : ℕ) (found : Option Judged) (lines : List LineRecord) → LeaseGives set sub size found lines → AreAt lines
+lease_at set sub size None lines gives = none_at lines gives
+lease_at set sub size (Some (judged.Again g)) lines gives = none_at lines gives
+lease_at set sub size (Some (judged.Old last)) lines gives = none_at lines gives
+lease_at set sub size (Some judged.New) lines gives = draw_at set sub size lines gives
+
+site_event_at : (set : Setting) (sub size : ℕ) (w : Network) (e : SiteEvent) (lines : List LineRecord) (turn : Turn)
+    → SiteEventGives set sub size w e lines turn → AreAt lines
+site_event_at set sub size w e lines turn gives =
+    subst AreAt (sym gives.lines_are)
+    (All-append IsAtItsEnd gives.drawn (record_of.Further (further.Sites sub (note_of w e turn)) ∷ [])
+    (lease_at set sub size (judgement_in w (event_of w e)) gives.drawn gives.draws)
+    (further_at (further.Sites sub (note_of w e turn)) _ refl))
+
+sites_at : (set : Setting) (sub size : ℕ) (w : Network) (events : List SiteEvent) (lines : List LineRecord) (turns : List Turn)
+    → SitesGo set sub size w events lines turns → AreAt lines
+sites_at set sub size w [] lines turns go = none_at lines go.0
+sites_at set sub size w (e ∷ events) lines [] go = absurd go
+sites_at set sub size w (e ∷ events) lines (turn ∷ turns) (front, rest, parts, here, more) =
+    subst AreAt (sym parts)
+    (All-append IsAtItsEnd front rest (site_event_at set sub size w e front turn here)
+    (sites_at set sub size (after_event w turn.event turn.numbers turn.end) events rest turns more))
+
 line_at : (set : Setting) (before : Before) (net : Net) (asked : Line) (lines : List LineRecord) (next : Net) → LineGives set before net asked lines next → AreAt lines
 line_at set before net (line.Draw sub count) lines next gives = draw_at set sub count lines gives.0
 line_at set before net (line.Sync sub seq bit count) lines next gives =
@@ -204,12 +244,16 @@ line_at set before net (line.Eps sub snid) lines next gives =
 line_at set before net (line.Fiveg l) lines next gives =
     one_at set l.sub (λ n rest. FivegFollows set (behind before (record_of.Vector l.sub n ∷ [])) l n rest) lines gives.0
     (λ n rest f. fiveg_at set (behind before (record_of.Vector l.sub n ∷ [])) l n rest f)
+line_at set before net (line.Sites l) lines next gives =
+    let run = gives.0 in sites_at set l.sub l.size (sites_start l) l.schedule lines run.0 run.1
 line_at set before net (line.Session opening) lines next gives = event_at set before net (event.Open opening) lines next gives
 line_at set before net (line.Start session) lines next gives = event_at set before net (event.Start session) lines next gives
 line_at set before net (line.Deliver session at' packet) lines next gives = event_at set before net (event.Deliver session at' packet) lines next gives
 line_at set before net (line.Repeat session) lines next gives = event_at set before net (event.Repeat session) lines next gives
 line_at set before net (line.GiveUp session at') lines next gives = event_at set before net (event.GiveUp session at') lines next gives
 line_at set before net (line.Plain session) lines next gives = plain_at set before net session lines next gives
+line_at set before net (line.Tamper packet place byte) lines next gives = event_at set before net (event.Tamper packet place byte) lines next gives
+line_at set before net (line.Cut packet count) lines next gives = event_at set before net (event.Cut packet count) lines next gives
 
 -- ---- jobs and parts
 

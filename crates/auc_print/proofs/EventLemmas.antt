@@ -33,7 +33,7 @@ use Rattle.auc_world.specs.declared.event.NoteStep.TheVariants as did
 use Rattle.auc_world.specs.declared.event.WorldRefusal.{WorldRefusal}
 use Rattle.auc_world.specs.declared.event.WorldRefusal.TheVariants as refused
 use Rattle.auc_print.specs.EventText.{came_words, counter_words, end_word, event_words, notes_words, number_words, outcome_words, peer_words, reason_word, refusal_words, resumed_words, resync_words, sent_words, server_words, step_words, stop_word, usim_words, what_words}
-use Rattle.auc_print.specs.OneText.{CameAt, CameFits, IsStepAt, UsimFits, end_of}
+use Rattle.auc_print.specs.OneText.{CameAt, CameFits, EventFits, IsStepAt, UsimFits, end_of}
 use Rattle.auc_print.proofs.HexLemmas.{hex_injective}
 use Rattle.auc_print.proofs.NumeralLemmas.{numeral_injective}
 
@@ -59,15 +59,17 @@ mark_of_word word =
     else if bytes_eq word (codes "counter") then 11
     else if bytes_eq word (codes "small") then 12
     else if bytes_eq word (codes "sent") then 13
+    else if bytes_eq word (codes "made") then 13
     else if bytes_eq word (codes "open") then 14
     else if bytes_eq word (codes "ended") then 15
     else if bytes_eq word (codes "ignored") then 16
     else if bytes_eq word (codes "nosuchpacket") then 17
     else if bytes_eq word (codes "nosuchend") then 18
-    else if bytes_eq word (codes "started") then 19 else 20
+    else if bytes_eq word (codes "started") then 19
+    else if bytes_eq word (codes "nosuchplace") then 20 else 21
 
 abbrev mark : List (List ℕ) → ℕ
-mark [] = 20
+mark [] = 21
 mark (word ∷ words) = mark_of_word word
 
 -- ---- words
@@ -299,26 +301,33 @@ counter_cut (Some a) None r s p q e =
     let kinds : counter_rank (Some a) ≡ counter_rank None = sym (counter_mark (Some a) r p) ∙ ap (λ ws. min 13 (mark ws)) e ∙ counter_mark None s q in absurd (omega (arith, low, kinds))
 counter_cut (Some a) (Some b) r s p q e = counter_same a b r s p q e
 
--- the packet that was sent
+-- the packet that was sent or made
 abbrev sent_rank : Option ℕ → ℕ
 sent_rank None = 14
 sent_rank (Some a0) = 13
 
-sent_mark : (a : Option ℕ) (r : List (List ℕ)) → 14 ≤ mark r → min 14 (mark (sent_words a ++ r)) ≡ sent_rank a
-sent_mark None r later = omega arith
-sent_mark (Some a0) r later = refl
+sent_mark : (d : NoteStep) (a : Option ℕ) (r : List (List ℕ)) → 14 ≤ mark r → min 14 (mark (sent_words d a ++ r)) ≡ sent_rank a
+sent_mark d None r later = omega arith
+sent_mark did.Opened (Some a0) r later = refl
+sent_mark (did.Server what) (Some a0) r later = refl
+sent_mark (did.Peer what) (Some a0) r later = refl
+sent_mark (did.Made bytes) (Some a0) r later = refl
 
-sent_begins : (a : Option ℕ) (r : List (List ℕ)) → 14 ≤ mark r → 13 ≤ mark (sent_words a ++ r)
-sent_begins None r later = omega (arith, later)
-sent_begins (Some a0) r later = omega arith
+sent_begins : (d : NoteStep) (a : Option ℕ) (r : List (List ℕ)) → 14 ≤ mark r → 13 ≤ mark (sent_words d a ++ r)
+sent_begins d a r later = let rank = sent_mark d a r later in let low = sent_low a in omega (arith, rank, low)
+  where
+    sent_low : (b : Option ℕ) → 13 ≤ sent_rank b
+    sent_low None = omega arith
+    sent_low (Some b0) = omega arith
 
-sent_cut : (a b : Option ℕ) (r s : List (List ℕ)) → 14 ≤ mark r → 14 ≤ mark s → sent_words a ++ r ≡ sent_words b ++ s → (a ≡ b) × (r ≡ s)
-sent_cut None None r s p q e = (refl, e)
-sent_cut (Some a0) (Some b0) r s p q e =
+sent_cut : (d f : NoteStep) (a b : Option ℕ) (r s : List (List ℕ)) → 14 ≤ mark r → 14 ≤ mark s → sent_words d a ++ r ≡ sent_words f b ++ s
+    → (a ≡ b) × (r ≡ s)
+sent_cut d f None None r s p q e = (refl, e)
+sent_cut d f (Some a0) (Some b0) r s p q e =
     let v0 : a0 ≡ b0 = numeral_injective a0 b0 (ap (λ ws. word_at ws 1) e) in
     let rest : r ≡ s = ap (λ ws. drop 2 ws) e in ((cc), rest)
-sent_cut a b r s p q e =
-    let kinds : sent_rank a ≡ sent_rank b = sym (sent_mark a r p) ∙ ap (λ ws. min 14 (mark ws)) e ∙ sent_mark b s q in absurd (omega arith)
+sent_cut d f a b r s p q e =
+    let kinds : sent_rank a ≡ sent_rank b = sym (sent_mark d a r p) ∙ ap (λ ws. min 14 (mark ws)) e ∙ sent_mark f b s q in absurd (omega arith)
 
 -- ---- all notes
 
@@ -537,22 +546,26 @@ peer_injective a b e = let kinds : peer_number a ≡ peer_number b = peer_is a �
 abbrev refusal_of_word : List ℕ → ℕ
 refusal_of_word word =
     if bytes_eq word (codes "nosuchpacket") then 0
-    else if bytes_eq word (codes "nosuchend") then 1 else 2
+    else if bytes_eq word (codes "nosuchend") then 1
+    else if bytes_eq word (codes "started") then 2 else 3
 
 abbrev refusal_number : WorldRefusal → ℕ
 refusal_number refused.NoSuchPacket = 0
 refusal_number refused.NoSuchEnd = 1
 refusal_number refused.Started = 2
+refusal_number refused.NoSuchPlace = 3
 
 refusal_is : (a : WorldRefusal) → refusal_number a ≡ refusal_of_word (word_at (refusal_words a) 0)
 refusal_is refused.NoSuchPacket = refl
 refusal_is refused.NoSuchEnd = refl
 refusal_is refused.Started = refl
+refusal_is refused.NoSuchPlace = refl
 
 refusal_injective : (a b : WorldRefusal) → refusal_words a ≡ refusal_words b → a ≡ b
 refusal_injective refused.NoSuchPacket refused.NoSuchPacket e = refl
 refusal_injective refused.NoSuchEnd refused.NoSuchEnd e = refl
 refusal_injective refused.Started refused.Started e = refl
+refusal_injective refused.NoSuchPlace refused.NoSuchPlace e = refl
 refusal_injective a b e = let kinds : refusal_number a ≡ refusal_number b = refusal_is a ∙ ap (λ ws. refusal_of_word (word_at ws 0)) e ∙ sym (refusal_is b) in absurd (omega arith)
 
 -- ---- the step
@@ -606,36 +619,51 @@ abbrev side_number : NoteStep → ℕ
 side_number did.Opened = 0
 side_number (did.Server what) = 1
 side_number (did.Peer what) = 2
+side_number (did.Made bytes) = 0
 
 at_side : (at' : Option End) (a : NoteStep) → IsStepAt at' a → end_number at' ≡ side_number a
 at_side None did.Opened is = refl
+at_side None (did.Made bytes) is = refl
 at_side (Some end.Server) (did.Server what) is = refl
 at_side (Some end.Peer) (did.Peer what) is = refl
 at_side None (did.Server what) is = absurd is
 at_side None (did.Peer what) is = absurd is
 at_side (Some end.Server) did.Opened is = absurd is
 at_side (Some end.Server) (did.Peer what) is = absurd is
+at_side (Some end.Server) (did.Made bytes) is = absurd is
 at_side (Some end.Peer) did.Opened is = absurd is
 at_side (Some end.Peer) (did.Server what) is = absurd is
+at_side (Some end.Peer) (did.Made bytes) is = absurd is
 
 -- what is told of a step at an end is determined by its words
 step_injective : (at' : Option End) (a b : NoteStep) → IsStepAt at' a → IsStepAt at' b → step_words a ≡ step_words b → told_step a ≡ told_step b
 step_injective at' did.Opened did.Opened p q e = refl
 step_injective at' (did.Server a) (did.Server b) p q e = ap did.Server (what_injective server_words server_injective a b e)
 step_injective at' (did.Peer a) (did.Peer b) p q e = ap did.Peer (what_injective peer_words peer_injective a b e)
+step_injective at' (did.Made a) (did.Made b) p q e = refl
+step_injective at' did.Opened (did.Made b) p q e =
+    let marks : mark (step_words did.Opened) ≡ mark (step_words (did.Made b)) = ap mark e in absurd (omega arith)
+step_injective at' (did.Made a) did.Opened p q e =
+    let marks : mark (step_words (did.Made a)) ≡ mark (step_words did.Opened) = ap mark e in absurd (omega arith)
 step_injective at' a b p q e = let sides : side_number a ≡ side_number b = sym (at_side at' a p) ∙ at_side at' b q in absurd (omega arith)
 
--- the number of a step's first word
-what_mark : {W : Type 0} (why_words : W → List (List ℕ)) (a : Step W) → (14 ≤ mark (what_words why_words a)) × (mark (what_words why_words a) ≡ 17 → ⊥) × (mark (what_words why_words a) ≡ 18 → ⊥) × (mark (what_words why_words a) ≡ 19 → ⊥)
-what_mark why_words (step.Sent bytes) = (omega arith, (λ e. omega arith), (λ e. omega arith), (λ e. omega arith))
-what_mark why_words (step.Ended (outcome.Success keys) bytes) = (omega arith, (λ e. omega arith), (λ e. omega arith), (λ e. omega arith))
-what_mark why_words (step.Ended (outcome.Failure why) bytes) = (omega arith, (λ e. omega arith), (λ e. omega arith), (λ e. omega arith))
-what_mark why_words (step.Ignored why) = (omega arith, (λ e. omega arith), (λ e. omega arith), (λ e. omega arith))
+-- whether words begin as those of a refusal do: 1 if so
+abbrev refused_of_words : List (List ℕ) → ℕ
+refused_of_words words =
+    if mark words == 17 then 1 else if mark words == 18 then 1 else if mark words == 19 then 1 else if mark words == 20 then 1 else 0
 
-step_mark : (a : NoteStep) → (14 ≤ mark (step_words a)) × (mark (step_words a) ≡ 17 → ⊥) × (mark (step_words a) ≡ 18 → ⊥) × (mark (step_words a) ≡ 19 → ⊥)
-step_mark did.Opened = (omega arith, (λ e. omega arith), (λ e. omega arith), (λ e. omega arith))
+-- the number of a step's first word, which is that of no refusal
+what_mark : {W : Type 0} (why_words : W → List (List ℕ)) (a : Step W) → (14 ≤ mark (what_words why_words a)) × (refused_of_words (what_words why_words a) ≡ 0)
+what_mark why_words (step.Sent bytes) = (omega arith, refl)
+what_mark why_words (step.Ended (outcome.Success keys) bytes) = (omega arith, refl)
+what_mark why_words (step.Ended (outcome.Failure why) bytes) = (omega arith, refl)
+what_mark why_words (step.Ignored why) = (omega arith, refl)
+
+step_mark : (a : NoteStep) → (14 ≤ mark (step_words a)) × (refused_of_words (step_words a) ≡ 0)
+step_mark did.Opened = (omega arith, refl)
 step_mark (did.Server what) = what_mark server_words what
 step_mark (did.Peer what) = what_mark peer_words what
+step_mark (did.Made bytes) = (omega arith, refl)
 
 -- ---- what came of an event
 
@@ -647,19 +675,27 @@ refusal_begins : (why : WorldRefusal) → 17 ≤ mark (refusal_words why)
 refusal_begins refused.NoSuchPacket = omega arith
 refusal_begins refused.NoSuchEnd = omega arith
 refusal_begins refused.Started = omega arith
+refusal_begins refused.NoSuchPlace = omega arith
+
+refusal_refused : (why : WorldRefusal) → refused_of_words (refusal_words why) ≡ 1
+refusal_refused refused.NoSuchPacket = refl
+refusal_refused refused.NoSuchEnd = refl
+refusal_refused refused.Started = refl
+refusal_refused refused.NoSuchPlace = refl
 
 -- no step has the words of a refusal
 no_refusal : (a : NoteStep) (why : WorldRefusal) → step_words a ≡ refusal_words why → ⊥
-no_refusal a refused.NoSuchPacket e = (step_mark a).1 (ap mark e)
-no_refusal a refused.NoSuchEnd e = (step_mark a).2 (ap mark e)
-no_refusal a refused.Started e = (step_mark a).3 (ap mark e)
+no_refusal a why e =
+    let same : refused_of_words (step_words a) ≡ refused_of_words (refusal_words why) = ap refused_of_words e in
+    let none = (step_mark a).1 in
+    let is = refusal_refused why in omega (arith, same, none, is)
 
 -- what an end did after a note, with the words of its step
-came_cut : (m n : Notes) (packet other : Option ℕ) (r s : List (List ℕ)) → UsimFits m.usim → 14 ≤ mark r → 14 ≤ mark s
-    → notes_words m ++ (sent_words packet ++ r) ≡ notes_words n ++ (sent_words other ++ s) → (m ≡ n) × (packet ≡ other) × (r ≡ s)
-came_cut m n packet other r s fits p q e =
-    let notes = notes_cut m n _ _ fits (sent_begins packet r p) (sent_begins other s q) e in
-    let sent = sent_cut packet other r s p q notes.1 in
+came_cut : (d f : NoteStep) (m n : Notes) (packet other : Option ℕ) (r s : List (List ℕ)) → UsimFits m.usim → 14 ≤ mark r → 14 ≤ mark s
+    → notes_words m ++ (sent_words d packet ++ r) ≡ notes_words n ++ (sent_words f other ++ s) → (m ≡ n) × (packet ≡ other) × (r ≡ s)
+came_cut d f m n packet other r s fits p q e =
+    let notes = notes_cut m n _ _ fits (sent_begins d packet r p) (sent_begins f other s q) e in
+    let sent = sent_cut d f packet other r s p q notes.1 in
     (notes.0, sent.0, sent.1)
 
 note_is : (a b : Note) → a.notes ≡ b.notes → a.packet ≡ b.packet → told_step a.step ≡ told_step b.step → told_came (Ok a) ≡ told_came (Ok b)
@@ -670,16 +706,16 @@ note_is a b notes packet did_so =
 -- what is told of what came of an event is determined by its words
 pub came_injective : (at' : Option End) (a b : Result Note WorldRefusal) → CameFits a → CameAt at' a → CameAt at' b → came_words a ≡ came_words b → told_came a ≡ told_came b
 came_injective at' (Ok a) (Ok b) fits p q e =
-    let found = came_cut a.notes b.notes a.packet b.packet _ _ fits (step_mark a.step).0 (step_mark b.step).0 e in
+    let found = came_cut a.step b.step a.notes b.notes a.packet b.packet _ _ fits (step_mark a.step).0 (step_mark b.step).0 e in
     note_is a b found.0 found.1 (step_injective at' a.step b.step p q found.2)
 came_injective at' (Err v) (Err w) fits p q e = ap Err (refusal_injective v w e)
 came_injective at' (Ok a) (Err w) fits p q e =
     let begins = refusal_begins w in
-    let found = came_cut a.notes no_notes a.packet None _ (refusal_words w) fits (step_mark a.step).0 (omega (arith, begins)) e in
+    let found = came_cut a.step did.Opened a.notes no_notes a.packet None _ (refusal_words w) fits (step_mark a.step).0 (omega (arith, begins)) e in
     absurd (no_refusal a.step w found.2)
 came_injective at' (Err v) (Ok b) fits p q e =
     let begins = refusal_begins v in
-    let found = came_cut no_notes b.notes None b.packet (refusal_words v) _ tt (omega (arith, begins)) (step_mark b.step).0 e in
+    let found = came_cut did.Opened b.step no_notes b.notes None b.packet (refusal_words v) _ tt (omega (arith, begins)) (step_mark b.step).0 e in
     absurd (no_refusal b.step v (sym found.2))
 
 -- ---- the event
@@ -689,7 +725,9 @@ event_of_word word =
     if bytes_eq word (codes "session") then 0
     else if bytes_eq word (codes "start") then 1
     else if bytes_eq word (codes "deliver") then 2
-    else if bytes_eq word (codes "repeat") then 3 else 4
+    else if bytes_eq word (codes "repeat") then 3
+    else if bytes_eq word (codes "giveup") then 4
+    else if bytes_eq word (codes "tamper") then 5 else 6
 
 abbrev event_number : Event → ℕ
 event_number (event.Open opening) = 0
@@ -697,6 +735,8 @@ event_number (event.Start session) = 1
 event_number (event.Deliver session at' packet) = 2
 event_number (event.Repeat session) = 3
 event_number (event.GiveUp session at') = 4
+event_number (event.Tamper packet place byte) = 5
+event_number (event.Cut packet count) = 6
 
 event_is : (a : Event) (r : List (List ℕ)) → event_number a ≡ event_of_word (word_at (event_words a ++ r) 0)
 event_is (event.Open opening) r = refl
@@ -704,25 +744,37 @@ event_is (event.Start session) r = refl
 event_is (event.Deliver session at' packet) r = refl
 event_is (event.Repeat session) r = refl
 event_is (event.GiveUp session at') r = refl
+event_is (event.Tamper packet place byte) r = refl
+event_is (event.Cut packet count) r = refl
 
-event_cut : (a b : Event) (r s : List (List ℕ)) → event_words a ++ r ≡ event_words b ++ s → (told_event a ≡ told_event b) × (r ≡ s)
-event_cut (event.Open a) (event.Open b) r s e =
+event_cut : (a b : Event) (r s : List (List ℕ)) → EventFits a → event_words a ++ r ≡ event_words b ++ s → (told_event a ≡ told_event b) × (r ≡ s)
+event_cut (event.Open a) (event.Open b) r s fits e =
     let session : a.session ≡ b.session = numeral_injective a.session b.session (ap (λ ws. word_at ws 1) e) in
     (ap (λ (t : ℕ). event.Open (told_opening t)) session, ap (λ ws. drop 2 ws) e)
-event_cut (event.Start a) (event.Start b) r s e =
+event_cut (event.Start a) (event.Start b) r s fits e =
     let session : a ≡ b = numeral_injective a b (ap (λ ws. word_at ws 1) e) in (ap event.Start session, ap (λ ws. drop 2 ws) e)
-event_cut (event.Deliver a at' packet) (event.Deliver b other another) r s e =
+event_cut (event.Deliver a at' packet) (event.Deliver b other another) r s fits e =
     let session : a ≡ b = numeral_injective a b (ap (λ ws. word_at ws 1) e) in
     let place : at' ≡ other = end_injective at' other (ap (λ ws. word_at ws 2) e) in
     let same : packet ≡ another = numeral_injective packet another (ap (λ ws. word_at ws 3) e) in
     let rest : r ≡ s = ap (λ ws. drop 4 ws) e in ((cc), rest)
-event_cut (event.Repeat a) (event.Repeat b) r s e =
+event_cut (event.Repeat a) (event.Repeat b) r s fits e =
     let session : a ≡ b = numeral_injective a b (ap (λ ws. word_at ws 1) e) in (ap event.Repeat session, ap (λ ws. drop 2 ws) e)
-event_cut (event.GiveUp a at') (event.GiveUp b other) r s e =
+event_cut (event.GiveUp a at') (event.GiveUp b other) r s fits e =
     let session : a ≡ b = numeral_injective a b (ap (λ ws. word_at ws 1) e) in
     let place : at' ≡ other = end_injective at' other (ap (λ ws. word_at ws 2) e) in
     let rest : r ≡ s = ap (λ ws. drop 3 ws) e in ((cc), rest)
-event_cut a b r s e =
+event_cut (event.Tamper a place byte) (event.Tamper b other another) r s fits e =
+    let packet : a ≡ b = numeral_injective a b (ap (λ ws. word_at ws 1) e) in
+    let same_place : place ≡ other = numeral_injective place other (ap (λ ws. word_at ws 2) e) in
+    let digits : byte ∷ [] ≡ another ∷ [] = hex_injective (byte ∷ []) (another ∷ []) fits (ap (λ ws. word_at ws 3) e) in
+    let same_byte : byte ≡ another = ap (λ bytes. get_or bytes 0 0) digits in
+    let rest : r ≡ s = ap (λ ws. drop 4 ws) e in ((cc), rest)
+event_cut (event.Cut a count) (event.Cut b other) r s fits e =
+    let packet : a ≡ b = numeral_injective a b (ap (λ ws. word_at ws 1) e) in
+    let same : count ≡ other = numeral_injective count other (ap (λ ws. word_at ws 2) e) in
+    let rest : r ≡ s = ap (λ ws. drop 3 ws) e in ((cc), rest)
+event_cut a b r s fits e =
     let kinds : event_number a ≡ event_number b = event_is a r ∙ ap (λ ws. event_of_word (word_at ws 0)) e ∙ sym (event_is b s) in absurd (omega arith)
 
 -- the end that an event concerns is told
@@ -732,12 +784,14 @@ end_told (event.Start session) = refl
 end_told (event.Deliver session at' packet) = refl
 end_told (event.Repeat session) = refl
 end_told (event.GiveUp session at') = refl
+end_told (event.Tamper packet place byte) = refl
+end_told (event.Cut packet count) = refl
 
 -- what is told of an event's record is determined by its words
-pub event_injective : (a b : EventRecord) → CameFits a.result → CameAt (end_of a.event) a.result → CameAt (end_of b.event) b.result
+pub event_injective : (a b : EventRecord) → EventFits a.event → CameFits a.result → CameAt (end_of a.event) a.result → CameAt (end_of b.event) b.result
     → event_words a.event ++ came_words a.result ≡ event_words b.event ++ came_words b.result → told_record a ≡ told_record b
-event_injective a b fits p q e =
-    let found = event_cut a.event b.event _ _ e in
+event_injective a b fit fits p q e =
+    let found = event_cut a.event b.event _ _ fit e in
     let place : end_of b.event ≡ end_of a.event = sym (end_told b.event) ∙ ap end_of (sym found.0) ∙ end_told a.event in
     let came = came_injective (end_of a.event) a.result b.result fits p (subst (λ at'. CameAt at' b.result) place q) found.1 in
     let make : Event → Result Note WorldRefusal → EventRecord = λ e r. record { event = e; result = r } in

@@ -1,17 +1,18 @@
--- The words of a line on what follows from a vector determine what is told of it, for the lemmas on lines.
-use Rattle.std.proofs.Common.{ℕ, ◌≡◌, ◌∙◌, refl, sym, ap, List, length, if◌then◌else◌, codes, bytes_eq, arith}
+-- The words of a line on what follows from a vector, or for sites, determine what is told of it, for the lemmas on lines.
+use Rattle.std.proofs.Common.{ℕ, ◌≡◌, ◌∙◌, refl, sym, ap, List, drop, length, if◌then◌else◌, codes, bytes_eq, arith}
 use Rattle.auc_edge.specs.Identity.{Identity}
 use Rattle.auc_world.specs.Record.{IsBelow, further_subscriber}
 use Rattle.auc_world.specs.Told.{told_further, told_outcome_of_5g}
 use Rattle.auc_world.specs.declared.further.FivegOutcome.{FivegOutcome}
 use Rattle.auc_world.specs.declared.further.FivegOutcome.TheVariants.{NoSeparation, ServingRefused, HomeRefused, Confirmed}
 use Rattle.auc_world.specs.declared.further.Further.{Further}
-use Rattle.auc_world.specs.declared.further.Further.TheVariants.{Kasme, HxresStar, Fiveg}
+use Rattle.auc_world.specs.declared.further.Further.TheVariants.{Kasme, HxresStar, Fiveg, Sites}
 use Rattle.auc_print.specs.OneText.{AreIdentities, FurtherFits}
 use Rattle.auc_print.specs.Text.{fiveg_word, further_words}
 use Rattle.auc_print.proofs.EventLemmas.{word_at}
 use Rattle.auc_print.proofs.HexLemmas.{hex_injective}
 use Rattle.auc_print.proofs.ImsiLemmas.{imsi_injective, imsi_word}
+use Rattle.auc_print.proofs.SitesLemmas.{sites_injective, sites_words_are}
 use Rattle.auc_print.proofs.SpacedLemmas.{IsWord, AreWords, hex_word, word_from_test}
 
 -- the words are words
@@ -26,6 +27,8 @@ further_words_are identities (Kasme key) = (word_from_test (codes "kasme") refl,
 further_words_are identities (HxresStar half) = (word_from_test (codes "hxresstar") refl, (hex_word half, tt))
 further_words_are identities (Fiveg sub outcome) =
     (word_from_test (codes "fiveg") refl, (imsi_word identities sub, (fiveg_word_is outcome, tt)))
+further_words_are identities (Sites sub note) =
+    (word_from_test (codes "sites") refl, (imsi_word identities sub, sites_words_are note))
 
 -- a number for each outcome of a 5G authentication, by its word
 abbrev outcome_of_word : List ℕ → ℕ
@@ -62,19 +65,22 @@ outcome_injective a b e =
 abbrev further_of_word : List ℕ → ℕ
 further_of_word word =
     if bytes_eq word (codes "kasme") then 0
-    else if bytes_eq word (codes "hxresstar") then 1 else 2
+    else if bytes_eq word (codes "hxresstar") then 1
+    else if bytes_eq word (codes "fiveg") then 2 else 3
 
 -- the same number, by what follows
 abbrev further_number : Further → ℕ
 further_number (Kasme key) = 0
 further_number (HxresStar half) = 1
 further_number (Fiveg sub outcome) = 2
+further_number (Sites sub note) = 3
 
 -- the first word says which kind it is
 further_is : (identities : List Identity) (said : Further) → further_number said ≡ further_of_word (word_at (further_words identities said) 0)
 further_is identities (Kasme key) = refl
 further_is identities (HxresStar half) = refl
 further_is identities (Fiveg sub outcome) = refl
+further_is identities (Sites sub note) = refl
 
 -- what is told of it is determined by its words
 pub further_injective : (identities : List Identity) (a b : Further) → AreIdentities identities → IsBelow (length identities) (further_subscriber a)
@@ -84,6 +90,9 @@ further_injective identities (HxresStar a) (HxresStar b) are below fits e = ap H
 further_injective identities (Fiveg s a) (Fiveg t b) are below fits e =
     let sub : s ≡ t = imsi_injective identities s t are below (ap (λ ws. word_at ws 1) e) in
     let outcome : told_outcome_of_5g a ≡ told_outcome_of_5g b = outcome_injective a b (ap (λ ws. word_at ws 2) e) in (cc)
+further_injective identities (Sites s a) (Sites t b) are below fits e =
+    let sub : s ≡ t = imsi_injective identities s t are below (ap (λ ws. word_at ws 1) e) in
+    let note : a ≡ b = sites_injective a b (ap (λ ws. drop 2 ws) e) in (cc)
 further_injective identities a b are below fits e =
     let kinds : further_number a ≡ further_number b
     = further_is identities a ∙ ap (λ ws. further_of_word (word_at ws 0)) e ∙ sym (further_is identities b) in

@@ -10,5 +10,6 @@ mod NumeralLemmas
 mod OneTextLemmas
 mod PieceLemmas
 mod RoundLemmas
+mod SitesLemmas
 mod SpacedLemmas
 mod TextLemmas

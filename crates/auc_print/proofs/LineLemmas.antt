@@ -62,7 +62,7 @@ use Rattle.auc_print.proofs.ImsiLemmas.{imsi_injective, imsi_word}
 use Rattle.auc_print.proofs.NumeralLemmas.{numeral_injective, numeral_word}
 use Rattle.auc_print.proofs.SpacedLemmas.{IsWord, AllWords, AreWords, AreLines, hex_word, is_word, lines_cut, word_from_test, words_append}
 
--- each subscriber that a line names has an identity, and the SQN, K_ASME or HXRES* in the line consists of bytes
+-- each subscriber that a line names has an identity, and the SQN, K_ASME, HXRES* or changed byte in the line consists of bytes
 abbrev pub LineFits : List Identity → Line → Type 0
 LineFits identities (RoundLine number) = Unit {0}
 LineFits identities (JobLine number) = Unit {0}
@@ -161,9 +161,12 @@ counter_words_are None = tt
 counter_words_are (Some (counter.Taken count)) = one_number (codes "counter") count refl
 counter_words_are (Some (counter.Small count)) = one_number (codes "small") count refl
 
-sent_words_are : (a : Option ℕ) → AllWords (sent_words a)
-sent_words_are None = tt
-sent_words_are (Some packet) = one_number (codes "sent") packet refl
+sent_words_are : (d : NoteStep) (a : Option ℕ) → AllWords (sent_words d a)
+sent_words_are d None = tt
+sent_words_are did.Opened (Some packet) = one_number (codes "sent") packet refl
+sent_words_are (did.Server what) (Some packet) = one_number (codes "sent") packet refl
+sent_words_are (did.Peer what) (Some packet) = one_number (codes "sent") packet refl
+sent_words_are (did.Made bytes) (Some packet) = one_number (codes "made") packet refl
 
 notes_words_are : (notes : Notes) → AllWords (notes_words notes)
 notes_words_are notes =
@@ -221,14 +224,16 @@ step_words_are : (a : NoteStep) → AllWords (step_words a)
 step_words_are did.Opened = no_more (codes "open") refl
 step_words_are (did.Server what) = what_words_are server_words server_words_are what
 step_words_are (did.Peer what) = what_words_are peer_words peer_words_are what
+step_words_are (did.Made bytes) = tt
 
 came_words_are : (a : Result Note WorldRefusal) → AllWords (came_words a)
 came_words_are (Ok note) =
     words_append (notes_words note.notes) _ (notes_words_are note.notes)
-    (words_append (sent_words note.packet) (step_words note.step) (sent_words_are note.packet) (step_words_are note.step))
+    (words_append (sent_words note.step note.packet) (step_words note.step) (sent_words_are note.step note.packet) (step_words_are note.step))
 came_words_are (Err refused.NoSuchPacket) = no_more (codes "nosuchpacket") refl
 came_words_are (Err refused.NoSuchEnd) = no_more (codes "nosuchend") refl
 came_words_are (Err refused.Started) = no_more (codes "started") refl
+came_words_are (Err refused.NoSuchPlace) = no_more (codes "nosuchplace") refl
 
 -- the words of an event's line are words
 event_words_are : (e : SessionEvent) (words : List (List ℕ)) → AllWords words → AreWords (event_words e ++ words)
@@ -238,6 +243,9 @@ event_words_are (event.Deliver session at' packet) words are =
     (word_from_test (codes "deliver") refl, (numeral_word session, (end_word_is at', (numeral_word packet, are))))
 event_words_are (event.Repeat session) words are = (word_from_test (codes "repeat") refl, (numeral_word session, are))
 event_words_are (event.GiveUp session at') words are = (word_from_test (codes "giveup") refl, (numeral_word session, (end_word_is at', are)))
+event_words_are (event.Tamper packet place byte) words are =
+    (word_from_test (codes "tamper") refl, (numeral_word packet, (numeral_word place, (hex_word (byte ∷ []), are))))
+event_words_are (event.Cut packet count) words are = (word_from_test (codes "cut") refl, (numeral_word packet, (numeral_word count, are)))
 
 -- the words of a job's record are words
 answer_words_are : (identities : List Identity) (answer : LineRecord) → AreWords (record_words identities answer)
@@ -364,6 +372,7 @@ step_added : (a : NoteStep) → AreAdded (step_lines a)
 step_added did.Opened = tt
 step_added (did.Server what) = keys_added what
 step_added (did.Peer what) = keys_added what
+step_added (did.Made bytes) = tt
 
 came_added : (a : Result Note WorldRefusal) → AreAdded (came_lines a)
 came_added (Ok note) =
@@ -373,6 +382,7 @@ came_added (Err why) = tt
 further_added : (said : Said) → AreAdded (further_lines said)
 further_added (further.Kasme key) = tt
 further_added (further.HxresStar half) = tt
+further_added (further.Sites sub note) = tt
 further_added (further.Fiveg sub fiveg.NoSeparation) = tt
 further_added (further.Fiveg sub fiveg.ServingRefused) = tt
 further_added (further.Fiveg sub fiveg.HomeRefused) = tt
@@ -429,12 +439,15 @@ own_of_event (event.Start session) words rest = refl
 own_of_event (event.Deliver session at' packet) words rest = refl
 own_of_event (event.Repeat session) words rest = refl
 own_of_event (event.GiveUp session at') words rest = refl
+own_of_event (event.Tamper packet place byte) words rest = refl
+own_of_event (event.Cut packet count) words rest = refl
 
 own_of_further : (identities : List Identity) (said : Said) (rest : List (List (List ℕ)))
     → own (further_words identities said ∷ rest) ≡ further_words identities said ∷ own rest
 own_of_further identities (further.Kasme key) rest = refl
 own_of_further identities (further.HxresStar half) rest = refl
 own_of_further identities (further.Fiveg sub outcome) rest = refl
+own_of_further identities (further.Sites sub note) rest = refl
 
 own_of_words : (identities : List Identity) (line : Line) (rest : List (List (List ℕ)))
     → own (line_words identities line ∷ rest) ≡ line_words identities line ∷ own rest
@@ -496,9 +509,12 @@ after_counter None r none = none
 after_counter (Some (counter.Taken count)) r none = refl
 after_counter (Some (counter.Small count)) r none = refl
 
-after_sent : (a : Option ℕ) (r : List (List ℕ)) → is_verdict (word_at r 0) ≡ false → is_verdict (word_at (sent_words a ++ r) 0) ≡ false
-after_sent None r none = none
-after_sent (Some packet) r none = refl
+after_sent : (d : NoteStep) (a : Option ℕ) (r : List (List ℕ)) → is_verdict (word_at r 0) ≡ false → is_verdict (word_at (sent_words d a ++ r) 0) ≡ false
+after_sent d None r none = none
+after_sent did.Opened (Some packet) r none = refl
+after_sent (did.Server what) (Some packet) r none = refl
+after_sent (did.Peer what) (Some packet) r none = refl
+after_sent (did.Made bytes) (Some packet) r none = refl
 
 in_what : {W : Type 0} (why_words : W → List (List ℕ)) (a : Step W) → is_verdict (word_at (what_words why_words a) 0) ≡ false
 in_what why_words (step.Sent bytes) = refl
@@ -510,15 +526,17 @@ in_step : (a : NoteStep) → is_verdict (word_at (step_words a) 0) ≡ false
 in_step did.Opened = refl
 in_step (did.Server what) = in_what server_words what
 in_step (did.Peer what) = in_what peer_words what
+in_step (did.Made bytes) = refl
 
 in_came : (a : Result Note WorldRefusal) → is_verdict (word_at (came_words a) 0) ≡ false
 in_came (Ok note) =
-    ap (λ ws. is_verdict (word_at ws 0)) (notes_flat note.notes (sent_words note.packet ++ step_words note.step))
+    ap (λ ws. is_verdict (word_at ws 0)) (notes_flat note.notes (sent_words note.step note.packet ++ step_words note.step))
     ∙ after_resync note.notes.resync _ (after_number note.notes.number _ (after_resumed note.notes.resumed _
-    (after_usim note.notes.usim _ (after_counter note.notes.counter _ (after_sent note.packet _ (in_step note.step))))))
+    (after_usim note.notes.usim _ (after_counter note.notes.counter _ (after_sent note.step note.packet _ (in_step note.step))))))
 in_came (Err refused.NoSuchPacket) = refl
 in_came (Err refused.NoSuchEnd) = refl
 in_came (Err refused.Started) = refl
+in_came (Err refused.NoSuchPlace) = refl
 
 -- a number for each kind of line, by its words
 abbrev kind_of_words : List (List ℕ) → ℕ
@@ -547,11 +565,14 @@ kind_of_event (event.Start session) words none = refl
 kind_of_event (event.Deliver session at' packet) words none = refl
 kind_of_event (event.Repeat session) words none = refl
 kind_of_event (event.GiveUp session at') words none = refl
+kind_of_event (event.Tamper packet place byte) words none = refl
+kind_of_event (event.Cut packet count) words none = refl
 
 kind_of_further : (identities : List Identity) (said : Said) → 4 ≡ kind_of_words (further_words identities said)
 kind_of_further identities (further.Kasme key) = refl
 kind_of_further identities (further.HxresStar half) = refl
 kind_of_further identities (further.Fiveg sub outcome) = refl
+kind_of_further identities (further.Sites sub note) = refl
 
 kind_of_verdict : (agree : Bool) → is_verdict (agree_word agree) ≡ true
 kind_of_verdict true = refl
@@ -575,9 +596,10 @@ kind_is identities (RecordLine (Give sub n verdict)) = refl
 kind_is identities (RecordLine (Further said)) = kind_of_further identities said
 kind_is identities (RecordLine (Event r)) = kind_of_event r.event (came_words r.result) (in_came r.result)
 
--- whether a word is the first of a line on what follows from a vector
+-- whether a word is the first of a line on what follows from a vector, or for sites
 abbrev is_further : List ℕ → Bool
-is_further word = bytes_eq word (codes "kasme") || (bytes_eq word (codes "hxresstar") || bytes_eq word (codes "fiveg"))
+is_further word =
+    bytes_eq word (codes "kasme") || (bytes_eq word (codes "hxresstar") || (bytes_eq word (codes "fiveg") || bytes_eq word (codes "sites")))
 
 -- a number for each kind of record, by its first word
 abbrev record_of_word : List ℕ → ℕ
@@ -603,6 +625,7 @@ record_of_further : (identities : List Identity) (said : Said) → 5 ≡ record_
 record_of_further identities (further.Kasme key) = refl
 record_of_further identities (further.HxresStar half) = refl
 record_of_further identities (further.Fiveg sub outcome) = refl
+record_of_further identities (further.Sites sub note) = refl
 
 record_of_event : (e : SessionEvent) (words : List (List ℕ)) → 6 ≡ record_of_word (word_at (event_words e ++ words) 0)
 record_of_event (event.Open opening) words = refl
@@ -610,6 +633,8 @@ record_of_event (event.Start session) words = refl
 record_of_event (event.Deliver session at' packet) words = refl
 record_of_event (event.Repeat session) words = refl
 record_of_event (event.GiveUp session at') words = refl
+record_of_event (event.Tamper packet place byte) words = refl
+record_of_event (event.Cut packet count) words = refl
 
 -- the first word says the kind of record
 record_is : (identities : List Identity) (answer : LineRecord) → record_number answer ≡ record_of_word (word_at (record_words identities answer) 0)
@@ -707,7 +732,7 @@ answer_injective identities (Give s m a) (Give t n b) are p x y e =
     let number : m ≡ n = numeral_injective m n (ap (λ ws. word_at ws 2) e) in
     let verdict : a ≡ b = give_injective a b p.1 (ap (λ ws. drop 3 ws) e) in (cc)
 answer_injective identities (Further a) (Further b) are p x y e = ap (λ (s : Said). Further s) (further_injective identities a b are p.0 p.1 e)
-answer_injective identities (Event a) (Event b) are p x y e = ap (λ (r : EventRecord). Event r) (event_injective a b p.1 x y e)
+answer_injective identities (Event a) (Event b) are p x y e = ap (λ (r : EventRecord). Event r) (event_injective a b p.1.0 p.1.1 x y e)
 answer_injective identities a b are p x y e =
     let kinds : record_number a ≡ record_number b
     = record_is identities a ∙ ap (λ ws. record_of_word (word_at ws 0)) e ∙ sym (record_is identities b) in

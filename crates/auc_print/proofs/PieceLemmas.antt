@@ -43,15 +43,16 @@ step_joined (did.Peer (step.Sent bytes)) = refl
 step_joined (did.Peer (step.Ended (outcome.Success keys) bytes)) = refl
 step_joined (did.Peer (step.Ended (outcome.Failure why) bytes)) = refl
 step_joined (did.Peer (step.Ignored why)) = refl
+step_joined (did.Made bytes) = refl
 
 -- the words of a note
-pub note_printed : (note : Note) (s v w : List (List ℕ)) (out a b c d : List ℕ) → s ≡ sent_words note.packet → v ≡ did_words note.step → w ≡ why_words note.step
+pub note_printed : (note : Note) (s v w : List (List ℕ)) (out a b c d : List ℕ) → s ≡ sent_words note.step note.packet → v ≡ did_words note.step → w ≡ why_words note.step
     → a ≡ out ++ after_spaces (notes_words note.notes) → b ≡ a ++ after_spaces s → c ≡ b ++ after_spaces v → d ≡ c ++ after_spaces w
     → d ≡ out ++ after_spaces (came_words (Ok note))
 note_printed note s v w out a b c d s_is v_is w_is p q r t =
     let did_is : v ++ w ≡ did_words note.step ++ why_words note.step = cc in
     let step_is : v ++ w ≡ step_words note.step = did_is ∙ step_joined note.step in
-    let more : s ++ (v ++ w) ≡ sent_words note.packet ++ step_words note.step = cc in
+    let more : s ++ (v ++ w) ≡ sent_words note.step note.packet ++ step_words note.step = cc in
     spaces_more out a d (notes_words note.notes) (s ++ (v ++ w)) p (spaces_more a b d s (v ++ w) q (spaces_more b c d v w r t))
     ∙ ap (λ ws. out ++ after_spaces (notes_words note.notes ++ ws)) more
 

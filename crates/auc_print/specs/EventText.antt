@@ -51,6 +51,8 @@ event_words (event.Start session) = codes "start" ∷ numeral session ∷ []
 event_words (event.Deliver session at' packet) = codes "deliver" ∷ numeral session ∷ end_word at' ∷ numeral packet ∷ []
 event_words (event.Repeat session) = codes "repeat" ∷ numeral session ∷ []
 event_words (event.GiveUp session at') = codes "giveup" ∷ numeral session ∷ end_word at' ∷ []
+event_words (event.Tamper packet place byte) = codes "tamper" ∷ numeral packet ∷ numeral place ∷ encode_lower (byte ∷ []) ∷ []
+event_words (event.Cut packet count) = codes "cut" ∷ numeral packet ∷ numeral count ∷ []
 
 -- ---- the notes; a note that there isn't has no words
 
@@ -135,17 +137,24 @@ peer_words (peer_why.Notified code) = codes "notified" ∷ numeral code ∷ []
 peer_words peer_why.FailureReceived = codes "failurereceived" ∷ []
 peer_words peer_why.GivenUp = codes "givenup" ∷ []
 
--- the packet that was sent
-abbrev pub sent_words : Option ℕ → List (List ℕ)
-sent_words None = []
-sent_words (Some packet) = codes "sent" ∷ numeral packet ∷ []
+-- an end sends a packet, the network makes one
+abbrev pub sent_word : NoteStep → List ℕ
+sent_word did.Opened = codes "sent"
+sent_word (did.Server what) = codes "sent"
+sent_word (did.Peer what) = codes "sent"
+sent_word (did.Made bytes) = codes "made"
+
+-- the packet that was sent or made in a step
+abbrev pub sent_words : NoteStep → Option ℕ → List (List ℕ)
+sent_words step None = []
+sent_words step (Some packet) = sent_word step ∷ numeral packet ∷ []
 
 -- how a session ended at an end, by the words for its whys
 abbrev pub outcome_words : {W : Type 0} → (W → List (List ℕ)) → Outcome W → List (List ℕ)
 outcome_words why_words (outcome.Success keys) = codes "ended" ∷ codes "success" ∷ []
 outcome_words why_words (outcome.Failure why) = codes "ended" ∷ codes "failure" ∷ why_words why
 
--- what an end did besides sending
+-- what an end did besides sending; the network does nothing besides making a packet
 abbrev pub what_words : {W : Type 0} → (W → List (List ℕ)) → Step W → List (List ℕ)
 what_words why_words (step.Sent bytes) = []
 what_words why_words (step.Ended result bytes) = outcome_words why_words result
@@ -155,6 +164,7 @@ abbrev pub step_words : NoteStep → List (List ℕ)
 step_words did.Opened = codes "open" ∷ []
 step_words (did.Server what) = what_words server_words what
 step_words (did.Peer what) = what_words peer_words what
+step_words (did.Made bytes) = []
 
 -- ---- what came of the event
 
@@ -162,12 +172,13 @@ abbrev pub refusal_words : WorldRefusal → List (List ℕ)
 refusal_words refused.NoSuchPacket = codes "nosuchpacket" ∷ []
 refusal_words refused.NoSuchEnd = codes "nosuchend" ∷ []
 refusal_words refused.Started = codes "started" ∷ []
+refusal_words refused.NoSuchPlace = codes "nosuchplace" ∷ []
 
 abbrev pub came_words : Result Note WorldRefusal → List (List ℕ)
-came_words (Ok note) = notes_words note.notes ++ (sent_words note.packet ++ step_words note.step)
+came_words (Ok note) = notes_words note.notes ++ (sent_words note.step note.packet ++ step_words note.step)
 came_words (Err why) = refusal_words why
 
--- ---- what a full print adds: the packet that was sent, and the keys of Success
+-- ---- what a full print adds: the packet that was sent or made, and the keys of Success
 
 abbrev pub packet_words : ℕ → List ℕ → List (List ℕ)
 packet_words packet bytes = codes "packet" ∷ numeral packet ∷ encode_lower bytes ∷ []
@@ -177,7 +188,7 @@ keys_words keys =
     codes "keys" ∷ encode_lower keys.k_encr ∷ encode_lower keys.k_aut ∷ encode_lower keys.k_re
     ∷ encode_lower keys.msk ∷ encode_lower keys.emsk ∷ []
 
--- the bytes that a step sent, if it sent any
+-- the bytes that a step sent or made, if it did
 abbrev pub what_sent : {W : Type 0} → Step W → List ℕ
 what_sent (step.Sent bytes) = bytes
 what_sent (step.Ended result bytes) = bytes
@@ -187,6 +198,7 @@ abbrev pub step_sent : NoteStep → List ℕ
 step_sent did.Opened = []
 step_sent (did.Server what) = what_sent what
 step_sent (did.Peer what) = what_sent what
+step_sent (did.Made bytes) = bytes
 
 abbrev pub packet_lines : Option ℕ → List ℕ → List (List (List ℕ))
 packet_lines None bytes = []
@@ -205,6 +217,7 @@ abbrev pub step_lines : NoteStep → List (List (List ℕ))
 step_lines did.Opened = []
 step_lines (did.Server what) = what_lines what
 step_lines (did.Peer what) = what_lines what
+step_lines (did.Made bytes) = []
 
 abbrev pub came_lines : Result Note WorldRefusal → List (List (List ℕ))
 came_lines (Ok note) = packet_lines note.packet (step_sent note.step) ++ step_lines note.step

@@ -37,6 +37,7 @@ word_texts (words.Text text) = text.now ∷ []
 word_texts (words.Number number) = numeral number ∷ []
 word_texts (words.Hex bytes) = encode_lower bytes.now ∷ []
 word_texts (words.Sqn bytes) = encode_lower bytes ∷ []
+word_texts (words.Byte byte) = encode_lower (byte ∷ []) ∷ []
 
 -- the words of a group
 abbrev pub group_texts : List Word → List (List ℕ)
@@ -55,6 +56,7 @@ abbrev pub did_words : NoteStep → List (List ℕ)
 did_words did.Opened = codes "open" ∷ []
 did_words (did.Server what) = ended_words what
 did_words (did.Peer what) = ended_words what
+did_words (did.Made bytes) = []
 
 -- the cause of a Failure
 abbrev pub why_words : NoteStep → List (List ℕ)
@@ -67,6 +69,7 @@ why_words (did.Peer (step.Sent bytes)) = []
 why_words (did.Peer (step.Ended (outcome.Success keys) bytes)) = []
 why_words (did.Peer (step.Ended (outcome.Failure why) bytes)) = peer_words why
 why_words (did.Peer (step.Ignored why)) = []
+why_words (did.Made bytes) = []
 
 -- ---- lines
 

@@ -2,4 +2,5 @@ pub mod EventText
 pub mod Inner
 pub mod Numeral
 pub mod OneText
+pub mod SitesText
 pub mod Text

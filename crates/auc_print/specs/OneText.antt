@@ -1,5 +1,5 @@
 -- A text tells what is told of its transcript.
-use Rattle.std.specs.Prelude.{ℕ, ◌≡◌, ◌≢◌, Bool, List, length, Option, Some, None, Result, Ok, Err, All, AllPairs}
+use Rattle.std.specs.Prelude.{ℕ, ◌≡◌, ◌≢◌, Bool, List, [], ◌∷◌, length, Option, Some, None, Result, Ok, Err, All, AllPairs}
 use Rattle.hex.specs.Hex.{IsBytes}
 use Rattle.auc_edge.specs.Identity.{Identity, IsIdentity}
 use Rattle.auc_lines.specs.declared.part.End.{End}
@@ -31,7 +31,8 @@ pub record AreIdentities (identities : List Identity) : Type 0 where
   pub each : All (λ identity. IsIdentity identity.digits identity.number) identities
   pub differ : AllPairs ◌≢◌ identities
 
--- ---- the SQNs in the answers of USIMs, and the keys and halves that are printed, consist of bytes
+-- ---- the SQNs in the answers of USIMs, the keys and halves that are printed, and what the network puts into a packet consist of
+-- bytes
 
 abbrev pub GiveFits : GiveVerdict → Type 0
 GiveFits Accepted = Unit {0}
@@ -44,6 +45,15 @@ UsimFits (Some (usim.Accepted sqn)) = IsBytes sqn
 UsimFits (Some (usim.Sync sqn_ms)) = IsBytes sqn_ms
 UsimFits (Some usim.WrongMac) = Unit {0}
 
+abbrev pub EventFits : Event → Type 0
+EventFits (event.Open opening) = Unit {0}
+EventFits (event.Start session) = Unit {0}
+EventFits (event.Deliver session at' packet) = Unit {0}
+EventFits (event.Repeat session) = Unit {0}
+EventFits (event.GiveUp session at') = Unit {0}
+EventFits (event.Tamper packet place byte) = IsBytes (byte ∷ [])
+EventFits (event.Cut packet count) = Unit {0}
+
 abbrev pub CameFits : Result Note WorldRefusal → Type 0
 CameFits (Ok note) = UsimFits note.notes.usim
 CameFits (Err why) = Unit {0}
@@ -52,6 +62,7 @@ abbrev pub FurtherFits : Further → Type 0
 FurtherFits (further.Kasme key) = IsBytes key
 FurtherFits (further.HxresStar half) = IsBytes half
 FurtherFits (further.Fiveg sub outcome) = Unit {0}
+FurtherFits (further.Sites sub note) = Unit {0}
 
 -- those of a job's record, if it has any
 abbrev pub AnswerFits : LineRecord → Type 0
@@ -61,7 +72,7 @@ AnswerFits (record_of.Exhausted sub word) = Unit {0}
 AnswerFits (record_of.Sync sub verdict) = Unit {0}
 AnswerFits (record_of.Give sub n verdict) = GiveFits verdict
 AnswerFits (record_of.Further said) = FurtherFits said
-AnswerFits (record_of.Event r) = CameFits r.result
+AnswerFits (record_of.Event r) = EventFits r.event × CameFits r.result
 
 abbrev pub RoundFits : RoundRecord → Type 0
 RoundFits round = All (All AnswerFits) round.jobs
@@ -71,25 +82,28 @@ abbrev pub PartFits : PartRecord → Type 0
 PartFits (Round round) = RoundFits round
 PartFits Restart = Unit {0}
 
--- each subscriber that the parts name is one of the first `count` subscribers, and each SQN, K_ASME and HXRES* in them
--- consists of bytes
+-- each subscriber that the parts name is one of the first `count` subscribers, and each SQN, K_ASME, HXRES* and changed byte in
+-- them consists of bytes
 pub record IsPrintable (count : ℕ) (records : List PartRecord) : Type 0 where
   pub named : All (PartNamesBelow count) records
   pub fit : All PartFits records
 
 -- ---- events at their ends
 
--- the end that an event concerns; a session is opened at no end
+-- the end that an event concerns; a session is opened, and a packet is changed, at no end
 abbrev pub end_of : Event → Option End
 end_of (event.Open opening) = None
 end_of (event.Start session) = Some end.Server
 end_of (event.Deliver session at' packet) = Some at'
 end_of (event.Repeat session) = Some end.Server
 end_of (event.GiveUp session at') = Some at'
+end_of (event.Tamper packet place byte) = None
+end_of (event.Cut packet count) = None
 
 -- a step is one of this end
 abbrev pub IsStepAt : Option End → NoteStep → Type 0
 IsStepAt None did.Opened = Unit {0}
+IsStepAt None (did.Made bytes) = Unit {0}
 IsStepAt (Some end.Server) (did.Server what) = Unit {0}
 IsStepAt (Some end.Peer) (did.Peer what) = Unit {0}
 IsStepAt _ _ = ⊥

@@ -7,7 +7,7 @@ use Rattle.auc_vector.specs.declared.parts.Vector.{Vector as AuthVector}
 use Rattle.auc_world.specs.declared.further.FivegOutcome.{FivegOutcome}
 use Rattle.auc_world.specs.declared.further.FivegOutcome.TheVariants.{NoSeparation, ServingRefused, HomeRefused, Confirmed}
 use Rattle.auc_world.specs.declared.further.Further.{Further as Said}
-use Rattle.auc_world.specs.declared.further.Further.TheVariants.{Kasme, HxresStar, Fiveg}
+use Rattle.auc_world.specs.declared.further.Further.TheVariants.{Kasme, HxresStar, Fiveg, Sites}
 use Rattle.auc_world.specs.declared.net.Breach.{Breach}
 use Rattle.auc_world.specs.declared.record.LineRecord.{LineRecord}
 use Rattle.auc_world.specs.declared.record.LineRecord.TheVariants.{Vector, Withheld, Exhausted, Sync, Give, Further, Event}
@@ -26,6 +26,7 @@ use Rattle.auc_world.specs.Setting.{Setting}
 use Rattle.auc_world.specs.Vectors.{vector_in}
 use Rattle.auc_print.specs.EventText.{came_lines, came_words, end_word, event_words, stop_word}
 use Rattle.auc_print.specs.Numeral.{numeral}
+use Rattle.auc_print.specs.SitesText.{sites_words}
 
 -- a line: the beginning of a round or of a job with its number, the record of a job's line, a closing, the verdict on a
 -- session, the premise of equal keys, a restart
@@ -95,11 +96,12 @@ fiveg_word ServingRefused = codes "servingrefused"
 fiveg_word HomeRefused = codes "homerefused"
 fiveg_word (Confirmed home device) = codes "confirmed"
 
--- the words of what follows from a released vector
+-- the words of what follows from a released vector, and of a line for sites
 abbrev pub further_words : List Identity → Said → List (List ℕ)
 further_words identities (Kasme key) = codes "kasme" ∷ encode_lower key ∷ []
 further_words identities (HxresStar half) = codes "hxresstar" ∷ encode_lower half ∷ []
 further_words identities (Fiveg sub outcome) = codes "fiveg" ∷ imsi_of identities sub ∷ fiveg_word outcome ∷ []
+further_words identities (Sites sub note) = codes "sites" ∷ imsi_of identities sub ∷ sites_words note
 
 -- the words of a job's record
 abbrev pub record_words : List Identity → LineRecord → List (List ℕ)
@@ -167,6 +169,7 @@ abbrev pub further_lines : Said → List (List (List ℕ))
 further_lines (Kasme key) = []
 further_lines (HxresStar half) = []
 further_lines (Fiveg sub outcome) = fiveg_lines outcome
+further_lines (Sites sub note) = []
 
 -- the lines that a full print adds after a record's line, besides the bytes of a vector: K_SEAF of a 5G authentication, or
 -- the packet and the keys of an event

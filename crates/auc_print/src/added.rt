@@ -14,7 +14,7 @@ use auc_vector::{Outcome, Step};
 use auc_world::{LineRecord, Note, NoteStep, WorldRefusal};
 
 /// Appends the lines that a full print adds after a record's, besides the bytes of a vector: K_SEAF of a confirmed 5G
-/// authentication, or the packet that an event sent and the keys of its Success.
+/// authentication, or the packet that an event sent or made and the keys of its Success.
 pub fn print_added(answer: &LineRecord, out: &mut Octets) -> Result<(), NoMemory>
     ensures printed { OnOk result (out.new ≡ out.old ++ lines_text (shown_lines answer.now)) }
     ensures grows { IsFrontOf out.old out.new }
@@ -59,7 +59,7 @@ fn print_packet(packet: Option<u32>, bytes: &[u8], out: &mut Octets) -> Result<(
     }
 }
 
-/// The bytes that a step sent, if it sent any.
+/// The bytes that a step sent or made, if it did.
 fn bytes_of_step(step: &NoteStep) -> &[u8]
     ensures { result.now ≡ step_sent step.now }
 {
@@ -67,6 +67,7 @@ fn bytes_of_step(step: &NoteStep) -> &[u8]
         NoteStep::Opened => &[],
         NoteStep::Server(what) => bytes_of(what),
         NoteStep::Peer(what) => bytes_of(what),
+        NoteStep::Made(bytes) => bytes.as_slice(),
     }
 }
 
@@ -86,7 +87,7 @@ fn print_step_lines(step: &NoteStep, out: &mut Octets) -> Result<(), NoMemory>
     ensures grows { IsFrontOf out.old out.new }
 {
     match step {
-        NoteStep::Opened => Ok(()),
+        NoteStep::Opened | NoteStep::Made(_) => Ok(()),
         NoteStep::Server(what) => print_what_lines(what, out),
         NoteStep::Peer(what) => print_what_lines(what, out),
     }

@@ -1,14 +1,14 @@
 //! The line of an event.
 
 ghost use Rattle.std.specs.Prelude.{◌≡◌, ◌++◌, ◌∷◌, [], OnOk};
-ghost use Rattle.auc_print.specs.EventText.{came_words, end_word, event_words, peer_words, reason_word, refusal_words, server_words};
+ghost use Rattle.auc_print.specs.EventText.{came_words, end_word, event_words, peer_words, reason_word, refusal_words, sent_word, sent_words, server_words};
 ghost use Rattle.auc_print.specs.Inner.{IsFrontOf, after_spaces, did_words, ended_words, group_texts, why_words};
 ghost use Rattle.auc_print.specs.Numeral.{numeral};
-ghost use Rattle.auc_print.specs.OneText.{CameFits};
+ghost use Rattle.auc_print.specs.OneText.{CameFits, EventFits};
 ghost use Rattle.auc_print.specs.Text.{spaced};
 
-use crate::notes::{print_notes, stopped, words_of_sent};
-use crate::word::{Group, Word, none, one, pair, two, value};
+use crate::notes::{print_notes, stopped};
+use crate::word::{Group, Word, byte_word, none, one, pair, two, value};
 use crate::writer::print_group;
 use auc_edge::{NoMemory, Octets};
 use auc_peer::PeerWhy;
@@ -21,6 +21,7 @@ pub fn print_event(event: &EventRecord, out: &mut Octets) -> Result<(), NoMemory
     ensures printed { OnOk result (out.new ≡ out.old
         ++ spaced (event_words event.now.event ++ came_words event.now.result)) }
     ensures grows { IsFrontOf out.old out.new }
+    ensures deed { OnOk result (EventFits event.now.event) }
     ensures fits { OnOk result (CameFits event.now.result) }
 {
     let (first, deed) = words_of_deed(&event.event);
@@ -39,7 +40,7 @@ fn print_came(came: &Result<Note, WorldRefusal>, out: &mut Octets) -> Result<(),
     match came {
         Ok(note) => {
             print_notes(&note.notes, out)?;
-            print_group(&words_of_sent(note.packet), out)?;
+            print_group(&words_of_sent(&note.step, note.packet), out)?;
             print_group(&words_of_step(&note.step), out)?;
             print_group(&words_of_why(&note.step), out)
         }
@@ -49,7 +50,8 @@ fn print_came(came: &Result<Note, WorldRefusal>, out: &mut Octets) -> Result<(),
 
 /// The first word of an event, and the others.
 fn words_of_deed(event: &Event) -> (&'static [u8], Group<'static>)
-    ensures { result.0.now ∷ group_texts result.1 ≡ event_words event.now }
+    ensures words { result.0.now ∷ group_texts result.1 ≡ event_words event.now }
+    ensures fits { EventFits event.now }
 {
     match *event {
         Event::Open(ref opening) => (b"session", alone(opening.session)),
@@ -72,6 +74,26 @@ fn words_of_deed(event: &Event) -> (&'static [u8], Group<'static>)
             [
                 Word::Number(u64::from(session)),
                 Word::Text(word_of_end(end)),
+                Word::Nothing,
+            ],
+        ),
+        Event::Tamper {
+            packet,
+            place,
+            byte,
+        } => (
+            b"tamper",
+            [
+                Word::Number(u64::from(packet)),
+                Word::Number(u64::from(place)),
+                byte_word(byte),
+            ],
+        ),
+        Event::Cut { packet, length } => (
+            b"cut",
+            [
+                Word::Number(u64::from(packet)),
+                Word::Number(u64::from(length)),
                 Word::Nothing,
             ],
         ),
@@ -107,6 +129,27 @@ fn words_of_refusal(why: WorldRefusal) -> Group<'static>
         WorldRefusal::NoSuchPacket => one(b"nosuchpacket"),
         WorldRefusal::NoSuchEnd => one(b"nosuchend"),
         WorldRefusal::Started => one(b"started"),
+        WorldRefusal::NoSuchPlace => one(b"nosuchplace"),
+    }
+}
+
+/// The number of the packet that an end sent or the network made in a step, if there is one.
+fn words_of_sent(step: &NoteStep, packet: Option<u32>) -> Group<'static>
+    ensures { group_texts result ≡ sent_words step.now packet }
+{
+    match packet {
+        None => none(),
+        Some(packet) => value(word_of_sent(step), u64::from(packet)),
+    }
+}
+
+/// The word that says that a packet was sent, or was made.
+fn word_of_sent(step: &NoteStep) -> &'static [u8]
+    ensures { result.now ≡ sent_word step.now }
+{
+    match step {
+        NoteStep::Opened | NoteStep::Server(_) | NoteStep::Peer(_) => b"sent",
+        NoteStep::Made(_) => b"made",
     }
 }
 
@@ -118,6 +161,7 @@ fn words_of_step(step: &NoteStep) -> Group<'static>
         NoteStep::Opened => one(b"open"),
         NoteStep::Server(what) => words_of_what(what),
         NoteStep::Peer(what) => words_of_what(what),
+        NoteStep::Made(_) => none(),
     }
 }
 
@@ -139,7 +183,7 @@ fn words_of_why(step: &NoteStep) -> Group<'static>
     match step {
         NoteStep::Server(Step::Ended(Outcome::Failure(why), _)) => words_of_server_why(*why),
         NoteStep::Peer(Step::Ended(Outcome::Failure(why), _)) => words_of_peer_why(*why),
-        NoteStep::Opened | NoteStep::Server(_) | NoteStep::Peer(_) => none(),
+        NoteStep::Opened | NoteStep::Server(_) | NoteStep::Peer(_) | NoteStep::Made(_) => none(),
     }
 }
 

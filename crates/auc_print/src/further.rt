@@ -1,4 +1,4 @@
-//! The lines of what follows from a released vector: keys of EPS, and a 5G authentication.
+//! The lines of what follows from a released vector: keys of EPS, and a 5G authentication; and of what happens at sites.
 
 ghost use Rattle.std.specs.Prelude.{◌≡◌, ◌++◌, length, OnOk};
 ghost use Rattle.auc_world.specs.Record.{IsBelow, further_subscriber};
@@ -6,13 +6,14 @@ ghost use Rattle.auc_print.specs.Inner.{IsFrontOf, lines_text};
 ghost use Rattle.auc_print.specs.OneText.{FurtherFits};
 ghost use Rattle.auc_print.specs.Text.{fiveg_word, further_lines, further_words, identities_of, seaf_words, spaced};
 
+use crate::sites::words_of_note;
 use crate::word::{Word, hex_word};
 use crate::writer::{print_line, print_named};
 use auc_edge::{NoMemory, Octets};
 use auc_subs::Subscribers;
 use auc_world::{FivegOutcome, Further};
 
-/// Appends the line of what follows from a vector.
+/// Appends the line of what follows from a vector, or of what happened at sites.
 pub fn print_further(said: &Further, subs: &Subscribers, out: &mut Octets) -> Result<(), NoMemory>
     requires { IsBelow (length subs.now) (further_subscriber said.now) }
 
@@ -27,6 +28,9 @@ pub fn print_further(said: &Further, subs: &Subscribers, out: &mut Octets) -> Re
         Further::Fiveg { sub, outcome } => {
             let word = Word::Text(word_of_fiveg(outcome));
             print_named(b"fiveg", *sub, &[word], subs, out)
+        }
+        Further::Sites { sub, note } => {
+            print_named(b"sites", *sub, &words_of_note(*note), subs, out)
         }
     }
 }
@@ -54,7 +58,8 @@ pub fn print_seaf(said: &Further, out: &mut Octets) -> Result<(), NoMemory>
             outcome: FivegOutcome::Confirmed { home, device },
             ..
         } => { print_both(home, device, out) }
-        Further::Fiveg { .. } | Further::Kasme(_) | Further::HxresStar(_) => Ok(()),
+        Further::Fiveg { .. } | Further::Kasme(_) | Further::HxresStar(_) | Further::Sites { .. } =>
+            Ok(()),
     }
 }
 

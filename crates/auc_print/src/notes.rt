@@ -1,7 +1,7 @@
 //! The notes of an event's line.
 
 ghost use Rattle.std.specs.Prelude.{◌≡◌, ◌++◌, ◌∷◌, [], OnOk};
-ghost use Rattle.auc_print.specs.EventText.{counter_words, notes_words, number_words, resumed_words, resync_words, sent_words, stop_word, usim_words};
+ghost use Rattle.auc_print.specs.EventText.{counter_words, notes_words, number_words, resumed_words, resync_words, stop_word, usim_words};
 ghost use Rattle.auc_print.specs.Inner.{IsFrontOf, after_spaces, group_texts};
 ghost use Rattle.auc_print.specs.Numeral.{numeral};
 ghost use Rattle.auc_print.specs.OneText.{UsimFits};
@@ -80,16 +80,6 @@ fn words_of_counter(note: Option<CounterNote>) -> Group<'static>
         None => none(),
         Some(CounterNote::Taken(counter)) => value(b"counter", u64::from(counter)),
         Some(CounterNote::Small(counter)) => value(b"small", u64::from(counter)),
-    }
-}
-
-/// The number of the packet that was sent, if one was.
-pub fn words_of_sent(packet: Option<u32>) -> Group<'static>
-    ensures { group_texts result ≡ sent_words packet }
-{
-    match packet {
-        None => none(),
-        Some(packet) => value(b"sent", u64::from(packet)),
     }
 }
 

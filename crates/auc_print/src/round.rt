@@ -27,8 +27,8 @@ pub fn print_restart(out: &mut Octets) -> Result<(), NoMemory>
 /// Appends the text of a round: its own line, the lines of its jobs, numbered from 1, those of its closings and its
 /// sessions, and that of the premise of equal keys. In a full print the lines of a vector's bytes, a packet and keys
 /// follow the line that they belong to; `vectors` has the vectors that each job's lines released, and in a brief print it
-/// is empty. Each subscriber that the round names is a row. Each SQN, K_ASME and HXRES* that is printed consists of bytes.
-/// If memory runs out, `out` stays as it was.
+/// is empty. Each subscriber that the round names is a row. Each SQN, K_ASME, HXRES* and changed byte that is printed
+/// consists of bytes. If memory runs out, `out` stays as it was.
 pub fn print_round(
     round: &RoundRecord,
     vectors: &[JobVectors],

@@ -18,6 +18,8 @@ pub enum Word<'a> {
     Hex(&'a [u8]),
     /// An SQN in lower-case hexadecimal digits.
     Sqn([u8; 6]),
+    /// A byte in two lower-case hexadecimal digits.
+    Byte(u8),
 }
 
 /// Up to three words.
@@ -72,4 +74,12 @@ pub fn hex_word(bytes: &[u8]) -> Word<'_>
     ensures fits { IsBytes bytes.now }
 {
     Word::Hex(bytes)
+}
+
+/// A byte in two lower-case hexadecimal digits.
+pub fn byte_word(byte: u8) -> Word<'static>
+    ensures word { word_texts result ≡ encode_lower (byte ∷ []) ∷ [] }
+    ensures fits { IsBytes (byte ∷ []) }
+{
+    Word::Byte(byte)
 }

@@ -82,6 +82,7 @@ fn print_word(word: Word<'_>, out: &mut Octets) -> Result<(), NoMemory>
         Word::Number(number) => print_number(number, out),
         Word::Hex(bytes) => print_hex(bytes, out),
         Word::Sqn(sqn) => print_hex(&sqn, out),
+        Word::Byte(byte) => print_hex(&[byte], out),
     }
 }
 

@@ -7,7 +7,7 @@ use Rattle.auc_print.proofs.event.print_event.Goals as goal
 pub returns-clause-printed : goal.returns-clause-printed
 returns-clause-printed c =
     on_ok_weaker c.append-2.result
-    (λ last. event_printed c.args.event.now _ _ _ _ _ _ _ c.words_of_deed.ensures c.in_ok-append.ensures.appended c.in_ok-print_group.ensures.printed
+    (λ last. event_printed c.args.event.now _ _ _ _ _ _ _ c.words_of_deed.ensures.words c.in_ok-append.ensures.appended c.in_ok-print_group.ensures.printed
     c.in_ok-print_came.ensures.printed last)
     c.append-2.ensures.appended
 
