@@ -101,6 +101,8 @@ moved_stays set w (event.Start session) told = at_stays w (λ t s. start w t s s
 moved_stays set w (event.Deliver session at' packet) told = delivered_stays set w at' told (delivery_at w packet (session_place w.sessions session))
 moved_stays set w (event.Repeat session) told = at_stays w (λ t s. repeat w t s s.server) (session_place w.sessions session) (λ t s. repeat_stays w t s s.server)
 moved_stays set w (event.GiveUp session at') told = at_stays w (give_up w at') (session_place w.sessions session) (over_stays w at')
+moved_stays set w (event.Tamper packet place byte) told = record { devices = refl; subs = refl; stores = refl }
+moved_stays set w (event.Cut packet count) told = record { devices = refl; subs = refl; stores = refl }
 
 pub event_stays : (set : Setting) (w : Net) (e : Event) (told : Told) → Stays w (happened set w e told)
 event_stays set w e told = let is = moved_stays set w e told in record { devices = is.devices; subs = is.subs; stores = is.stores }
@@ -307,6 +309,9 @@ module _ (set : Setting) (b : Before) (m : Method) (sub place : ℕ) (are : AreS
       at_accepts (λ t s. repeat w t s s.server) (λ s. came_repeated w s.server) (session_place w.sessions session) tells (λ t s there tells. repeat_accepts _ t s s.server there)
   moved_accepts (event.GiveUp session at') received tells is =
       at_accepts (give_up w at') (came_given_up w at') (session_place w.sessions session) tells (λ t s there tells. over_accepts at' t s there tells)
+  moved_accepts (event.Tamper packet position byte) received tells is =
+      alike_accepts m sub place w (moved set w (event.Tamper packet position byte) told) told _ (λ i. refl)
+  moved_accepts (event.Cut packet count) received tells is = alike_accepts m sub place w (moved set w (event.Cut packet count) told) told _ (λ i. refl)
 
   pub event_accepts : (e : Event) → AreReceived (bytes_named w e) told.seen → TellsNotes told (came set w e told) → IsUsimAsked set b (presented_by w e told) told
       → Accepts m sub place w (happened set w e told) told (came set w e told)

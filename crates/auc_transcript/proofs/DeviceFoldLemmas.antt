@@ -153,6 +153,8 @@ opens_placed set w (event.Start session) = tt
 opens_placed set w (event.Deliver session at' packet) = tt
 opens_placed set w (event.Repeat session) = tt
 opens_placed set w (event.GiveUp session at') = tt
+opens_placed set w (event.Tamper packet place byte) = tt
+opens_placed set w (event.Cut packet count) = tt
 
 -- it stays there
 pub placed_on : (set : Setting) (start w : Net) (e : Event) (told : Told) → w.devices ≡ start.devices → AreAt (IsPlaced set start.devices) w.sessions

@@ -1,5 +1,5 @@
 -- For the laws: what the record of an event is, by all lines before it.
-use Rattle.std.proofs.Common.{◌≡◌, ◌≢◌, ℕ, ◌≤◌, ◌==◌, Bool, true, false, cond, not, Option, Some, None, List, [], ◌++◌, refl, sym, ◌∙◌, ap, subst}
+use Rattle.std.proofs.Common.{◌≡◌, ◌≢◌, ℕ, ◌≤◌, ◌==◌, Bool, true, false, cond, not, Option, Some, None, Ok, Err, List, [], ◌++◌, refl, sym, ◌∙◌, ap, subst}
 use Rattle.std.specs.Prelude.{if◌then◌else◌, slice_get}
 use Rattle.std.specs.Str.{bytes_eq}
 use Rattle.std.proofs.lemmas.Bool.{eqb-true}
@@ -43,10 +43,10 @@ use Rattle.auc_vector.specs.declared.notes.NumberNote.TheVariants as number
 use Rattle.auc_vector.specs.declared.notes.UsimNote.{UsimNote}
 use Rattle.auc_vector.specs.declared.notes.UsimNote.TheVariants as usim
 use Rattle.auc_vector.specs.declared.turn.Turn.{Turn}
-use Rattle.auc_world.specs.Came.{Came, TellsNotes, asked_sub, asking_at, asking_in, asking_of, came, came_at_peer, came_at_server, came_delivered, came_given_up, came_in, came_opened, came_repeated, came_started, presented_at, presented_by, presented_in, server_came_to_give_up, session_of}
+use Rattle.auc_world.specs.Came.{Came, TellsNotes, asked_sub, asking_at, asking_in, asking_of, by_network, came, came_at_peer, came_at_server, came_changed, came_delivered, came_given_up, came_in, came_opened, came_repeated, came_started, presented_at, presented_by, presented_in, server_came_to_give_up, session_of}
 use Rattle.auc_world.specs.Event.{asked_in, device_in, number_in, usim_in}
 use Rattle.auc_world.specs.Given.{Before, CentreAnswers, IsCentreAsked, IsNumberAnswer, IsUsimAsked, NumberFollows, UsimNotes, past_before, past_of}
-use Rattle.auc_world.specs.Happened.{Delivery, Told, delivery_in, peer_turn, server_turn}
+use Rattle.auc_world.specs.Happened.{Delivery, Told, changed_in, delivery_in, peer_turn, server_turn}
 use Rattle.auc_world.specs.Lines.{accepted}
 use Rattle.auc_world.specs.Net.{Net, device_place, keeps_at, packet_at, session_place}
 use Rattle.auc_world.specs.Setting.{Setting}
@@ -55,6 +55,7 @@ use Rattle.auc_world.specs.declared.event.Event.TheVariants as event
 use Rattle.auc_world.specs.declared.net.SentPacket.{SentPacket}
 use Rattle.auc_world.specs.declared.net.Session.{Session}
 use Rattle.auc_world.specs.declared.record.LineRecord.{LineRecord}
+use Rattle.auc_transcript.proofs.ChangeLemmas.{change_holds}
 
 -- all earlier lines
 abbrev pub all_before : Before → List LineRecord
@@ -266,6 +267,12 @@ given_up_served : (set : Setting) (before : List LineRecord) (w : Net) (at' : En
 given_up_served set before w end.Server s = server_over_served set before w s.server
 given_up_served set before w end.Peer s = silent_served set before (came_given_up w end.Peer s) refl refl
 
+changed_served : (set : Setting) (before : List LineRecord) (w : Net) (e : Event) (sent : Option SentPacket)
+    → IsEventServed set before (came_changed w.packets sent (changed_in w.packets e))
+changed_served set before w e sent =
+    change_holds (IsEventServed set before) (λ why. silent_served set before (Err why) refl refl) (λ packets bytes. silent_served set before (Ok (by_network packets bytes)) refl refl)
+    w.packets sent (changed_in w.packets e)
+
 -- what an event of a job comes to
 pub event_served : (set : Setting) (place : Before) (w : Net) (e : Event) (told : Told) → TellsNotes told (came set w e told) → IsCentreAsked set (asking_of set w e told) told.notes
     → IsUsimAsked set place (presented_by w e told) told → IsEventServed set (all_before place) (came set w e told)
@@ -279,3 +286,5 @@ event_served set place w (event.Repeat session) told tells centre is =
     in_served set (all_before place) (λ s. came_repeated w s.server) (session_of w session) (λ s. repeated_served set (all_before place) w s.server)
 event_served set place w (event.GiveUp session at') told tells centre is =
     in_served set (all_before place) (came_given_up w at') (session_of w session) (λ s. given_up_served set (all_before place) w at' s)
+event_served set place w (event.Tamper packet position byte) told tells centre is = changed_served set (all_before place) w (event.Tamper packet position byte) (packet_at w.packets packet)
+event_served set place w (event.Cut packet count) told tells centre is = changed_served set (all_before place) w (event.Cut packet count) (packet_at w.packets packet)

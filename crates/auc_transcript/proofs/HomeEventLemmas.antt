@@ -240,6 +240,8 @@ moved_changes set w (event.Deliver session end.Server packet) told = server_deli
 moved_changes set w (event.Deliver session end.Peer packet) told = inr (peer_delivered set w told packet (session_place w.sessions session))
 moved_changes set w (event.Repeat session) told = inr (session_quiet w session (λ t s. repeat w t s s.server) (λ t s there. repeat_quiet w t s s.server refl there))
 moved_changes set w (event.GiveUp session at') told = inr (session_quiet w session (give_up w at') (λ t s there. over_quiet w at' t s there))
+moved_changes set w (event.Tamper packet place byte) told = inr (record { homes = refl; stores = refl; leaves = λ m at' t c e. e; resumes = λ sub all. all })
+moved_changes set w (event.Cut packet count) told = inr (record { homes = refl; stores = refl; leaves = λ m at' t c e. e; resumes = λ sub all. all })
 
 -- an event is a turn of a server, or is quiet
 pub event_changes : (set : Setting) (w : Net) (e : Event) (told : Told) → Changes set w told (happened set w e told) (came set w e told)

@@ -165,6 +165,8 @@ moved_has set before w (event.Repeat session) told all is =
     at_has w (λ place s. repeat w place s s.server) (session_place w.sessions session) all (λ place s own. repeat_has w place s s.server all own)
 moved_has set before w (event.GiveUp session at') told all is =
     at_has w (give_up w at') (session_place w.sessions session) all (λ place s own. over_has w at' place s all own)
+moved_has set before w (event.Tamper packet place byte) told all is = record { stores = all.stores; peers = all.peers; sizes = all.sizes }
+moved_has set before w (event.Cut packet count) told all is = record { stores = all.stores; peers = all.peers; sizes = all.sizes }
 
 -- ---- lines and jobs
 

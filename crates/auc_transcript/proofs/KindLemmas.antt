@@ -11,14 +11,20 @@ use Rattle.auc_lines.specs.declared.part.FivegLine.{FivegLine}
 use Rattle.auc_lines.specs.declared.part.Line.{Line}
 use Rattle.auc_lines.specs.declared.part.Line.TheVariants as line
 use Rattle.auc_lines.specs.declared.part.SessionLine.{SessionLine}
+use Rattle.auc_lines.specs.declared.sites.SiteEvent.{SiteEvent}
 use Rattle.auc_random.specs.Random.{rand_of}
 use Rattle.auc_request.specs.Request.{is_separated}
+use Rattle.auc_sites.specs.Network.{Network, Turn, after_event}
+use Rattle.auc_sites.specs.Run.{judgement_in}
+use Rattle.auc_sites.specs.declared.master.Judged.{Judged}
+use Rattle.auc_sites.specs.declared.master.Judged.TheVariants as judged
 use Rattle.auc_sqn.specs.Number.{max_seq}
 use Rattle.auc_subs.specs.declared.row.Row.{Row}
 use Rattle.auc_vector.specs.declared.parts.Vector.{Vector as AuthVector}
 use Rattle.auc_world.specs.Given.{AuthenticatesIf, Before, DrawGives, EpsGives, EventGives, FivegFollows, FivegGives, GiveGives, IsGiven, IsReleasable, LineGives, OneGives, SyncGives, VectorsFollow, behind, device_of_row, hxres_lines, is_released, judged_lines, kasme_line, outcome_of, past_before, turned}
 use Rattle.auc_world.specs.Net.{Net}
 use Rattle.auc_world.specs.Setting.{Setting}
+use Rattle.auc_world.specs.Sites.{LeaseGives, SiteEventGives, SitesGo, event_of, note_of, sites_start}
 use Rattle.auc_world.specs.VectorAt.{vector_at, vector_of_row}
 use Rattle.auc_world.specs.declared.event.Event.{Event as Happens}
 use Rattle.auc_world.specs.declared.event.Event.TheVariants as event
@@ -158,6 +164,27 @@ fiveg_known set place l lines gives =
     one_known set place l.sub (λ n rest. FivegFollows set (behind place (Vector l.sub n ∷ [])) l n rest) lines
     (λ n rest f. follows_vector_known set (behind place (Vector l.sub n ∷ [])) l n rest f) gives
 
+-- sites: what is drawn for a request, an event, and all of them
+lease_known : (set : Setting) (place : Before) (sub size : ℕ) (made : Option Judged) (lines : List LineRecord) → LeaseGives set sub size made lines → AreKnown set place lines
+lease_known set place sub size None lines none = none_known set place lines none
+lease_known set place sub size (Some (judged.Again g)) lines none = none_known set place lines none
+lease_known set place sub size (Some (judged.Old last)) lines none = none_known set place lines none
+lease_known set place sub size (Some judged.New) lines gives = draw_known set place sub size lines gives
+
+site_event_known : (set : Setting) (place : Before) (sub size : ℕ) (w : Network) (e : SiteEvent) (lines : List LineRecord) (turn : Turn) → SiteEventGives set sub size w e lines turn → AreKnown set place lines
+site_event_known set place sub size w e lines turn gives =
+    subst (AreKnown set place) (sym gives.lines_are)
+    (known-append set place gives.drawn (Further (further.Sites sub (note_of w e turn)) ∷ []) (lease_known set place sub size (judgement_in w (event_of w e)) gives.drawn gives.draws) (tt, tt))
+
+sites_known : (set : Setting) (place : Before) (sub size : ℕ) (w : Network) (events : List SiteEvent) (lines : List LineRecord) (turns : List Turn) → SitesGo set sub size w events lines turns
+    → AreKnown set place lines
+sites_known set place sub size w [] lines turns (none, ends) = none_known set place lines none
+sites_known set place sub size w (e ∷ events) lines [] goes = absurd goes
+sites_known set place sub size w (e ∷ events) lines (turn ∷ turns) (front, rest, cut, gives, more) =
+    subst (AreKnown set place) (sym cut)
+    (known-append set place front rest (site_event_known set place sub size w e front turn gives)
+    (sites_known set (behind place front) sub size (after_event w turn.event turn.numbers turn.end) events rest turns more))
+
 -- ---- the three kinds
 
 -- a line without an event: it opens no session, gives lines of known kinds, and leaves the network as it is
@@ -172,6 +199,8 @@ line_of (event.Start session) = line.Start session
 line_of (event.Deliver session at' packet) = line.Deliver session at' packet
 line_of (event.Repeat session) = line.Repeat session
 line_of (event.GiveUp session at') = line.GiveUp session at'
+line_of (event.Tamper packet place byte) = line.Tamper packet place byte
+line_of (event.Cut packet count) = line.Cut packet count
 
 -- it gives what the event gives
 pub event_gives : (set : Setting) (place : Before) (w next : Net) (e : Happens) (lines : List LineRecord) → LineGives set place w (line_of e) lines next → EventGives set place w e lines next
@@ -180,6 +209,8 @@ event_gives set place w next (event.Start session) lines gives = gives
 event_gives set place w next (event.Deliver session at' packet) lines gives = gives
 event_gives set place w next (event.Repeat session) lines gives = gives
 event_gives set place w next (event.GiveUp session at') lines gives = gives
+event_gives set place w next (event.Tamper packet position byte) lines gives = gives
+event_gives set place w next (event.Cut packet count) lines gives = gives
 
 -- what holds of each line without an event, of each event's and of each plain one holds of each line. A further kind of line costs a
 -- lemma that it gives lines of known kinds, and its case here
@@ -195,12 +226,16 @@ module _ (P : Line → Type 0) (quiet : (l : Line) → IsQuiet l → P l) (happe
       quiet _ (record { opens = λ session. refl; gives = λ set place w next lines g. (eps_known set place sub snid lines g.0, g.1) })
   by_kind (line.Fiveg l) =
       quiet _ (record { opens = λ session. refl; gives = λ set place w next lines g. (fiveg_known set place l lines g.0, g.1) })
+  by_kind (line.Sites l) =
+      quiet _ (record { opens = λ session. refl; gives = λ set place w next lines g. (sites_known set place l.sub l.size (sites_start l) l.schedule lines g.0.0 g.0.1, g.1) })
   by_kind (line.Session opening) = happens (event.Open opening)
   by_kind (line.Start session) = happens (event.Start session)
   by_kind (line.Deliver session at' packet) = happens (event.Deliver session at' packet)
   by_kind (line.Repeat session) = happens (event.Repeat session)
   by_kind (line.GiveUp session at') = happens (event.GiveUp session at')
   by_kind (line.Plain session) = plain session
+  by_kind (line.Tamper packet place byte) = happens (event.Tamper packet place byte)
+  by_kind (line.Cut packet count) = happens (event.Cut packet count)
 
 -- a line without an event gives lines outside sessions
 pub quiet_gives : (l : Line) → IsQuiet l → (set : Setting) (place : Before) (w next : Net) (lines : List LineRecord) → LineGives set place w l lines next
@@ -231,3 +266,5 @@ opens_only session other l = by_kind (OpensOnly session other) (λ x is first. a
     at_event (event.Deliver delivered at' packet) first = absurd (nothing first)
     at_event (event.Repeat repeated) first = absurd (nothing first)
     at_event (event.GiveUp ended at') first = absurd (nothing first)
+    at_event (event.Tamper packet place byte) first = absurd (nothing first)
+    at_event (event.Cut packet count) first = absurd (nothing first)

@@ -30,6 +30,7 @@ mod HomeJobLemmas
 mod HomeLawLemmas
 mod KeysLemmas
 mod BreachLemmas
+mod ChangeLemmas
 mod PacketLemmas
 mod WalkLemmas
 mod HandedLemmas
@@ -63,3 +64,7 @@ mod ToldEventLemmas
 mod ToldCounterLemmas
 mod SystemLemmas
 mod SystemWitnessLemmas
+mod HandingLemmas
+mod LeaseLemmas
+mod RisingLemmas
+mod LeaseWitnessLemmas

@@ -1,9 +1,9 @@
--- For the laws of positions and of keys: what holds of a list's front and end, pairs of the two, and filters that nothing or everything passes.
-use Rattle.std.proofs.Common.{◌≡◌, ◌+◌, Bool, true, false, List, [], ◌∷◌, ◌++◌, length, get_or, arith, All, AllPairs, filter, refl, ap, ◌∙◌}
+-- For the laws of positions, of keys and of leases: what holds of a list's front and end, pairs of the two, and filters that nothing or everything passes.
+use Rattle.std.proofs.Common.{◌≡◌, ◌+◌, Bool, true, false, List, [], ◌∷◌, ◌++◌, length, get_or, arith, All, AllPairs, Contains, filter, refl, ap, subst, ◌∙◌}
 use Rattle.std.proofs.lemmas.Bool.{cond-true, cond-false}
 use Rattle.std.proofs.lemmas.List.{get_or_append_left, get_or-append-add, length-append}
-use Rattle.std.proofs.lemmas.List.Elements.{All-cons, All-head, All-nil, All-tail}
-use Rattle.auc_history.proofs.Facts.{AllPairs-head, AllPairs-tail}
+use Rattle.std.proofs.lemmas.List.Elements.{All-append, All-cons, All-head, All-nil, All-tail}
+use Rattle.auc_history.proofs.Facts.{AllPairs-cons, AllPairs-head, AllPairs-tail}
 
 -- the pairs of a front
 pub AllPairs-left : {X : Type 0} (R : X → X → Type 0) (xs ys : List X) → AllPairs R (xs ++ ys) → AllPairs R xs
@@ -53,3 +53,15 @@ pairs_across R (x ∷ xs) ys pairs =
     let first = all_right (R x) xs ys (AllPairs-head R x (xs ++ ys) pairs) in
     let rest = pairs_across R xs ys (AllPairs-tail R x (xs ++ ys) pairs) in
     λ k d inside. All-cons (λ z. R z (get_or ys k d)) x xs (first k d inside) (rest k d inside)
+
+-- and the other way round
+pub pairs_join : {X : Type 0} (R : X → X → Type 0) (xs ys : List X) → AllPairs R xs → AllPairs R ys → All (λ y. All (λ x. R x y) xs) ys → AllPairs R (xs ++ ys)
+pairs_join R [] ys left right across = right
+pairs_join R (x ∷ xs) ys left right across =
+    AllPairs-cons R x (xs ++ ys)
+    (All-append (R x) xs ys (AllPairs-head R x xs left) (λ k d inside. All-head (λ z. R z (get_or ys k d)) x xs (across k d inside)))
+    (pairs_join R xs ys (AllPairs-tail R x xs left) right (λ k d inside. All-tail (λ z. R z (get_or ys k d)) x xs (across k d inside)))
+
+-- what holds of all holds of each
+pub all_of : {X : Type 0} (P : X → Type 0) (xs : List X) (x : X) → All P xs → Contains xs x → P x
+all_of P xs x all (k, inside, is) = subst P is (all k x inside)

@@ -196,3 +196,5 @@ event_one laws set before also_before w (event.Deliver session at' packet) a b i
     }
 event_one laws set before also_before w (event.Repeat session) a b is was same = record { same = refl; leads = refl }
 event_one laws set before also_before w (event.GiveUp session at') a b is was same = record { same = refl; leads = refl }
+event_one laws set before also_before w (event.Tamper packet place byte) a b is was same = record { same = refl; leads = refl }
+event_one laws set before also_before w (event.Cut packet count) a b is was same = record { same = refl; leads = refl }

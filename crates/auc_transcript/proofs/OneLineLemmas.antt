@@ -1,16 +1,24 @@
 -- For the law of one told transcript: two lists of records that a line without an event gives are one, if the same is told of them.
-use Rattle.std.proofs.Common.{◌≡◌, ℕ, zero, suc, Bool, true, false, List, [], ◌∷◌, ◌++◌, map, Option, Some, refl, sym, ap, subst, ◌∙◌}
+use Rattle.std.proofs.Common.{◌≡◌, ℕ, zero, suc, Bool, true, false, List, [], ◌∷◌, ◌++◌, map, Option, Some, None, refl, sym, ap, subst, ◌∙◌, append_assoc}
 use Rattle.std.specs.Prelude.{slice_get}
 use Rattle.std.proofs.lemmas.List.{append_cancel_left, map-append}
 use Rattle.auc_5g.specs.Keys.{home_of}
+use Rattle.auc_lines.specs.Sites.{SitesValue}
 use Rattle.auc_lines.specs.declared.part.FivegLine.{FivegLine}
+use Rattle.auc_lines.specs.declared.sites.SiteEvent.{SiteEvent}
 use Rattle.auc_random.specs.Random.{rand_of}
 use Rattle.auc_request.specs.Request.{is_separated}
+use Rattle.auc_sites.specs.Network.{Network, Turn, after_event}
+use Rattle.auc_sites.specs.Run.{judgement_in}
+use Rattle.auc_sites.specs.declared.master.Judged.{Judged}
+use Rattle.auc_sites.specs.declared.master.Judged.TheVariants as judged
 use Rattle.auc_subs.specs.declared.row.Row.{Row}
 use Rattle.auc_world.specs.Given.{Authenticates, AuthenticatesIf, Before, DrawGives, EpsGives, FivegFollows, FivegGives, OneGives, SyncGives, VectorsFollow, behind, device_of_row, judged_lines, kasme_line}
 use Rattle.auc_world.specs.Setting.{Setting}
+use Rattle.auc_world.specs.Sites.{LeaseGives, SiteEventGives, SitesGives, SitesGo, event_of, note_of, sites_start, turn_of}
 use Rattle.auc_world.specs.Told.{told_job, told_line}
 use Rattle.auc_world.specs.VectorAt.{vector_at, vector_of_row}
+use Rattle.auc_world.specs.declared.further.Further.TheVariants as further
 use Rattle.auc_world.specs.declared.record.GiveVerdict.{GiveVerdict}
 use Rattle.auc_world.specs.declared.record.LineRecord.{LineRecord}
 use Rattle.auc_world.specs.declared.record.LineRecord.TheVariants.{Vector, Withheld, Exhausted, Sync, Give, Further, Event}
@@ -176,3 +184,54 @@ fiveg_one set before also_before l xs ys rest others gives gave same =
     let also_place : ℕ → Before = λ (n : ℕ). behind also_before (Vector l.sub n ∷ []) in
     one_one set l.sub (λ n more. FivegFollows set (place n) l n more) (λ n more. FivegFollows set (also_place n) l n more) xs ys rest others
     (λ n more also_more f g told. fiveg_follows_one set (place n) (also_place n) l n more also_more rest others f g told) gives gave same
+
+-- ---- sites
+
+-- what is drawn for a request of which the master makes one thing
+lease_one : (set : Setting) (sub size : ℕ) (made : Option Judged) (xs ys rest others : List LineRecord) → LeaseGives set sub size made xs → LeaseGives set sub size made ys
+    → told_job (xs ++ rest) ≡ told_job (ys ++ others) → xs ≡ ys
+lease_one set sub size None xs ys rest others none nothing same = none ∙ sym nothing
+lease_one set sub size (Some (judged.Again g)) xs ys rest others none nothing same = none ∙ sym nothing
+lease_one set sub size (Some (judged.Old last)) xs ys rest others none nothing same = none ∙ sym nothing
+lease_one set sub size (Some judged.New) xs ys rest others gives gave same = draw_one set sub size xs ys rest others gives gave same
+
+-- an event: what is drawn determines its turn, and what is said of it
+record SaysOne (xs ys : List LineRecord) (turn other : Turn) : Type 0 where
+  lines_are : xs ≡ ys
+  turns_are : turn ≡ other
+
+site_event_one : (set : Setting) (sub size : ℕ) (w : Network) (e : SiteEvent) (xs ys rest others : List LineRecord) (turn other : Turn) → SiteEventGives set sub size w e xs turn
+    → SiteEventGives set sub size w e ys other → told_job (xs ++ rest) ≡ told_job (ys ++ others) → SaysOne xs ys turn other
+site_event_one set sub size w e xs ys rest others turn other gives gave same =
+    record { lines_are = gives.lines_are ∙ ap (λ (ls : List LineRecord). ls ++ said turn) drawn ∙ ap (λ (t : Turn). gave.drawn ++ said t) turns ∙ sym gave.lines_are; turns_are = turns }
+  where
+    said : Turn → List LineRecord
+    said t = Further (further.Sites sub (note_of w e t)) ∷ []
+
+    cut : told_job (gives.drawn ++ (said turn ++ rest)) ≡ told_job (gave.drawn ++ (said other ++ others))
+    cut = ap told_job (sym (ap (λ (ls : List LineRecord). ls ++ rest) gives.lines_are ∙ append_assoc gives.drawn (said turn) rest)) ∙ same
+        ∙ ap told_job (ap (λ (ls : List LineRecord). ls ++ others) gave.lines_are ∙ append_assoc gave.drawn (said other) others)
+
+    drawn : gives.drawn ≡ gave.drawn
+    drawn = lease_one set sub size (judgement_in w (event_of w e)) gives.drawn gave.drawn (said turn ++ rest) (said other ++ others) gives.draws gave.draws cut
+
+    turns : turn ≡ other
+    turns = gives.turn_is ∙ ap (turn_of w sub e) drawn ∙ sym gave.turn_is
+
+sites_go_one : (set : Setting) (sub size : ℕ) (w : Network) (events : List SiteEvent) (xs ys rest others : List LineRecord) (turns also_turns : List Turn) → SitesGo set sub size w events xs turns
+    → SitesGo set sub size w events ys also_turns → told_job (xs ++ rest) ≡ told_job (ys ++ others) → xs ≡ ys
+sites_go_one set sub size w [] xs ys rest others turns also_turns (none, ends) (nothing, also) same = none ∙ sym nothing
+sites_go_one set sub size w (e ∷ events) xs ys rest others [] also_turns gives gave same = absurd gives
+sites_go_one set sub size w (e ∷ events) xs ys rest others (turn ∷ turns) [] gives gave same = absurd gave
+sites_go_one set sub size w (e ∷ events) xs ys rest others (turn ∷ turns) (other ∷ also_turns) (front, back, cut, first, more) (also_front, also_back, also_cut, also_first, also_more) same =
+    let parts : xs ++ rest ≡ front ++ (back ++ rest) = ap (λ (ls : List LineRecord). ls ++ rest) cut ∙ append_assoc front back rest in
+    let also_parts : ys ++ others ≡ also_front ++ (also_back ++ others) = ap (λ (ls : List LineRecord). ls ++ others) also_cut ∙ append_assoc also_front also_back others in
+    let told : told_job (front ++ (back ++ rest)) ≡ told_job (also_front ++ (also_back ++ others)) = ap told_job (sym parts) ∙ same ∙ ap told_job also_parts in
+    let one = site_event_one set sub size w e front also_front (back ++ rest) (also_back ++ others) turn other first also_first told in
+    let gave_more = subst (λ (t : Turn). SitesGo set sub size (after_event w t.event t.numbers t.end) events also_back also_turns) (sym one.turns_are) also_more in
+    let backs = sites_go_one set sub size (after_event w turn.event turn.numbers turn.end) events back also_back rest others turns also_turns more gave_more
+    (same_rest front also_front (back ++ rest) (also_back ++ others) one.lines_are told) in
+    cut ∙ ap (λ (ls : List LineRecord). ls ++ back) one.lines_are ∙ ap (λ (ls : List LineRecord). also_front ++ ls) backs ∙ sym also_cut
+
+pub sites_one : (set : Setting) (l : SitesValue) (xs ys rest others : List LineRecord) → SitesGives set l xs → SitesGives set l ys → told_job (xs ++ rest) ≡ told_job (ys ++ others) → xs ≡ ys
+sites_one set l xs ys rest others (turns, gives) (also_turns, gave) same = sites_go_one set l.sub l.size (sites_start l) l.schedule xs ys rest others turns also_turns gives gave same

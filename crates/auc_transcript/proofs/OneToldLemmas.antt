@@ -27,7 +27,7 @@ use Rattle.auc_world.specs.declared.record.RoundRecord.{RoundRecord}
 use Rattle.auc_world.specs.declared.record.SessionVerdict.{SessionVerdict}
 use Rattle.auc_transcript.specs.OneTold.{EachToldTranscriptIsOne}
 use Rattle.auc_transcript.proofs.OneEventLemmas.{Laws, event_one}
-use Rattle.auc_transcript.proofs.OneLineLemmas.{answered_one, conses, draw_one, eps_one, fiveg_one, heads, same_rest, sync_one, tails}
+use Rattle.auc_transcript.proofs.OneLineLemmas.{answered_one, conses, draw_one, eps_one, fiveg_one, heads, same_rest, sites_one, sync_one, tails}
 
 -- lines that begin with others of which the same is told: those are the same, lead to the same network, and the same is told
 -- of the rest
@@ -115,6 +115,8 @@ line_one laws set before also_before net next also_next (line.Eps sub snid) xs y
     quiet_one net next also_next xs ys rest others (eps_one set sub snid xs ys rest others gives gave same) is was same
 line_one laws set before also_before net next also_next (line.Fiveg l) xs ys rest others (gives, is) (gave, was) same =
     quiet_one net next also_next xs ys rest others (fiveg_one set before also_before l xs ys rest others gives gave same) is was same
+line_one laws set before also_before net next also_next (line.Sites l) xs ys rest others (gives, is) (gave, was) same =
+    quiet_one net next also_next xs ys rest others (sites_one set l xs ys rest others gives gave same) is was same
 line_one laws set before also_before net next also_next (line.Session opening) xs ys rest others gives gave same =
     event_lines_one laws set before also_before net next also_next (event.Open opening) xs ys rest others gives gave same
 line_one laws set before also_before net next also_next (line.Start session) xs ys rest others gives gave same =
@@ -125,6 +127,10 @@ line_one laws set before also_before net next also_next (line.Repeat session) xs
     event_lines_one laws set before also_before net next also_next (event.Repeat session) xs ys rest others gives gave same
 line_one laws set before also_before net next also_next (line.GiveUp session at') xs ys rest others gives gave same =
     event_lines_one laws set before also_before net next also_next (event.GiveUp session at') xs ys rest others gives gave same
+line_one laws set before also_before net next also_next (line.Tamper packet place byte) xs ys rest others gives gave same =
+    event_lines_one laws set before also_before net next also_next (event.Tamper packet place byte) xs ys rest others gives gave same
+line_one laws set before also_before net next also_next (line.Cut packet count) xs ys rest others gives gave same =
+    event_lines_one laws set before also_before net next also_next (event.Cut packet count) xs ys rest others gives gave same
 line_one laws set before also_before net next also_next (line.Plain session) xs ys rest others gives gave same =
     plain_one laws set before also_before net next also_next session xs ys rest others gives gave same
 

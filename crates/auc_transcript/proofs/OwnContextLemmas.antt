@@ -14,9 +14,9 @@ use Rattle.auc_server.specs.Setting.{Setting}
 use Rattle.auc_subs.specs.declared.row.Row.{Row}
 use Rattle.auc_vector.specs.declared.notes.CounterNote.{CounterNote}
 use Rattle.auc_vector.specs.declared.notes.CounterNote.TheVariants as counts
-use Rattle.auc_world.specs.Came.{Came, came, came_at_peer, came_at_server, came_delivered, came_given_up, came_in, came_opened, came_repeated, came_started, server_came_to_give_up, session_at, session_of}
+use Rattle.auc_world.specs.Came.{Came, came, came_at_peer, came_at_server, came_changed, came_delivered, came_given_up, came_in, came_opened, came_repeated, came_started, server_came_to_give_up, session_at, session_of}
 use Rattle.auc_world.specs.Given.{Before, EventGives, JobGives, JobsGive, behind}
-use Rattle.auc_world.specs.Happened.{Delivery, Told, delivery_at, delivery_of, peer_turn}
+use Rattle.auc_world.specs.Happened.{Delivery, Told, changed_in, delivery_at, delivery_of, peer_turn}
 use Rattle.auc_world.specs.Lines.{all_lines}
 use Rattle.auc_world.specs.Net.{Net, device_place, keeps_at, packet_at, session_place}
 use Rattle.auc_world.specs.Plain.{counter_taken}
@@ -34,9 +34,10 @@ use Rattle.auc_world.specs.declared.record.PartRecord.{PartRecord}
 use Rattle.auc_world.specs.declared.record.PartRecord.TheVariants as record_of
 use Rattle.auc_world.proofs.Facts.{AreAt}
 use Rattle.auc_transcript.specs.Completeness.{session_in}
-use Rattle.auc_transcript.specs.Counters.{AcceptancesAreOwn, AcceptancesAreOwnAfter, EachJobLeadsOn, IsOwn, JobAcceptsOwn, JobsAcceptOwn, LineLeads, LinesLead, accepted_noted}
+use Rattle.auc_transcript.specs.Counters.{AcceptancesAreOwn, AcceptancesAreOwnAfter, EachJobLeadsOn, IsOwn, IsOwnIn, JobAcceptsOwn, JobsAcceptOwn, LineLeads, LinesLead, accepted_noted}
 use Rattle.auc_transcript.specs.Headline.{IsOutsideSessions}
 use Rattle.auc_transcript.specs.Keys.{AreNets, AreNetsAfter}
+use Rattle.auc_transcript.proofs.ChangeLemmas.{change_holds}
 use Rattle.auc_transcript.proofs.DeviceEventLemmas.{IsPlaced, event_stays}
 use Rattle.auc_transcript.proofs.DeviceFoldLemmas.{placed_on}
 use Rattle.auc_transcript.proofs.JobFoldLemmas.{job_keeps_outside}
@@ -242,7 +243,12 @@ module _ (law : EachAcceptanceIsOwn) (set : Setting) (w : Net) (told : Told) (pl
       by None = none (server_came_to_give_up w None) refl
       by (Some q) = none (server_came_to_give_up w (Some q)) refl
 
-event_owns : EachAcceptanceIsOwn → (set : Setting) (w : Net) (e : Happens) (told : Told) → AreAt (IsPlaced set w.devices) w.sessions → All (IsOwn set w (session_in e)) (accepted_noted (came set w e told))
+-- where a packet is changed, nothing is accepted
+changed_owns : (set : Setting) (w : Net) (e : Happens) (sent : Option SentPacket) → All (IsOwnIn set w None) (accepted_noted (came_changed w.packets sent (changed_in w.packets e)))
+changed_owns set w e sent =
+    change_holds (λ c. All (IsOwnIn set w None) (accepted_noted c)) (λ why. All-nil (IsOwnIn set w None)) (λ packets bytes. All-nil (IsOwnIn set w None)) w.packets sent (changed_in w.packets e)
+
+event_owns : EachAcceptanceIsOwn → (set : Setting) (w : Net) (e : Happens) (told : Told) → AreAt (IsPlaced set w.devices) w.sessions → All (IsOwnIn set w (session_in e)) (accepted_noted (came set w e told))
 event_owns law set w (event.Open opening) told placed =
     opened_owns law set w told placed opening.session (session_place w.sessions opening.session) (device_place set.rows w.devices opening.sub)
 event_owns law set w (event.Start session) told placed =
@@ -253,6 +259,8 @@ event_owns law set w (event.Repeat session) told placed =
     in_owns law set w told placed session (λ s. came_repeated w s.server) (session_of w session) (λ s. repeat_owns law set w told placed session s.server)
 event_owns law set w (event.GiveUp session at') told placed =
     in_owns law set w told placed session (came_given_up w at') (session_of w session) (over_owns law set w told placed session at')
+event_owns law set w (event.Tamper packet place byte) told placed = changed_owns set w (event.Tamper packet place byte) (packet_at w.packets packet)
+event_owns law set w (event.Cut packet count) told placed = changed_owns set w (event.Cut packet count) (packet_at w.packets packet)
 
 -- ---- jobs and rounds
 
@@ -269,8 +277,8 @@ job_accepts_own laws law set before start last job lines fresh gives r now at' =
     } in
     let stands = lines_stand set start before start mid at'.front front began in
     let placed = subst (λ ds. AreAt (IsPlaced set ds) mid.sessions) (sym stands.devices) stands.placed in
-    subst (λ (w : Net). All (IsOwn set w (session_in r.event)) (accepted_noted r.result)) same
-    (subst (λ (c : Came). All (IsOwn set mid (session_in r.event)) (accepted_noted c)) (sym result) (event_owns law set mid r.event event.told placed))
+    subst (λ (w : Net). All (IsOwnIn set w (session_in r.event)) (accepted_noted r.result)) same
+    (subst (λ (c : Came). All (IsOwnIn set mid (session_in r.event)) (accepted_noted c)) (sym result) (event_owns law set mid r.event event.told placed))
 
 jobs_accept_own : Laws → EachAcceptanceIsOwn → (set : Setting) (early : List LineRecord) (kept : List Kept) (beside : List LineRecord) (jobs : List (List Line)) (records : List (List LineRecord))
     (nets : List Net) → JobsGive set early kept beside jobs records nets → JobsAcceptOwn set early kept beside jobs records

@@ -1,7 +1,7 @@
--- For the law of vectors that sessions present: the packets of a job's network are those that its lines sent, and no event
+-- For the law of vectors that sessions present: the packets of a job's network are those that its lines sent or made, and no event
 -- changes a device.
 use Rattle.std.proofs.Common.{◌≡◌, ℕ, List, [], ◌∷◌, ◌++◌, Option, Some, None, map, refl, sym, ap, ◌∙◌, append-nil}
-use Rattle.std.specs.Prelude.{slice_get}
+use Rattle.std.specs.Prelude.{slice_get, slice_set, take}
 use Rattle.std.proofs.lemmas.List.{map-append}
 use Rattle.auc_lines.specs.declared.part.End.{End}
 use Rattle.auc_lines.specs.declared.part.End.TheVariants as end
@@ -22,12 +22,13 @@ use Rattle.auc_world.specs.declared.net.Inputs.{Inputs}
 use Rattle.auc_world.specs.declared.net.SentPacket.{SentPacket}
 use Rattle.auc_world.specs.declared.net.Session.{Session}
 use Rattle.auc_transcript.specs.Presented.{sent_in, those_sent}
+use Rattle.auc_transcript.proofs.ChangeLemmas.{copies_are_sent}
 
 -- the bytes of packets
 abbrev pub bytes_of : List SentPacket → List (List ℕ)
 bytes_of packets = map (λ p. p.bytes) packets
 
--- a network after an event has the packets that it had, then those that the event sent; and its devices are the same
+-- a network after an event has the packets that it had, then those that the event sent or made; and its devices are the same
 pub record Posts (w : Net) (c : Came) (next : Net) : Type 0 where
   pub packets : bytes_of next.packets ≡ bytes_of w.packets ++ sent_in c
   pub devices : next.devices ≡ w.devices
@@ -36,7 +37,7 @@ pub record Posts (w : Net) (c : Came) (next : Net) : Type 0 where
 
 bytes_posted : (packets : List SentPacket) (from : End) (inputs : Option Inputs) (o : Option (List ℕ)) → bytes_of (posted packets from inputs o) ≡ bytes_of packets ++ those_sent o
 bytes_posted packets from inputs None = sym (append-nil (bytes_of packets))
-bytes_posted packets from inputs (Some bytes) = map-append (λ (p : SentPacket). p.bytes) packets (record { bytes = bytes; sender = from; inputs = inputs } ∷ [])
+bytes_posted packets from inputs (Some bytes) = map-append (λ (p : SentPacket). p.bytes) packets (record { bytes = bytes; sender = Some from; inputs = inputs } ∷ [])
 
 -- nothing was sent
 still : (w : Net) (c : Came) → sent_in c ≡ [] → Posts w c w
@@ -115,7 +116,7 @@ at_posts w does comes (Some place) each = in_posts w does comes place (slice_get
 
 -- ---- an event
 
--- what an event sends
+-- what an event sends or makes
 pub event_posts : (set : Setting) (w : Net) (e : Event) (told : Told) → Posts w (came set w e told) (happened set w e told)
 event_posts set w (event.Open opening) told =
     let is = opened_posts w opening (session_place w.sessions opening.session) (device_place set.rows w.devices opening.sub) in record { packets = is.packets; devices = is.devices }
@@ -130,3 +131,6 @@ event_posts set w (event.Repeat session) told =
 event_posts set w (event.GiveUp session at') told =
     let is = at_posts w (give_up w at') (came_given_up w at') (session_place w.sessions session) (λ place s. given_up_posts w at' place s) in
     record { packets = is.packets; devices = is.devices }
+event_posts set w (event.Tamper packet place byte) told =
+    record { packets = copies_are_sent w.packets place (λ bytes. slice_set bytes place byte) (packet_at w.packets packet); devices = refl }
+event_posts set w (event.Cut packet count) told = record { packets = copies_are_sent w.packets count (take count) (packet_at w.packets packet); devices = refl }

@@ -6,7 +6,7 @@ use Rattle.std.proofs.lemmas.List.Concat.{flat_map-append}
 use Rattle.std.proofs.lemmas.List.Elements.{Contains-append_left, Contains-append_right, filter-append}
 use Rattle.std.proofs.lemmas.List.Sorted.{Contains-permutation}
 use Rattle.auc_edge.specs.declared.stop.Stop.{Stop}
-use Rattle.auc_lines.specs.Part.{held_subs}
+use Rattle.auc_lines.specs.Part.{held_subs, is_that}
 use Rattle.auc_lines.specs.declared.part.End.{End}
 use Rattle.auc_lines.specs.declared.part.End.TheVariants as end
 use Rattle.auc_lines.specs.declared.part.Line.{Line}
@@ -115,10 +115,10 @@ some_tell sub syncs front own back none also all =
 -- ---- the records of a plain line
 
 -- each is that of an event in the session
-event_of : (set : Setting) (before : Before) (w next : Net) (e : Happens) (session : ℕ) (l : LineRecord) → session_in e ≡ session → EventGives set before w e (l ∷ []) next
+event_of : (set : Setting) (before : Before) (w next : Net) (e : Happens) (session : ℕ) (l : LineRecord) → session_in e ≡ Some session → EventGives set before w e (l ∷ []) next
     → is_of_session session l ≡ true
 event_of set before w next e session l same gives =
-    ap (is_of_session session) (heads l _ [] [] gives.lines_are) ∙ eq-eqb (session_in e) session same
+    ap (is_of_session session) (heads l _ [] [] gives.lines_are) ∙ ap (is_that session) same ∙ eq-eqb session session refl
   where
     heads : (a b : LineRecord) (xs ys : List LineRecord) → a ∷ xs ≡ b ∷ ys → a ≡ b
     heads a b xs ys e = cc

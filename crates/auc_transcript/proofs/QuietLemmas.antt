@@ -4,6 +4,7 @@ use Rattle.std.specs.Prelude.{flat_map, if◌then◌else◌}
 use Rattle.std.proofs.lemmas.Bool.{cond-false, eqb-true}
 use Rattle.std.proofs.lemmas.List.Concat.{flat_map-append}
 use Rattle.std.proofs.lemmas.List.Elements.{All-head, All-tail, filter-append}
+use Rattle.auc_lines.specs.Part.{is_that}
 use Rattle.auc_lines.specs.declared.part.End.{End}
 use Rattle.auc_lines.specs.declared.part.End.TheVariants as end
 use Rattle.auc_lines.specs.declared.part.Line.{Line}
@@ -68,12 +69,16 @@ differ a b apart = by (a == b) refl
     by true is = absurd (apart (eqb-true a b is))
     by false is = refl
 
--- of another session
-event_none : (set : Setting) (before : Before) (w next : Net) (e : Happens) (session : ℕ) (lines : List LineRecord) → session_in e ≢ session → EventGives set before w e lines next
+differ_in : (session : ℕ) (o : Option ℕ) → o ≢ Some session → is_that session o ≡ false
+differ_in session None apart = refl
+differ_in session (Some own) apart = differ own session (λ same. apart (ap Some same))
+
+-- of another session, or of none
+event_none : (set : Setting) (before : Before) (w next : Net) (e : Happens) (session : ℕ) (lines : List LineRecord) → session_in e ≢ Some session → EventGives set before w e lines next
     → records_of session lines ≡ []
 event_none set before w next e session lines apart gives =
     let line = Event (record { event = e; result = came set w e gives.told }) in
-    ap (records_of session) gives.lines_are ∙ cond-false (is_of_session session line) (line ∷ []) [] (differ (session_in e) session apart)
+    ap (records_of session) gives.lines_are ∙ cond-false (is_of_session session line) (line ∷ []) [] (differ_in session (session_in e) apart)
 
 -- that opens a session
 opened_none : (first place : Option ℕ) → number_in (came_opened first place) ≡ None
@@ -96,7 +101,7 @@ open_none set before w next opening session lines gives =
     by true = ap (λ ns. ns ++ []) (ap number_released (opened_none (session_place w.sessions opening.session) (device_place set.rows w.devices opening.sub)))
     by false = refl
 
-relay_none : (set : Setting) (before : Before) (w next : Net) (own session : ℕ) (at' : End) (o : Option ℕ) (lines : List LineRecord) → own ≢ session
+relay_none : (set : Setting) (before : Before) (w next : Net) (own session : ℕ) (at' : End) (o : Option ℕ) (lines : List LineRecord) → ◌≢◌ {A = Option ℕ} (Some own) (Some session)
     → RelayGives set before w own at' o lines next → records_of session lines ≡ []
 relay_none set before w next own session at' None [] apart gives = refl
 relay_none set before w next own session at' None (l ∷ lines) apart gives = absurd gives
@@ -106,7 +111,8 @@ relay_none set before w next own session at' (Some packet) (l ∷ lines) apart (
     ∙ ap (λ (ls : List LineRecord). ls ++ records_of session lines) (event_none set before w mid (event.Deliver own at' packet) session (l ∷ []) apart first)
     ∙ relay_none set (behind before (l ∷ [])) mid next own session (other at') (packet_of l) lines apart more
 
-plain_none : (set : Setting) (before : Before) (w next : Net) (own session : ℕ) (lines : List LineRecord) → own ≢ session → PlainGives set before w own lines next → records_of session lines ≡ []
+plain_none : (set : Setting) (before : Before) (w next : Net) (own session : ℕ) (lines : List LineRecord) → ◌≢◌ {A = Option ℕ} (Some own) (Some session)
+    → PlainGives set before w own lines next → records_of session lines ≡ []
 plain_none set before w next own session [] apart gives = absurd gives
 plain_none set before w next own session (l ∷ lines) apart (mid, first, more) =
     filter-append (is_of_session session) (l ∷ []) lines
@@ -115,27 +121,26 @@ plain_none set before w next own session (l ∷ lines) apart (mid, first, more) 
 
 -- ---- lines and jobs
 
-named_apart : (own session : ℕ) → ◌≢◌ {A = Option ℕ} (Some own) (Some session) → own ≢ session
-named_apart own session apart same = apart (ap Some same)
-
 pub line_none : (set : Setting) (before : Before) (w next : Net) (l : Line) (session : ℕ) (lines : List LineRecord) → session_named l ≢ Some session → LineGives set before w l lines next
     → DrawsNone session lines
 line_none set before w next l session lines = by_kind NoneBy
     (λ x is apart gives. none_in session lines (outside_none session lines (quiet_gives x is set before w next lines gives).0)) at_event
-    (λ own apart gives. none_in session lines (plain_none set before w next own session lines (named_apart own session apart) gives)) l
+    (λ own apart gives. none_in session lines (plain_none set before w next own session lines apart gives)) l
   where
     NoneBy : Line → Type 0
     NoneBy x = session_named x ≢ Some session → LineGives set before w x lines next → DrawsNone session lines
 
-    of_other : (e : Happens) → session_in e ≢ session → EventGives set before w e lines next → DrawsNone session lines
+    of_other : (e : Happens) → session_in e ≢ Some session → EventGives set before w e lines next → DrawsNone session lines
     of_other e apart gives = none_in session lines (event_none set before w next e session lines apart gives)
 
     at_event : (e : Happens) → NoneBy (line_of e)
     at_event (event.Open opening) apart gives = open_none set before w next opening session lines gives
-    at_event (event.Start own) apart gives = of_other (event.Start own) (named_apart own session apart) gives
-    at_event (event.Deliver own at' packet) apart gives = of_other (event.Deliver own at' packet) (named_apart own session apart) gives
-    at_event (event.Repeat own) apart gives = of_other (event.Repeat own) (named_apart own session apart) gives
-    at_event (event.GiveUp own at') apart gives = of_other (event.GiveUp own at') (named_apart own session apart) gives
+    at_event (event.Start own) apart gives = of_other (event.Start own) apart gives
+    at_event (event.Deliver own at' packet) apart gives = of_other (event.Deliver own at' packet) apart gives
+    at_event (event.Repeat own) apart gives = of_other (event.Repeat own) apart gives
+    at_event (event.GiveUp own at') apart gives = of_other (event.GiveUp own at') apart gives
+    at_event (event.Tamper packet place byte) apart gives = of_other (event.Tamper packet place byte) apart gives
+    at_event (event.Cut packet count) apart gives = of_other (event.Cut packet count) apart gives
 
 pub job_none : (set : Setting) (before : Before) (w last : Net) (job : List Line) (session : ℕ) (lines : List LineRecord) → All (λ l. session_named l ≢ Some session) job
     → JobGives set before w job lines last → DrawsNone session lines

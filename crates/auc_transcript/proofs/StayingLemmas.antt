@@ -1,5 +1,5 @@
 -- For plain sessions: a session stays as it is through the events of other sessions, and one without an event stays new.
-use Rattle.std.proofs.Common.{◌≡◌, ◌≢◌, ◌⊎◌, ℕ, ◌==◌, Bool, true, false, List, [], ◌∷◌, length, map, All, Option, Some, None, slice_get, slice_set, refl, sym, ap, ◌∙◌, subst, inl, inr, ⊎_elim}
+use Rattle.std.proofs.Common.{◌≡◌, ◌≢◌, ◌⊎◌, ℕ, suc, ◌==◌, Bool, true, false, List, [], ◌∷◌, length, map, All, Option, Some, None, slice_get, slice_set, refl, sym, ap, ◌∙◌, subst, arith, inl, inr, ⊎_elim}
 use Rattle.std.proofs.lemmas.Bool.{cond-true, eq-eqb, eqb-true}
 use Rattle.std.proofs.lemmas.List.Elements.{All-push, All-set}
 use Rattle.std.proofs.lemmas.List.Quantifiers.{position-Some}
@@ -252,6 +252,11 @@ another_leaves rows opening w next another apart m = record {
         let own : P t.new = λ has. let fail = fails t in let no : ⊥ = cc in absurd no in
         subst (All P) (sym t.is) (All-set P w.sessions t.place t.new own before)
 
+-- what leaves sessions, devices and homes as they are
+packets_leave : (rows : List Row) (opening : SessionLine) (w next : Net) → next.sessions ≡ w.sessions → next.devices ≡ w.devices → AreOfSame w.homes next.homes → Leaves rows opening w next (Unit {0})
+packets_leave rows opening w next sessions devices homes =
+    another_leaves rows opening w next (suc opening.session) (λ same. absurd (omega (arith, same))) (record { sessions = inl sessions; devices = devices; homes = homes })
+
 -- a line that opens a session under the number is the one
 abbrev pub IsTheOne : SessionLine → SessionLine → Type 0
 IsTheOne opening other = other.session ≡ opening.session → other ≡ opening
@@ -282,7 +287,7 @@ opening_leaves rows opening w other None (Some place) found placed =
 -- an event that opens a session, or is of another one
 abbrev IsBeside : ℕ → Event → Type 0
 IsBeside number (event.Open opening) = Unit {0}
-IsBeside number e = session_in e ≢ number
+IsBeside number e = session_in e ≢ Some number
 
 -- an event that opens a session under the number of a line is by this line
 abbrev SuitsIn : SessionLine → Event → Type 0
@@ -291,6 +296,11 @@ SuitsIn opening (event.Start session) = Unit {0}
 SuitsIn opening (event.Deliver session at' packet) = Unit {0}
 SuitsIn opening (event.Repeat session) = Unit {0}
 SuitsIn opening (event.GiveUp session at') = Unit {0}
+SuitsIn opening (event.Tamper packet place byte) = Unit {0}
+SuitsIn opening (event.Cut packet count) = Unit {0}
+
+named_apart : (session number : ℕ) → ◌≢◌ {A = Option ℕ} (Some session) (Some number) → session ≢ number
+named_apart session number apart same = apart (ap Some same)
 
 -- what changes sessions, devices and homes alike
 rebroken : (rows : List Row) (opening : SessionLine) (set : Setting) (w : Net) (e : Event) (told : Told) (Suits : Type 0) → Leaves rows opening w (moved set w e told) Suits
@@ -304,23 +314,28 @@ event_leaves set opening w (event.Open other) told beside =
     (opening_leaves set.rows opening w other (session_place w.sessions other.session) (device_place set.rows w.devices other.sub) refl refl)
 event_leaves set opening w (event.Start session) told beside =
     rebroken set.rows opening set w (event.Start session) told (Unit {0})
-    (another_leaves set.rows opening w _ session beside (at_moves w session (λ place s. start w place s s.server) (λ place s st. start_moves w session place s s.server st)))
+    (another_leaves set.rows opening w _ session (named_apart session opening.session beside) (at_moves w session (λ place s. start w place s s.server) (λ place s st. start_moves w session place s s.server st)))
 event_leaves set opening w (event.Deliver session at' packet) told beside =
     rebroken set.rows opening set w (event.Deliver session at' packet) told (Unit {0})
-    (another_leaves set.rows opening w _ session beside (delivery_moves set w session at' told packet))
+    (another_leaves set.rows opening w _ session (named_apart session opening.session beside) (delivery_moves set w session at' told packet))
 event_leaves set opening w (event.Repeat session) told beside =
     rebroken set.rows opening set w (event.Repeat session) told (Unit {0})
-    (another_leaves set.rows opening w _ session beside (at_moves w session (λ place s. repeat w place s s.server) (λ place s st. repeat_moves w session place s s.server st)))
+    (another_leaves set.rows opening w _ session (named_apart session opening.session beside) (at_moves w session (λ place s. repeat w place s s.server) (λ place s st. repeat_moves w session place s s.server st)))
 event_leaves set opening w (event.GiveUp session at') told beside =
     rebroken set.rows opening set w (event.GiveUp session at') told (Unit {0})
-    (another_leaves set.rows opening w _ session beside (at_moves w session (give_up w at') (λ place s st. over_moves w session at' place s st)))
+    (another_leaves set.rows opening w _ session (named_apart session opening.session beside) (at_moves w session (give_up w at') (λ place s st. over_moves w session at' place s st)))
+event_leaves set opening w (event.Tamper packet place byte) told beside =
+    rebroken set.rows opening set w (event.Tamper packet place byte) told (Unit {0}) (packets_leave set.rows opening w _ refl refl refl)
+event_leaves set opening w (event.Cut packet count) told beside =
+    rebroken set.rows opening set w (event.Cut packet count) told (Unit {0}) (packets_leave set.rows opening w _ refl refl refl)
 
 gives_leaves : (set : Setting) (opening : SessionLine) (before : Before) (w next : Net) (e : Event) (lines : List LineRecord) → IsBeside opening.session e
     → EventGives set before w e lines next → Leaves set.rows opening w next (SuitsIn opening e)
 gives_leaves set opening before w next e lines beside gives =
     subst (λ (n : Net). Leaves set.rows opening w n (SuitsIn opening e)) (sym gives.leads) (event_leaves set opening w e gives.told beside)
 
-relay_leaves : (set : Setting) (opening : SessionLine) (before : Before) (w next : Net) (session : ℕ) (at' : End) (o : Option ℕ) (lines : List LineRecord) → session ≢ opening.session
+relay_leaves : (set : Setting) (opening : SessionLine) (before : Before) (w next : Net) (session : ℕ) (at' : End) (o : Option ℕ) (lines : List LineRecord)
+    → ◌≢◌ {A = Option ℕ} (Some session) (Some opening.session)
     → RelayGives set before w session at' o lines next → Leaves set.rows opening w next (Unit {0})
 relay_leaves set opening before w next session at' None [] apart gives = leaves_itself set.rows opening w next (Unit {0}) gives
 relay_leaves set opening before w next session at' None (l ∷ lines) apart gives = absurd gives
@@ -330,16 +345,14 @@ relay_leaves set opening before w next session at' (Some packet) (l ∷ lines) a
     (gives_leaves set opening before w mid (event.Deliver session at' packet) (l ∷ []) apart first)
     (relay_leaves set opening (behind before (l ∷ [])) mid next session (other_end at') (packet_of l) lines apart more)
 
-plain_leaves : (set : Setting) (opening : SessionLine) (before : Before) (w next : Net) (session : ℕ) (lines : List LineRecord) → session ≢ opening.session
+plain_leaves : (set : Setting) (opening : SessionLine) (before : Before) (w next : Net) (session : ℕ) (lines : List LineRecord)
+    → ◌≢◌ {A = Option ℕ} (Some session) (Some opening.session)
     → PlainGives set before w session lines next → Leaves set.rows opening w next (Unit {0})
 plain_leaves set opening before w next session [] apart gives = absurd gives
 plain_leaves set opening before w next session (l ∷ lines) apart (mid, first, more) =
     leaves_on set.rows opening w mid next (Unit {0}) (Unit {0}) (Unit {0}) (λ s. s) (λ s. s)
     (gives_leaves set opening before w mid (event.Start session) (l ∷ []) apart first)
     (relay_leaves set opening (behind before (l ∷ [])) mid next session end.Peer (packet_of l) lines apart more)
-
-named_apart : (session number : ℕ) → ◌≢◌ {A = Option ℕ} (Some session) (Some number) → session ≢ number
-named_apart session number apart same = apart (ap Some same)
 
 -- a line that opens a session under the number of another one is this one
 abbrev pub SuitsAt : SessionLine → Line → Type 0
@@ -356,7 +369,7 @@ pub line_leaves : (set : Setting) (opening : SessionLine) (before : Before) (w n
 line_leaves set opening before w next l lines = by_kind LeavesBy
     (λ x is apart gives. leaves_itself set.rows opening w next (SuitsAt opening x) (is.gives set before w next lines gives).1) at_event
     (λ session apart gives. leaves_if set.rows opening w next (Unit {0}) (SuitsAt opening (line.Plain session)) (λ suits. tt)
-    (plain_leaves set opening before w next session lines (named_apart session opening.session apart) gives)) l
+    (plain_leaves set opening before w next session lines apart gives)) l
   where
     LeavesBy : Line → Type 0
     LeavesBy x = session_named x ≢ Some opening.session → LineGives set before w x lines next → Leaves set.rows opening w next (SuitsAt opening x)
@@ -372,12 +385,12 @@ line_leaves set opening before w next l lines = by_kind LeavesBy
 
     at_event : (e : Event) → LeavesBy (line_of e)
     at_event (event.Open other) apart gives = by_event (event.Open other) tt gives (the_one other)
-    at_event (event.Start session) apart gives = by_event (event.Start session) (named_apart session opening.session apart) gives (λ suits. tt)
-    at_event (event.Deliver session at' packet) apart gives =
-        by_event (event.Deliver session at' packet) (named_apart session opening.session apart) gives (λ suits. tt)
-    at_event (event.Repeat session) apart gives = by_event (event.Repeat session) (named_apart session opening.session apart) gives (λ suits. tt)
-    at_event (event.GiveUp session at') apart gives =
-        by_event (event.GiveUp session at') (named_apart session opening.session apart) gives (λ suits. tt)
+    at_event (event.Start session) apart gives = by_event (event.Start session) apart gives (λ suits. tt)
+    at_event (event.Deliver session at' packet) apart gives = by_event (event.Deliver session at' packet) apart gives (λ suits. tt)
+    at_event (event.Repeat session) apart gives = by_event (event.Repeat session) apart gives (λ suits. tt)
+    at_event (event.GiveUp session at') apart gives = by_event (event.GiveUp session at') apart gives (λ suits. tt)
+    at_event (event.Tamper packet place byte) apart gives = by_event (event.Tamper packet place byte) apart gives (λ suits. tt)
+    at_event (event.Cut packet count) apart gives = by_event (event.Cut packet count) apart gives (λ suits. tt)
 
 -- a line that opens a session, for a subscriber whose device there is
 pub opens : (set : Setting) (before : Before) (w next : Net) (opening : SessionLine) (place : ℕ) (lines : List LineRecord) → device_place set.rows w.devices opening.sub ≡ Some place

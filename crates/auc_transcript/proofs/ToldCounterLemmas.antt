@@ -1,10 +1,11 @@
 -- For the law of contexts: the records of a session tell exactly the counters that its ends have.
-use Rattle.std.proofs.Common.{◌≡◌, ◌≢◌, ℕ, ◌≤◌, ◌==◌, ◌&&◌, Bool, true, false, cond, List, [], ◌∷◌, ◌++◌, flat_map, get_or, length, map, All, Option, Some, None, slice_get, refl, sym, ap, ◌∙◌, subst, arith, append-nil}
+use Rattle.std.proofs.Common.{◌≡◌, ◌≢◌, ℕ, zero, suc, ◌≤◌, ◌==◌, ◌&&◌, Bool, true, false, cond, List, [], ◌∷◌, ◌++◌, flat_map, get_or, length, map, All, Option, Some, None, slice_get, refl, sym, ap, ◌∙◌, subst, arith, append-nil}
 use Rattle.std.proofs.lemmas.Bool.{eq-eqb, eqb-true}
 use Rattle.std.proofs.lemmas.List.Concat.{flat_map-append}
 use Rattle.std.proofs.lemmas.List.Elements.{All-head, All-tail, filter-append}
 use Rattle.std.proofs.lemmas.Option.{slice_get-get_or}
 use Rattle.auc_hmac.specs.declared.method.Method.{Method}
+use Rattle.auc_lines.specs.Part.{is_that}
 use Rattle.auc_lines.specs.declared.part.Line.{Line}
 use Rattle.auc_lines.specs.declared.part.Part.{Part}
 use Rattle.auc_lines.specs.declared.part.Part.TheVariants as part
@@ -34,7 +35,7 @@ use Rattle.auc_transcript.specs.Keys.{AreNetsAfter}
 use Rattle.auc_transcript.proofs.JobFoldLemmas.{job_keeps_outside}
 use Rattle.auc_transcript.proofs.QuietLemmas.{outside_none}
 use Rattle.auc_transcript.proofs.ToldTurnLemmas.{counters_of, one_short, resumed_counters}
-use Rattle.auc_transcript.proofs.ToldSessionLemmas.{Agrees, Fine, IsUnique, Steps}
+use Rattle.auc_transcript.proofs.ToldSessionLemmas.{Agrees, Fine, IsUnique, Steps, StepsIn}
 use Rattle.auc_transcript.proofs.ToldEventLemmas.{event_steps}
 
 -- ---- a job
@@ -50,7 +51,7 @@ record Tells (b : Before) (w : Net) : Type 0 where
   agrees : (n : ℕ) → Agrees (resumed_told n b.own) (accepted_told n b.own) (session_of w n)
   unique : IsUnique w
 
-one_record : (n : ℕ) (e : Happens) (c : Came) → (b : Bool) → (session_in e == n) ≡ b → records_of n (Event (record { event = e; result = c }) ∷ []) ≡ cond b (Event (record { event = e; result = c }) ∷ []) []
+one_record : (n : ℕ) (e : Happens) (c : Came) → (b : Bool) → is_that n (session_in e) ≡ b → records_of n (Event (record { event = e; result = c }) ∷ []) ≡ cond b (Event (record { event = e; result = c }) ∷ []) []
 one_record n e c b is = ap (λ (t : Bool). cond t (Event (record { event = e; result = c }) ∷ []) []) is
 
 after_one_event : (set : Setting) → AcceptedIsOfTheContext → (b : Before) (w next : Net) (e : Happens) (lines : List LineRecord) → EventGives set b w e lines next → Tells b w → Tells (behind b lines) next
@@ -60,15 +61,22 @@ after_one_event set own b w next e lines gives st =
     let line = Event (record { event = e; result = c }) in
     let v = happened set w e told in
     let m = event_steps set own w e told in
-    let then : Tells (behind b (line ∷ [])) v = record { agrees = λ n. by n c v m (session_in e == n) refl; unique = m.unique st.unique } in
+    let then : Tells (behind b (line ∷ [])) v = record { agrees = λ n. by n c v (session_in e) refl m; unique = unique c v (session_in e) m } in
     subst (λ (x : Net). Tells (behind b lines) x) (sym gives.leads) (subst (λ (ls : List LineRecord). Tells (behind b ls) v) (sym gives.lines_are) then)
   where
-    by : (n : ℕ) (c : Came) (v : Net) → Steps w v (session_in e) c → (t : Bool) → (session_in e == n) ≡ t
-        → Agrees (resumed_told n (b.own ++ Event (record { event = e; result = c }) ∷ [])) (accepted_told n (b.own ++ Event (record { event = e; result = c }) ∷ [])) (session_of v n)
-    by n c v m true is =
+    unique : (c : Came) (v : Net) (o : Option ℕ) → StepsIn w v o c → IsUnique v
+    unique c v None m = (m zero).unique st.unique
+    unique c v (Some k) m = m.unique st.unique
+
+    -- what the ends have after the event, if the records tell the same with it
+    TellsThen : ℕ → Came → Net → Type 0
+    TellsThen n c v = Agrees (resumed_told n (b.own ++ Event (record { event = e; result = c }) ∷ [])) (accepted_told n (b.own ++ Event (record { event = e; result = c }) ∷ [])) (session_of v n)
+
+    -- in the session
+    inside : (n k : ℕ) (c : Came) (v : Net) → Steps w v k c → is_that n (session_in e) ≡ true → k ≡ n → TellsThen n c v
+    inside n k c v m is same =
         let line = Event (record { event = e; result = c }) in
         let records : records_of n (line ∷ []) ≡ line ∷ [] = one_record n e c true is in
-        let same : session_in e ≡ n = eqb-true (session_in e) n is in
         subst (λ (l : List ℕ). Agrees l (accepted_told n (b.own ++ line ∷ [])) (session_of v n))
         (sym (told-append resumed_noted n b.own (line ∷ []) ∙ ap (λ (l : List LineRecord). resumed_told n b.own ++ flat_map resumed_noted (results l)) records
         ∙ ap (λ (l : List ℕ). resumed_told n b.own ++ l) (append-nil (resumed_noted c))))
@@ -77,18 +85,25 @@ after_one_event set own b w next e lines gives st =
         ∙ ap (λ (l : List ℕ). accepted_told n b.own ++ l) (append-nil (accepted_noted c))))
         (subst (λ (k : ℕ). Agrees (resumed_told n b.own ++ resumed_noted c) (accepted_told n b.own ++ accepted_noted c) (session_of v k)) same
         (m.own (resumed_told n b.own) (accepted_told n b.own) (subst (λ (k : ℕ). Agrees (resumed_told n b.own) (accepted_told n b.own) (session_of w k)) (sym same) (st.agrees n)))))
-    by n c v m false is =
+
+    -- in another one, or in none
+    outside : (n k : ℕ) (c : Came) (v : Net) → Steps w v k c → is_that n (session_in e) ≡ false → n ≢ k → TellsThen n c v
+    outside n k c v m is apart =
         let line = Event (record { event = e; result = c }) in
         let records : records_of n (line ∷ []) ≡ [] = one_record n e c false is in
-        let apart : n ≢ session_in e = λ same. other n same is in
         subst (λ (l : List ℕ). Agrees l (accepted_told n (b.own ++ line ∷ [])) (session_of v n))
         (sym (told-append resumed_noted n b.own (line ∷ []) ∙ ap (λ (l : List LineRecord). resumed_told n b.own ++ flat_map resumed_noted (results l)) records ∙ append-nil (resumed_told n b.own)))
         (subst (λ (l : List ℕ). Agrees (resumed_told n b.own) l (session_of v n))
         (sym (told-append accepted_noted n b.own (line ∷ []) ∙ ap (λ (l : List LineRecord). accepted_told n b.own ++ flat_map accepted_noted (results l)) records ∙ append-nil (accepted_told n b.own)))
         (subst (Agrees (resumed_told n b.own) (accepted_told n b.own)) (sym (m.others n apart)) (st.agrees n)))
+
+    by : (n : ℕ) (c : Came) (v : Net) (o : Option ℕ) → session_in e ≡ o → StepsIn w v o c → TellsThen n c v
+    by n c v None is m = outside n (suc n) c v (m (suc n)) (ap (is_that n) is) (λ same. absurd (omega (arith, same)))
+    by n c v (Some k) is m = under (k == n) refl
       where
-        other : (n : ℕ) → n ≡ session_in e → (session_in e == n) ≡ false → ⊥
-        other n same f = let t = eq-eqb (session_in e) n (sym same) in cc
+        under : (t : Bool) → (k == n) ≡ t → TellsThen n c v
+        under true same = inside n k c v m (ap (is_that n) is ∙ same) (eqb-true k n same)
+        under false differ = outside n k c v m (ap (is_that n) is ∙ differ) (λ same. let t = eq-eqb k n (sym same) in cc)
 
 after_quiet : (b : Before) (w : Net) (lines : List LineRecord) → All IsOutsideSessions lines → Tells b w → Tells (behind b lines) w
 after_quiet b w lines quiet st = record {

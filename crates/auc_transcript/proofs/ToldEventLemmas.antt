@@ -1,5 +1,5 @@
 -- For the counters that are told: an event tells of its session what changes there.
-use Rattle.std.proofs.Common.{◌≡◌, ℕ, List, ◌++◌, map, Option, Some, None, option_to_list, slice_get, slice_set, refl, sym, ap, ◌∙◌, subst, append-nil}
+use Rattle.std.proofs.Common.{◌≡◌, ℕ, List, [], ◌++◌, map, Option, Some, None, option_to_list, slice_get, slice_set, refl, sym, ap, ◌∙◌, subst, append-nil}
 use Rattle.auc_lines.specs.declared.part.End.{End}
 use Rattle.auc_lines.specs.declared.part.End.TheVariants as end
 use Rattle.auc_lines.specs.declared.part.SessionLine.{SessionLine}
@@ -13,8 +13,8 @@ use Rattle.auc_server.specs.Laws.{Fits}
 use Rattle.auc_server.specs.Server.{ServerEnd, started}
 use Rattle.auc_server.specs.Setting.{Setting}
 use Rattle.auc_server.specs.Table.{gave_up as server_gave_up}
-use Rattle.auc_world.specs.Came.{Came, came, came_at_peer, came_at_server, came_delivered, came_given_up, came_in, came_opened, came_repeated, came_started, server_came_to_give_up, session_at}
-use Rattle.auc_world.specs.Happened.{Delivery, Told, at_place, delivered, delivery_at, delivery_of, give_up, happened, in_session, keys_won, moved, new_session, opened, peer_turn, repeat, server_gives_up, server_turn, start, to_peer, to_server}
+use Rattle.auc_world.specs.Came.{Came, came, came_at_peer, came_at_server, came_changed, came_delivered, came_given_up, came_in, came_opened, came_repeated, came_started, server_came_to_give_up, session_at}
+use Rattle.auc_world.specs.Happened.{Delivery, Told, at_place, changed_in, delivered, delivery_at, delivery_of, give_up, happened, in_session, keys_won, moved, new_session, opened, peer_turn, repeat, server_gives_up, server_turn, start, to_peer, to_server}
 use Rattle.auc_world.specs.Net.{Net, device_place, keeps_at, packet_at, session_place}
 use Rattle.auc_world.specs.declared.event.Event.{Event as Happens}
 use Rattle.auc_world.specs.declared.event.Event.TheVariants as event
@@ -23,8 +23,9 @@ use Rattle.auc_world.specs.declared.net.Session.{Session}
 use Rattle.auc_world.proofs.Facts.{giving_up_counts, new_is_quiet, turn_counts}
 use Rattle.auc_transcript.specs.Completeness.{session_in}
 use Rattle.auc_transcript.specs.Counters.{accepted_noted, resumed_noted}
+use Rattle.auc_transcript.proofs.ChangeLemmas.{change_holds}
 use Rattle.auc_transcript.proofs.ToldTurnLemmas.{FitsIf, counters_of, gives_up, peer_counters, resumed_counters, started_fits, turn_shows}
-use Rattle.auc_transcript.proofs.ToldSessionLemmas.{Agrees, Steps, opened_steps, same_found, server_fine, stays, turned}
+use Rattle.auc_transcript.proofs.ToldSessionLemmas.{Agrees, Steps, StepsIn, opened_steps, same_found, server_fine, stays, turned}
 
 -- ---- events of open sessions
 
@@ -161,7 +162,25 @@ open_steps w opening None (Some place) e =
 
 -- ---- an event
 
-moved_steps : (set : Setting) → AcceptedIsOfTheContext → (w : Net) (e : Happens) (told : Told) → Steps w (moved set w e told) (session_in e) (came set w e told)
+-- what changes nothing in the sessions after some steps
+steps_on : (w v x : Net) → x.sessions ≡ v.sessions → (k : ℕ) (c : Came) → Steps w v k c → Steps w x k c
+steps_on w v x e k c m =
+    let same = same_found v x e in
+    record {
+      others = λ n apart. same n ∙ m.others n apart;
+      own = λ r a g. subst (Agrees (r ++ resumed_noted c) (a ++ accepted_noted c)) (sym (same k)) (m.own r a g);
+      unique = λ u. subst (λ (l : List Session). (i : ℕ) (s : Session) → slice_get l i ≡ Some s → session_place l s.number ≡ Some i) (sym e) (m.unique u);
+    }
+
+-- a changed packet tells of no counters
+changed_steps : (w v : Net) → v.sessions ≡ w.sessions → (k : ℕ) (e : Happens) (sent : Option SentPacket) → Steps w v k (came_changed w.packets sent (changed_in w.packets e))
+changed_steps w v same k e sent =
+    let c = came_changed w.packets sent (changed_in w.packets e) in
+    steps_on w w v same k c
+    (stays w k c (change_holds (λ c. resumed_noted c ≡ []) (λ why. refl) (λ packets bytes. refl) w.packets sent (changed_in w.packets e))
+    (change_holds (λ c. accepted_noted c ≡ []) (λ why. refl) (λ packets bytes. refl) w.packets sent (changed_in w.packets e)))
+
+moved_steps : (set : Setting) → AcceptedIsOfTheContext → (w : Net) (e : Happens) (told : Told) → StepsIn w (moved set w e told) (session_in e) (came set w e told)
 moved_steps set own w (event.Open opening) told = open_steps w opening (session_place w.sessions opening.session) (device_place set.rows w.devices opening.sub) refl
 moved_steps set own w (event.Start session) told =
     at_steps w session (λ t s. start w t s s.server) (λ s. came_started w s.options s.server) (λ t s first there. start_steps set own w told session t s first there s.server refl)
@@ -170,15 +189,15 @@ moved_steps set own w (event.Repeat session) told =
     at_steps w session (λ t s. repeat w t s s.server) (λ s. came_repeated w s.server) (λ t s first there. repeat_steps set own w told session t s first there s.server refl)
 moved_steps set own w (event.GiveUp session at') told =
     at_steps w session (give_up w at') (came_given_up w at') (λ t s first there. give_up_steps set own w told session t s first there at')
+moved_steps set own w (event.Tamper packet place byte) told =
+    λ k. changed_steps w (moved set w (event.Tamper packet place byte) told) refl k (event.Tamper packet place byte) (packet_at w.packets packet)
+moved_steps set own w (event.Cut packet count) told =
+    λ k. changed_steps w (moved set w (event.Cut packet count) told) refl k (event.Cut packet count) (packet_at w.packets packet)
 
 -- what is known of a breach is no matter
-pub event_steps : (set : Setting) → AcceptedIsOfTheContext → (w : Net) (e : Happens) (told : Told) → Steps w (happened set w e told) (session_in e) (came set w e told)
-event_steps set own w e told =
-    let m = moved_steps set own w e told in
-    let v = happened set w e told in
-    let same = same_found (moved set w e told) v refl in
-    record {
-      others = λ n apart. same n ∙ m.others n apart;
-      own = λ r a g. subst (Agrees (r ++ resumed_noted (came set w e told)) (a ++ accepted_noted (came set w e told))) (sym (same (session_in e))) (m.own r a g);
-      unique = m.unique;
-    }
+pub event_steps : (set : Setting) → AcceptedIsOfTheContext → (w : Net) (e : Happens) (told : Told) → StepsIn w (happened set w e told) (session_in e) (came set w e told)
+event_steps set own w e told = by (session_in e) (moved_steps set own w e told)
+  where
+    by : (o : Option ℕ) → StepsIn w (moved set w e told) o (came set w e told) → StepsIn w (happened set w e told) o (came set w e told)
+    by None steps = λ k. steps_on w (moved set w e told) (happened set w e told) refl k (came set w e told) (steps k)
+    by (Some k) steps = steps_on w (moved set w e told) (happened set w e told) refl k (came set w e told) steps

@@ -67,6 +67,11 @@ pub record Steps (w v : Net) (k : ℕ) (c : Came) : Type 0 where
   pub own : (r a : List ℕ) → Agrees r a (session_of w k) → Agrees (r ++ resumed_noted c) (a ++ accepted_noted c) (session_of v k)
   pub unique : IsUnique w → IsUnique v
 
+-- what an event does that is in a session, or in none
+abbrev pub StepsIn : Net → Net → Option ℕ → Came → Type 0
+StepsIn w v None c = (k : ℕ) → Steps w v k c
+StepsIn w v (Some k) c = Steps w v k c
+
 pub stays : (w : Net) (k : ℕ) (c : Came) → resumed_noted c ≡ [] → accepted_noted c ≡ [] → Steps w w k c
 stays w k c e f = record { others = λ n apart. refl; own = λ r a g. more_none r a (resumed_noted c) (accepted_noted c) (session_of w k) e f g; unique = λ u. u }
 

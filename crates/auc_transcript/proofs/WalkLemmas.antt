@@ -122,6 +122,8 @@ opens_at set w (event.Start session) secrets = tt
 opens_at set w (event.Deliver session at' packet) secrets = tt
 opens_at set w (event.Repeat session) secrets = tt
 opens_at set w (event.GiveUp session at') secrets = tt
+opens_at set w (event.Tamper packet place byte) secrets = tt
+opens_at set w (event.Cut packet count) secrets = tt
 
 -- ---- what events are
 

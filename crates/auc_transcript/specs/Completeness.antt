@@ -3,7 +3,7 @@
 use Rattle.std.specs.Prelude.{◌≡◌, ◌≢◌, ℕ, ◌==◌, Bool, true, false, if◌then◌else◌, List, [], ◌∷◌, ◌++◌, filter, map, All, Contains, Option, Some, None, slice_get}
 use Rattle.std.specs.Option.{option_or}
 use Rattle.auc_edge.specs.declared.stop.Stop.{Stop}
-use Rattle.auc_lines.specs.Part.{IsShortIdentity}
+use Rattle.auc_lines.specs.Part.{IsShortIdentity, is_that}
 use Rattle.auc_lines.specs.declared.part.Line.{Line}
 use Rattle.auc_lines.specs.declared.part.Line.TheVariants as line
 use Rattle.auc_lines.specs.declared.part.Part.{Part}
@@ -43,12 +43,15 @@ session_named (line.Sync sub seq bit count) = None
 session_named (line.Give sub n) = None
 session_named (line.Eps sub snid) = None
 session_named (line.Fiveg authentication) = None
+session_named (line.Sites sites) = None
 session_named (line.Session opening) = None
 session_named (line.Start session) = Some session
 session_named (line.Deliver session end packet) = Some session
 session_named (line.Repeat session) = Some session
 session_named (line.GiveUp session end) = Some session
 session_named (line.Plain session) = Some session
+session_named (line.Tamper packet place byte) = None
+session_named (line.Cut packet count) = None
 
 -- what a line says if it opens a session under this number
 abbrev pub opening_by : ℕ → Line → Option SessionLine
@@ -57,12 +60,15 @@ opening_by session (line.Sync sub seq bit count) = None
 opening_by session (line.Give sub n) = None
 opening_by session (line.Eps sub snid) = None
 opening_by session (line.Fiveg authentication) = None
+opening_by session (line.Sites sites) = None
 opening_by session (line.Session opening) = if opening.session == session then Some opening else None
 opening_by session (line.Start started) = None
 opening_by session (line.Deliver delivered end packet) = None
 opening_by session (line.Repeat repeated) = None
 opening_by session (line.GiveUp ended end) = None
 opening_by session (line.Plain plain) = None
+opening_by session (line.Tamper packet place byte) = None
+opening_by session (line.Cut packet count) = None
 
 -- what the first of some lines says that does so: a later one opens nothing
 abbrev pub opening_in : ℕ → List Line → Option SessionLine
@@ -108,13 +114,15 @@ pub record HasContext (net : Net) (session : ℕ) (c : Context) : Type 0 where
 
 -- ---- the records of a session
 
--- the session in which an event happens
-abbrev pub session_in : Happens → ℕ
-session_in (event.Open opening) = opening.session
-session_in (event.Start session) = session
-session_in (event.Deliver session end packet) = session
-session_in (event.Repeat session) = session
-session_in (event.GiveUp session end) = session
+-- the session in which an event happens; a packet is changed in none
+abbrev pub session_in : Happens → Option ℕ
+session_in (event.Open opening) = Some opening.session
+session_in (event.Start session) = Some session
+session_in (event.Deliver session end packet) = Some session
+session_in (event.Repeat session) = Some session
+session_in (event.GiveUp session end) = Some session
+session_in (event.Tamper packet place byte) = None
+session_in (event.Cut packet count) = None
 
 -- whether a record is that of an event in a session
 abbrev pub is_of_session : ℕ → LineRecord → Bool
@@ -124,7 +132,7 @@ is_of_session session (Exhausted sub word) = false
 is_of_session session (Sync sub answer) = false
 is_of_session session (Give sub n answer) = false
 is_of_session session (Further said) = false
-is_of_session session (Event r) = session_in r.event == session
+is_of_session session (Event r) = is_that session (session_in r.event)
 
 abbrev pub records_of : ℕ → List LineRecord → List LineRecord
 records_of session records = filter (is_of_session session) records

@@ -1,6 +1,6 @@
 -- Fast re-authentications over all jobs and rounds: no counter is used twice, no identity is resumed twice, and a peer accepts one
 -- only under the identity that its device's context has at that moment (RFC 4187 §5.1 and §5.3).
-use Rattle.std.specs.Prelude.{◌≡◌, ℕ, List, [], ◌∷◌, ◌++◌, flat_map, length, map, All, AllPairs, Option, Some, Ok, Err}
+use Rattle.std.specs.Prelude.{◌≡◌, ℕ, List, [], ◌∷◌, ◌++◌, flat_map, length, map, All, AllPairs, Option, Some, None, Ok, Err}
 use Rattle.std.specs.Option.{option_to_list}
 use Rattle.auc_aes.specs.Bytes.{IsBlock}
 use Rattle.auc_edge.specs.declared.stop.Stop.{Stop}
@@ -148,10 +148,15 @@ pub record IsOwn (set : Setting) (now : Net) (session counter : ℕ) : Type 0 wh
   -- first `@`, the context's
   pub resumes : MayResume (keeps_at now own.device) own.peer counter
 
+-- and one of the session of an event; in no session no counter is accepted
+abbrev pub IsOwnIn : Setting → Net → Option ℕ → ℕ → Type 0
+IsOwnIn set now None counter = ⊥
+IsOwnIn set now (Some session) counter = IsOwn set now session counter
+
 -- each counter that an event of a job tells that a device accepted is one of its own context at that moment
 abbrev pub JobAcceptsOwn : Setting → Before → Net → List LineRecord → Type 0
 JobAcceptsOwn set before start lines = (r : EventRecord) (now : Net) → HappensIn set before start lines r now
-    → All (IsOwn set now (session_in r.event)) (accepted_noted r.result)
+    → All (IsOwnIn set now (session_in r.event)) (accepted_noted r.result)
 
 -- so it is in each job of a round, after the lines of earlier rounds and of earlier jobs
 abbrev pub JobsAcceptOwn : Setting → List LineRecord → List Kept → List LineRecord → List (List Line) → List (List LineRecord) → Type 0

@@ -2,6 +2,7 @@ pub mod Completeness
 pub mod Counters
 pub mod Headline
 pub mod Keys
+pub mod Leases
 pub mod OneTold
 pub mod Position
 pub mod Presented

@@ -42,6 +42,7 @@ abbrev pub sent_in_step : NoteStep → List (List ℕ)
 sent_in_step did.Opened = []
 sent_in_step (did.Server what) = those_sent (sent_by what)
 sent_in_step (did.Peer what) = those_sent (sent_by what)
+sent_in_step (did.Made bytes) = bytes ∷ []
 
 abbrev pub sent_in : Came → List (List ℕ)
 sent_in (Ok note) = sent_in_step note.step
@@ -51,7 +52,7 @@ abbrev pub sent_in_line : LineRecord → List (List ℕ)
 sent_in_line (Event r) = sent_in r.result
 sent_in_line other = []
 
--- the packets that some lines of a job sent, in their order
+-- the packets that some lines of a job sent or made of others, in their order
 abbrev pub packets_in : List LineRecord → List (List ℕ)
 packets_in lines = flat_map sent_in_line lines
 
@@ -84,7 +85,7 @@ pub record IsPresentedInSession (set : Setting) (records : List PartRecord) (bef
   pub own : List LineRecord
   pub delivery : EventRecord
   pub stands : StandsAfter records before own delivery
-  -- it delivers a packet that was sent in the job
+  -- it delivers a packet of the job
   pub session : ℕ
   pub packet : ℕ
   pub delivers : delivery.event ≡ event.Deliver session end.Peer packet

@@ -8,6 +8,7 @@ use Rattle.auc_hmac.specs.declared.keys.KeySet.{KeySet}
 use Rattle.auc_hmac.specs.declared.keys.Master.TheVariants as master
 use Rattle.auc_hmac.specs.declared.method.Method.TheVariants as method
 use Rattle.auc_ident.specs.Permanent.{username}
+use Rattle.auc_lines.specs.Sites.{SitesValue}
 use Rattle.auc_lines.specs.declared.part.End.TheVariants as end
 use Rattle.auc_lines.specs.declared.part.FivegLine.{FivegLine}
 use Rattle.auc_lines.specs.declared.part.Identity.TheVariants as identity
@@ -15,6 +16,7 @@ use Rattle.auc_lines.specs.declared.part.Line.TheVariants as line
 use Rattle.auc_lines.specs.declared.part.Part.{Part}
 use Rattle.auc_lines.specs.declared.part.Part.TheVariants as part
 use Rattle.auc_lines.specs.declared.part.SessionLine.{SessionLine}
+use Rattle.auc_lines.specs.declared.sites.SiteEvent.TheVariants as site_event
 use Rattle.auc_packet.specs.Spelling.{packet_text}
 use Rattle.auc_packet.specs.declared.packet.Packet.{Packet}
 use Rattle.auc_packet.specs.declared.packet.Packet.TheVariants as packet
@@ -63,10 +65,14 @@ use Rattle.auc_world.specs.declared.record.PartRecord.TheVariants as record_of
 use Rattle.auc_world.specs.declared.record.Premise.TheVariants as premise
 use Rattle.auc_world.specs.declared.record.RoundRecord.{RoundRecord}
 use Rattle.auc_world.specs.declared.record.SessionVerdict.{SessionVerdict}
+use Rattle.auc_world.specs.declared.sites.SitesNote.{SitesNote}
+use Rattle.auc_world.specs.declared.sites.SitesNote.TheVariants as site_note
+use Rattle.auc_world.specs.declared.sites.SitesOutcome.TheVariants as site_outcome
 use Rattle.auc_transcript.specs.Completeness.{PlainSessionsAgree, ResumedSessionsAgree}
 use Rattle.auc_transcript.specs.Counters.{KeepsContexts}
 use Rattle.auc_transcript.specs.Headline.{FailsExactlyByPlace, IsFailure}
 use Rattle.auc_transcript.specs.Keys.{EndsAgree}
+use Rattle.auc_transcript.specs.Leases.{LeasesAreKept}
 use Rattle.auc_transcript.specs.Presented.{FailsExactlyByPlaceInSessions, FindsRightMacs, IsNotedFailure}
 use Rattle.auc_transcript.specs.Systems.{AuthenticationsAreConfirmed}
 
@@ -391,3 +397,28 @@ abbrev pub AuthenticationIsConfirmed : Type 0
 AuthenticationIsConfirmed = (key : List ℕ) (answer : GiveVerdict) (outcome : FivegOutcome) (net : Net)
     → AuthenticationsAreConfirmed (setting key) (fiveg_round ∷ []) (authenticated answer outcome) ((net ∷ []) ∷ [])
     → (answer ≡ given.Accepted) × ((k_seaf : List ℕ) × (outcome ≡ fiveg.Confirmed k_seaf k_seaf))
+
+-- ---- sites
+
+-- one site, to which a master leases one number
+abbrev pub leasing : SitesValue
+leasing = record { sub = 0; sites = 1; size = 1; schedule = site_event.Ask 1 ∷ site_event.Deliver 1 ∷ site_event.Deliver 2 ∷ site_event.Draw 1 ∷ [] }
+
+abbrev pub sites_round : Part
+sites_round = part.Round ((line.Sites leasing ∷ []) ∷ [])
+
+-- what is said of an event of the subscriber's sites
+abbrev pub said : SitesNote → LineRecord
+said what = Further (further.Sites 0 what)
+
+-- the first vector is released for the site's request, and the site hands out this number
+abbrev pub leased_lines : ℕ → List LineRecord
+leased_lines n =
+    said (site_note.Asked 1 1) ∷ Vector 0 1 ∷ said (site_note.Delivered 1 (site_outcome.Granted 1 2)) ∷ said (site_note.Delivered 2 (site_outcome.Taken 1)) ∷ said (site_note.Number 1 n) ∷ []
+
+abbrev pub leased : ℕ → List PartRecord
+leased n = transcript_of (leased_lines n)
+
+-- it is the vector's, whatever network there is
+abbrev pub LeaseIsKept : Type 0
+LeaseIsKept = (key : List ℕ) (n : ℕ) (net : Net) → LeasesAreKept (setting key) (sites_round ∷ []) (leased n) ((net ∷ []) ∷ []) → n ≡ 1

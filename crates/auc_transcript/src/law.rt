@@ -4,12 +4,13 @@ ghost use Rattle.auc_transcript.specs.Completeness.{EachPlainSessionAgrees, Each
 ghost use Rattle.auc_transcript.specs.Counters.{EachJobLeadsOn, EachTranscriptKeepsContexts};
 ghost use Rattle.auc_transcript.specs.Headline.{EachNumberIsAboveReserved, EachTranscriptKeepsNumbersApart, EachTranscriptMayRestart, EachUsimAcceptsNoneTwice, EachFailureIsByPlace, EachSqnOutsideSessionsIsGenuine};
 ghost use Rattle.auc_transcript.specs.Keys.{EachAuthenticationAgrees, EachBreachIsTold, EachTranscriptHasItsNets};
+ghost use Rattle.auc_transcript.specs.Leases.{EachLeasedNumberIsHandedOutOnce};
 ghost use Rattle.auc_transcript.specs.OneTold.{EachToldTranscriptIsOne};
 ghost use Rattle.auc_transcript.specs.Position.{EachMoveStandsBetween, EachPlaceIsAPosition};
 ghost use Rattle.auc_transcript.specs.Presented.{EachFailureInSessionsIsByPlace, EachFailureInSessionsOfRoundsIsByPlace, EachPresentedVectorHasARightMac};
 ghost use Rattle.auc_transcript.specs.Rounds.{EachFailureInRoundsIsByPlace, EachSqnInRoundsIsGenuine};
 ghost use Rattle.auc_transcript.specs.Systems.{EachHonestAuthenticationIsConfirmed};
-ghost use Rattle.auc_transcript.specs.Witnesses.{AcceptanceIsOwn, AuthenticationIsConfirmed, ContextsAreKept, CountersAreNoted, KeysAreEqual, MacIsRight, PlacesDecide, PlacesDecideInSessions, PlainSessionWins, ResumedSessionWins};
+ghost use Rattle.auc_transcript.specs.Witnesses.{AcceptanceIsOwn, AuthenticationIsConfirmed, ContextsAreKept, CountersAreNoted, KeysAreEqual, LeaseIsKept, MacIsRight, PlacesDecide, PlacesDecideInSessions, PlainSessionWins, ResumedSessionWins};
 
 use auc_5g::each_device_agrees_with_its_home;
 use auc_attr::bytes_have_one_reading_or_one_fault;
@@ -30,6 +31,7 @@ use auc_server::{
     each_turn_keeps_the_challenge_or_sends_one, each_turn_keeps_the_keys_of_its_inputs,
     no_turn_gives_an_ordinal_back,
 };
+use auc_sites::each_number_is_handed_out_once;
 use auc_vector::each_autn_carries_the_sqn_of_its_number;
 use auc_world::{
     each_acceptance_is_of_the_own_context, each_event_moves_contexts_once,
@@ -204,6 +206,15 @@ pub fn each_honest_authentication_is_confirmed()
     each_device_agrees_with_its_home();
 }
 
+/// No number is handed out twice at the sites of a subscriber, in whichever lines, jobs and rounds they are, and each is the number of
+/// a vector that its line released before. Whatever the network between a master and its sites loses, repeats or reorders, and
+/// whoever starts again, two grants of a line with a common number are equal.
+pub fn each_leased_number_is_handed_out_once()
+    ensures { EachLeasedNumberIsHandedOutOnce }
+{
+    each_number_is_handed_out_once();
+}
+
 /// No promise is empty: for each there are transcripts of a few lines that meet its premise, with a part left open that the promise
 /// determines.
 pub fn each_promise_has_a_witness()
@@ -217,6 +228,7 @@ pub fn each_promise_has_a_witness()
     ensures plain { PlainSessionWins }
     ensures resumed { ResumedSessionWins }
     ensures authentications { AuthenticationIsConfirmed }
+    ensures leases { LeaseIsKept }
 {
     written_packets_are_read();
 }

@@ -24,6 +24,9 @@
 //! A 5G authentication whose ends know the serving network by one name, and whose RES* arrives as it was sent, is confirmed exactly
 //! if the USIM accepts, and both ends have the same keys (`specs/Systems`).
 //!
+//! A number that a site hands out is that of a vector which its line released before, and no number is handed out twice for a
+//! subscriber (`specs/Leases`).
+//!
 //! None of these promises is empty: transcripts of a few lines meet the premise of each (`specs/Witnesses`).
 #![tactic(auto)]
 
@@ -33,8 +36,9 @@ pub use law::{
     each_authentication_agrees, each_breach_is_told, each_failure_in_rounds_is_by_place,
     each_failure_in_sessions_is_by_place, each_failure_is_by_place,
     each_honest_authentication_is_confirmed, each_job_leads_on,
-    each_number_is_above_what_was_reserved, each_plain_session_agrees, each_promise_has_a_witness,
-    each_resumed_session_agrees, each_sqn_outside_sessions_is_genuine, each_told_transcript_is_one,
+    each_leased_number_is_handed_out_once, each_number_is_above_what_was_reserved,
+    each_plain_session_agrees, each_promise_has_a_witness, each_resumed_session_agrees,
+    each_sqn_outside_sessions_is_genuine, each_told_transcript_is_one,
     each_transcript_keeps_contexts, each_transcript_may_restart, each_usim_accepts_none_twice,
     move_between_numbers_stands_between, no_vector_comes_twice, place_is_a_position,
 };

@@ -1,4 +1,5 @@
 -- The laws are lemmas on the witnesses, by the law of written packets.
+use Rattle.auc_transcript.proofs.LeaseWitnessLemmas.{lease_is_kept}
 use Rattle.auc_transcript.proofs.OwnWitnessLemmas.{acceptance_is_own}
 use Rattle.auc_transcript.proofs.SystemWitnessLemmas.{authentication_is_confirmed}
 use Rattle.auc_transcript.proofs.WitnessLemmas.{contexts_are_kept, counters_are_noted, keys_are_equal, mac_is_right, places_decide, places_decide_in_sessions, plain_session_wins, resumed_session_wins}
@@ -33,3 +34,6 @@ returns-clause-acceptances c = acceptance_is_own c.written_packets_are_read.ensu
 
 pub returns-clause-authentications : goal.returns-clause-authentications
 returns-clause-authentications c = authentication_is_confirmed
+
+pub returns-clause-leases : goal.returns-clause-leases
+returns-clause-leases c = lease_is_kept
