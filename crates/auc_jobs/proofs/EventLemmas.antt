@@ -29,11 +29,11 @@ use Rattle.auc_vector.specs.declared.notes.NumberNote.{NumberNote}
 use Rattle.auc_vector.specs.declared.notes.NumberNote.TheVariants as number
 use Rattle.auc_vector.specs.declared.notes.ResyncNote.{ResyncNote}
 use Rattle.auc_vector.specs.declared.notes.ResyncNote.TheVariants as resync
-use Rattle.auc_world.specs.Came.{AsksWhatItNeeds, AsksIn, Came, Presented, TellsNotes, asked_sub, asking_at, asking_in, asking_of, came, came_at_peer, came_at_server, came_delivered, came_given_up, came_in, came_opened, came_repeated, came_started, presented_at, presented_by, presented_in, server_came_to_give_up, session_of}
+use Rattle.auc_world.specs.Came.{AsksWhatItNeeds, AsksIn, Came, Presented, TellsNotes, asked_sub, asking_at, asking_in, asking_of, came, came_at_peer, came_at_server, came_changed, came_delivered, came_given_up, came_in, came_opened, came_repeated, came_started, presented_at, presented_by, presented_in, server_came_to_give_up, session_of}
 use Rattle.auc_world.specs.Entries.{entries_of_line, entries_of_number, entries_of_resync, is_reported}
 use Rattle.auc_world.specs.Event.{asked_in, device_in, number_for, number_in, resync_for, resync_in, usim_in}
 use Rattle.auc_world.specs.Given.{Before, CentreAnswers, EventGives, IsCentreAsked, IsNumberAnswer, NumberFollows, PlainGives, RelayGives, behind, packet_of, resync_note}
-use Rattle.auc_world.specs.Happened.{Delivery, Told, delivery_at, delivery_of, peer_turn}
+use Rattle.auc_world.specs.Happened.{Delivery, Told, changed_in, delivery_at, delivery_of, peer_turn}
 use Rattle.auc_world.specs.Lines.{held_by}
 use Rattle.auc_world.specs.Net.{Net, device_place, keeps_at, other, packet_at, session_place}
 use Rattle.auc_world.specs.Setting.{Setting}
@@ -149,6 +149,12 @@ nowhere_agrees set w told end.Peer None = quiet set w told _ _ refl refl refl
 nowhere_agrees set w told end.Server (Some sent) = quiet set w told _ _ refl refl refl
 nowhere_agrees set w told end.Peer (Some sent) = quiet set w told _ _ refl refl refl
 
+-- a changed copy of a packet
+changed_agrees : (set : Setting) (w : Net) (told : Told) (there : Option SentPacket) (copy : Option (List ℕ)) → Agrees set w told (came_changed w.packets there copy) None None (Unit {0})
+changed_agrees set w told None copy = quiet set w told (came_changed w.packets None copy) (Unit {0}) refl refl refl
+changed_agrees set w told (Some sent) None = quiet set w told (came_changed w.packets (Some sent) None) (Unit {0}) refl refl refl
+changed_agrees set w told (Some sent) (Some bytes) = quiet set w told (came_changed w.packets (Some sent) (Some bytes)) (Unit {0}) refl refl refl
+
 -- each event
 pub agrees : (set : Setting) (w : Net) (e : Event) (told : Told) → Agrees set w told (came set w e told) (asking_of set w e told) (presented_by w e told) (AsksWhatItNeeds set w e told)
 agrees set w (event.Open line) told = by (session_place w.sessions line.session) (device_place set.rows w.devices line.sub)
@@ -176,6 +182,8 @@ agrees set w (event.GiveUp session at') told = quiet_in set w told (came_given_u
     of : (e : End) (s : Session) → (asked_in (came_given_up w e s) ≡ None) × (number_in (came_given_up w e s) ≡ None) × (device_in (came_given_up w e s) ≡ None)
     of end.Server s = by s.server
     of end.Peer s = (refl, refl, refl)
+agrees set w (event.Tamper packet place byte) told = changed_agrees set w told (packet_at w.packets packet) (changed_in w.packets (event.Tamper packet place byte))
+agrees set w (event.Cut packet count) told = changed_agrees set w told (packet_at w.packets packet) (changed_in w.packets (event.Cut packet count))
 agrees set w (event.Deliver session at' packet) told = at_number (session_place w.sessions session)
   where
     at_number : (o : Option ℕ) → Agrees set w told (came_delivered set w at' told (packet_at w.packets packet) (delivery_at w packet o))

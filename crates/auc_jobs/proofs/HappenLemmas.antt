@@ -66,6 +66,8 @@ module _ {S : Type 0} (goes : S → ℕ → List Entry → List (ℕ × Stop) �
   opens (event.Deliver session at' packet) = tt
   opens (event.Repeat session) = tt
   opens (event.GiveUp session at') = tt
+  opens (event.Tamper packet place byte) = tt
+  opens (event.Cut packet count) = tt
 
   pub placed_after : Applied → AreAtDevices set.rows new.net
   placed_after a =

@@ -5,11 +5,13 @@ mod DrawingLemmas
 mod UsimLemmas
 mod JobLemmas
 mod SilentLemmas
+mod SiteLemmas
 mod EventLemmas
 mod PlaceLemmas
 mod HandLemmas
 mod HappenLemmas
 mod PlayLemmas
+mod PreparingLemmas
 mod SyncLemmas
 mod CopyLemmas
 mod RequestLemmas

@@ -1,14 +1,20 @@
 -- For requests of one subscriber: what holds of each of their lines.
 use Rattle.std.proofs.Common.{◌≡◌, ℕ, zero, suc, Bool, true, false, List, [], ◌∷◌, ◌++◌, map, sym, subst}
-use Rattle.std.specs.Prelude.{All, Option}
+use Rattle.std.specs.Prelude.{All, Option, None, Some}
 use Rattle.std.proofs.lemmas.List.Elements.{All-append, All-cons, All-nil}
 use Rattle.auc_5g.specs.declared.device_keys.DeviceKeys.{DeviceKeys}
 use Rattle.auc_5g.specs.declared.home_keys.HomeKeys.{HomeKeys}
 use Rattle.auc_5g.specs.Keys.{home_of}
 use Rattle.auc_edge.specs.declared.stop.Stop.{Stop}
+use Rattle.auc_lines.specs.Sites.{SitesValue}
 use Rattle.auc_lines.specs.declared.part.FivegLine.{FivegLine}
+use Rattle.auc_lines.specs.declared.sites.SiteEvent.{SiteEvent}
 use Rattle.auc_random.specs.Random.{rand_of}
 use Rattle.auc_request.specs.Request.{is_separated}
+use Rattle.auc_sites.specs.Network.{Network, Turn, after_event}
+use Rattle.auc_sites.specs.Run.{judgement_in}
+use Rattle.auc_sites.specs.declared.master.Judged.{Judged}
+use Rattle.auc_sites.specs.declared.master.Judged.TheVariants as judged
 use Rattle.auc_vector.specs.declared.parts.Vector.{Vector as AuthVector}
 use Rattle.auc_world.specs.declared.further.Further.{Further as Said}
 use Rattle.auc_world.specs.declared.further.Further.TheVariants as further
@@ -20,6 +26,7 @@ use Rattle.auc_world.specs.declared.record.SyncVerdict.{SyncVerdict}
 use Rattle.auc_world.specs.declared.record.SyncVerdict.TheVariants as verdict
 use Rattle.auc_world.specs.Given.{AuthenticatesIf, Before, DrawGives, EpsGives, FivegFollows, FivegGives, GiveGives, IsReleasable, OneGives, SyncGives, VectorsFollow, behind, device_of_row, hxres_lines, judged_lines, kasme_line, outcome_of, turned}
 use Rattle.auc_world.specs.Setting.{Setting}
+use Rattle.auc_world.specs.Sites.{LeaseGives, SitesGives, SitesGo, event_of, sites_start}
 use Rattle.auc_world.specs.VectorAt.{vector_at, vector_of_row}
 
 -- each line that a request of a subscriber may give is so
@@ -106,3 +113,22 @@ module _ (set : Setting) (line : FivegLine) (P : LineRecord → Type 0) (are : A
   fiveg_lines before lines gives =
       one_lines set line.sub P are (λ n rest. FivegFollows set (behind before (Vector line.sub n ∷ [])) line n rest) lines
       (λ n rest f. follows_lines (behind before (Vector line.sub n ∷ [])) n rest f) gives
+
+-- the events of a line for sites
+module _ (set : Setting) (line : SitesValue) (P : LineRecord → Type 0) (are : AreSo set line.sub P) where
+  lease_lines : (judged : Option Judged) (lines : List LineRecord) → LeaseGives set line.sub line.size judged lines → All P lines
+  lease_lines None lines gives = none set line.sub P are lines gives
+  lease_lines (Some (judged.Again g)) lines gives = none set line.sub P are lines gives
+  lease_lines (Some (judged.Old last)) lines gives = none set line.sub P are lines gives
+  lease_lines (Some judged.New) lines gives = draw_lines set line.sub P are line.size lines gives
+
+  go_lines : (w : Network) (events : List SiteEvent) (lines : List LineRecord) (turns : List Turn) → SitesGo set line.sub line.size w events lines turns → All P lines
+  go_lines w [] lines turns (is, ends) = none set line.sub P are lines is
+  go_lines w (e ∷ events) lines [] gives = absurd gives
+  go_lines w (e ∷ events) lines (turn ∷ turns) (front, rest, is, here, more) =
+      subst (All P) (sym is) (All-append P front rest
+      (subst (All P) (sym here.lines_are) (All-append P here.drawn _ (lease_lines (judgement_in w (event_of w e)) here.drawn here.draws) (one set line.sub P are _ (are.further _))))
+      (go_lines (after_event w turn.event turn.numbers turn.end) events rest turns more))
+
+  pub sites_lines : (lines : List LineRecord) → SitesGives set line lines → All P lines
+  sites_lines lines (turns, gives) = go_lines (sites_start line) line.schedule lines turns gives

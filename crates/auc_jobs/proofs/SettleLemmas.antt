@@ -35,7 +35,7 @@ use Rattle.auc_jobs.specs.InnerServing.{before_at, Stands, ServesLines}
 use Rattle.auc_jobs.specs.InnerUsims.{OwnDevices, has_usim, usim_in, AreCopies}
 use Rattle.auc_jobs.proofs.EventLemmas.{IsOwnEvent, IsOwnNumber, event_lines, plain_lines}
 use Rattle.auc_jobs.proofs.CopyLemmas.{copies_found, copies_keyed}
-use Rattle.auc_jobs.proofs.RequestLemmas.{AreSo, draw_lines, eps_lines, fiveg_lines, give_lines, sync_lines}
+use Rattle.auc_jobs.proofs.RequestLemmas.{AreSo, draw_lines, eps_lines, fiveg_lines, give_lines, sites_lines, sync_lines}
 
 -- ---- before the job
 
@@ -134,11 +134,14 @@ line_releasable set before net next (line.Deliver session at' packet) lines give
 line_releasable set before net next (line.Repeat session) lines gives = event_lines set (IsReleasableLine set) (event_releasable set) before net next (event.Repeat session) lines gives
 line_releasable set before net next (line.GiveUp session at') lines gives = event_lines set (IsReleasableLine set) (event_releasable set) before net next (event.GiveUp session at') lines gives
 line_releasable set before net next (line.Plain session) lines gives = plain_lines set (IsReleasableLine set) (event_releasable set) before net next session lines gives
+line_releasable set before net next (line.Tamper packet place byte) lines gives = event_lines set (IsReleasableLine set) (event_releasable set) before net next (event.Tamper packet place byte) lines gives
+line_releasable set before net next (line.Cut packet count) lines gives = event_lines set (IsReleasableLine set) (event_releasable set) before net next (event.Cut packet count) lines gives
 line_releasable set before net next (line.Draw sub count) lines (gives, is) = draw_lines set sub (IsReleasableLine set) (requests_releasable set sub) count lines gives
 line_releasable set before net next (line.Sync sub seq bit count) lines (gives, is) = sync_lines set sub (IsReleasableLine set) (requests_releasable set sub) seq bit count lines gives
 line_releasable set before net next (line.Give sub n) lines (gives, is) = give_lines set sub (IsReleasableLine set) (requests_releasable set sub) before n lines gives
 line_releasable set before net next (line.Eps sub snid) lines (gives, is) = eps_lines set sub (IsReleasableLine set) (requests_releasable set sub) snid lines gives
 line_releasable set before net next (line.Fiveg fiveg) lines (gives, is) = fiveg_lines set fiveg (IsReleasableLine set) (requests_releasable set fiveg.sub) before lines gives
+line_releasable set before net next (line.Sites sites) lines (gives, is) = sites_lines set sites (IsReleasableLine set) (requests_releasable set sites.sub) lines gives
 
 -- those of a job
 pub job_releasable : (set : Setting) (before : Before) (net last : Net) (job : List Line) (lines : List LineRecord) → JobGives set before net job lines last → All (IsReleasableLine set) lines

@@ -105,6 +105,7 @@ impl<C: Centre> Worker<'_, C> {
             Line::Give { sub, n } => self.give(sub, n),
             Line::Eps { sub, snid } => self.eps(rt, alloc, sub, snid),
             Line::Fiveg(ref line) => self.fiveg(rt, alloc, line),
+            Line::Sites(ref line) => self.sites(rt, alloc, line),
             Line::Session(ref line) => self.open(rt, alloc, line),
             Line::Start(session) => self.happen_alone(rt, alloc, Event::Start(session)),
             Line::Deliver {
@@ -127,6 +128,24 @@ impl<C: Centre> Worker<'_, C> {
                 Event::GiveUp { session, end },
             ),
             Line::Plain(session) => self.play(rt, alloc, session),
+            Line::Tamper {
+                packet,
+                place,
+                byte,
+            } => self.happen_alone(
+                rt,
+                alloc,
+                Event::Tamper {
+                    packet,
+                    place,
+                    byte,
+                },
+            ),
+            Line::Cut { packet, length } => self.happen_alone(
+                rt,
+                alloc,
+                Event::Cut { packet, length },
+            ),
         }
     }
 

@@ -38,8 +38,8 @@ fn outcome_of(home: &HomeKeys, device: &DeviceKeys, res_star: [u8; 16]) -> Fiveg
 }
 
 impl<C: Centre> Worker<'_, C> {
-    /// Says what follows from a released vector.
-    fn say(&mut self, alloc: Global, said: Further) -> Result<(), NoMemory>
+    /// Says what follows from a released vector, or an event of sites.
+    pub(crate) fn say(&mut self, alloc: Global, said: Further) -> Result<(), NoMemory>
         ensures said { OnOk result (WorkerServes C.kept C.goes self.old self.new
             (λ before lines. lines ≡ LineRecord.Further said ∷ [])) }
         ensures same { GoesOnWith (C.name self.old.centre) (C.name self.new.centre) self.old self.new }

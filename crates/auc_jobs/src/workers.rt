@@ -11,12 +11,14 @@ ghost use Rattle.auc_world.specs.declared.record.LineRecord.{LineRecord};
 ghost use Rattle.auc_world.specs.Vectors.{vectors_in};
 ghost use Rattle.auc_jobs.specs.InnerClaims.{AreCollected, ClosesAs, IsDone};
 ghost use Rattle.auc_jobs.specs.InnerKeeping.{CanKeep, StaysNear, TellsStop};
+ghost use Rattle.auc_jobs.specs.InnerPreparing.{AreReservable, needed_by};
 ghost use Rattle.auc_jobs.specs.InnerRound.{AreServed, GoesByLimits};
 ghost use Rattle.auc_jobs.specs.InnerSharing.{Begins, IsBookOf, IsServable};
 ghost use Rattle.auc_jobs.specs.Round.{IsJournalOf, LeavesMore};
 
 use crate::claiming::{ClaimedJob, WorkerJobs, work};
 use crate::jobs::ServedJobs;
+use crate::preparing::{needed, prepare_groups};
 use crate::round_jobs::RoundJobs;
 use crate::stopping::told_stop;
 use auc_centre::{Kept, Naming};
@@ -26,6 +28,7 @@ use auc_edge::{Gate, Items, NoMemory, Stop};
 use auc_history::recut_split_is_a_split;
 use auc_journal::Journal;
 use auc_keeper::Keeper;
+use auc_lines::JobPart;
 use std::alloc::{AllocError, Global};
 use std::marker::Brand;
 use std::sync::{Mutex, Wait};
@@ -85,7 +88,8 @@ fn run_workers<
     thread::map_vec(rt, passes, &one)
 }
 
-/// Runs a worker for each pass, over the keeper of a journal in a lock. The parts of the keeper are handed back.
+/// Has the keeper of a journal reserve what the round needs, and then runs a worker for each pass, over the keeper in a lock. The
+/// parts of the keeper are handed back.
 fn work_all<
     L: Naming<D> + Send + Sync,
     D: Disk + Drop + Send,
@@ -100,11 +104,13 @@ fn work_all<
     passes: Vec<Pass>,
     journal: Journal<D>,
     keeper: KeeperPass,
+    needed: &[(u32, u64)],
 ) -> Worked<D>
     requires round { IsServable round.now }
     requires book { IsBookOf L.table (subs_of L.opening) (length round.now.set.rows) book.now }
     requires new { All (IsNew L.table) passes.items }
     requires keeper { CanKeep L.table L.passes L.opening journal keeper }
+    requires needed { AreReservable (length book.now.openings) keeper needed.now }
     ensures all { IfOk result.all (λ all. (length all.items ≡ length passes.items)
         × All (IsDone L.table round.now) all.items) }
     ensures own { (result.keeper.id ≡ L.table) × (result.keeper.passes ≡ L.passes) }
@@ -112,7 +118,9 @@ fn work_all<
     ensures since { Since D.seen D.may_leave D.faults journal
         (record { journal = result.journal; pass = result.keeper }) }
 {
-    let lock = Mutex::new(Kept::<L, D>::new(Keeper::new(journal, keeper)));
+    let mut keeper = Keeper::new(journal, keeper);
+    prepare_groups(&mut keeper, book, needed);
+    let lock = Mutex::new(Kept::<L, D>::new(keeper));
     let all = run_workers(rt, alloc, round, book, &lock, gate, passes);
     let keeper = lock.into_inner().into_keeper();
     let stop = keeper.stop();
@@ -169,20 +177,25 @@ fn served_jobs(alloc: Global, jobs: Vec<ClaimedJob>, full: bool) -> Result<Serve
     Ok(done)
 }
 
-/// Opens a book at the openings, with the limits of a journal.
+/// Opens a book at the openings, with the limits of a journal, and tells the reservations that the jobs need before their workers
+/// begin.
 fn open_book<D: Disk + Drop>(
     alloc: Global,
+    jobs: &[JobPart],
     openings: &[u64],
     journal: &Journal<D>,
     workers: u32,
-) -> Result<(Book, Vec<Pass>, KeeperPass), NoMemory>
+) -> Result<(Book, Vec<Pass>, KeeperPass, Items<(u32, u64)>), NoMemory>
     requires openings { (length openings.now ≤ 65536) × All (λ number. number ≤ max_seq) openings.now }
     requires journal { length journal.now.imsis ≡ length openings.now }
     requires workers { (1 ≤ workers) × (workers ≤ 64) }
-    ensures { IfOk result (λ opened. Opens openings.now (limits_of journal.now) workers opened.0 opened.1.items opened.2) }
+    ensures opens { IfOk result (λ opened. Opens openings.now (limits_of journal.now) workers opened.0 opened.1.items opened.2) }
+    ensures needed { IfOk result (λ opened. opened.3 ≡ needed_by jobs.now openings.now (limits_of journal.now)) }
 {
+    let needed = needed(alloc, jobs, openings, journal)?;
     let limits = limits(alloc, journal, openings.len() as u32)?;
-    Book::open(alloc, openings, limits.as_slice(), workers)
+    let (book, passes, keeper) = Book::open(alloc, openings, limits.as_slice(), workers)?;
+    Ok((book, passes, keeper, needed))
 }
 
 /// The limits of a journal of so many subscribers.
@@ -335,11 +348,19 @@ pub(crate) fn serve_pieces<D: Disk + Drop + Send, G: Gate + Sync, R: Threads + W
     ensures near { IfOk result.result (λ done. StaysNear D.seen D.may_leave journal done.words result.journal) }
     ensures stop { IfOk result.result (λ done. TellsStop D.faults journal done.stop result.journal) }
 {
-    match open_book(alloc, openings, &journal, workers) {
+    match open_book(alloc, round.jobs, openings, &journal, workers) {
         Ok(opened) => {
-            let (book, passes, keeper) = opened;
+            let (book, passes, keeper, needed) = opened;
             let worked = work_all::<Brand, D, G, R>(
-                rt, alloc, round, &book, gate, passes, journal, keeper,
+                rt,
+                alloc,
+                round,
+                &book,
+                gate,
+                passes,
+                journal,
+                keeper,
+                needed.as_slice(),
             );
             settle(alloc, round, book, worked)
         }

@@ -1,5 +1,6 @@
 use Rattle.std.proofs.Common.{List}
 use Rattle.auc_world.specs.Given.{Before, DrawGives, EpsGives, FivegGives, GiveGives, SyncGives}
+use Rattle.auc_world.specs.Sites.{SitesGives}
 use Rattle.auc_world.specs.declared.record.LineRecord.{LineRecord}
 use Rattle.auc_jobs.proofs.LineLemmas.{on_ok_map}
 use Rattle.auc_jobs.proofs.WorkerLemmas.{still_serves}
@@ -35,6 +36,12 @@ returns-in-Fiveg-clause-served g c =
     still_serves g.C.Centre.kept g.C.Centre.goes c.args.self.now c.fiveg.new.self (λ (before : Before) (lines : List LineRecord). FivegGives c.args.self.now.set before c.in-Fiveg.line lines)
     c.fiveg.ensures.net serves))
 
+pub returns-in-Sites-clause-served : goal.returns-in-Sites-clause-served
+returns-in-Sites-clause-served g c =
+    rw c.in-Sites.is (on_ok_map c.sites.result c.sites.ensures.given (λ serves.
+    still_serves g.C.Centre.kept g.C.Centre.goes c.args.self.now c.sites.new.self (λ (before : Before) (lines : List LineRecord). SitesGives c.args.self.now.set c.in-Sites.line lines)
+    c.sites.ensures.net serves))
+
 pub returns-in-Session-clause-served : goal.returns-in-Session-clause-served
 returns-in-Session-clause-served g c = rw c.in-Session.is c.open.ensures.opened
 
@@ -52,3 +59,9 @@ returns-in-GiveUp-clause-served g c = rw c.in-GiveUp.is c.happen_alone-in-GiveUp
 
 pub returns-in-Plain-clause-served : goal.returns-in-Plain-clause-served
 returns-in-Plain-clause-served g c = rw c.in-Plain.is c.play.ensures.played
+
+pub returns-in-Tamper-clause-served : goal.returns-in-Tamper-clause-served
+returns-in-Tamper-clause-served g c = rw c.in-Tamper.is c.happen_alone-in-Tamper.ensures.happened
+
+pub returns-in-Cut-clause-served : goal.returns-in-Cut-clause-served
+returns-in-Cut-clause-served g c = rw c.in-Cut.is c.happen_alone-in-Cut.ensures.happened

@@ -1,0 +1,14 @@
+use Rattle.std.proofs.Common.{◌≡◌, ◌-◌, [], length}
+use Rattle.auc_sites.specs.Drawing.{entries_of}
+use Rattle.auc_jobs.specs.InnerWorker.{GoesOnWith, WorkerServes}
+use Rattle.auc_jobs.proofs.SiteLemmas.{LeaseGoesOn}
+use Rattle.auc_jobs.proofs.worker.Worker.lease.Given as goal
+
+abbrev pub invariant-loop : goal.invariant-loop
+invariant-loop g l = record {
+  same : GoesOnWith (g.C.Centre.name l.fn.self.centre) (g.C.Centre.name l.self.centre) l.fn.self l.self;
+  net : l.self.world.net ≡ l.fn.self.world.net;
+  count : length l.lease ≡ l.counter;
+  own : g.C.Centre.goes l.fn.self.centre l.sub (entries_of l.lease) [] l.self.centre;
+  drawn : WorkerServes g.C.Centre.kept g.C.Centre.goes l.fn.self l.self (λ before. LeaseGoesOn l.fn.self.set l.sub (l.size - l.counter) l.size l.lease);
+}
