@@ -31,6 +31,8 @@ event_known count (event.Start session) known = tt
 event_known count (event.Deliver session at' packet) known = tt
 event_known count (event.Repeat session) known = tt
 event_known count (event.GiveUp session at') known = tt
+event_known count (event.Tamper packet place byte) known = tt
+event_known count (event.Cut packet length) known = tt
 
 events_known : (set : Setting) (world : WorldState) (words : List ℕ) (events : List Event) (results : List Came) (last : WorldState) (end : List ℕ) → LeadsTo set world words events results last end
     → All (IsKnownEvent (length set.rows)) events

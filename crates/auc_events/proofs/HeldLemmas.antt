@@ -43,6 +43,8 @@ events_held subs (event.Start session ∷ events) among = events_held subs event
 events_held subs (event.Deliver session at' packet ∷ events) among = events_held subs events (All-tail (OpensAmong subs) (event.Deliver session at' packet) events among)
 events_held subs (event.Repeat session ∷ events) among = events_held subs events (All-tail (OpensAmong subs) (event.Repeat session) events among)
 events_held subs (event.GiveUp session at' ∷ events) among = events_held subs events (All-tail (OpensAmong subs) (event.GiveUp session at') events among)
+events_held subs (event.Tamper packet place byte ∷ events) among = events_held subs events (All-tail (OpensAmong subs) (event.Tamper packet place byte) events among)
+events_held subs (event.Cut packet count ∷ events) among = events_held subs events (All-tail (OpensAmong subs) (event.Cut packet count) events among)
 
 pub each_job_holds_its_subscribers : EachJobHoldsItsSubscribers
 each_job_holds_its_subscribers subs events apart among = first_held [] subs (map line_for events) apart ∙ events_held subs events among

@@ -50,6 +50,8 @@ line_gives set own net next (event.Start session) lines given = given
 line_gives set own net next (event.Deliver session at' packet) lines given = given
 line_gives set own net next (event.Repeat session) lines given = given
 line_gives set own net next (event.GiveUp session at') lines given = given
+line_gives set own net next (event.Tamper packet place byte) lines given = given
+line_gives set own net next (event.Cut packet count) lines given = given
 
 pub step_gives : (set : Setting) (own : List LineRecord) (old : WorldState) (words : List ℕ) (e : Event) (result : Came) (new : WorldState) (next : List ℕ) → AreSubscribers set.rows
     → IsStep set old words e result new next → Holds set own old words → StepGives set own old.net words e (record_for e result) new next

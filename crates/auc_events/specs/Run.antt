@@ -29,6 +29,8 @@ line_for (event.Start session) = line.Start session
 line_for (event.Deliver session at' packet) = line.Deliver session at' packet
 line_for (event.Repeat session) = line.Repeat session
 line_for (event.GiveUp session at') = line.GiveUp session at'
+line_for (event.Tamper packet place byte) = line.Tamper packet place byte
+line_for (event.Cut packet count) = line.Cut packet count
 
 -- the job of some events. It holds the USIMs of the subscribers whose sessions they open. Lines before them present the vector of
 -- number 1, which isn't released yet, to the USIMs of some subscribers, so that the job holds these, too

@@ -19,8 +19,8 @@ pub fn each_run_may_go_on()
     ensures { EachRunMayGoOn }
 {}
 
-/// Whatever is lost, repeated, delivered out of order or to another session: no two vectors of a subscriber that a run releases
-/// have the same SQN, no USIM accepts one twice, a released vector that is presented to its subscriber's USIM gets a
+/// Whatever is lost, repeated, changed, delivered out of order or to another session: no two vectors of a subscriber that a run
+/// releases have the same SQN, no USIM accepts one twice, a released vector that is presented to its subscriber's USIM gets a
 /// synchronisation failure exactly by its place, and two ends that succeed over one challenge or in one re-authentication have
 /// equal keys, if no delivery broke the premise of equal keys.
 pub fn each_run_keeps_its_promises()

@@ -1,9 +1,9 @@
 //! What every list of events of sessions promises, without a scenario and without the call that serves one.
 //!
-//! A run is a list of events (RFC 4187 §3: a server starts, a packet is delivered again or in any order, an end gives up), each
-//! applied by `World::apply` to one network of sessions and to one `CoreCentre`. Packets that are never delivered are lost. A run
-//! begins with a network in which nothing has happened, with USIMs opened at their rows, and with the centre at the rows' numbers
-//! (`specs/Run`).
+//! A run is a list of events (RFC 4187 §3: a server starts, a packet is delivered again or in any order, an end gives up, or the
+//! network changes a copy of a packet), each applied by `World::apply` to one network of sessions and to one `CoreCentre`. Packets
+//! that are never delivered are lost. A run begins with a network in which nothing has happened, with USIMs opened at their rows,
+//! and with the centre at the rows' numbers (`specs/Run`).
 //!
 //! The records of each run are those of a lawful transcript, by the definitions of `auc_world`: each end takes the step of its
 //! table, each USIM answers by all that it had accepted, and the centre's answers are a legal history of each subscriber. So the
