@@ -18,12 +18,15 @@ line_holds count sub (line.Sync s seq bit n) known held = absurd (cc)
 line_holds count sub (line.Give s n) known held = let same = eqb-true s sub held in let here = known.0 in omega (arith, same, here)
 line_holds count sub (line.Eps s snid) known held = absurd (cc)
 line_holds count sub (line.Fiveg fiveg) known held = let same = eqb-true fiveg.sub sub held in let here = known.sub in omega (arith, same, here)
+line_holds count sub (line.Sites sites) known held = absurd (cc)
 line_holds count sub (line.Session opening) known held = let same = eqb-true opening.sub sub held in let here = known.0 in omega (arith, same, here)
 line_holds count sub (line.Start session) known held = absurd (cc)
 line_holds count sub (line.Deliver session at' packet) known held = absurd (cc)
 line_holds count sub (line.Repeat session) known held = absurd (cc)
 line_holds count sub (line.GiveUp session at') known held = absurd (cc)
 line_holds count sub (line.Plain session) known held = absurd (cc)
+line_holds count sub (line.Tamper packet place byte) known held = absurd (cc)
+line_holds count sub (line.Cut packet length) known held = absurd (cc)
 
 -- a job
 job_holds : (count sub : ℕ) (job : List Line) → All (IsKnownLine count) job → holds sub job ≡ true → sub < count

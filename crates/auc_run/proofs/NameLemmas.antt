@@ -11,13 +11,18 @@ use Rattle.auc_lines.specs.declared.part.End.TheVariants as end
 use Rattle.auc_lines.specs.declared.part.FivegLine.{FivegLine}
 use Rattle.auc_lines.specs.declared.part.Line.{Line}
 use Rattle.auc_lines.specs.declared.part.Line.TheVariants as line
+use Rattle.auc_lines.specs.declared.sites.SiteEvent.{SiteEvent}
 use Rattle.auc_random.specs.Random.{rand_of}
 use Rattle.auc_request.specs.Request.{is_separated}
+use Rattle.auc_sites.specs.Network.{Network, Turn, after_event}
+use Rattle.auc_sites.specs.Run.{judgement_in}
+use Rattle.auc_sites.specs.declared.master.Judged.{Judged}
+use Rattle.auc_sites.specs.declared.master.Judged.TheVariants as judged
 use Rattle.auc_server.specs.Server.{ServerEnd}
 use Rattle.auc_server.specs.declared.options.ServerOptions.{ServerOptions}
 use Rattle.auc_vector.specs.Notes.{Asking}
 use Rattle.auc_vector.specs.declared.notes.Notes.{Notes}
-use Rattle.auc_world.specs.Came.{asked_sub, asking_at, asking_in, asking_of, came, came_at_peer, came_at_server, came_delivered, came_given_up, came_in, came_opened, came_repeated, came_started, server_came_to_give_up, session_of}
+use Rattle.auc_world.specs.Came.{asked_sub, asking_at, asking_in, asking_of, came, came_at_peer, came_at_server, came_changed, came_delivered, came_given_up, came_in, came_opened, came_repeated, came_started, server_came_to_give_up, session_of}
 use Rattle.auc_peer.specs.Subscription.{Subscription}
 use Rattle.auc_world.specs.Event.{asked_in}
 use Rattle.auc_vector.specs.declared.parts.Vector.{Vector as AuthVector}
@@ -27,10 +32,11 @@ use Rattle.auc_world.specs.declared.further.Further.TheVariants as further
 use Rattle.auc_world.specs.declared.record.GiveVerdict.{GiveVerdict}
 use Rattle.auc_world.specs.declared.record.GiveVerdict.TheVariants as given
 use Rattle.auc_world.specs.Given.{AuthenticatesIf, Before, DrawGives, EventGives, FivegFollows, GiveGives, OneGives, device_of_row, hxres_lines, judged_lines, kasme_line, outcome_of, turned, IsCentreAsked, JobGives, JobsGive, LineGives, PlainGives, RelayGives, SyncGives, VectorsFollow, behind, packet_of}
-use Rattle.auc_world.specs.Happened.{Delivery, Told, delivery_in}
+use Rattle.auc_world.specs.Happened.{Delivery, Told, changed_in, delivery_in}
 use Rattle.auc_world.specs.Net.{Net, device_place, other, packet_at, session_place}
 use Rattle.auc_world.specs.Record.{IsBelow, subscriber_of}
 use Rattle.auc_world.specs.Setting.{Setting}
+use Rattle.auc_world.specs.Sites.{LeaseGives, SiteEventGives, SitesGo, event_of, note_of, sites_start}
 use Rattle.auc_world.specs.Start.{Kept, start_of}
 use Rattle.auc_world.specs.declared.event.Event.{Event}
 use Rattle.auc_world.specs.declared.event.Event.TheVariants as event
@@ -137,6 +143,36 @@ sync_named set sub seq bit count lines inside gives =
     (All-cons (IsNamed (length set.rows)) (record_of.Sync sub gives.answer) gives.more inside
     (follows_named set sub count gives.answer gives.more inside gives.follows))
 
+-- ---- sites
+
+-- what is drawn for a lease
+lease_named : (set : Setting) (sub size : ℕ) (found : Option Judged) (lines : List LineRecord) → sub < length set.rows → LeaseGives set sub size found lines
+    → All (IsNamed (length set.rows)) lines
+lease_named set sub size None lines inside none = none_named (length set.rows) lines none
+lease_named set sub size (Some (judged.Again g)) lines inside none = none_named (length set.rows) lines none
+lease_named set sub size (Some (judged.Old last)) lines inside none = none_named (length set.rows) lines none
+lease_named set sub size (Some judged.New) lines inside gives = draw_named set sub size lines inside gives
+
+-- an event of sites names their subscriber
+site_event_named : (set : Setting) (sub size : ℕ) (w : Network) (e : SiteEvent) (lines : List LineRecord) (turn : Turn) → sub < length set.rows
+    → SiteEventGives set sub size w e lines turn → All (IsNamed (length set.rows)) lines
+site_event_named set sub size w e lines turn inside gives =
+    let said = record_of.Further (further.Sites sub (note_of w e turn)) in
+    All-same (IsNamed (length set.rows)) lines (gives.drawn ++ said ∷ []) gives.lines_are
+    (All-append (IsNamed (length set.rows)) gives.drawn (said ∷ [])
+    (lease_named set sub size (judgement_in w (event_of w e)) gives.drawn inside gives.draws)
+    (All-cons (IsNamed (length set.rows)) said [] inside (All-nil (IsNamed (length set.rows)))))
+
+-- their events, one after the other
+sites_named : (set : Setting) (sub size : ℕ) (w : Network) (events : List SiteEvent) (lines : List LineRecord) (turns : List Turn) → sub < length set.rows
+    → SitesGo set sub size w events lines turns → All (IsNamed (length set.rows)) lines
+sites_named set sub size w [] lines turns inside (none, same) = none_named (length set.rows) lines none
+sites_named set sub size w (e ∷ events) lines [] inside go = absurd go
+sites_named set sub size w (e ∷ events) lines (turn ∷ turns) inside (front, rest, cut, gives, more) =
+    All-same (IsNamed (length set.rows)) lines (front ++ rest) cut
+    (All-append (IsNamed (length set.rows)) front rest (site_event_named set sub size w e front turn inside gives)
+    (sites_named set sub size (after_event w turn.event turn.numbers turn.end) events rest turns inside more))
+
 -- ---- events
 
 -- for whom the centre was asked
@@ -190,6 +226,11 @@ give_up_below count w at' None = tt
 give_up_below count w end.Server (Some s) = given_up_below count w s.server
 give_up_below count w end.Peer (Some s) = tt
 
+changed_below : (count : ℕ) (packets : List SentPacket) (sent : Option SentPacket) (copy : Option (List ℕ)) → IsBelow count (asked_in (came_changed packets sent copy))
+changed_below count packets None copy = tt
+changed_below count packets (Some sent) None = tt
+changed_below count packets (Some sent) (Some bytes) = tt
+
 came_below : (set : Setting) (w : Net) (e : Event) (told : Told) → IsCentreAsked set (asking_of set w e told) told.notes
     → IsBelow (length set.rows) (asked_in (came set w e told))
 came_below set w (event.Open line) told asks = opened_below (length set.rows) (session_place w.sessions line.session) (device_place set.rows w.devices line.sub)
@@ -197,6 +238,10 @@ came_below set w (event.Start session) told asks = start_below (length set.rows)
 came_below set w (event.Deliver session at' packet) told asks = delivered_below set w at' told (packet_at w.packets packet) (delivery_in w session packet) asks
 came_below set w (event.Repeat session) told asks = repeat_below (length set.rows) w (session_of w session)
 came_below set w (event.GiveUp session at') told asks = give_up_below (length set.rows) w at' (session_of w session)
+came_below set w (event.Tamper packet place byte) told asks =
+    changed_below (length set.rows) w.packets (packet_at w.packets packet) (changed_in w.packets (event.Tamper packet place byte))
+came_below set w (event.Cut packet count) told asks =
+    changed_below (length set.rows) w.packets (packet_at w.packets packet) (changed_in w.packets (event.Cut packet count))
 
 -- what an event gives
 event_named : (set : Setting) (before : Before) (net : Net) (e : Event) (lines : List LineRecord) (next : Net) → EventGives set before net e lines next
@@ -243,12 +288,16 @@ line_named set before net (line.Eps sub snid) lines next known (gives, same) =
 line_named set before net (line.Fiveg l) lines next known (gives, same) =
     one_named set l.sub (λ n rest. FivegFollows set (behind before (record_of.Vector l.sub n ∷ [])) l n rest) lines known.sub gives
     (λ n rest f. fiveg_named set (behind before (record_of.Vector l.sub n ∷ [])) l n rest known.sub f)
+line_named set before net (line.Sites l) lines next known ((turns, go), same) =
+    sites_named set l.sub l.size (sites_start l) l.schedule lines turns known.0 go
 line_named set before net (line.Session opened) lines next known gives = event_named set before net (event.Open opened) lines next gives
 line_named set before net (line.Start session) lines next known gives = event_named set before net (event.Start session) lines next gives
 line_named set before net (line.Deliver session at' packet) lines next known gives = event_named set before net (event.Deliver session at' packet) lines next gives
 line_named set before net (line.Repeat session) lines next known gives = event_named set before net (event.Repeat session) lines next gives
 line_named set before net (line.GiveUp session at') lines next known gives = event_named set before net (event.GiveUp session at') lines next gives
 line_named set before net (line.Plain session) lines next known gives = plain_named set before net session lines next gives
+line_named set before net (line.Tamper packet place byte) lines next known gives = event_named set before net (event.Tamper packet place byte) lines next gives
+line_named set before net (line.Cut packet count) lines next known gives = event_named set before net (event.Cut packet count) lines next gives
 
 -- what a job gives
 job_named : (set : Setting) (before : Before) (net : Net) (job : List Line) (lines : List LineRecord) (last : Net) → All (IsKnownLine (length set.rows)) job

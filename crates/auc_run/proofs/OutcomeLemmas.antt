@@ -15,6 +15,7 @@ use Rattle.auc_transcript.proofs.Facts.{above_reserved, keeps_numbers_apart, acc
 use Rattle.auc_transcript.specs.Completeness.{EachPlainSessionAgrees, EachResumedSessionAgrees}
 use Rattle.auc_transcript.specs.Counters.{EachTranscriptKeepsContexts}
 use Rattle.auc_transcript.specs.Keys.{EachAuthenticationAgrees, EachBreachIsTold, EachTranscriptHasItsNets}
+use Rattle.auc_transcript.specs.Leases.{EachLeasedNumberIsHandedOutOnce}
 use Rattle.auc_transcript.specs.OneTold.{EachToldTranscriptIsOne}
 use Rattle.auc_transcript.specs.Presented.{EachFailureInSessionsIsByPlace, EachPresentedVectorHasARightMac}
 use Rattle.auc_transcript.specs.Systems.{EachHonestAuthenticationIsConfirmed}
@@ -45,6 +46,7 @@ pub record Laws : Type 0 where
   pub plain : EachPlainSessionAgrees
   pub resumed : EachResumedSessionAgrees
   pub authentications : EachHonestAuthenticationIsConfirmed
+  pub leases : EachLeasedNumberIsHandedOutOnce
 
 -- subscribers, a realm, and parts that can be served
 record Fits (rows : List Row) (script : Script) (parts : List Part) : Type 0 where
@@ -103,6 +105,7 @@ is_output laws rows script reserved stop parts records end fits fit leads =
       plain = laws.plain set reserved stop parts records own.0 fits.subscribers fits.realm (end, leads) own.1;
       resumed = laws.resumed set reserved stop parts records own.0 fits.subscribers fits.realm (end, leads) own.1;
       authentications = laws.authentications set parts records own.0 fits.subscribers own.1;
+      leases = laws.leases set reserved stop parts records own.0 (end, leads) own.1;
     }
 
 -- what holds of some parts holds of the first of them

@@ -11,6 +11,7 @@ use Rattle.auc_transcript.specs.Completeness.{PlainSessionsAgree, ResumedSession
 use Rattle.auc_transcript.specs.Counters.{KeepsContexts}
 use Rattle.auc_transcript.specs.Headline.{AreAboveReserved, VectorsDiffer, AcceptsNoneTwice, FailsExactlyByPlace}
 use Rattle.auc_transcript.specs.Keys.{AreNets, BreachesAreTold, EndsAgree}
+use Rattle.auc_transcript.specs.Leases.{LeasesAreKept}
 use Rattle.auc_transcript.specs.Presented.{FailsExactlyByPlaceInSessions, FindsRightMacs}
 use Rattle.auc_transcript.specs.Systems.{AuthenticationsAreConfirmed}
 use Rattle.auc_world.specs.Net.{Net}
@@ -40,7 +41,8 @@ text_of rows script records = transcript_text (setting_of rows script) script.fu
 -- they agree, unless a record of it tells why not, or its line gives a text for the first identity or has options that keep the
 -- peer from accepting a challenge; and so does one whose server takes up a context again that its device has with the same counter.
 -- A 5G authentication with one name of the serving network at both ends and with no bit turned over is confirmed exactly if the
--- USIM accepts the vector, and both ends have the same XRES*, K_AUSF and K_SEAF
+-- USIM accepts the vector, and both ends have the same XRES*, K_AUSF and K_SEAF. No number is handed out twice for a subscriber by the
+-- sites of any lines, and each is that of a vector that its line released before
 pub record IsOutput (rows : List Row) (script : Script) (reserved : List ℕ) (stop : Option Stop) (parts : List Part) (end : Course) (text : List ℕ) : Type 0 where
   pub transcript : List PartRecord
   -- it is lawful, and this is where it ends
@@ -64,3 +66,4 @@ pub record IsOutput (rows : List Row) (script : Script) (reserved : List ℕ) (s
   pub plain : PlainSessionsAgree rows parts transcript nets
   pub resumed : ResumedSessionsAgree (setting_of rows script) parts transcript nets
   pub authentications : AuthenticationsAreConfirmed (setting_of rows script) parts transcript nets
+  pub leases : LeasesAreKept (setting_of rows script) parts transcript nets

@@ -49,7 +49,6 @@ why_word why.UnknownSession = codes "unknownsession"
 why_word why.Twice = codes "twice"
 why_word why.UsimBusy = codes "usimbusy"
 why_word why.Limit = codes "limit"
-why_word why.NotYet = codes "notyet"
 
 -- the line that a refusal writes, and nothing if it writes none
 abbrev pub line_of : Refusal → List ℕ

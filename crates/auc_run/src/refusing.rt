@@ -117,7 +117,6 @@ fn why_text(why: ScriptWhy) -> &'static [u8]
         ScriptWhy::Twice => b"twice",
         ScriptWhy::UsimBusy => b"usimbusy",
         ScriptWhy::Limit => b"limit",
-        ScriptWhy::NotYet => b"notyet",
     }
 }
 
