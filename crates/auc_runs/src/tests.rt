@@ -176,6 +176,70 @@ fn round_in_which_the_disk_fails_is_written_and_is_the_last(rt: HostRuntime) {
     }
 }
 
+// By hand: the opening writes once, so the third write would open the gate of the group of both subscribers. It fails before
+// any number is reserved.
+#[test]
+fn round_whose_group_fails_releases_nothing(rt: HostRuntime) {
+    let alloc = rt.alloc();
+    check_text(
+        &rt,
+        alloc,
+        b"subscriber 001010000000001 465b5ce8b199b49faa5f0a2ee238a6bc opc cd63cb71954a9f4e48a5994e37a02baf 8000 0 0\nsubscriber 001010000000002 465b5ce8b199b49faa5f0a2ee238a6bc opc cd63cb71954a9f4e48a5994e37a02baf 8000 0 0\nround\njob\ndraw 001010000000001 5\njob\ndraw 001010000000002 5\n",
+        failing_disk(&rt, alloc, DiskCall::WriteAt, 3),
+        Status::StoreFault,
+        b"round 1\njob 1\nwithheld 001010000000001 1 fault\njob 2\nwithheld 001010000000002 1 fault\nclosed 001010000000001 0 1 1 0 0 1\nclosed 001010000000002 0 1 1 0 0 1\n",
+    );
+}
+
+// A scenario of so many subscribers, up to 900, each of whom draws once.
+fn drawing_once_each(rt: &impl Abort, alloc: Global, count: u32) -> Octets {
+    let mut text = Octets::new(alloc);
+    let mut draws = Octets::copied_from(alloc, b"round\njob\n").expect(rt, "memory");
+    for sub in 100..100 + u64::from(count) {
+        text.append(b"subscriber 001010000000").expect(rt, "memory");
+        text.append_number(sub).expect(rt, "memory");
+        text.append(
+            b" 465b5ce8b199b49faa5f0a2ee238a6bc opc cd63cb71954a9f4e48a5994e37a02baf 8000 0 0\n",
+        ).expect(rt, "memory");
+        draws.append(b"draw 001010000000").expect(rt, "memory");
+        draws.append_number(sub).expect(rt, "memory");
+        draws.append(b" 1\n").expect(rt, "memory");
+    }
+    text.append(draws.as_slice()).expect(rt, "memory");
+    text
+}
+
+// The length of the journal after a round in which so many subscribers draw once.
+fn journal_after<R: Abort + Threads + Wait + Sync>(rt: &R, alloc: Global, count: u32) -> usize {
+    let text = drawing_once_each(rt, alloc, count);
+    let mut shelf = shelf_of(rt, alloc, b"scenario", text.as_slice());
+    let mut out = MemSink::new(alloc);
+    let disk = empty_disk(rt, alloc);
+    let (status, left) = run_words(
+        rt,
+        alloc,
+        &RUN,
+        &mut shelf,
+        &mut out,
+        disk,
+        &OpenGate::new(),
+    );
+    let image = left.crash(alloc, 1).expect(rt, "memory");
+    assert!(rt; status == Status::Done);
+    image.len()
+}
+
+// By the format: 16 bytes and a closed gate, and 4 + 17 c for a group of c, or 19 for a single frame. A group has 256
+// subscribers at most, and one that is left is reserved singly.
+#[test]
+fn round_reserves_for_its_subscribers_in_groups(rt: HostRuntime) {
+    let alloc = rt.alloc();
+    for (count, len) in [(1, 36), (2, 55), (256, 4373), (257, 4392), (258, 4411)] {
+        let found = journal_after(&rt, alloc, count);
+        assert!(rt; found == len, "at {count}: {found}");
+    }
+}
+
 // By the user's guide: 5 numbers reserve 64, and the one after the restart reserves 128.
 #[test]
 fn reserved_tells_what_a_run_reserved(rt: HostRuntime) {

@@ -1,7 +1,7 @@
 //! How scenarios and subscribers are read.
 
 use auc_edge::Items;
-use auc_lines::{FivegLine, Identity, JobPart, Line, SessionLine};
+use auc_lines::{FivegLine, Identity, JobPart, Line, SessionLine, SiteEvent, SitesLine};
 use auc_script::{Part, Script, ScriptRefusal};
 use auc_subs::{AddRefusal, SubsRefusal, Subscribers};
 use std::alloc::{AllocError, Global};
@@ -83,6 +83,7 @@ fn text_of_line(alloc: Global, line: &Line) -> Result<String, AllocError> {
             format!(in alloc; "Eps {{ sub: {sub}, snid: {snid} }}")
         }
         Line::Fiveg(line) => text_of_fiveg(alloc, line),
+        Line::Sites(line) => text_of_sites(alloc, line),
         Line::Session(line) => text_of_session(alloc, line),
         Line::Start(session) => format!(in alloc; "Start({session})"),
         Line::Deliver {
@@ -95,6 +96,14 @@ fn text_of_line(alloc: Global, line: &Line) -> Result<String, AllocError> {
             format!(in alloc; "GiveUp {{ session: {session}, end: {end:?} }}")
         }
         Line::Plain(session) => format!(in alloc; "Plain({session})"),
+        Line::Tamper {
+            packet,
+            place,
+            byte,
+        } => format!(in alloc; "Tamper {{ packet: {packet}, place: {place}, byte: {byte} }}"),
+        Line::Cut { packet, length } => {
+            format!(in alloc; "Cut {{ packet: {packet}, length: {length} }}")
+        }
     }
 }
 
@@ -112,6 +121,31 @@ fn text_of_fiveg(alloc: Global, line: &FivegLine) -> Result<String, AllocError> 
     format!(in alloc;
         "Fiveg {{ sub: {sub}, home: {home}, device: {device}, bit: {bit:?}, hxres: {hxres} }}"
     )
+}
+
+/// A line for sites: how many events it has, and its first nine.
+fn text_of_sites(alloc: Global, line: &SitesLine) -> Result<String, AllocError> {
+    let (sub, sites, size, events) = (line.sub(), line.sites(), line.size(), line.schedule());
+    let count = events.len();
+    let mut text = format!(in alloc;
+        "Sites {{ sub: {sub}, sites: {sites}, size: {size}, events: {count}"
+    )?;
+    for event in events.iter().take(9) {
+        text.push_str(" ")?;
+        text.push_str(text_of_event(alloc, *event)?.as_str())?;
+    }
+    text.push_str(" }")?;
+    Ok(text)
+}
+
+fn text_of_event(alloc: Global, event: SiteEvent) -> Result<String, AllocError> {
+    match event {
+        SiteEvent::Ask(site) => format!(in alloc; "Ask({site})"),
+        SiteEvent::Deliver(packet) => format!(in alloc; "Deliver({packet})"),
+        SiteEvent::Draw(site) => format!(in alloc; "Draw({site})"),
+        SiteEvent::Restart(site) => format!(in alloc; "Restart({site})"),
+        SiteEvent::MasterRestart => String::from_str(alloc, "MasterRestart"),
+    }
 }
 
 /// A session with its texts as hexadecimal digits.

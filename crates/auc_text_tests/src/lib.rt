@@ -5,8 +5,12 @@
 #![tactic(auto)]
 
 #[cfg(test)]
+mod events;
+#[cfg(test)]
 mod forms;
 #[cfg(test)]
 mod load;
 #[cfg(test)]
 mod print;
+#[cfg(test)]
+mod printing;

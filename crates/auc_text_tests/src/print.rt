@@ -1,124 +1,20 @@
 //! The text of a transcript. Further lines are seen in the stored runs of the program and in the tests of `auc_runs`.
 
-ghost use Rattle.std.specs.Prelude.{◌≡◌, IsTrue, All, ◌<◌};
-ghost use Rattle.auc_world.specs.Record.{IsBelow, NamesBelow, subscriber_of};
-ghost use Rattle.auc_world.specs.Vectors.{IsReleasableLine};
-
+use crate::printing::{
+    FurtherCase, further_text, names_below, one, print_alone, rands, subscribers,
+};
 use auc_edge::{Items, NoMemory, Octets, Stop};
 use auc_hmac::KeySet;
 use auc_ident::Names;
 use auc_print::{print_restart, print_round};
-use auc_random::Rands;
-use auc_sqn::MAX_SEQ;
 use auc_subs::Subscribers;
 use auc_vector::{CounterNote, Notes, NumberNote, Outcome, ResyncNote, Step, UsimNote, Vector};
 use auc_world::{
-    BoxedEvent, BoxedFurther, Closing, End, Event, EventRecord, FivegOutcome, Further, JobRecord,
-    LineRecord, Note, NoteStep, Premise, RoundRecord, SessionVerdict, Setting, SyncVerdict,
-    printed_vectors,
+    BoxedEvent, Closing, End, Event, EventRecord, FivegOutcome, Further, JobRecord, LineRecord,
+    Note, NoteStep, Premise, RoundRecord, SessionVerdict, Setting, SyncVerdict,
 };
 use std::alloc::Global;
 use std::test::Fail;
-
-// Whether each subscriber that a round names is one of so many.
-fn names_below(round: &RoundRecord, count: usize) -> bool
-    ensures { IsTrue result → NamesBelow count round.now }
-{
-    let jobs = round
-        .jobs
-        .as_slice()
-        .iter()
-        .all(|job| are_below(job.as_slice(), count));
-    jobs && round
-        .closings
-        .as_slice()
-        .iter()
-        .all(|closing| (closing.sub as usize) < count)
-}
-
-fn are_below(job: &[LineRecord], count: usize) -> bool
-    ensures { IsTrue result → All (λ line. IsBelow count (subscriber_of line)) job.now }
-{
-    job.iter().all(|line| is_below(line.subscriber(), count))
-}
-
-fn is_below(sub: Option<u32>, count: usize) -> bool
-    ensures { IsTrue result → IsBelow count sub }
-{
-    match sub {
-        Some(sub) => (sub as usize) < count,
-        None => true,
-    }
-}
-
-// Whether a line releases no vector, or one whose number a vector may have, of a subscriber of the setting.
-fn is_releasable(line: &LineRecord, set: &Setting) -> bool
-    ensures { IsTrue result → IsReleasableLine set.now line.now }
-{
-    match line {
-        LineRecord::Vector { sub, n } => *sub < set.subs.len() && 1 <= *n && *n <= MAX_SEQ,
-        LineRecord::Event(event) => event.record().number().is_none(),
-        LineRecord::Withheld { .. }
-        | LineRecord::Exhausted { .. }
-        | LineRecord::Sync { .. }
-        | LineRecord::Give { .. }
-        | LineRecord::Further(_) => true,
-    }
-}
-
-fn are_releasable(job: &[LineRecord], set: &Setting) -> bool
-    ensures { IsTrue result → All (IsReleasableLine set.now) job.now }
-{
-    job.iter().all(|line| is_releasable(line, set))
-}
-
-// Appends the text of a round of this one record, which has to be printable, and answers whether it is.
-fn print_alone(
-    alloc: Global,
-    record: LineRecord,
-    set: &Setting,
-    full: bool,
-    out: &mut Octets,
-) -> Result<bool, NoMemory> {
-    let job = one(alloc, record)?;
-    let round = RoundRecord {
-        number: 8,
-        closings: Items::new(alloc),
-        sessions: Items::new(alloc),
-        premise: Premise::NoSession,
-        jobs: one(alloc, job)?,
-    };
-    print_one_job(alloc, &round, set, full, out)
-}
-
-fn print_one_job(
-    alloc: Global,
-    round: &RoundRecord,
-    set: &Setting,
-    full: bool,
-    out: &mut Octets,
-) -> Result<bool, NoMemory> {
-    let [job] = round.jobs.as_slice() else {
-        return Ok(false);
-    };
-    if !names_below(round, set.subs.len() as usize) || !are_releasable(job.as_slice(), set) {
-        return Ok(false);
-    }
-    if full {
-        let vectors = [printed_vectors(alloc, set, job.as_slice(), true)?];
-        print_round(round, &vectors, set, true, out)?;
-    } else {
-        print_round(round, &[], set, false, out)?;
-    }
-    Ok(true)
-}
-
-// A list of one record.
-fn one<T: Drop>(alloc: Global, record: T) -> Result<Items<T>, NoMemory> {
-    let mut list = Items::new(alloc);
-    list.push(record)?;
-    Ok(list)
-}
 
 // A vector whose parts are runs of bytes: RAND from 00 on, AUTN from 10 on, XRES from a0 on, CK from c0 on and
 // IK from f0 on.
@@ -178,20 +74,6 @@ fn round(alloc: Global) -> Result<RoundRecord, NoMemory> {
     })
 }
 
-/// The key of the 32 bytes from 0 to 31.
-fn rands() -> Rands {
-    Rands::new([
-        0, 1, 2, 3, 4, 5, 6, 7, 8, 9, 10, 11, 12, 13, 14, 15, 16, 17, 18, 19, 20, 21, 22, 23, 24,
-        25, 26, 27, 28, 29, 30, 31,
-    ])
-}
-
-const FIRST: &[u8] =
-    b"001010000000001 465b5ce8b199b49faa5f0a2ee238a6bc opc cd63cb71954a9f4e48a5994e37a02baf 8000 0 0";
-
-const SECOND: &[u8] =
-    b"000007 465b5ce8b199b49faa5f0a2ee238a6bc opc cd63cb71954a9f4e48a5994e37a02baf 8000 0 0";
-
 // Written by hand: of each record its word, the IMSI, and its values in their order; of a closing the IMSI and
 // the six counts in their order; of a vector its five parts in their order, which are those of `vector.rt` in the crate
 // `auc_vector_tests`, from another implementation.
@@ -211,15 +93,6 @@ vector 001010000000001 1
 bytes 8a35d86fbcde6accb2cc7d4cd8ea2492 5c932ea779de80001d96bfd35d896e74 59fce589e7b274e7 \
 164ec6b56c3fa5a33c5130b35fbfdc49 1ef5c23ff651ae6846822d2ba9304231
 ";
-
-// Both lines are right, so an answer other than Ok is want of memory.
-fn subscribers(alloc: Global) -> Result<Subscribers, NoMemory> {
-    let mut subs = Subscribers::new(alloc);
-    for line in [FIRST, SECOND] {
-        subs.add(line).map_err(|_| NoMemory)?;
-    }
-    Ok(subs)
-}
 
 // Appends the brief print of a round, that of a restart, and the full print of a vector, and answers whether all can be
 // printed.
@@ -347,9 +220,6 @@ fn bytes(high: u128, low: u128) -> [u8; 32] {
     both
 }
 
-// What follows from a vector, and its lines: in each print, and what a full print adds.
-type FurtherCase = (Further, &'static [u8], &'static [u8]);
-
 // Python's `hmac` and `hashlib`, by the formulas of TS 33.401 Annex A.2 and of TS 33.501 Annexes A.2 and A.4 to A.6, from TS
 // 35.208, test set 1: K_ASME for the SN id 00f110; HXRES* and K_SEAF for 5G:mnc001.mcc001.3gppnetwork.org; for the device
 // K_SEAF for the name 5.
@@ -408,25 +278,6 @@ fn refusals_of_5g() -> [FurtherCase; 3] {
             b"",
         ),
     ]
-}
-
-// The text of a round of what follows from a vector, as it is printed and as it has to be.
-fn further_text(
-    alloc: Global,
-    case: FurtherCase,
-    full: bool,
-    set: &Setting,
-) -> Result<(Octets, Octets), NoMemory> {
-    let (said, line, more) = case;
-    let (mut text, mut wanted) = (Octets::new(alloc), Octets::new(alloc));
-    wanted.append(b"round 8\njob 1\n")?;
-    wanted.append(line)?;
-    if full {
-        wanted.append(more)?;
-    }
-    let record = LineRecord::Further(BoxedFurther::new(alloc, said)?);
-    print_alone(alloc, record, set, full, &mut text)?;
-    Ok((text, wanted))
 }
 
 #[test]
