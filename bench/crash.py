@@ -9,8 +9,8 @@ left. Over all runs no number of a subscriber may be printed twice, and each run
 From time to time the journal is taken away together with all that was printed, so that first openings are killed too.
 SIGKILL leaves what the system has in memory, so this tests the order of the program's calls, and not the disk.
 
-Images. A journal is recorded, frame by frame. Each front of it, and each frame or gate of it with torn bytes in it, is
-the input of a run. The status is 0 or 7 by the format in docs/journal.md, which this script reads by itself; a run of
+Images. A journal is recorded, with a frame for three subscribers and frames for one. Each front of it, and each frame or gate of
+it with torn bytes in it, is the input of a run. The status is 0 or 7 by the format in docs/journal.md, which this script reads by itself; a run of
 status 0 draws above the limit that the image reserves, and one of status 7 tells the place.
 
 Two processes. While a run is stopped, a second one in its folder ends with status 6 and prints nothing.
@@ -32,7 +32,9 @@ import tempfile
 import time
 from pathlib import Path
 
-from journal import FRAME, HEADER, NAME, NotJournal, imsi, limits_of, run, subscriber, vectors_in, write_scenario
+from journal import (
+    ENTRY, FRAME, GROUP, HEADER, NAME, NotJournal, frames_in, imsi, limits_of, run, subscriber, vectors_in, write_scenario,
+)
 from measure import TOP, program
 
 sys.path.append(str(TOP / "tools"))
@@ -112,14 +114,14 @@ def recorded(folder):
 
 def torn(data, rng):
     """The bytes with one write of an append torn: the body with the next gate, or a gate alone."""
-    for at in range(16, len(data) - 1, FRAME):
-        whole = data[:at] + b"\0" + data[at + 1:at + FRAME + 1]
-        for place in range(at + 1, at + FRAME + 1):
+    for at, gate_behind, _ in frames_in(data):
+        whole = data[:at] + b"\0" + data[at + 1:gate_behind + 1]
+        for place in range(at + 1, gate_behind + 1):
             yield whole[:place] + bytes([rng.randrange(256)]) + whole[place + 1:]
             yield whole[:place]
         for gate in (0, 1, 2, 255):
             yield whole[:at] + bytes([gate]) + whole[at + 1:]
-        yield data[:at + 1] + rng.randbytes(FRAME - 1) + b"\0"
+        yield data[:at + 1] + rng.randbytes(gate_behind - at - 1) + b"\0"
 
 
 def image_is_answered(folder, data):
@@ -174,18 +176,20 @@ def traced(folder):
             yield "print" if (kind, descriptor) == ("write", "1") else f"{kind} {names.get(path, path)}"
 
 
-def append_calls(frame):
-    """The calls of an append behind so many frames: the body and the next gate, and then the gate before them."""
-    gate = 16 + FRAME * frame
-    return [f"write file {FRAME} {gate + 1}", "fsync file", f"write file 1 {gate}", "fsync file"]
+def append_calls(gate, size):
+    """The calls of an append of a frame behind a gate: the body and the next gate, and then the gate before them."""
+    return [f"write file {size} {gate + 1}", "fsync file", f"write file 1 {gate}", "fsync file"]
 
 
-def syncs_of(folder, opening, rounds):
-    """How often a run syncs the file, which has to make these calls as it opens the journal, and has to append these frames
-    in its rounds."""
+def syncs_of(folder, opening, rounds, gate=16):
+    """How often a run syncs the file, which has to make these calls as it opens the journal, and has to append frames of these
+    lengths in its rounds, the first one behind this gate."""
     wanted = ["fsync file", "fsync folder", *opening]
     for frames in rounds:
-        wanted += [call for frame in frames for call in append_calls(frame)] + ["print"]
+        for size in frames:
+            wanted += append_calls(gate, size)
+            gate += size
+        wanted.append("print")
     calls = list(traced(folder))
     assert calls == wanted, f"the calls {calls} in place of {wanted}"
     return calls.count("fsync file")
@@ -196,11 +200,17 @@ def syncs(folder):
         raise Missing("strace", "strace")
     # By hand: 70 draws need the limits of their 1st and their 65th number, the next draw needs none, and 60 more need one.
     write_scenario(folder, [subscriber(0), *[line for count in (70, 1, 60) for line in ("round", "job", f"draw {imsi(0)} {count}")]])
-    made = syncs_of(folder, ["write file 17 0", "fsync file"], [[0, 1], [], [2]])
-    found = syncs_of(folder, ["fsync file"], [[3, 4], [], [5]])
+    rounds = [[FRAME, FRAME], [], [FRAME]]
+    made = syncs_of(folder, ["write file 17 0", "fsync file"], rounds)
+    found = syncs_of(folder, ["fsync file"], rounds, 16 + 3 * FRAME)
     (folder / NAME).write_bytes(HEADER)
-    unclear = syncs_of(folder, ["write file 1 16", "fsync file"], [[0, 1], [], [2]])
-    print(f"syncs: {made}, {found} and {unclear} syncs of the file, each where the journal's rule asks for it")
+    unclear = syncs_of(folder, ["write file 1 16", "fsync file"], rounds)
+    # 258 subscribers draw 1: a group of 256, and one of 2. Then one of them draws 64 more, which its limit of 64 doesn't cover.
+    (folder / NAME).unlink()
+    ones = [line for sub in range(GROUP + 2) for line in ("job", f"draw {imsi(sub)} 1")]
+    write_scenario(folder, [*map(subscriber, range(GROUP + 2)), "round", *ones, "round", "job", f"draw {imsi(1)} 64"])
+    many = syncs_of(folder, ["write file 17 0", "fsync file"], [[4 + ENTRY * GROUP, 4 + ENTRY * 2], [FRAME]])
+    print(f"syncs: {made}, {found}, {unclear} and {many} syncs of the file, each where the journal's rule asks for it")
 
 
 def main():

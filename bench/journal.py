@@ -4,7 +4,7 @@ from pathlib import Path
 
 from measure import subscriber_line
 
-HEADER, MOST, MAX_SEQ, FRAME = b"AUC-SQN-JOURNAL1", 2**30, 8796093022207, 19
+HEADER, MOST, MAX_SEQ, FRAME, ENTRY, GROUP = b"AUC-SQN-JOURNAL1", 2**30, 8796093022207, 19, 17, 256
 NAME = "auc.journal"
 
 
@@ -16,31 +16,50 @@ class NotJournal(Exception):
         self.place = place
 
 
-def frame_in(body):
-    """The IMSI and the limit of a frame's body; nothing if it is none."""
-    if len(body) < 18 or body[0] != 1 or not 6 <= body[1] <= 15:
+def entry_in(entry):
+    """The IMSI and the limit of an entry; nothing if it is none."""
+    number, limit = int.from_bytes(entry[1:9], "big"), int.from_bytes(entry[9:17], "big")
+    if not 6 <= entry[0] <= 15 or number >= 10 ** entry[0] or not 1 <= limit <= MAX_SEQ:
         return None
-    number, limit = int.from_bytes(body[2:10], "big"), int.from_bytes(body[10:18], "big")
-    if number >= 10 ** body[1] or not 1 <= limit <= MAX_SEQ:
-        return None
-    return f"{number:0{body[1]}}", limit
+    return f"{number:0{entry[0]}}", limit
 
 
-def limits_of(data):
-    """The limit of each IMSI of a journal's bytes."""
+def entries_in(rest):
+    """The entries of the body that some bytes begin with, and its length; nothing if there is none."""
+    kind, count = rest[:1], int.from_bytes(rest[1:3], "big")
+    if kind not in (b"\1", b"\2") or kind == b"\2" and not 2 <= count <= GROUP:
+        return None
+    first, count = (1, 1) if kind == b"\1" else (3, count)
+    size = first + ENTRY * count
+    if len(rest) < size:
+        return None
+    entries = [entry_in(rest[at:at + ENTRY]) for at in range(first, size, ENTRY)]
+    return None if None in entries else (entries, size)
+
+
+def frames_in(data):
+    """Each frame of a journal's bytes: the place of its gate, the place of the next gate, and its entries."""
     if data and data[:16] != HEADER:
         raise NotJournal(0)
     if len(data) > MOST:
         raise NotJournal(MOST)
-    limits, at = {}, 16
+    at = 16
     while len(data) > 17 and at < len(data) and data[at] == 1:
-        frame = frame_in(data[at + 1:at + FRAME])
-        if frame is None:
+        body = entries_in(data[at + 1:at + 4 + ENTRY * GROUP])
+        if body is None:
             raise NotJournal(at)
-        limits[frame[0]] = max(frame[1], limits.get(frame[0], 0))
-        at += FRAME
+        yield at, at + 1 + body[1], body[0]
+        at += 1 + body[1]
     if len(data) == at == MOST:
         raise NotJournal(MOST)
+
+
+def limits_of(data):
+    """The limit of each IMSI of a journal's bytes."""
+    limits = {}
+    for _, _, entries in frames_in(data):
+        for owner, limit in entries:
+            limits[owner] = max(limit, limits.get(owner, 0))
     return limits
 
 

@@ -18,7 +18,7 @@ TYPES = {"aka": 23, "prime": 50}
 # What each letter of a session's options is called at an end.
 OPTIONS = {"p": "pseudonym", "r": "reauth", "a": "any", "b": "bidding", "d": "hasprime"}
 HEADER = {"randkey", "print", "realm", "subscriber"}
-EVENTS = {"session", "start", "deliver", "repeat", "giveup", "plain"}
+EVENTS = {"session", "start", "deliver", "repeat", "giveup", "plain", "tamper", "cut"}
 
 
 def lines_of(text):
@@ -126,6 +126,26 @@ class Job:
         else:
             return self.hand_over(text, end, at)
         return None
+
+    def tamper(self, packet_number, place, byte):
+        text, at, value = f"tamper {int(packet_number)} {int(place)} {byte.lower()}", int(place), bytes.fromhex(byte)
+        self.change(text, int(packet_number), at, lambda data: data[:at] + value + data[at + 1:])
+
+    def cut(self, packet_number, length):
+        count = int(length)
+        self.change(f"cut {int(packet_number)} {count}", int(packet_number), count, lambda data: data[:count])
+
+    def change(self, text, at, place, by):
+        """A copy of a packet that has a place is changed. No end has sent the copy, so it has no role and no inputs."""
+        if not 1 <= at <= len(self.packets):
+            self.world.say(f"{text} nosuchpacket")
+        elif place >= len(self.packets[at - 1][0]):
+            self.world.say(f"{text} nosuchplace")
+        else:
+            data = by(self.packets[at - 1][0])
+            self.packets.append((data, None, None))
+            self.world.say(f"{text} made {len(self.packets)}")
+            self.world.show(f"packet {len(self.packets)} {data.hex()}")
 
     def hand_over(self, text, end, at):
         data, before = self.packets[at - 1][0], end.inputs

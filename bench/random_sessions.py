@@ -5,8 +5,9 @@
 
 There are COUNT scenarios, 200 unless it is given, from the seed FIRST on, 0 unless it is given. A scenario has up to three
 rounds, up to three subscribers, some of which share their keys, and up to five sessions a round, of both methods, with any
-options and identities, among them pseudonyms and re-authentication identities that weren't given. Its packets are lost, repeated and crossed, and half of
-the scenarios print all bytes. Before that the examples that network.py can read are compared with their expected outputs.
+options and identities, among them pseudonyms and re-authentication identities that weren't given. Its packets are lost, repeated
+and crossed, in half of the scenarios the network changes some of them, and half print all bytes. Before that the examples that
+network.py can read are compared with their expected outputs.
 
 The seed of each scenario whose output differs is printed with the first line that does; the exit status is 1 if there is
 one. A thousand scenarios take a minute or two.
@@ -43,7 +44,7 @@ def scenario(seed):
         secret, amf = SECRETS[0 if are_alike else place % 2], choose.choice(["8000", "8000", "0000"])
         lines.append(f"subscriber {imsi} {secret} {amf} {choose.choice([0, 0, 5])} {choose.choice([0, 0, 0, 3, 40])}")
     # Half of the scenarios lean towards re-authentications of one device.
-    leans, opened, world = choose.random() < 0.5, 0, World("".join(line + "\n" for line in lines))
+    leans, changes, opened, world = choose.random() < 0.5, choose.random() < 0.5, 0, World("".join(line + "\n" for line in lines))
     for _ in range(choose.randint(1, 3)):
         sessions = range(opened + 1, opened + 1 + choose.randint(2 if leans else 1, 5 if leans else 4))
         opened = sessions[-1]
@@ -51,7 +52,7 @@ def scenario(seed):
         openings = [session_line(choose, number, imsis[:1] if leans else imsis, Names(key), leans) for number in sessions]
         job = Job(world, [line.split() for line in openings])
         job.run()
-        lines += openings + events(choose, sessions, job, leans)
+        lines += openings + events(choose, sessions, job, leans, changes)
     return "".join(line + "\n" for line in lines)
 
 
@@ -67,8 +68,9 @@ def session_line(choose, number, imsis, names, leans):
     return f"session {number} {choose.choice(imsis)} {method} {both} {options} {identity}"
 
 
-def events(choose, sessions, job, leans):
-    """Events of sessions, each of which happens in a job at once: packets go mostly to an end of the other role."""
+def events(choose, sessions, job, leans, changes):
+    """Events of sessions, each of which happens in a job at once: packets go mostly to an end of the other role. If the network
+    changes packets, changed copies are delivered as others are."""
     lines, left = [], list(sessions)
 
     def happen(line):
@@ -78,8 +80,13 @@ def events(choose, sessions, job, leans):
 
     if leans and len(left) >= 3:
         race(choose, left, job.packets, happen)
+    if changes:
+        meddle(choose, left, job.packets, happen)
     for _ in range(choose.randint(2, 30)):
-        happen(event(choose, sessions, left, job.packets))
+        if changes and choose.random() < 0.25:
+            happen(change(choose, job.packets))
+        else:
+            happen(event(choose, sessions, left, job.packets))
     return lines
 
 
@@ -102,6 +109,45 @@ def race(choose, left, packets, happen):
         happen(f"deliver {choose.choice([one, one, other])} server {len(packets)}")
 
 
+def meddle(choose, left, packets, happen):
+    """A session in which each packet is delivered in its turn. Before some of them, or in place of them, comes a changed copy."""
+    number, end, other = left.pop(choose.randrange(len(left))), "peer", "server"
+    happen(f"start {number}")
+    for _ in range(choose.randint(2, 12)):
+        at = last = len(packets)
+        if choose.random() < 0.4:
+            happen(changed(choose, packets, at))
+            last = len(packets)
+        if last > at:
+            happen(f"deliver {number} {end} {last}")
+        if len(packets) == last and choose.random() < 0.9:
+            happen(f"deliver {number} {end} {at}")
+        if len(packets) > last:
+            end, other = other, end
+
+
+def change(choose, packets):
+    """A packet is changed, mostly a late one."""
+    late, any_packet = max(0, len(packets) - choose.randint(0, 3)), choose.randint(0, len(packets) + 1)
+    return changed(choose, packets, choose.choice([late, late, late, any_packet]))
+
+
+def changed(choose, packets, at):
+    """A packet is changed: a bit of a byte, a whole byte, or all from a place on. Few of the places are beyond its end."""
+    data = packets[at - 1][0] if 1 <= at <= len(packets) else b""
+    anywhere = [choose.randrange(len(data) + 1) for _ in range(3)]
+    place = choose.choice([*anywhere, choose.randrange(12), len(data), max(0, len(data) - 1)])
+    if choose.random() < 0.25:
+        return f"cut {at} {place}"
+    byte = data[place] if place < len(data) else 0
+    return f"tamper {at} {place} {choose.choice([byte ^ 1 << choose.randrange(8), choose.randrange(256)]):02x}"
+
+
+def is_for_server(data, sender):
+    """Whether a packet is for a server: a peer sent it, or it is a changed response."""
+    return sender is Peer if sender else data[:1] == b"\2"
+
+
 def event(choose, sessions, left, packets):
     number, kind = choose.choice(sessions), choose.random()
     if kind < 0.15 and number in left:
@@ -117,7 +163,7 @@ def event(choose, sessions, left, packets):
     at = choose.choice([late, late, late, any_packet])
     ends = ["peer", "server"]
     if 1 <= at <= len(packets) and choose.random() < 0.9:
-        ends.remove("peer" if packets[at - 1][1] is Peer else "server")
+        ends.remove("peer" if is_for_server(*packets[at - 1][:2]) else "server")
     return f"deliver {number} {choose.choice(ends)} {at}"
 
 

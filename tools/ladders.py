@@ -3,12 +3,13 @@ import re
 from dataclasses import dataclass
 
 import transcript
-from transcript import CENTRE_NOTES, Unreadable, marks_of, name_of
+from transcript import CENTRE_NOTES, Change, Unreadable, marks_of, name_of, rows_in
 
 
 @dataclass
 class Arrow:
-    """A packet on its way to an end. It is lost, or goes to another session, or comes from one."""
+    """A packet on its way to an end. It is lost, or goes to another session, or comes from one; one that the network changed comes
+    from nowhere."""
     to: str
     label: str
     # The label in a picture, where arrows cross.
@@ -18,6 +19,7 @@ class Arrow:
     lost: bool = False
     away: bool = False
     foreign: bool = False
+    changed: bool = False
     # What the end does that it reaches.
     words: str = ""
     # The number of the packet that is sent after this row.
@@ -33,7 +35,7 @@ class Answer:
 
 @dataclass
 class Words:
-    """What an end does by itself."""
+    """What an end does by itself, or what the network does."""
     end: str
     words: str
     sends: int = 0
@@ -51,7 +53,8 @@ class Ladder:
 def label(packet, *marks, short=False):
     """A packet's number and name, what it says of identities, and what is special about it. In short what is special stands alone,
     and without a name if an earlier arrow of the ladder has it."""
-    special = [mark for mark in (f"copy of {packet.original}" if packet.original else "", *marks) if mark]
+    source = f"changed copy of {packet.source.number}" if packet.source else f"copy of {packet.original}" if packet.original else ""
+    special = [mark for mark in (source, *marks) if mark]
     is_named = short and (packet.original or special == ["again"])
     name = "" if is_named else name_of(packet.data)
     marks = special if short and special else [*marks_of(packet), *special]
@@ -70,8 +73,10 @@ def own_note(note):
 
 
 def is_at_home(event):
-    """Whether a delivery is in its packet's own session, at the end to which it was sent."""
-    return event.session is event.delivered.session and event.end != event.delivered.sender
+    """Whether a delivery is in its packet's own session, at the end to which it was sent. What the network changed was sent by
+    nobody."""
+    packet = event.delivered
+    return event.session is packet.session and event.end != packet.sender and packet.source is None
 
 
 def arrival(event):
@@ -82,7 +87,7 @@ def arrival(event):
     is_second = is_at_home(packet.deliveries[0]) and is_at_home(event)
     words = [own_note(note) for note in event.notes if note.split()[0] not in CENTRE_NOTES] + [event.step]
     return labelled(event.end, packet, whose, own, again, only="" if is_second else "again", foreign=not is_at_home(event),
-                    words=", ".join(word for word in words if word))
+                    changed=packet.source is not None, words=", ".join(word for word in words if word))
 
 
 def departure(packet):
@@ -117,9 +122,22 @@ def own_words(event):
     return Words(event.end, ": ".join(word for word in (deed(event), event.step) if word))
 
 
+def change_of(change):
+    """The row of a packet that the network changes: what comes of it."""
+    packet = change.sent
+    if packet is None:
+        return Words("network", f"{change.deed}: {change.step}")
+    elsewhere = {f", to session {event.session.number}" for event in packet.deliveries if event.session is not packet.session}
+    where = "" if any(event.session is packet.session for event in packet.deliveries) else "".join(sorted(elsewhere)) or ", lost"
+    return Words("network", f"{change.deed}: packet {packet.number}{where}")
+
+
 def rows_of(session):
     rows = []
-    for event in session.events:
+    for event in rows_in(session):
+        if isinstance(event, Change):
+            rows.append(change_of(event))
+            continue
         rows.append(arrival(event) if event.arrives else own_words(event))
         rows += [Answer(note) for note in event.notes if note.split()[0] in CENTRE_NOTES]
         if event.sent:
@@ -169,5 +187,5 @@ def ladders_of(path, numbers=()):
 
 
 def end_of(row):
-    """The end whose words a row has."""
+    """The end whose words a row has, or the network."""
     return row.to if isinstance(row, Arrow) else row.end

@@ -150,6 +150,11 @@ class Labels:
         self.placed[key] = best[1]
         self.take(key, 1)
 
+    def keep(self, middle, size):
+        """Keeps a level place free of labels."""
+        for cell in self.cells(middle, 0, size):
+            self.taken[cell] = self.taken.get(cell, 0) + 1
+
     def take(self, key, count):
         for cell in self.placed[key][0] if key in self.placed else ():
             self.taken[cell] = self.taken.get(cell, 0) + count
@@ -218,9 +223,18 @@ def is_foreign(row):
     return isinstance(row, Arrow) and row.foreign
 
 
+def is_network(row):
+    return isinstance(row, Words) and row.end == "network"
+
+
+def tall_of(row):
+    """How many lines the words of a row have."""
+    return 0 if isinstance(row, Answer) else 1 if is_network(row) else len(lines_of(row.words))
+
+
 def step(before, row, after_short):
     """How far below the row before it a row stands."""
-    tall = 0 if isinstance(before, Answer) else len(lines_of(before.words))
+    tall = tall_of(before)
     if isinstance(row, Answer) or isinstance(before, Words) and not after_short:
         return ANSWER + LINE * max(0, tall - 1)
     apart = 0
@@ -234,15 +248,20 @@ def step(before, row, after_short):
 
 
 def beside(row, places, y):
-    """What an end does, beside it."""
+    """What an end does, beside it, or what the network does, between the ends."""
+    if is_network(row):
+        return [text((places.peer + places.server) / 2, y + 4, row.words, "middle", "label")]
     at_peer = end_of(row) == "peer"
     x, anchor = (places.peer - 10, "end") if at_peer else (places.server + 10, "start")
     return [text(x, y + 4 + LINE * place, line, anchor, colour=colour) for place, (line, colour) in enumerate(lines_of(row.words))]
 
 
-def labels_of(rows, arrows, places):
+def labels_of(rows, heights, arrows, places):
     """The labels of arrows. The longest come first, since they can be moved least; then each makes room for those after it."""
     labels, keys = Labels(arrows), sorted(arrows, key=lambda place: -len(rows[place].short))
+    for row, y in zip(rows, heights):
+        if is_network(row):
+            labels.keep(((places.peer + places.server) / 2, y), CHARACTER * len(row.words))
     for key in keys * 2:
         labels.place(key, rows[key].short, *room_of(rows[key].short, arrows[key], places))
     return labels.parts()
@@ -264,7 +283,7 @@ def drawn_rows(rows, places, first):
         lines = beside(row, places, y)
         words += lines
         lowest = max(lowest, y + LINE * len(lines))
-    return [*ways, *labels_of(rows, arrows, places), *words], max(lowest, max(heights) + LINE)
+    return [*ways, *labels_of(rows, heights, arrows, places), *words], max(lowest, max(heights) + LINE)
 
 
 def told(row):
@@ -274,7 +293,7 @@ def told(row):
     if isinstance(row, Words):
         return f"{row.end}: {row.words}"
     lost, words = ", lost" if row.lost else "", f"; {row.to}: {row.words}" if row.words else ""
-    return f"{other(row.to)} to {row.to}: {row.label}{lost}{words}"
+    return f"{'network' if row.changed else other(row.to)} to {row.to}: {row.label}{lost}{words}"
 
 
 def drawn_ladder(ladder, places, top):
@@ -296,7 +315,7 @@ def places_of(ladders):
     """Where the columns stand in each of these ladders, if its left edge is at 0."""
     rows = [row for ladder in ladders for row in ladder.rows]
     lines = [(end_of(row), len(line)) for row in rows if not isinstance(row, Answer) for line, _ in lines_of(row.words)]
-    arrows = [len(row.short) + 5 for row in rows if isinstance(row, Arrow)]
+    arrows = [len(row.short) + 5 for row in rows if isinstance(row, Arrow)] + [len(row.words) + 3 for row in rows if is_network(row)]
     answers = [len(row.label) + 4 for row in rows if isinstance(row, Answer)]
     margin = max([4, *(size for end, size in lines if end == "peer")])
     centre = max([12, *answers, *(size + 3 for end, size in lines if end == "server")])

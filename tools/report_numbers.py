@@ -141,6 +141,8 @@ class Steps:
             self.challenges = {}
         elif kind == "event":
             self.event(it)
+        elif kind in ("tamper", "cut") and it["packet"] in self.challenges and "made" in it:
+            self.challenges[it["made"]] = self.challenges[it["packet"]]
         elif kind == "vector":
             self.of(it["imsi"]).steps.append([line, DRAWN, it["number"]])
         elif kind == "give" and it["result"] == "accepted":

@@ -10,7 +10,7 @@ from eap.attributes import (AT_AUTN, AT_AUTS, AT_BIDDING, AT_CHECKCODE, AT_CLIEN
 from eap.keys import master_key
 from eap.messages import (AKA, CODES, IDENTITY, METHODS, REAUTHENTICATION, REQUEST, RESPONSE, SUBTYPES,
                           is_sealed)
-from transcript import identity_in
+from transcript import Change, identity_in, rows_in
 
 
 def shown_text(data):
@@ -85,7 +85,9 @@ def attribute_parts(data, start):
 
 
 def parts_of(data):
-    """The fields of a packet: name, first byte, end, and meaning."""
+    """The fields of a packet: name, first byte, end, and meaning. One that the network cut may have none."""
+    if len(data) < 4:
+        return [["too short", 0, len(data), ""]] if data else []
     length = str(number_in(data[2:]))
     parts = [["Code", 0, 1, CODES.get(data[0], "")], ["Identifier", 1, 2, str(data[1])], ["Length", 2, 4, length]]
     if len(data) < 5 or data[0] not in (REQUEST, RESPONSE):
@@ -116,10 +118,14 @@ def begun(event, ends):
 
 def authentications_of(sessions):
     """Of all sessions, the authentication by which each packet is made, by the packet's `id`. A peer answers in that of the
-    packet that it received, whichever session that was sent in."""
-    events = sorted((event for session in sessions for event in session.events), key=lambda it: it.line)
+    packet that it received, whichever session that was sent in. A changed copy has that of the packet that it is a copy of."""
+    events = sorted((event for session in sessions for event in rows_in(session)), key=lambda it: it.line)
     ends, made_by = {session.number: Ends() for session in sessions}, {}
     for event in events:
+        if isinstance(event, Change):
+            if event.sent and id(event.source) in made_by and AT_MAC in transcript.attributes_of(event.sent):
+                made_by[id(event.sent)] = made_by[id(event.source)]
+            continue
         mine = ends[event.session.number]
         if event.arrives and event.end == "server" and identity_in(event.delivered) is not None:
             mine.identity = identity_in(event.delivered)

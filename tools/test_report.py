@@ -49,6 +49,47 @@ fiveg 001010000000001 homerefused
 closed 001010000000001 6 10 4 0 4 0
 closed 001010000000002 0 1 1 0 1 0
 """
+# Sites with leased numbers, with each form of a line.
+SITES = """round 1
+job 1
+sites 001010000000001 ask 1 sent 1
+vector 001010000000001 1
+vector 001010000000001 2
+sites 001010000000001 deliver 1 granted 2 sent 2
+sites 001010000000001 deliver 1 again 2 sent 3
+sites 001010000000001 deliver 3 taken 2
+sites 001010000000001 draw 1 number 1
+sites 001010000000001 deliver 2 notmine
+sites 001010000000001 ask 1 sent 4
+exhausted 001010000000001 8796093022207
+sites 001010000000001 deliver 4 refused
+sites 001010000000001 deliver 1 old
+sites 001010000000001 restart 1
+sites 001010000000001 draw 1 empty
+sites 001010000000001 master
+sites 001010000000001 deliver 0 nosuchpacket
+closed 001010000000001 0 2 2 0 2 0
+"""
+# The network changes packets of a session. A refused change makes none.
+CHANGED = """round 1
+job 1
+session 1 open
+start 1 sent 1
+packet 1 0101000501
+tamper 1 4 17 made 2
+packet 2 0101000517
+tamper 1 5 00 nosuchplace
+tamper 9 0 00 nosuchpacket
+cut 2 0 made 3
+packet 3\x20
+cut 1 5 nosuchplace
+cut 9 0 nosuchpacket
+deliver 1 peer 2 ignored othertype
+deliver 1 peer 3 ignored notforme
+cut 1 1 made 4
+packet 4 01
+premise held
+"""
 needs_cryptography = unittest.skipIf(ciphers.Cipher is None, "Python's cryptography is missing")
 
 
@@ -123,7 +164,7 @@ class Objects(unittest.TestCase):
     def test_each_kind_of_line_is_in_the_examples_or_here(self):
         rare = ("round 1\njob 1\nwithheld 001010000000001 7 full\nexhausted 001010000000001 8796093022208\n"
                 "sync 001010000000001 beyond 268435457 0\npremise broken 1 2 peer 3\n")
-        texts = [rare, FURTHER, *(path.read_text() for path in EXPECTED), "usage\n", "refused scenario 3 fields\n"]
+        texts = [rare, FURTHER, SITES, CHANGED, *(path.read_text() for path in EXPECTED), "usage\n", "refused scenario 3 fields\n"]
         kinds = {it["kind"] for text in texts for it in objects_in(text)}
         self.assertEqual(kinds, LINES.keys() | REFUSED_FORMS.keys() | {"event"})
         objects = list(objects_in(rare))
@@ -159,8 +200,38 @@ class Objects(unittest.TestCase):
             status, _, error = printed("-", given=begun + text)
             self.assertEqual((status, error), (2, f"transcript: -: {reason}\n"), text)
 
+    def test_line_for_sites_is_an_object_by_its_event(self):
+        objects = list(objects_in(SITES))
+        self.assertEqual([line_of(it) for it in objects], SITES.splitlines())
+        found = [{name: it[name] for name in it if name not in ("line", "round", "job", "kind", "imsi")} for it in objects if it["kind"] == "sites"]
+        self.assertEqual(found, [
+            {"event": "ask", "site": 1, "sent": 1}, {"event": "deliver", "packet": 1, "result": "granted", "count": 2, "sent": 2},
+            {"event": "deliver", "packet": 1, "result": "again", "count": 2, "sent": 3},
+            {"event": "deliver", "packet": 3, "result": "taken", "count": 2}, {"event": "draw", "site": 1, "result": "number", "number": 1},
+            {"event": "deliver", "packet": 2, "result": "notmine"}, {"event": "ask", "site": 1, "sent": 4},
+            {"event": "deliver", "packet": 4, "result": "refused"}, {"event": "deliver", "packet": 1, "result": "old"},
+            {"event": "restart", "site": 1}, {"event": "draw", "site": 1, "result": "empty"}, {"event": "master"},
+            {"event": "deliver", "packet": 0, "result": "nosuchpacket"}])
+        for line in ("ask 1", "deliver 1 granted 2", "draw 1 number", "draw 1 empty 2", "master 1", "start 1"):
+            line = f"sites 001010000000001 {line}"
+            error = printed("-", given=f"round 1\njob 1\n{line}\n")[2]
+            self.assertEqual(error, f"transcript: -: line 3: {line!r} is no line of a transcript\n")
+
+    def test_changed_packet_is_of_no_end(self):
+        objects = list(objects_in(CHANGED))
+        self.assertEqual([line_of(it) for it in objects], CHANGED.splitlines())
+        found = [{name: it[name] for name in it if name not in ("line", "round", "job")} for it in objects if it["kind"] in ("tamper", "cut", "packet")]
+        self.assertEqual(found[:4], [
+            {"kind": "packet", "packet": 1, "bytes": "0101000501", "session": 1, "end": "server"},
+            {"kind": "tamper", "packet": 1, "place": 4, "byte": "17", "made": 2}, {"kind": "packet", "packet": 2, "bytes": "0101000517"},
+            {"kind": "tamper", "packet": 1, "place": 5, "byte": "00", "refused": "nosuchplace"}])
+        self.assertIn({"kind": "packet", "packet": 3, "bytes": ""}, found)
+        for line in ("tamper 1 4 1 made 2", "tamper 1 4 1A made 2", "cut 1 0 made"):
+            with self.assertRaisesRegex(Unreadable, "line 4: "):
+                list(objects_in(f"round 1\njob 1\nsession 1 open\n{line}\n"))
+
     def test_page_names_each_kind_and_field(self):
-        for text in [FURTHER, *(path.read_text() for path in EXPECTED)]:
+        for text in [FURTHER, SITES, CHANGED, *(path.read_text() for path in EXPECTED)]:
             for found in objects_in(text):
                 for it in [found, *found.get("notes", [])]:
                     for name in it:
@@ -268,7 +339,10 @@ class Reports(unittest.TestCase):
             data = json.loads(page.scripts[0])
             opened = [int(line.split(" ")[1]) for line in text.splitlines() if re.fullmatch(r"session \d+ open", line)]
             self.assertEqual([it[0] for it in data["sessions"]], opened, path.name)
-            events = [line for line in text.splitlines() if line.split(" ")[0] in transcript.EVENTS]
+            # A change of a packet that isn't there belongs to no session.
+            words = transcript.EVENTS.keys() | transcript.CHANGES.keys()
+            events = [line for line in text.splitlines() if line.split(" ")[0] in words]
+            events = [line for line in events if line.split(" ")[0] in transcript.EVENTS or not line.endswith(" nosuchpacket")]
             self.assertEqual(sorted(row[2] for it in data["sessions"] for row in it[6]), sorted(events), path.name)
             self.assertEqual(data["lines"], text.count("\n"))
 
@@ -325,6 +399,42 @@ class Reports(unittest.TestCase):
         self.assertEqual(kinds("lossy-link")[0].count(report.LOST), 2)
         crossed = kinds("crossed-sessions")
         self.assertTrue(all(report.AWAY in it and report.FOREIGN in it for it in crossed))
+
+    def test_changed_packet_begins_at_no_end(self):
+        data = report.data_of(CHANGED, {}, "run")
+        session = data["sessions"][0]
+        rows, ways, packets = session[6], session[7], session[8]
+        self.assertEqual([row[3][0][1] for row in rows if row[1] == report.NETWORK],
+                         ["tamper 1 4 17: packet 2", "tamper 1 5 00: nosuchplace", "cut 2 0: packet 3", "cut 1 5: nosuchplace", "cut 1 1: packet 4"])
+        told = [(way[0], packets[way[1]][0], packets[way[1]][12]) for way in ways]
+        self.assertEqual(told, [(report.CHANGED, 2, 1), (report.CHANGED, 3, 2), (report.LOST, 1, 0), (report.DROPPED, 4, 1)])
+        self.assertEqual([packet[5] for packet in packets if packet[12]], ["0101000517", "", "01"])
+        self.assertIn("packet changed", [data["texts"][place] for place in session[5]])
+
+    @needs_cryptography
+    def test_page_of_any_changed_packet_is_written(self):
+        # A network that changes each byte of each packet of a run, and cuts each at each length.
+        for name in ("session-full-print", "pseudonyms-full-print", "re-authentication-full-print"):
+            lines, count = text_of(name).splitlines(), 0
+            objects = list(objects_in(text_of(name)))
+            last = max(it["packet"] for it in objects if it["kind"] == "packet" and it["job"] == 1 and it["round"] == 1)
+            text, at = [], last
+            for line, it in zip(lines, objects):
+                if it["kind"] == "closed" and at > 0:
+                    sent = {packet["packet"]: bytes.fromhex(packet["bytes"]) for packet in objects if packet["kind"] == "packet" and packet["round"] == 1}
+                    for number, data in sent.items():
+                        for place in range(len(data)):
+                            changed = data[:place] + bytes([data[place] ^ 0x41]) + data[place + 1:]
+                            text += [f"tamper {number} {place} {changed[place]:02x} made {at + 1}", f"packet {at + 1} {changed.hex()}",
+                                     f"cut {number} {place} made {at + 2}", f"packet {at + 2} {data[:place].hex()}"]
+                            at, count = at + 2, count + 2
+                    at = 0
+                text.append(line)
+            data = report.data_of("".join(line + "\n" for line in text), {}, name)
+            told = [packet for session in data["sessions"] for packet in session[8] if packet[12]]
+            self.assertEqual(len(told), count, name)
+            right = [packet[0] for packet in told if packet[9] >= 0 and data["texts"][packet[9]].endswith("it is right.")]
+            self.assertEqual(right, [], name)
 
     def test_sessions_are_found_by_what_happened(self):
         found = {it[0]: (it[4], [self.told[place] for place in it[5]]) for it in self.sessions("failing-sessions")}

@@ -73,6 +73,47 @@ packet 9: nosuchpacket |                                                        
 """
 
 
+# The network changes a byte of a packet, leaves none of another copy, and cuts the copy, which is lost. The empty copy reaches
+# another session.
+CHANGED = """round 1
+job 2
+session 7 open
+session 8 open
+start 7 sent 1
+packet 1 0101000501
+tamper 1 4 17 made 2
+packet 2 0101000517
+cut 1 0 made 3
+packet 3\x20
+cut 1 5 nosuchplace
+tamper 9 0 00 nosuchpacket
+deliver 7 peer 2 ignored othertype
+cut 2 4 made 4
+packet 4 01010005
+deliver 8 peer 3 ignored notforme
+deliver 7 peer 1 sent 5
+packet 5 020100060130
+deliver 7 peer 2 ignored closed
+premise held
+"""
+
+CHANGED_LADDER = """session 7, round 1, job 2: method not told, subscriber not told
+server: not ended, peer: not ended
+
+                peer                                                     server                centre
+                  |                                                        |                    |
+                  |                                                        | start              |
+                  |                tamper 1 4 17: packet 2                 |                    |
+                  |            cut 1 0: packet 3, to session 8             |                    |
+                  |                  cut 1 5: nosuchplace                  |                    |
+ignored othertype |<-- 2 Request/type 23 (changed copy of 1) ----------    |                    |
+                  |                cut 2 4: packet 4, lost                 |                    |
+                  |<-- 1 Request/Identity ---------------------------------|                    |
+                  |--- 5 Response/Identity ---------------------------x    |                    |
+   ignored closed |<-- 2 Request/type 23 (changed copy of 1, again) ---    |                    |
+"""
+
+
 def frames_in(capture):
     """The frames of a pcapng file, each with its time, its bytes and its comments."""
     frames, place = [], 0
@@ -117,6 +158,19 @@ class Captures(unittest.TestCase):
         # EAP over LAN: its type, version 2, packet type 0, and the length of the EAP packet.
         self.assertTrue(all(data[12:18] == b"\x88\x8e\x02\x00" + len(data[18:]).to_bytes(2, "big") for _, data, _ in frames))
 
+    def test_changed_copy_is_a_frame_that_says_so(self):
+        frames = frames_in(pcap.capture(pcap.frames_of(transcript.sessions_in(CHANGED))))
+        shown = [(time // 1000, data[:6].hex(), data[18:].hex(), [text for _, text in comments][1:]) for time, data, comments in frames]
+        copy = "packet {} is a changed copy of packet {}".format
+        self.assertEqual(shown, [
+            (13, "020000000007", "0101000517", ["line 13: deliver 7 peer 2 ignored othertype", copy(2, 1)]),
+            (14, "020000000007", "01010005", [copy(4, 2), "packet 4 is lost: it is never delivered"]),
+            (16, "020000000008", "", ["line 16: deliver 8 peer 3 ignored notforme", copy(3, 1), "packet 3 was sent in session 7"]),
+            (17, "020000000007", "0101000501", ["line 17: deliver 7 peer 1 sent 5"]),
+            (17, "020001000007", "020100060130", ["packet 5 is lost: it is never delivered"]),
+            (19, "020000000007", "0101000517", ["line 19: deliver 7 peer 2 ignored closed", "packet 2 is delivered again", copy(2, 1)]),
+        ])
+
     def test_full_print_is_captured(self):
         with tempfile.TemporaryDirectory() as folder:
             path = Path(folder) / "capture"
@@ -145,15 +199,30 @@ class Charts(unittest.TestCase):
         shown = self.ladders(PACKETS)
         self.assertEqual(chart.text_ladder(shown[0], chart.columns_of(shown)), LADDER)
 
+    def test_changed_copy_comes_from_the_network(self):
+        shown = self.ladders(CHANGED)
+        self.assertEqual(chart.text_ladder(shown[0], chart.columns_of(shown)), CHANGED_LADDER)
+        self.assertEqual([row.label for row in shown[1].rows], ["3 (changed copy of 1, of session 7)"])
+        # A copy with the bytes of its packet is no packet that an end repeats.
+        lines = ["start 1 sent 1", "packet 1 0101000501", "tamper 1 4 01 made 2", "packet 2 0101000501", "deliver 1 peer 2 ignored closed"]
+        self.assertEqual([row.label for row in ladder_of(lines).rows[3:]], ["2 Request/Identity (changed copy of 1)"])
+
+    def test_changed_copy_tells_nothing_of_its_session(self):
+        # The copies tell another method and another identity than the ends.
+        lines = ["start 1 sent 1", f"packet 1 {AKA}", f"deliver 1 peer 1 sent 2", f"packet 2 {response(PERMANENT)}", "tamper 1 4 32 made 3",
+                 f"packet 3 {PRIME}", "tamper 2 20 39 made 4", f"packet 4 {response(PERMANENT.replace(b'1@', b'9@'))}"]
+        self.assertEqual(ladder_of(lines).facts, "EAP-AKA, subscriber 001010000000001")
+
     def test_picture_has_each_label(self):
-        for path in EXAMPLES.glob("*.expected"):
-            shown = [it for it in self.ladders(path.read_text()) if it.rows]
+        for text in [CHANGED, *(path.read_text() for path in EXAMPLES.glob("*.expected"))]:
+            shown = [it for it in self.ladders(text) if it.rows]
             if shown:
                 root = ElementTree.fromstring(picture.picture(shown))
                 texts = ["".join(it.itertext()) for it in root.iter(f"{SVG}text")]
                 rows = [row for it in shown for row in it.rows]
                 labels = [row.label if isinstance(row, ladders.Answer) else row.short for row in rows if not isinstance(row, ladders.Words)]
-                self.assertEqual([it for it in labels if it not in texts], [], path.name)
+                labels += [row.words for row in rows if isinstance(row, ladders.Words) and row.end == "network"]
+                self.assertEqual([it for it in labels if it not in texts], [], text[:200])
 
     def test_label_of_a_picture_has_no_name_that_an_earlier_arrow_has(self):
         rows = [row for ladder in self.ladders(PACKETS) for row in ladder.rows if isinstance(row, ladders.Arrow)]
@@ -543,14 +612,23 @@ class Inputs(unittest.TestCase):
             (begun + "start x sent 1\n", "line 4: 'x' isn't a number"),
             (begun + "start 1 sent 1\npacket 2 0101000501\n", "line 5: the bytes aren't those of the packet"),
             (begun + "keys 00 00 00 00 00\n", "line 4: the keys are of no end"),
+            (begun + "tamper 1 0 00 made 1\n", "line 4: packet 1 wasn't sent before"),
+            (begun + "cut 1 0 nosuchplace\n", "line 4: packet 1 wasn't sent before"),
+            (begun + "start 1 sent 1\ncut 1 0 made 3\n", "line 5: packet 3 follows packet 1"),
+            (begun + "start 1 sent 1\ncut 1 0 sent 2\n", "line 5: 'sent' is nothing that the network does"),
+            (begun + "start 1 sent 1\ncut 1 0\n", "line 5: 'cut 1 0' is no line of a transcript"),
+            (begun + "start 1 sent 1\npacket 1 010100\n", "line 5: the bytes aren't those of the packet"),
+            (begun + "start 1 sent 1\ncut 1 0 made 2\npacket 1 0101000501\n", "line 6: the bytes aren't those of the packet"),
+            (begun + "start 1 sent 1\ncut 1 0 nosuchplace\npacket 2 \n", "line 6: the bytes aren't those of the packet"),
+            (begun + "start 1 sent 1\ncut 1 0 made 2\nkeys " + "00" * 16 + " 00 00 00 00\n", "line 6: the keys are of no end"),
         ]
         for text, reason in cases:
             with self.assertRaises(transcript.Unreadable, msg=text) as refused:
                 transcript.sessions_in(text)
             self.assertTrue(str(refused.exception).startswith(reason), (text, str(refused.exception)))
 
-    def test_lines_of_eps_and_5g_tell_nothing_of_a_session(self):
-        lines = [f"kasme {'1a' * 32}", f"hxresstar {'2b' * 16}", f"seaf {'3c' * 32} {'4d' * 32}",
+    def test_lines_of_eps_and_5g_and_of_sites_tell_nothing_of_a_session(self):
+        lines = ["sites 001010000000001 deliver 1 granted 4 sent 2", f"kasme {'1a' * 32}", f"hxresstar {'2b' * 16}", f"seaf {'3c' * 32} {'4d' * 32}",
                  *(f"fiveg 001010000000001 {result}" for result in ("noseparation", "servingrefused", "homerefused", "confirmed"))]
         for line in lines:
             shown = [ladders.ladder_of(it) for it in transcript.sessions_in(PACKETS.replace("giveup 7", f"{line}\ngiveup 7"))]

@@ -19,9 +19,11 @@ CENTRE_NOTES = {"moved": 2, "inrange": 2, "beyond": 2, "drew": 1, "exhausted": 1
 OWN_NOTES = {"badauts": 0, "resumed": 1, "accepted": 1, "sync": 1, "wrongmac": 0, "counter": 1, "small": 1}
 NOTES = CENTRE_NOTES | OWN_NOTES
 # The first words of the lines that tell nothing of a session's packets.
-OTHER_LINES = {"restart", "vector", "withheld", "exhausted", "sync", "give", "kasme", "hxresstar", "fiveg", "seaf"}
+OTHER_LINES = {"restart", "vector", "withheld", "exhausted", "sync", "give", "kasme", "hxresstar", "fiveg", "seaf", "sites"}
 # Of an event's line, the words before its notes.
 EVENTS = {"start": 2, "repeat": 2, "giveup": 3, "deliver": 4}
+# Of a line on a packet that the network changes, the words before what came of it.
+CHANGES = {"tamper": 4, "cut": 3}
 REFUSALS = {"nosuchpacket", "nosuchend", "started"}
 ENDS = ("server", "peer")
 # What an identity is, by the form of its username (RFC 4187 §4.1.1.6 to §4.1.1.8, RFC 9048 §5.1).
@@ -45,12 +47,15 @@ class Packet:
     number: int
     session: "Session"
     sender: str
-    event: "Event"
+    event: "Event | Change"
     data: bytes | None = None
     # The events that deliver it.
     deliveries: list = field(default_factory=list)
     # The number of the first packet of its session and sender that has its bytes, if that is another one.
     original: int | None = None
+    # If the network made it, the packet that it is a changed copy of. It has that one's session and sender, and its event is the
+    # `Change` that made it.
+    source: "Packet | None" = None
 
 
 @dataclass
@@ -74,12 +79,28 @@ class Event:
 
 
 @dataclass
+class Change:
+    """A line on a packet that the network changes."""
+    line: int
+    text: str
+    # What it does, such as `tamper 3 48 7f`.
+    deed: str
+    # The packet, if there is one, and its changed copy; or why there is no copy.
+    source: Packet | None
+    sent: Packet | None = None
+    step: str = ""
+
+
+@dataclass
 class Session:
     number: int
     round: int
     job: int
     events: list = field(default_factory=list)
+    # The packets that its ends sent. Those that the network made of them, and the lines that say so, are apart.
     packets: list = field(default_factory=list)
+    changed: list = field(default_factory=list)
+    changes: list = field(default_factory=list)
     verdict: str = ""
     # The only subscriber whose number moved in its round, and the only one up to the end of its round; nothing if there are several.
     only_moved: str = ""
@@ -180,10 +201,17 @@ def seq_of(sqn):
     return int(sqn, 16) // 32
 
 
+def rows_in(session):
+    """The events of a session and the changes of its packets, in the order of their lines."""
+    return sorted([*session.events, *session.changes], key=lambda it: it.line) if session.changes else session.events
+
+
 class Reader:
     def __init__(self):
         # All sessions by their numbers, in the order in which they are opened.
         self.sessions, self.round, self.job_number, self.job, self.event = {}, 0, 0, None, None
+        # The line before, if it changes a packet.
+        self.change = None
         # The sessions of the round, and the subscribers whose numbers moved in it and up to it.
         self.opened, self.moved, self.ever = [], set(), set()
 
@@ -200,19 +228,21 @@ class Reader:
 
     def read(self, line, text):
         words = text.split(" ")
-        word = words[0]
+        word, change, self.change = words[0], self.change, None
         if word in ("round", "job") and len(words) == 2:
             self.begin(word, self.number(words[1]))
         elif word == "session" and len(words) == 3 and words[2] in ("open", "agree", "differ"):
             self.open_or_judge(words)
         elif word == "packet" and len(words) == 3:
-            self.bytes_of_packet(words)
+            self.bytes_of_packet(words, change)
         elif word == "bytes" and len(words) == 6:
             self.bytes_of_vector(words)
         elif word == "keys" and len(words) == 6:
             self.keys(words)
         elif word in EVENTS and len(words) > EVENTS[word]:
             self.read_event(line, text, words)
+        elif word in CHANGES and len(words) > CHANGES[word]:
+            self.read_change(line, text, words)
         elif word == "closed" and len(words) > 1:
             self.event = None
             self.moved.add(words[1])
@@ -251,9 +281,11 @@ class Reader:
             self.job.sessions[number] = self.sessions[number] = session
             self.opened.append(session)
 
-    def bytes_of_packet(self, words):
-        packet = self.event and self.event.sent
-        if not packet or packet.number != self.number(words[1]) or not re.fullmatch(r"([0-9a-f]{2}){4,}", words[2]):
+    def bytes_of_packet(self, words, change):
+        """A packet that is sent has 4 bytes at least. The network may leave none of a copy."""
+        event, least = (change, 0) if change else (self.event, 4)
+        packet = event and event.sent
+        if not packet or packet.number != self.number(words[1]) or not re.fullmatch(rf"([0-9a-f]{{2}}){{{least},}}", words[2]):
             raise Unreadable("the bytes aren't those of the packet that was sent before")
         packet.data = bytes.fromhex(words[2])
 
@@ -279,7 +311,7 @@ class Reader:
         event = Event(line, text, word, session, end)
         rest = words[EVENTS[word]:]
         if word == "deliver":
-            event.delivered = self.delivered(self.number(words[3]), rest)
+            event.delivered = self.packet_of_job(self.number(words[3]), rest)
             event.arrives = event.delivered is not None and rest != ["nosuchend"]
             if event.arrives:
                 event.delivered.deliveries.append(event)
@@ -288,10 +320,35 @@ class Reader:
         session.events.append(event)
         self.event = event
 
-    def delivered(self, number, rest):
+    def read_change(self, line, text, words):
+        count = CHANGES[words[0]]
+        rest = words[count:]
+        source = self.packet_of_job(self.number(words[1]), rest)
+        change = Change(line, text, " ".join(words[:count]), source)
+        if rest[0] == "made" and len(rest) == 2:
+            change.sent = self.next_packet(rest[1], source.session, source.sender, change, source)
+            source.session.changed.append(change.sent)
+        elif rest in (["nosuchpacket"], ["nosuchplace"]):
+            change.step = rest[0]
+        else:
+            raise Unreadable(f"{rest[0]!r} is nothing that the network does")
+        if source:
+            source.session.changes.append(change)
+        self.event, self.change = None, change
+
+    def next_packet(self, word, *what):
+        packets = self.job.packets
+        if self.number(word) != len(packets) + 1:
+            raise Unreadable(f"packet {word} follows packet {len(packets)}")
+        session, sender, event, source = what
+        packets.append(Packet(len(packets) + 1, session, sender, event, source=source))
+        return packets[-1]
+
+    def packet_of_job(self, number, rest):
+        """A packet of the job by its number; nothing if the line says that there is none."""
         if rest == ["nosuchpacket"]:
             return None
-        if not 1 <= number <= len(self.job.packets):
+        if self.job is None or not 1 <= number <= len(self.job.packets):
             raise Unreadable(f"packet {number} wasn't sent before")
         return self.job.packets[number - 1]
 
@@ -306,11 +363,7 @@ class Reader:
 
     def read_step(self, event, rest):
         if rest[0] == "sent" and len(rest) > 1:
-            packets = self.job.packets
-            if self.number(rest[1]) != len(packets) + 1:
-                raise Unreadable(f"packet {rest[1]} follows packet {len(packets)}")
-            event.sent = Packet(len(packets) + 1, event.session, event.end, event)
-            packets.append(event.sent)
+            event.sent = self.next_packet(rest[1], event.session, event.end, event, None)
             event.session.packets.append(event.sent)
             del rest[:2]
         if rest and rest[0] not in {"ended", "ignored"} | REFUSALS:
@@ -319,7 +372,7 @@ class Reader:
 
 
 def find_copies(session):
-    """Tells each packet that has the bytes of an earlier one of its sender which one that is."""
+    """Tells each packet that an end sent, and that has the bytes of an earlier one of its sender, which one that is."""
     first = {}
     for packet in session.packets:
         number = first.setdefault((packet.sender, packet.data), packet.number)

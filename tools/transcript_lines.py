@@ -28,8 +28,19 @@ LINES = {
     "fiveg": ["fiveg {imsi} {result=noseparation}", "fiveg {imsi} {result=servingrefused}", "fiveg {imsi} {result=homerefused}",
               "fiveg {imsi} {result=confirmed}"],
     "seaf": ["seaf {home} {device}"],
+    "sites": ["sites {imsi} {event=ask} {site} sent {sent}",
+              "sites {imsi} {event=deliver} {packet} {result=granted} {count} sent {sent}",
+              "sites {imsi} {event=deliver} {packet} {result=again} {count} sent {sent}",
+              *(f"sites {{imsi}} {{event=deliver}} {{packet}} {{result={word}}}" for word in ("old", "refused", "notmine", "nosuchpacket")),
+              "sites {imsi} {event=deliver} {packet} {result=taken} {count}",
+              "sites {imsi} {event=draw} {site} {result=number} {number}", "sites {imsi} {event=draw} {site} {result=empty}",
+              "sites {imsi} {event=restart} {site}", "sites {imsi} {event=master}"],
     "session": ["session {session} open"],
     "verdict": ["session {session} {verdict=agree}", "session {session} {verdict=differ}"],
+    "tamper": ["tamper {packet} {place} {byte} made {made}", "tamper {packet} {place} {byte} {refused=nosuchpacket}",
+               "tamper {packet} {place} {byte} {refused=nosuchplace}"],
+    "cut": ["cut {packet} {length} made {made}", "cut {packet} {length} {refused=nosuchpacket}",
+            "cut {packet} {length} {refused=nosuchplace}"],
     "packet": ["packet {packet} {bytes}"],
     "keys": ["keys {k_encr} {k_aut} {k_re} {msk} {emsk}"],
     "closed": ["closed {imsi} {open} {close} {drawn} {skipped} {released} {withheld}"],
@@ -53,8 +64,8 @@ HEX = "(?:[0-9a-f]{2})+"
 # What a field looks like, if it isn't a number.
 TEXTS = {"imsi": "[0-9]{6,15}", "stop": "fault|full", "sqn": "[0-9a-f]{12}", "end": "server|peer", "why": "[a-z]+",
          "ignored": "[a-z]+", "rand": "[0-9a-f]{32}", "autn": "[0-9a-f]{32}", "xres": HEX, "ck": "[0-9a-f]{32}",
-         "ik": "[0-9a-f]{32}", "bytes": HEX, "k_encr": "[0-9a-f]{32}", "k_aut": "[0-9a-f]{64}", "k_re": "[0-9a-f]{64}",
-         "msk": "[0-9a-f]{128}", "emsk": "[0-9a-f]{128}", "k_asme": "[0-9a-f]{64}", "hxres_star": "[0-9a-f]{32}",
+         "ik": "[0-9a-f]{32}", "bytes": "(?:[0-9a-f]{2})*", "byte": "[0-9a-f]{2}", "k_encr": "[0-9a-f]{32}",
+         "k_aut": "[0-9a-f]{64}", "k_re": "[0-9a-f]{64}", "msk": "[0-9a-f]{128}", "emsk": "[0-9a-f]{128}", "k_asme": "[0-9a-f]{64}", "hxres_star": "[0-9a-f]{32}",
          "home": "[0-9a-f]{64}", "device": "[0-9a-f]{64}"}
 NUMBER = "[0-9]{1,20}"
 OUTSIDE_OF_JOBS = {"round", "restart", "closed", "premise"}
@@ -145,7 +156,7 @@ class Lines:
             return found | self.drawn
         if found["kind"] in ("kasme", "hxresstar", "fiveg", "seaf"):
             return found | self.vector_of(found)
-        if found["kind"] in ("packet", "keys"):
+        if found["kind"] in ("packet", "keys") and self.reader.event:
             event = self.reader.event
             return found | {"session": event.session.number, "end": event.end}
         return found

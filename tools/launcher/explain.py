@@ -40,7 +40,6 @@ CAUSES_OF_SUBSCRIBERS = {
 }
 CAUSES_OF_LINES = {
     **{why: text for why, text in CAUSES_OF_SUBSCRIBERS.items() if why not in ("header", "fieldcount")},
-    "notyet": "this version doesn't serve such a line",
     "unknownword": "no line begins with this word",
     "outoforder": "the line is in the wrong place",
     "fields": "the number of fields is wrong, or one has another form",
