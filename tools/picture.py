@@ -241,6 +241,9 @@ def step(before, row, after_short):
     if is_foreign(row) and (after_short or before.sends):
         # It begins below the one that was sent last, so that the two don't cross here, or not near their ends.
         apart = TURN + SLOPE + (8 if after_short else 24)
+    elif is_network(row) or is_network(before):
+        # What the network does stands between the ends, where the labels of arrows are.
+        apart = 2 * LINE
     elif isinstance(row, Words) and after_short:
         # What an end does by itself stands below the cross of what was lost before.
         apart = LINE
@@ -250,7 +253,8 @@ def step(before, row, after_short):
 def beside(row, places, y):
     """What an end does, beside it, or what the network does, between the ends."""
     if is_network(row):
-        return [text((places.peer + places.server) / 2, y + 4, row.words, "middle", "label")]
+        # Right below it begins the arrow of the copy, with its own label.
+        return [text((places.peer + places.server) / 2, y - 10, row.words, "middle", "label")]
     at_peer = end_of(row) == "peer"
     x, anchor = (places.peer - 10, "end") if at_peer else (places.server + 10, "start")
     return [text(x, y + 4 + LINE * place, line, anchor, colour=colour) for place, (line, colour) in enumerate(lines_of(row.words))]
@@ -261,7 +265,7 @@ def labels_of(rows, heights, arrows, places):
     labels, keys = Labels(arrows), sorted(arrows, key=lambda place: -len(rows[place].short))
     for row, y in zip(rows, heights):
         if is_network(row):
-            labels.keep(((places.peer + places.server) / 2, y), CHARACTER * len(row.words))
+            labels.keep(((places.peer + places.server) / 2, y - 10), CHARACTER * len(row.words))
     for key in keys * 2:
         labels.place(key, rows[key].short, *room_of(rows[key].short, arrows[key], places))
     return labels.parts()

@@ -371,8 +371,9 @@ class Slopes(unittest.TestCase):
 
 
 def letters_of(label):
-    """The places of a label's letters in a picture, each 8 pixels from the one before."""
-    turn, *at = (float(it) for it in re.fullmatch(r"rotate\((.*)\)", label.get("transform"))[1].split())
+    """The places of a label's letters in a picture, each 8 pixels from the one before. A label beside an arrow is turned with it."""
+    turned = re.fullmatch(r"rotate\((.*)\)", label.get("transform", ""))
+    turn, *at = map(float, turned[1].split()) if turned else (0, float(label.get("x")), float(label.get("y")))
     lines = [(float(it.get("y")), it.text) for it in label] or [(at[1], label.text)]
     right, down = math.cos(math.radians(turn)), math.sin(math.radians(turn))
     return [(at[0] + off * right + (at[1] - y) * down, at[1] + off * down - (at[1] - y) * right)
