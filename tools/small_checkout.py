@@ -127,7 +127,8 @@ class Checkout(unittest.TestCase):
             "TMPDIR": f"{self.room}/tmp",
             "XDG_CACHE_HOME": f"{self.room}/cache",
         }
-        self.environment.pop("AUC_JOURNAL_DIR", None)
+        for name in ("AUC_JOURNAL_DIR", "RT_JOBS"):
+            self.environment.pop(name, None)
 
     def executable(self, name, text):
         path = self.room / name
