@@ -10,11 +10,12 @@ use Rattle.auc_attr.specs.declared.refusal.AttrRefusal.TheVariants as refusal
 use Rattle.auc_attr.specs.declared.table.Row.{Row}
 use Rattle.auc_attr.specs.declared.table.Shape.{Shape}
 use Rattle.auc_attr.specs.declared.table.Shape.TheVariants as shape
-use Rattle.auc_attr.specs.Table.{row_of}
+use Rattle.auc_attr.specs.declared.table.Table.{Table}
+use Rattle.auc_attr.specs.Table.{row_in}
 use Rattle.auc_attr.specs.Item.{Item, item}
 use Rattle.auc_attr.specs.Conditions.{first_of}
-use Rattle.auc_attr.specs.Fault.{has_length, has_zeros, faults_by, attr_faults}
-use Rattle.auc_attr.specs.Grammar.{IsAttr, IsFault}
+use Rattle.auc_attr.specs.Fault.{has_length, has_zeros, faults_by, attr_faults_in}
+use Rattle.auc_attr.specs.Grammar.{IsAttrIn, IsFaultIn}
 use Rattle.auc_attr.specs.InnerFront.{value_if, counted_value, value_at, row_at, known_at, item_at, ◌>>=◌}
 use Rattle.auc_attr.specs.Spelling.{stands_in, is_zero, fill}
 use Rattle.auc_attr.proofs.ConditionLemmas.{both, Told, pass, step, told_fault, told_none}
@@ -50,6 +51,16 @@ bytes_is : (count size units : ℕ) → size + 2 ≡ 4 * units
     ≡ (leb count 1016 && (leb (4 + count) (4 * units) && ltb (4 * units) (4 + count + 4)))
 bytes_is count size units e = both _ _ (λ h. grind (arith, nat_tests)) (λ h. grind (arith, nat_tests))
 
+-- two or three times 16 bytes
+several_is : (size units : ℕ) → size + 2 ≡ 4 * units → (eqb size 34 || eqb size 50) ≡ (eqb units 9 || eqb units 13)
+several_is size units e = both _ _ (λ h. grind (arith, nat_tests)) (λ h. grind (arith, nat_tests))
+
+-- a count of the bytes of versions
+versions_is : (count size units : ℕ) → size + 2 ≡ 4 * units
+    → (eqb (count % 2) 0 && (((eqb (count % 1) 0 && leb 2 (count / 1)) && leb (count / 1) 1016) && eqb size (2 + count / 1 + fill (count / 1))))
+    ≡ (((eqb (count % 2) 0 && leb 2 count) && leb count 1016) && (leb (4 + count) (4 * units) && ltb (4 * units) (4 + count + 4)))
+versions_is count size units e = both _ _ (λ h. grind (arith, nat_tests)) (λ h. grind (arith, nat_tests))
+
 -- ---- steps
 
 -- the last two faults of an attribute
@@ -73,6 +84,8 @@ shape_told (shape.Fixed n) kind units body e = value_told _ _ kind body (fixed_i
 shape_told (shape.AfterReserved n) kind units body e = value_told _ _ kind (drop 2 body) (after_is (length body) units n e)
 shape_told shape.BitCounted kind units body e = value_told _ _ kind (counted_value 8 body) (bits_is (from_be_bytes w16 body) (length body) units e)
 shape_told shape.ByteCounted kind units body e = value_told _ _ kind (counted_value 1 body) (bytes_is (from_be_bytes w16 body) (length body) units e)
+shape_told shape.Several kind units body e = value_told _ _ kind (drop 2 body) (several_is (length body) units e)
+shape_told shape.Versions kind units body e = value_told _ _ kind (counted_value 1 body) (versions_is (from_be_bytes w16 body) (length body) units e)
 shape_told shape.Ciphertext kind units body e = refl
 shape_told shape.Hash kind units body e = value_told _ _ kind (drop 2 body) (hash_is (length body) units e)
 shape_told shape.Zeros kind units body e =
@@ -114,29 +127,30 @@ known_told seen None kind units after =
     ap (λ b. cond b (Some refusal.Truncated) (Some (refusal.UnknownType kind))) (le-ltb (length (kind ∷ units ∷ after)) 2 (omega arith))
 known_told seen (Some row) kind units after = row_told seen row kind units after
 
--- the steps at the front report the first fault, and find an attribute if there is none
-item_told : (seen : List ℕ) (kind : ℕ) (bytes : List ℕ) → Told (attr_faults seen (kind ∷ bytes)) (item_at (stands_in seen kind) (kind ∷ bytes))
-unfolding item_at attr_faults
-item_told seen kind [] = refl
-item_told seen kind (units ∷ after) = known_told seen (row_of kind) kind units after
+module _ (table : Table) where
+  -- the steps at the front report the first fault, and find an attribute if there is none
+  item_told : (seen : List ℕ) (kind : ℕ) (bytes : List ℕ) → Told (attr_faults_in table seen (kind ∷ bytes)) (item_at table (stands_in seen kind) (kind ∷ bytes))
+  unfolding item_at attr_faults_in
+  item_told seen kind [] = refl
+  item_told seen kind (units ∷ after) = known_told seen (row_in table kind) kind units after
 
-not_empty : (k : ℕ) (bytes : List ℕ) → k ∷ bytes ≢ []
-not_empty k bytes e = cc
+  not_empty : (k : ℕ) (bytes : List ℕ) → k ∷ bytes ≢ []
+  not_empty k bytes e = cc
 
--- a step that fails names the first fault
-pub item_fault : (seen : List ℕ) (kind : ℕ) (bytes : List ℕ) (f : AttrRefusal) → item_at (stands_in seen kind) (kind ∷ bytes) ≡ Err f → IsFault seen (kind ∷ bytes) f
-item_fault seen kind bytes f e = record { some = not_empty kind bytes; first = told_fault (attr_faults seen (kind ∷ bytes)) _ f (item_told seen kind bytes) e }
+  -- a step that fails names the first fault
+  pub item_fault : (seen : List ℕ) (kind : ℕ) (bytes : List ℕ) (f : AttrRefusal) → item_at table (stands_in seen kind) (kind ∷ bytes) ≡ Err f → IsFaultIn table seen (kind ∷ bytes) f
+  item_fault seen kind bytes f e = record { some = not_empty kind bytes; first = told_fault (attr_faults_in table seen (kind ∷ bytes)) _ f (item_told seen kind bytes) e }
 
--- an attribute at the front has no fault
-attr_told : (seen : List ℕ) (i : Item) (bytes rest : List ℕ) → IsAttr seen i bytes rest → first_of (attr_faults seen bytes) ≡ None
-attr_told seen i bytes rest p =
-    let whole = p.units ∷ (p.body ++ rest) in
-    let again = ap (λ (b : List ℕ). item_at (stands_in seen i.kind) b) (sym p.parts) ∙ attr_again seen i bytes rest p in
-    ap (λ (b : List ℕ). first_of (attr_faults seen b)) p.parts ∙ told_none (attr_faults seen (i.kind ∷ whole)) _ (i, rest) (item_told seen i.kind whole) again
+  -- an attribute at the front has no fault
+  attr_told : (seen : List ℕ) (i : Item) (bytes rest : List ℕ) → IsAttrIn table seen i bytes rest → first_of (attr_faults_in table seen bytes) ≡ None
+  attr_told seen i bytes rest p =
+      let whole = p.units ∷ (p.body ++ rest) in
+      let again = ap (λ (b : List ℕ). item_at table (stands_in seen i.kind) b) (sym p.parts) ∙ attr_again table seen i bytes rest p in
+      ap (λ (b : List ℕ). first_of (attr_faults_in table seen b)) p.parts ∙ told_none (attr_faults_in table seen (i.kind ∷ whole)) _ (i, rest) (item_told seen i.kind whole) again
 
--- if an attribute stands there, there is no fault
-pub attr_right : (seen : List ℕ) (i : Item) (bytes rest : List ℕ) (f : AttrRefusal) → IsAttr seen i bytes rest → IsFault seen bytes f → ⊥
-attr_right seen i bytes rest f p q = none_or_some f (sym (attr_told seen i bytes rest p) ∙ q.first)
-  where
-    none_or_some : (g : AttrRefusal) → None ≡ Some g → ⊥
-    none_or_some g e = cc
+  -- if an attribute stands there, there is no fault
+  pub attr_right : (seen : List ℕ) (i : Item) (bytes rest : List ℕ) (f : AttrRefusal) → IsAttrIn table seen i bytes rest → IsFaultIn table seen bytes f → ⊥
+  attr_right seen i bytes rest f p q = none_or_some f (sym (attr_told seen i bytes rest p) ∙ q.first)
+    where
+      none_or_some : (g : AttrRefusal) → None ≡ Some g → ⊥
+      none_or_some g e = cc

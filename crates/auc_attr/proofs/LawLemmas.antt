@@ -1,4 +1,4 @@
--- The laws of the grammar.
+-- The laws of the grammar: of items by every table, and of attributes of EAP-AKA.
 use Rattle.std.proofs.Common.{◌≡◌, ◌≢◌, ℕ, ◌<◌, if◌then◌else◌, Bool, true, false, not, ◌&&◌, ◌==◌, ltb, List, [], ◌∷◌, ◌++◌, length, get_or, Option, Some, None, refl, sym, ap, ◌∙◌, arith, length-append}
 use Rattle.std.specs.List.{list_all}
 use Rattle.std.specs.Int.{w16, from_be_bytes}
@@ -9,16 +9,18 @@ use Rattle.auc_attr.specs.declared.attr.Attr.TheVariants as attr
 use Rattle.auc_attr.specs.declared.refusal.AttrRefusal.{AttrRefusal}
 use Rattle.auc_attr.specs.declared.refusal.AttrRefusal.TheVariants as refusal
 use Rattle.auc_attr.specs.declared.table.Row.{Row}
+use Rattle.auc_attr.specs.declared.table.Table.{Table}
+use Rattle.auc_attr.specs.declared.table.Table.TheVariants as tables
 use Rattle.auc_attr.specs.Table.{row_of}
-use Rattle.auc_attr.specs.Grammar.{IsAttr, Walks, FirstFault}
+use Rattle.auc_attr.specs.Grammar.{IsAttrIn, WalksIn, FirstFaultIn}
 use Rattle.auc_attr.specs.Item.{Item, item_of, items, is_named, is_skipped_row}
-use Rattle.auc_attr.specs.Laws.{is_value, OneList, OneFault, RefusedIsNotRead, ReadIsWritable, FoundIsFramed}
-use Rattle.auc_attr.specs.Spelling.{stands_in, fits_item, may_stand_row, may_follow, writable_from, item_text, spelling}
+use Rattle.auc_attr.specs.Laws.{is_value, OneList, OneFaultIn, RefusedIsNotReadIn, RefusedIsNotRead, ReadIsWritableIn, ReadIsWritable, FoundIsFramedIn}
+use Rattle.auc_attr.specs.Spelling.{stands_in, fits_item, fits_item_in, may_stand_row, may_follow_in, may_follow, writable_from_in, writable_from, item_text_in, texts_in}
 use Rattle.auc_attr.proofs.Tools.{IsBytes, and_parts, and_from, some_is}
 use Rattle.auc_attr.proofs.ItemLemmas.{attr_fits, attr_rest}
-use Rattle.auc_attr.proofs.WalkLemmas.{one_walk}
-use Rattle.auc_attr.proofs.SpellingLemmas.{attr_size}
-use Rattle.auc_attr.proofs.FrameFaultLemmas.{frame_sound, frame_again}
+use Rattle.auc_attr.proofs.WalkLemmas.{one_walk_in}
+use Rattle.auc_attr.proofs.SpellingLemmas.{attr_size_in}
+use Rattle.auc_attr.proofs.FrameFaultLemmas.{frame_sound_in, frame_again_in}
 
 -- ---- an attribute is determined by its item
 
@@ -110,64 +112,87 @@ same_list (a ∷ list) (b ∷ other) na va nb vb e =
 -- bytes are one list of attributes
 pub one_list : OneList
 one_list bytes list other va vb p q =
-    same_list list other p.1 va q.1 vb (one_walk [] bytes (items list) (items other) None None p.0 q.0).0
+    same_list list other p.1 va q.1 vb (one_walk_in tables.Aka [] bytes (items list) (items other) None None p.0 q.0).0
 
--- ---- faults
+module _ (table : Table) where
+  -- ---- faults
 
--- a first fault follows a list of items
-fault_walk : (bytes : List ℕ) (f : AttrRefusal) → f ≢ refusal.NoMemory → FirstFault bytes f → (is : List Item) × Walks [] bytes is (Some f)
-fault_walk bytes refusal.Truncated n p = p
-fault_walk bytes refusal.ZeroLength n p = p
-fault_walk bytes (refusal.BadLength k) n p = p
-fault_walk bytes (refusal.UnknownType k) n p = p
-fault_walk bytes (refusal.Twice k) n p = p
-fault_walk bytes refusal.BadPadding n p = p
-fault_walk bytes refusal.NoMemory n p = absurd (n refl)
+  -- a first fault follows a list of items
+  fault_walk : (bytes : List ℕ) (f : AttrRefusal) → f ≢ refusal.NoMemory → FirstFaultIn table bytes f → (is : List Item) × WalksIn table [] bytes is (Some f)
+  fault_walk bytes refusal.Truncated n p = p
+  fault_walk bytes refusal.ZeroLength n p = p
+  fault_walk bytes (refusal.BadLength k) n p = p
+  fault_walk bytes (refusal.UnknownType k) n p = p
+  fault_walk bytes (refusal.Twice k) n p = p
+  fault_walk bytes refusal.BadPadding n p = p
+  fault_walk bytes refusal.NoMemory n p = absurd (n refl)
 
--- bytes have one first fault
-pub one_fault : OneFault
-one_fault bytes f g nf ng p q =
-    let a = fault_walk bytes f nf p in
-    let b = fault_walk bytes g ng q in
-    some_is f g (one_walk [] bytes a.0 b.0 (Some f) (Some g) a.1 b.1).1
+  -- bytes have one first fault
+  pub one_fault_in : OneFaultIn table
+  one_fault_in bytes f g nf ng p q =
+      let a = fault_walk bytes f nf p in
+      let b = fault_walk bytes g ng q in
+      some_is f g (one_walk_in table [] bytes a.0 b.0 (Some f) (Some g) a.1 b.1).1
 
--- an end is no fault
-none_or_some : (f : AttrRefusal) → Some f ≡ None → ⊥
-none_or_some f e = cc
+  -- an end is no fault
+  none_or_some : (f : AttrRefusal) → Some f ≡ None → ⊥
+  none_or_some f e = cc
+
+  -- bytes with a fault are no list of items
+  pub refused_is_not_read_in : RefusedIsNotReadIn table
+  refused_is_not_read_in bytes is f nf p q =
+      let a = fault_walk bytes f nf p in
+      none_or_some f (one_walk_in table [] bytes a.0 is (Some f) None a.1 q).1
+
+  -- ---- what is read may be written
+
+  -- an attribute that was read may be written in its place
+  may_again : (seen : List ℕ) (i : Item) (bytes rest : List ℕ) → IsBytes bytes → IsAttrIn table seen i bytes rest → may_follow_in table i (stands_in seen i.kind) ≡ true
+  may_again seen i bytes rest fits p =
+      and_from (fits_item_in table i) _ (attr_fits table seen i bytes rest p fits)
+      (ap (λ (o : Option Row). may_stand_row o (stands_in seen i.kind)) p.known ∙ ap (λ b. not b) p.first)
+
+  -- items that are read may be written
+  items_may : (seen bytes : List ℕ) (is : List Item) → IsBytes bytes → WalksIn table seen bytes is None → writable_from_in table seen is ≡ true
+  items_may seen bytes [] fits w = refl
+  items_may seen bytes (i ∷ is) fits w =
+      and_from (may_follow_in table i (stands_in seen i.kind)) (writable_from_in table (seen ++ i.kind ∷ []) is) (may_again seen i bytes w.0 fits w.1)
+      (items_may (seen ++ i.kind ∷ []) w.0 is (attr_rest table seen i bytes w.0 w.1 fits) w.2)
+
+  -- items that are read are written in as many bytes
+  items_size : (seen bytes : List ℕ) (is : List Item) → WalksIn table seen bytes is None → length (texts_in table is) ≡ length bytes
+  items_size seen bytes [] w = ap length (sym w)
+  items_size seen bytes (i ∷ is) w =
+      omega (arith, length-append (item_text_in table i) (texts_in table is), attr_size_in table seen i bytes w.0 w.1, items_size (seen ++ i.kind ∷ []) w.0 is w.2)
+
+  -- what is read may be written, in as many bytes
+  pub read_is_writable_in : ReadIsWritableIn table
+  read_is_writable_in bytes is fits p = (items_may [] bytes is fits p, items_size [] bytes is p)
+
+  -- what the tests of a packet find is what stands there
+  pub found_is_framed_in : FoundIsFramedIn table
+  found_is_framed_in bytes f fits = (frame_sound_in table bytes f fits, frame_again_in table f bytes)
+
+-- ---- attributes of EAP-AKA
 
 -- bytes with a fault are no list of attributes
 pub refused_is_not_read : RefusedIsNotRead
-refused_is_not_read bytes list f nf p q =
-    let a = fault_walk bytes f nf p in
-    none_or_some f (one_walk [] bytes a.0 (items list) (Some f) None a.1 q.0).1
+refused_is_not_read bytes list f nf p q = refused_is_not_read_in tables.Aka bytes (items list) f nf p q.0
 
--- ---- what is read may be written
-
--- an attribute that was read may be written in its place
-may_again : (seen : List ℕ) (a : Attr) (bytes rest : List ℕ) → IsBytes bytes → IsAttr seen (item_of a) bytes rest → is_named a ≡ true → may_follow a (stands_in seen (item_of a).kind) ≡ true
-may_again seen a bytes rest fits p named =
-    and_from (fits_item (item_of a) && is_named a) _
-    (and_from (fits_item (item_of a)) (is_named a) (attr_fits seen (item_of a) bytes rest p fits) named)
-    (ap (λ (o : Option Row). may_stand_row o (stands_in seen (item_of a).kind)) p.known ∙ ap (λ b. not b) p.first)
-
--- a list that is read may be written
-read_may : (seen bytes : List ℕ) (list : List Attr) → IsBytes bytes → Walks seen bytes (items list) None → list_all is_named list ≡ true → writable_from seen list ≡ true
-read_may seen bytes [] fits w named = refl
-read_may seen bytes (a ∷ list) fits w named =
-    let p = and_parts (is_named a) (list_all is_named list) named in
-    and_from _ (writable_from (seen ++ (item_of a).kind ∷ []) list) (may_again seen a bytes w.0 fits w.1 p.0)
-    (read_may (seen ++ (item_of a).kind ∷ []) w.0 list (attr_rest seen (item_of a) bytes w.0 w.1 fits) w.2 p.1)
-
--- a list that is read is written in as many bytes
-read_size : (seen bytes : List ℕ) (list : List Attr) → Walks seen bytes (items list) None → length (spelling list) ≡ length bytes
-read_size seen bytes [] w = ap length (sym w)
-read_size seen bytes (a ∷ list) w =
-    omega (arith, length-append (item_text (item_of a)) (spelling list), attr_size seen (item_of a) bytes w.0 w.1, read_size (seen ++ (item_of a).kind ∷ []) w.0 list w.2)
+-- a list whose items may be written may be written, if each attribute goes by its own name
+list_may : (seen : List ℕ) (list : List Attr) → writable_from_in tables.Aka seen (items list) ≡ true → list_all is_named list ≡ true → writable_from seen list ≡ true
+list_may seen [] e named = refl
+list_may seen (a ∷ list) e named =
+    let kind = (item_of a).kind in
+    let p = and_parts (may_follow_in tables.Aka (item_of a) (stands_in seen kind)) (writable_from_in tables.Aka (seen ++ kind ∷ []) (items list)) e in
+    let q = and_parts (fits_item (item_of a)) (may_stand_row (row_of kind) (stands_in seen kind)) p.0 in
+    let n = and_parts (is_named a) (list_all is_named list) named in
+    and_from (may_follow a (stands_in seen kind)) (writable_from (seen ++ kind ∷ []) list)
+    (and_from (fits_item (item_of a) && is_named a) _ (and_from (fits_item (item_of a)) (is_named a) q.0 n.0) q.1)
+    (list_may (seen ++ kind ∷ []) list p.1 n.1)
 
 -- what is read may be written, in as many bytes
 pub read_is_writable : ReadIsWritable
-read_is_writable bytes list fits p = (read_may [] bytes list fits p.0 p.1, read_size [] bytes list p.0)
-
--- what the tests of a packet find is what stands there
-pub found_is_framed : FoundIsFramed
-found_is_framed bytes f fits = (frame_sound bytes f fits, frame_again f bytes)
+read_is_writable bytes list fits p =
+    let q = read_is_writable_in tables.Aka bytes (items list) fits p.0 in
+    (list_may [] list q.0 p.1, q.1)

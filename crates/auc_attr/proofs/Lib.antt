@@ -3,6 +3,7 @@ mod Tools
 mod ValueLemmas
 mod WritingLemmas
 mod ItemLemmas
+mod FrontLemmas
 mod FaultLemmas
 mod WalkLemmas
 mod SpellingLemmas
@@ -13,3 +14,4 @@ mod MacLemmas
 mod ValueInLemmas
 mod PlaceLemmas
 mod LawLemmas
+mod AkaLemmas

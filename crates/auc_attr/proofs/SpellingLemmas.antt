@@ -1,5 +1,5 @@
 -- What is written of an attribute is that attribute, whatever follows it; and how many bytes an attribute takes.
-use Rattle.std.proofs.Common.{◌≡◌, ℕ, zero, suc, ◌+◌, ◌*◌, ◌/◌, ◌%◌, ◌<◌, ◌≤◌, ◌⊎◌, ◌==◌, nat_le, Bool, true, false, cond, not, ◌&&◌, ◌||◌, ltb, leb, eqb, List, [], ◌∷◌, ◌++◌, length, get_or, replicate, Option, Some, None, refl, ap, ◌∙◌, arith, inl, inr, length-append}
+use Rattle.std.proofs.Common.{◌≡◌, ℕ, zero, suc, ◌+◌, ◌*◌, ◌/◌, ◌%◌, ◌<◌, ◌≤◌, ◌⊎◌, ◌==◌, nat_le, Bool, true, false, cond, not, ◌&&◌, ◌||◌, ltb, leb, eqb, List, [], ◌∷◌, ◌++◌, length, get_or, replicate, Option, Some, None, refl, sym, ap, ◌∙◌, subst, arith, inl, inr, length-append}
 use Rattle.std.specs.List.{list_all}
 use Rattle.std.specs.Int.{w16, to_be_bytes}
 use Rattle.std.proofs.lemmas.Bool.{eqb-true}
@@ -9,11 +9,15 @@ use Rattle.auc_attr.specs.declared.attr.Attr.{Attr}
 use Rattle.auc_attr.specs.declared.table.Row.{Row}
 use Rattle.auc_attr.specs.declared.table.Shape.{Shape}
 use Rattle.auc_attr.specs.declared.table.Shape.TheVariants as shape
-use Rattle.auc_attr.specs.Table.{single, repeated, row_of}
+use Rattle.auc_attr.specs.declared.table.Table.{Table}
+use Rattle.auc_attr.specs.declared.table.Table.TheVariants as tables
+use Rattle.auc_attr.specs.Table.{single, repeated, row_of, sim_row_of, row_in}
 use Rattle.auc_attr.specs.Item.{Item, item_of, items, is_named}
-use Rattle.auc_attr.specs.Grammar.{IsAfterReserved, IsCounted, IsBody, IsAttr, Walks, ReadsAttrs}
-use Rattle.auc_attr.specs.Spelling.{stands_in, is_zero, fill, fits, fits_row, fits_item, may_stand_row, may_follow, writable_from, writable, parts_text, reserved, shape_text, row_text, item_text, spelling}
+use Rattle.auc_attr.specs.Grammar.{IsAfterReserved, IsCounted, IsBody, IsAttrIn, WalksIn, Walks, ReadsAttrs}
+use Rattle.auc_attr.specs.Spelling.{stands_in, is_zero, fill, fits, fits_row, fits_item, fits_item_in, may_stand_row, may_follow_in, may_follow, writable_from_in, writable_from, writable, parts_text, reserved, shape_text, row_text, item_text, sim_item_text, item_text_in, texts_in, spelling}
+use Rattle.auc_attr.specs.Laws.{WrittenIsReadIn}
 use Rattle.auc_attr.proofs.Tools.{and_parts, and_from}
+use Rattle.auc_attr.proofs.ItemLemmas.{fits_item-is}
 use Rattle.auc_attr.proofs.ValueLemmas.{filled}
 
 -- the sizes of a row fill whole units
@@ -36,7 +40,7 @@ if_whole : (b : Bool) (x y : Option Row) → row_is_whole x ≡ true → IsWhole
 if_whole true x y p q = record { whole = p }
 if_whole false x y p q = q
 
--- each row of the table fills whole units
+-- each row of EAP-AKA fills whole units
 each_is_whole : (kind : ℕ) → IsWholeRow (row_of kind)
 unfolding row_of
 each_is_whole kind =
@@ -65,6 +69,33 @@ each_is_whole kind =
     if_whole (kind == 135) (single (shape.AfterReserved 0)) _ refl (
     if_whole (kind == 136) (single shape.Flag) _ refl (
     if_whole (nat_le 128 kind) (repeated shape.Skipped) None refl (record { whole = refl })))))))))))))))))))))))))
+
+-- each row of EAP-SIM fills whole units
+each_sim_is_whole : (kind : ℕ) → IsWholeRow (sim_row_of kind)
+unfolding sim_row_of
+each_sim_is_whole kind =
+    if_whole (kind == 1) (single shape.Several) _ refl (
+    if_whole (kind == 7) (single (shape.AfterReserved 16)) _ refl (
+    if_whole (kind == 10) (single (shape.AfterReserved 0)) _ refl (
+    if_whole (kind == 11) (single (shape.AfterReserved 16)) _ refl (
+    if_whole (kind == 13) (single (shape.AfterReserved 0)) _ refl (
+    if_whole (kind == 14) (single shape.ByteCounted) _ refl (
+    if_whole (kind == 15) (single shape.Versions) _ refl (
+    if_whole (kind == 16) (single (shape.Fixed 2)) _ refl (
+    if_whole (kind == 17) (single (shape.AfterReserved 0)) _ refl (
+    if_whole (kind == 22) (single (shape.Fixed 2)) _ refl (
+    if_whole (nat_le 128 kind) (repeated shape.Skipped) None refl (record { whole = refl })))))))))))
+
+-- each row of a table fills whole units
+each_in_is_whole : (table : Table) (kind : ℕ) → IsWholeRow (row_in table kind)
+each_in_is_whole tables.Aka kind = each_is_whole kind
+each_in_is_whole tables.Sim kind = each_sim_is_whole kind
+
+-- the bytes of an item are those that its row has for its value
+pub item_text-is : (table : Table) (i : Item) → item_text_in table i ≡ row_text (row_in table i.kind) i.kind i.value
+unfolding item_text sim_item_text
+item_text-is tables.Aka i = refl
+item_text-is tables.Sim i = refl
 
 -- how many bytes a body of parts has
 parts_length : (front value : List ℕ) (zeros : ℕ) → length (front ++ (value ++ replicate zeros 0)) ≡ length front + length value + zeros
@@ -101,6 +132,15 @@ hash_whole : (n : ℕ) → (n ≡ 0) ⊎ ((n ≡ 20) ⊎ (n ≡ 32)) → (2 + n 
 hash_whole n (inl e) = rw e refl
 hash_whole n (inr (inl e)) = rw e refl
 hash_whole n (inr (inr e)) = rw e refl
+
+-- two or three times 16 bytes after two fill whole units
+several_whole : (n : ℕ) → (n ≡ 32) ⊎ (n ≡ 48) → (2 + n + 0) % 4 ≡ 2
+several_whole n (inl e) = rw e refl
+several_whole n (inr e) = rw e refl
+
+-- one of two tests of a number held
+two_sizes : (n a b : ℕ) → (eqb n a || eqb n b) ≡ true → (n ≡ a) ⊎ (n ≡ b)
+two_sizes n a b e = grind (arith, nat_tests)
 
 -- a padding fills whole units
 zeros_whole : (n : ℕ) → (n ≡ 2) ⊎ ((n ≡ 6) ⊎ (n ≡ 10)) → (0 + n + 0) % 4 ≡ 2
@@ -156,6 +196,26 @@ shape_body shape.ByteCounted kind value w f =
         parts = ap (λ (m : ℕ). to_be_bytes w16 m ++ (value ++ replicate (fill n) 0)) (omega arith);
       },
     )
+shape_body shape.Several kind value w f =
+    let sizes = two_sizes (length value) 32 48 f in
+    (reserved ++ (value ++ []), parts_have kind reserved value 0 (several_whole (length value) sizes), (sizes, behind value))
+shape_body shape.Versions kind value w f =
+    let n = length value in
+    let p = and_parts (eqb (n % 2) 0 && leb 2 n) (leb n 1016) f in
+    let q = and_parts (eqb (n % 2) 0) (leb 2 n) p.0 in (
+      to_be_bytes w16 n ++ (value ++ replicate (fill n) 0),
+      parts_have kind (to_be_bytes w16 n) value (fill n) (omega arith),
+      (
+        eqb-true (n % 2) 0 q.0,
+        record {
+          at_least = leb-le 2 n q.1;
+          at_most = leb-le n 1016 p.1;
+          filling = replicate (fill n) 0;
+          short = omega (arith, length-replicate {A = ℕ} (fill n) 0);
+          parts = ap (λ (m : ℕ). to_be_bytes w16 m ++ (value ++ replicate (fill n) 0)) (omega arith);
+        },
+      ),
+    )
 shape_body shape.Ciphertext kind value w f =
     let p = and_parts (leb (length value) 1016) (eqb (length value % 4) 0) f in
     let whole : length value % 4 ≡ 0 = eqb-true (length value % 4) 0 p.1 in
@@ -188,29 +248,43 @@ not-true : (b : Bool) → not b ≡ true → b ≡ false
 not-true true e = absurd cc
 not-true false e = refl
 
--- what is written by a row is the attribute
-spelled_row : (seen : List ℕ) (i : Item) (rest : List ℕ) (o : Option Row) → row_of i.kind ≡ o → row_is_whole o ≡ true → fits_row o i.value ≡ true
-    → may_stand_row o (stands_in seen i.kind) ≡ true → IsAttr seen i (row_text o i.kind i.value ++ rest) rest
-spelled_row seen i rest None known w f may = absurd cc
-spelled_row seen i rest (Some row) known w f may =
-    let b = shape_body row.shape i.kind i.value w f in
-    record {
-      row = row;
-      known = known;
-      first = not-true (row.once && stands_in seen i.kind) may;
-      units = b.1.units;
-      some = b.1.some;
-      body = b.0;
-      size = b.1.size;
-      parts = ap (λ (t : List ℕ). t ++ rest) b.1.text_is;
-      value = b.2;
-    }
+module _ (table : Table) where
+  -- what is written by a row is the attribute
+  spelled_row : (seen : List ℕ) (i : Item) (rest : List ℕ) (o : Option Row) → row_in table i.kind ≡ o → row_is_whole o ≡ true → fits_row o i.value ≡ true
+      → may_stand_row o (stands_in seen i.kind) ≡ true → IsAttrIn table seen i (row_text o i.kind i.value ++ rest) rest
+  spelled_row seen i rest None known w f may = absurd cc
+  spelled_row seen i rest (Some row) known w f may =
+      let b = shape_body row.shape i.kind i.value w f in
+      record {
+        row = row;
+        known = known;
+        first = not-true (row.once && stands_in seen i.kind) may;
+        units = b.1.units;
+        some = b.1.some;
+        body = b.0;
+        size = b.1.size;
+        parts = ap (λ (t : List ℕ). t ++ rest) b.1.text_is;
+        value = b.2;
+      }
 
--- what is written of an attribute is that attribute, whatever follows it
-pub spelled_attr : (seen : List ℕ) (i : Item) (rest : List ℕ) → fits_item i ≡ true → may_stand_row (row_of i.kind) (stands_in seen i.kind) ≡ true
-    → IsAttr seen i (item_text i ++ rest) rest
-unfolding fits_item item_text
-spelled_attr seen i rest f may = spelled_row seen i rest (row_of i.kind) refl (each_is_whole i.kind).whole f may
+  -- what is written of an attribute is that attribute, whatever follows it
+  pub spelled_attr : (seen : List ℕ) (i : Item) (rest : List ℕ) → fits_item_in table i ≡ true → may_stand_row (row_in table i.kind) (stands_in seen i.kind) ≡ true
+      → IsAttrIn table seen i (item_text_in table i ++ rest) rest
+  spelled_attr seen i rest f may =
+      subst (λ (t : List ℕ). IsAttrIn table seen i (t ++ rest) rest) (sym (item_text-is table i))
+      (spelled_row seen i rest (row_in table i.kind) refl (each_in_is_whole table i.kind).whole (sym (fits_item-is table i) ∙ f) may)
+
+  -- what is written of items is read as these items
+  pub spelled_items : (seen : List ℕ) (is : List Item) → writable_from_in table seen is ≡ true → WalksIn table seen (texts_in table is) is None
+  spelled_items seen [] e = refl
+  spelled_items seen (i ∷ is) e =
+      let p = and_parts (may_follow_in table i (stands_in seen i.kind)) (writable_from_in table (seen ++ i.kind ∷ []) is) e in
+      let q = and_parts (fits_item_in table i) (may_stand_row (row_in table i.kind) (stands_in seen i.kind)) p.0 in
+      (texts_in table is, spelled_attr seen i (texts_in table is) q.0 q.1, spelled_items (seen ++ i.kind ∷ []) is p.1)
+
+  -- the same from the front of a message
+  pub written_is_read_in : WrittenIsReadIn table
+  written_is_read_in is e = spelled_items [] is e
 
 -- what is written of a list is read as that list
 pub spelled_list : (seen : List ℕ) (list : List Attr) → writable_from seen list ≡ true → Walks seen (spelling list) (items list) None × (list_all is_named list ≡ true)
@@ -221,7 +295,7 @@ spelled_list seen (a ∷ list) e =
     let q = and_parts (fits_item (item_of a) && is_named a) (may_stand_row (row_of kind) (stands_in seen kind)) p.0 in
     let r = and_parts (fits_item (item_of a)) (is_named a) q.0 in
     let more = spelled_list (seen ++ kind ∷ []) list p.1 in
-    ((spelling list, spelled_attr seen (item_of a) (spelling list) r.0 q.1, more.0), and_from (is_named a) (list_all is_named list) r.1 more.1)
+    ((spelling list, spelled_attr tables.Aka seen (item_of a) (spelling list) r.0 q.1, more.0), and_from (is_named a) (list_all is_named list) r.1 more.1)
 
 -- what is written of a list that may be written is read as that list
 pub written_attributes_are_read : (list : List Attr) → writable list ≡ true → ReadsAttrs (spelling list) list
@@ -249,6 +323,8 @@ body_size (shape.Fixed n) kind body value units size p = omega (arith, parts_siz
 body_size (shape.AfterReserved n) kind body value units size p = omega (arith, parts_size kind reserved value 0, behind_size body value p.1)
 body_size shape.BitCounted kind body value units size p = counted_size 8 4 16 kind (to_be_bytes w16 (8 * length value)) body value units refl size p
 body_size shape.ByteCounted kind body value units size p = counted_size 1 0 1016 kind (to_be_bytes w16 (length value)) body value units refl size p
+body_size shape.Several kind body value units size p = omega (arith, parts_size kind reserved value 0, behind_size body value p.1)
+body_size shape.Versions kind body value units size p = counted_size 1 2 1016 kind (to_be_bytes w16 (length value)) body value units refl size p.1
 body_size shape.Ciphertext kind body value units size p = omega (arith, parts_size kind reserved value 0, behind_size body value p)
 body_size shape.Hash kind body value units size p = omega (arith, parts_size kind reserved value 0, behind_size body value p.1)
 body_size shape.Zeros kind body value units size p = omega (arith, parts_size kind [] value 0, ap length p.2)
@@ -256,9 +332,8 @@ body_size shape.Flag kind body value units size p = omega (arith, parts_size kin
 body_size shape.Skipped kind body value units size p = omega (arith, parts_size kind [] value 0, ap length p)
 
 -- an attribute takes as many bytes as its spelling
-pub attr_size : (seen : List ℕ) (i : Item) (bytes rest : List ℕ) → IsAttr seen i bytes rest → length bytes ≡ length (item_text i) + length rest
-unfolding item_text
-attr_size seen i bytes rest p =
-    let text : length (row_text (row_of i.kind) i.kind i.value) ≡ length p.body + 2 =
-    ap (λ (o : Option Row). length (row_text o i.kind i.value)) p.known ∙ body_size p.row.shape i.kind p.body i.value p.units p.size p.value in
+pub attr_size_in : (table : Table) (seen : List ℕ) (i : Item) (bytes rest : List ℕ) → IsAttrIn table seen i bytes rest → length bytes ≡ length (item_text_in table i) + length rest
+attr_size_in table seen i bytes rest p =
+    let text : length (item_text_in table i) ≡ length p.body + 2 =
+    ap length (item_text-is table i) ∙ ap (λ (o : Option Row). length (row_text o i.kind i.value)) p.known ∙ body_size p.row.shape i.kind p.body i.value p.units p.size p.value in
     omega (arith, ap length p.parts, length-append p.body rest, text)

@@ -96,6 +96,20 @@ hash_sizes n m e (inl h) = inl (omega arith)
 hash_sizes n m e (inr (inl h)) = inr (inl (omega arith))
 hash_sizes n m e (inr (inr h)) = inr (inr (omega arith))
 
+-- one of two tests of a number held
+two_sizes : (n a b : ℕ) → (eqb n a || eqb n b) ≡ true → (n ≡ a) ⊎ (n ≡ b)
+two_sizes n a b e = grind (arith, nat_tests)
+
+-- a body of 34 or 50 bytes has two or three times 16
+several_sizes : (n m : ℕ) → n ≡ 2 + m → (n ≡ 34) ⊎ (n ≡ 50) → (m ≡ 32) ⊎ (m ≡ 48)
+several_sizes n m e (inl h) = inl (omega arith)
+several_sizes n m e (inr h) = inr (omega arith)
+
+-- a value has as many bytes as its count says
+even_size : (body value : List ℕ) → IsCounted 1 2 1016 body value → from_be_bytes w16 body ≡ length value
+even_size body value p =
+    ap (λ (b : List ℕ). from_be_bytes w16 b) p.parts ∙ from_be_bytes-to_be_bytes_2 (1 * length value) (omega (arith, p.at_most)) ∙ omega arith
+
 -- two bytes are the first and the second
 two_cells : (body : List ℕ) → length body ≡ 2 → body ≡ get_or body 0 0 ∷ get_or body 1 0 ∷ []
 two_cells [] e = absurd (omega arith)
@@ -122,6 +136,15 @@ body_sound shape.BitCounted kind body value long fits e =
 body_sound shape.ByteCounted kind body value long fits e =
     let h = held (counted 1 0 1016 body) (refusal.BadLength kind) (counted_value 1 body) value e in
     counted_sound 1 0 1016 body value (omega arith) long fits h.0 h.1
+body_sound shape.Several kind body value long fits e =
+    let h = held (eqb (length body) 34 || eqb (length body) 50) (refusal.BadLength kind) (drop 2 body) value e in
+    (several_sizes (length body) (length value) (long_by body value long h.1) (two_sizes (length body) 34 50 h.0), after_reserved body value long h.1)
+body_sound shape.Versions kind body value long fits e =
+    let count = from_be_bytes w16 body in
+    let h = held (eqb (count % 2) 0 && counted 1 2 1016 body) (refusal.BadLength kind) (counted_value 1 body) value e in
+    let both = and_parts (eqb (count % 2) 0) (counted 1 2 1016 body) h.0 in
+    let there = counted_sound 1 2 1016 body value (omega arith) long fits both.1 h.1 in
+    (ap (λ (n : ℕ). n % 2) (sym (even_size body value there)) ∙ eqb-true (count % 2) 0 both.0, there)
 body_sound shape.Ciphertext kind body value long fits e = after_reserved body value long (ok_is (drop 2 body) value e)
 body_sound shape.Hash kind body value long fits e =
     let h = held (eqb (length body) 2 || eqb (length body) 22 || eqb (length body) 34) (refusal.BadLength kind) (drop 2 body) value e in
@@ -187,6 +210,15 @@ hash_tests n m e (inl h) = inl (omega arith)
 hash_tests n m e (inr (inl h)) = inr (inl (omega arith))
 hash_tests n m e (inr (inr h)) = inr (inr (omega arith))
 
+-- a number that is one of two passes their test
+two_tests : (n a b : ℕ) → (n ≡ a) ⊎ (n ≡ b) → (eqb n a || eqb n b) ≡ true
+two_tests n a b e = grind (arith, nat_tests)
+
+-- two or three times 16 bytes have a body of 34 or 50
+several_tests : (n m : ℕ) → n ≡ 2 + m → (m ≡ 32) ⊎ (m ≡ 48) → (n ≡ 34) ⊎ (n ≡ 50)
+several_tests n m e (inl h) = inl (omega arith)
+several_tests n m e (inr h) = inr (omega arith)
+
 -- the value of a body is read in it
 pub body_again : (s : Shape) (kind : ℕ) (body value : List ℕ) (units : ℕ) → length body + 2 ≡ 4 * units → IsBody s body value → value_at s kind body ≡ Ok value
 unfolding value_at
@@ -197,6 +229,13 @@ body_again shape.BitCounted kind body value units size p =
     let c = counted_again 8 4 16 body value units (λ n. omega arith) (λ n. omega arith) (λ n h. omega arith) size p in value_if_true _ kind (counted_value 8 body) value c.0 c.1
 body_again shape.ByteCounted kind body value units size p =
     let c = counted_again 1 0 1016 body value units (λ n. omega arith) (λ n. omega arith) (λ n h. omega arith) size p in value_if_true _ kind (counted_value 1 body) value c.0 c.1
+body_again shape.Several kind body value units size p =
+    let b = after_two body value p.1 in
+    value_if_true _ kind (drop 2 body) value (two_tests (length body) 34 50 (several_tests (length body) (length value) b.0 p.0)) b.1
+body_again shape.Versions kind body value units size p =
+    let c = counted_again 1 2 1016 body value units (λ n. omega arith) (λ n. omega arith) (λ n h. omega arith) size p.1 in
+    let even : eqb (from_be_bytes w16 body % 2) 0 ≡ true = eq-eqb (from_be_bytes w16 body % 2) 0 (ap (λ (n : ℕ). n % 2) (even_size body value p.1) ∙ p.0) in
+    value_if_true _ kind (counted_value 1 body) value (and_from _ (counted 1 2 1016 body) even c.0) c.1
 body_again shape.Ciphertext kind body value units size p = ap (λ x. Ok x) (after_two body value p).1
 body_again shape.Hash kind body value units size p =
     let b = after_two body value p.1 in
@@ -223,6 +262,9 @@ body_fits (shape.Fixed n) body value units some small size p = eq-eqb (length va
 body_fits (shape.AfterReserved n) body value units some small size p = eq-eqb (length value) n p.0
 body_fits shape.BitCounted body value units some small size p = and_from _ _ (le-leb 4 (length value) p.at_least) (le-leb (length value) 16 p.at_most)
 body_fits shape.ByteCounted body value units some small size p = le-leb (length value) 1016 p.at_most
+body_fits shape.Several body value units some small size p = two_tests (length value) 32 48 p.0
+body_fits shape.Versions body value units some small size p =
+    and_from _ _ (and_from _ _ (eq-eqb (length value % 2) 0 p.0) (le-leb 2 (length value) p.1.at_least)) (le-leb (length value) 1016 p.1.at_most)
 body_fits shape.Ciphertext body value units some small size p =
     let b = after_two body value p in
     and_from _ _ (le-leb (length value) 1016 (omega (arith, b.0))) (eq-eqb (length value % 4) 0 (omega (arith, b.0)))

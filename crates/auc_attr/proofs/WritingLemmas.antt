@@ -6,7 +6,7 @@ use Rattle.std.proofs.lemmas.List.{append-nil, drop_all}
 use Rattle.auc_edge.specs.Reserved.{Reserved, wrote}
 use Rattle.auc_attr.specs.declared.attr.Attr.{Attr}
 use Rattle.auc_attr.specs.Item.{item_of, is_named}
-use Rattle.auc_attr.specs.Inner.{Marks}
+use Rattle.auc_attr.specs.Seen.{Marks}
 use Rattle.auc_attr.specs.Spelling.{stands_in, fits_item, may_follow, writable_from, writable, item_text, spelling}
 use Rattle.auc_attr.proofs.Tools.{and_parts, and_from}
 

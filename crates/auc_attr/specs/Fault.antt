@@ -1,4 +1,4 @@
--- What can be wrong with an attribute at the front of bytes (RFC 4187 §8.1 and §10): each fault beside a condition
+-- What can be wrong with an attribute at the front of bytes (RFC 4187 §8.1 and §10, RFC 4186 §8.1 and §10): each fault beside a condition
 -- of its own, in the order in which they are reported. No standard orders them; this order is the project's.
 use Rattle.std.specs.Prelude.{ℕ, ◌+◌, ◌-◌, ◌*◌, ◌%◌, ◌==◌, nat_lt, nat_le, Bool, true, false, not, ◌&&◌, ◌||◌, List, [], ◌∷◌, length, take, drop, slice_index, Option, Some, None}
 use Rattle.std.specs.List.{list_all}
@@ -8,7 +8,8 @@ use Rattle.auc_attr.specs.declared.refusal.AttrRefusal.TheVariants as refusal
 use Rattle.auc_attr.specs.declared.table.Row.{Row}
 use Rattle.auc_attr.specs.declared.table.Shape.{Shape}
 use Rattle.auc_attr.specs.declared.table.Shape.TheVariants as shape
-use Rattle.auc_attr.specs.Table.{row_of}
+use Rattle.auc_attr.specs.declared.table.Table.{Table}
+use Rattle.auc_attr.specs.Table.{row_in}
 use Rattle.auc_attr.specs.Spelling.{stands_in, is_zero}
 
 -- the type
@@ -39,6 +40,9 @@ has_length (shape.AfterReserved n) units body = 4 * units == 4 + n
 has_length shape.BitCounted units body =
     (count_at body % 8 == 0) && nat_le 32 (count_at body) && nat_le (count_at body) 128 && is_least 32 (count_at body) units
 has_length shape.ByteCounted units body = nat_le (count_at body) 1016 && is_least 4 (count_at body) units
+has_length shape.Several units body = units == 9 || units == 13
+has_length shape.Versions units body =
+    (count_at body % 2 == 0) && nat_le 2 (count_at body) && nat_le (count_at body) 1016 && is_least 4 (count_at body) units
 has_length shape.Ciphertext units body = true
 has_length shape.Hash units body = units == 1 || units == 6 || units == 9
 has_length shape.Zeros units body = units == 1 || units == 2 || units == 3
@@ -82,5 +86,5 @@ faults_by row seen bytes =
     ∷ (has_bad_padding row (body_at bytes), refusal.BadPadding)
     ∷ []
 
-unfoldable pub attr_faults : List ℕ → List ℕ → List (Bool × AttrRefusal)
-attr_faults seen bytes = faults_by (row_of (kind_at bytes)) seen bytes
+unfoldable pub attr_faults_in : Table → List ℕ → List ℕ → List (Bool × AttrRefusal)
+attr_faults_in table seen bytes = faults_by (row_in table (kind_at bytes)) seen bytes

@@ -7,7 +7,8 @@ use Rattle.auc_attr.specs.declared.refusal.AttrRefusal.TheVariants as refusal
 use Rattle.auc_attr.specs.declared.table.Row.{Row}
 use Rattle.auc_attr.specs.declared.table.Shape.{Shape}
 use Rattle.auc_attr.specs.declared.table.Shape.TheVariants as shape
-use Rattle.auc_attr.specs.Table.{row_of}
+use Rattle.auc_attr.specs.declared.table.Table.{Table}
+use Rattle.auc_attr.specs.Table.{row_in}
 use Rattle.auc_attr.specs.Item.{Item, item}
 use Rattle.auc_attr.specs.Spelling.{is_zero, fill}
 
@@ -36,6 +37,8 @@ value_at (shape.Fixed n) kind body = value_if (length body == n) kind body
 value_at (shape.AfterReserved n) kind body = value_if (length body == 2 + n) kind (drop 2 body)
 value_at shape.BitCounted kind body = value_if (counted 8 4 16 body) kind (counted_value 8 body)
 value_at shape.ByteCounted kind body = value_if (counted 1 0 1016 body) kind (counted_value 1 body)
+value_at shape.Several kind body = value_if (length body == 34 || length body == 50) kind (drop 2 body)
+value_at shape.Versions kind body = value_if ((from_be_bytes w16 body % 2 == 0) && counted 1 2 1016 body) kind (counted_value 1 body)
 value_at shape.Ciphertext kind body = Ok (drop 2 body)
 value_at shape.Hash kind body = value_if (length body == 2 || length body == 22 || length body == 34) kind (drop 2 body)
 value_at shape.Zeros kind body = zeros_if (length body == 2 || length body == 6 || length body == 10) kind body
@@ -60,10 +63,10 @@ known_at None stood kind units after = Err (refusal.UnknownType kind)
 known_at (Some row) stood kind units after = row_at row stood kind units after
 
 -- the attribute at the front, and the bytes after it
-unfoldable pub item_at : Bool → List ℕ → Result (Item × List ℕ) AttrRefusal
-item_at stood [] = Err refusal.Truncated
-item_at stood (kind ∷ []) = Err refusal.Truncated
-item_at stood (kind ∷ units ∷ after) = known_at (row_of kind) stood kind units after
+unfoldable pub item_at : Table → Bool → List ℕ → Result (Item × List ℕ) AttrRefusal
+item_at table stood [] = Err refusal.Truncated
+item_at table stood (kind ∷ []) = Err refusal.Truncated
+item_at table stood (kind ∷ units ∷ after) = known_at (row_in table kind) stood kind units after
 
 -- what a reader answers, seen by view, is what the steps answer
 abbrev pub Gives : {X Y : Type 0} → (X → Y) → Result X AttrRefusal → Result Y AttrRefusal → Type 0

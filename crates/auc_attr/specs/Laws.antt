@@ -5,10 +5,12 @@ use Rattle.auc_attr.specs.declared.attr.Attr.{Attr}
 use Rattle.auc_attr.specs.declared.attr.Attr.TheVariants as attr
 use Rattle.auc_attr.specs.declared.refusal.AttrRefusal.{AttrRefusal}
 use Rattle.auc_attr.specs.declared.refusal.AttrRefusal.TheVariants as refusal
-use Rattle.auc_attr.specs.Frame.{Frame, frame_at, IsFramed}
-use Rattle.auc_attr.specs.Grammar.{Walks, ReadsAttrs, FirstFault}
+use Rattle.auc_attr.specs.declared.table.Table.{Table}
+use Rattle.auc_attr.specs.declared.table.Table.TheVariants as tables
+use Rattle.auc_attr.specs.Frame.{Frame, frame_at_in, IsFramedIn}
+use Rattle.auc_attr.specs.Grammar.{WalksIn, ReadsIn, FirstFaultIn, ReadsAttrs, FirstFault}
 use Rattle.auc_attr.specs.Item.{Item}
-use Rattle.auc_attr.specs.Spelling.{writable, spelling}
+use Rattle.auc_attr.specs.Spelling.{writable_in, writable, texts_in, spelling}
 
 -- each number is a byte
 abbrev pub AreBytes : List ℕ → Type 0
@@ -22,9 +24,33 @@ is_value (attr.ClientErrorCode n) = nat_lt n 65536
 is_value (attr.Kdf n) = nat_lt n 65536
 is_value _ = true
 
--- bytes are one list of items and then end, or one list of items and then one fault
+-- by a table, bytes are one list of items and then end, or one list of items and then one fault
+abbrev pub OneWalkIn : Table → Type 0
+OneWalkIn table = (bytes : List ℕ) (is js : List Item) (e f : Option AttrRefusal) → WalksIn table [] bytes is e → WalksIn table [] bytes js f → (is ≡ js) × (e ≡ f)
+
+-- bytes have one first fault
+abbrev pub OneFaultIn : Table → Type 0
+OneFaultIn table = (bytes : List ℕ) (f g : AttrRefusal) → f ≢ refusal.NoMemory → g ≢ refusal.NoMemory → FirstFaultIn table bytes f → FirstFaultIn table bytes g → f ≡ g
+
+-- bytes with a fault are no list of items
+abbrev pub RefusedIsNotReadIn : Table → Type 0
+RefusedIsNotReadIn table = (bytes : List ℕ) (is : List Item) (f : AttrRefusal) → f ≢ refusal.NoMemory → FirstFaultIn table bytes f → ReadsIn table bytes is → ⊥
+
+-- what is written of items is read as these items
+abbrev pub WrittenIsReadIn : Table → Type 0
+WrittenIsReadIn table = (is : List Item) → writable_in table is ≡ true → ReadsIn table (texts_in table is) is
+
+-- items that were read may be written, in as many bytes
+abbrev pub ReadIsWritableIn : Table → Type 0
+ReadIsWritableIn table = (bytes : List ℕ) (is : List Item) → AreBytes bytes → ReadsIn table bytes is → (writable_in table is ≡ true) × (length (texts_in table is) ≡ length bytes)
+
+-- bytes in which no fault stands before the attributes are what the grammar says, and the other way round
+abbrev pub FoundIsFramedIn : Table → Type 0
+FoundIsFramedIn table = (bytes : List ℕ) (f : Frame) → AreBytes bytes → (frame_at_in table bytes ≡ Ok f) ↔ IsFramedIn table f bytes
+
+-- the same of attributes of EAP-AKA: bytes are one list of items and then end, or one list of items and then one fault
 abbrev pub OneWalk : Type 0
-OneWalk = (bytes : List ℕ) (is js : List Item) (e f : Option AttrRefusal) → Walks [] bytes is e → Walks [] bytes js f → (is ≡ js) × (e ≡ f)
+OneWalk = OneWalkIn tables.Aka
 
 -- bytes are one list of attributes
 abbrev pub OneList : Type 0
@@ -32,7 +58,7 @@ OneList = (bytes : List ℕ) (list other : List Attr) → list_all is_value list
 
 -- bytes have one first fault
 abbrev pub OneFault : Type 0
-OneFault = (bytes : List ℕ) (f g : AttrRefusal) → f ≢ refusal.NoMemory → g ≢ refusal.NoMemory → FirstFault bytes f → FirstFault bytes g → f ≡ g
+OneFault = OneFaultIn tables.Aka
 
 -- bytes with a fault are no list of attributes
 abbrev pub RefusedIsNotRead : Type 0
@@ -48,4 +74,4 @@ ReadIsWritable = (bytes : List ℕ) (list : List Attr) → AreBytes bytes → Re
 
 -- bytes in which no fault stands before the attributes are what the grammar says, and the other way round
 abbrev pub FoundIsFramed : Type 0
-FoundIsFramed = (bytes : List ℕ) (f : Frame) → AreBytes bytes → (frame_at bytes ≡ Ok f) ↔ IsFramed f bytes
+FoundIsFramed = FoundIsFramedIn tables.Aka

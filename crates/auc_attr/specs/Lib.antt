@@ -2,6 +2,7 @@ pub mod Table
 pub mod Item
 pub mod First
 pub mod Spelling
+pub mod Seen
 pub mod Conditions
 pub mod Fault
 pub mod Grammar

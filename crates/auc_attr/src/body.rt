@@ -1,6 +1,6 @@
 //! The bytes after an attribute's type and length.
 
-ghost use Rattle.std.specs.Prelude.{◌≡◌, ◌+◌, ◌-◌, ◌*◌, ◌≤◌, ◌<◌, [], ◌∷◌, length, nat_lt, if◌then◌else◌, IsTrue, ◌↔◌};
+ghost use Rattle.std.specs.Prelude.{◌≡◌, ◌+◌, ◌-◌, ◌*◌, ◌%◌, ◌≤◌, ◌<◌, ◌==◌, ◌&&◌, [], ◌∷◌, length, nat_lt, if◌then◌else◌, IsTrue, ◌↔◌};
 ghost use Rattle.std.specs.List.{list_all};
 ghost use Rattle.std.specs.Int.{w16, from_be_bytes};
 ghost use Rattle.auc_attr.specs.InnerFront.{Gives, value_if, zeros_if, counted, counted_value, value_at};
@@ -21,6 +21,8 @@ pub fn value_at(shape: Shape, kind: u8, body: &[u8]) -> Result<&[u8], AttrRefusa
         Shape::AfterReserved(n) => value_if(size == 2 + n as usize, kind, &body[2..]),
         Shape::BitCounted => counted_at(8, 4, 16, kind, body),
         Shape::ByteCounted => counted_at(1, 0, 1016, kind, body),
+        Shape::Several => value_if(size == 34 || size == 50, kind, &body[2..]),
+        Shape::Versions => versions_at(kind, body),
         Shape::Ciphertext => Ok(&body[2..]),
         Shape::Hash => value_if(size == 2 || size == 22 || size == 34, kind, &body[2..]),
         Shape::Zeros => zeros_if(size == 2 || size == 6 || size == 10, kind, body),
@@ -76,6 +78,17 @@ fn counted_at(
     }
     let size = count_of(body) / unit;
     Ok(&body[2..2 + size])
+}
+
+/// Versions of two bytes each after their length in bytes.
+fn versions_at(kind: u8, body: &[u8]) -> Result<&[u8], AttrRefusal>
+    requires { 2 ≤ length body.now }
+    ensures { Gives (λ v. v.now) result (value_if ((from_be_bytes w16 body.now % 2 == 0) && counted 1 2 1016 body.now) kind (counted_value 1 body.now)) }
+{
+    if count_of(body) % 2 != 0 {
+        return Err(AttrRefusal::BadLength(kind));
+    }
+    counted_at(1, 2, 1016, kind, body)
 }
 
 /// Whether a body is no longer than the value after its length needs.

@@ -7,7 +7,7 @@ ghost use Rattle.auc_attr.specs.Spelling.{fits_item};
 ghost use Rattle.auc_attr.specs.InnerParts.{value_bytes};
 
 use crate::attr::Attr;
-use crate::table::{Row, Shape, row_of};
+use crate::table::{Row, Shape, Table, row_in};
 use crate::values::{auts_of, block_of, number_of};
 use auc_edge::{NoMemory, Octets};
 use std::alloc::Global;
@@ -126,7 +126,7 @@ pub fn is_named(attr: &Attr) -> bool
     ensures { result ≡ is_named attr.now }
 {
     match attr {
-        Attr::Skipped(kind, _) => is_skipped_row(row_of(*kind)),
+        Attr::Skipped(kind, _) => is_skipped_row(row_in(Table::Aka, *kind)),
         _ => true,
     }
 }

@@ -1,9 +1,11 @@
 //! What stands before the attributes of a packet.
 
 ghost use Rattle.std.specs.Prelude.{◌≡◌, ◌≤◌, ◌<◌, ◌+◌, length, true, IfOk, IfErr, nat_lt, nat_le, not, ◌==◌, ◌||◌, if◌then◌else◌};
-ghost use Rattle.auc_attr.specs.Frame.{is_code, is_method, is_subtype, frame_at, length_of, IsFramed};
+ghost use Rattle.auc_attr.specs.Frame.{is_code, is_method, is_method_in, is_subtype, is_subtype_in, is_identity_in, frame_at, frame_at_in, length_of, IsFramed, IsFramedIn};
 ghost use Rattle.auc_attr.specs.FrameView.{Frames, frame_of, IsLongFor};
 ghost use Rattle.auc_attr.specs.InnerFrame.{is_wrong_length, typed_at, sized_at, frame_by_steps};
+
+use crate::table::Table;
 
 /// The first fault of a packet's bytes before its attributes.
 #[derive(Clone, Copy)]
@@ -14,9 +16,9 @@ pub enum FrameFault {
     BadCode,
     /// Length counts more bytes than there are, or a number that the code or the type doesn't have.
     LengthDisagrees,
-    /// This type isn't 1, 23 or 50.
+    /// This type isn't 1, 23 or 50, or in EAP-SIM not 18.
     OtherType(u8),
-    /// The method has no such Subtype (RFC 4187 §11).
+    /// The method has no such Subtype (RFC 4187 §11, RFC 4186 §11).
     UnknownSubtype(u8),
 }
 
@@ -39,13 +41,13 @@ pub enum Framed<'a> {
         /// The text.
         text: &'a [u8],
     },
-    /// A message of EAP-AKA or EAP-AKA' (RFC 4187 §8.1).
+    /// A message of EAP-AKA or EAP-AKA' (RFC 4187 §8.1), or of EAP-SIM (RFC 4186 §8.1).
     Message {
         /// Whether it is a Request.
         request: bool,
         /// The Identifier.
         id: u8,
-        /// The type of the method, 23 or 50.
+        /// The type of the method: 23 or 50, or 18 of EAP-SIM.
         kind: u8,
         /// The Subtype.
         subtype: u8,
@@ -60,12 +62,21 @@ pub fn read_frame(bytes: &[u8]) -> Result<Framed<'_>, FrameFault>
     ensures framed { IfOk result (λ f. IsFramed (frame_of f) bytes.now) }
     ensures long { IfErr result (λ fault. IsLongFor fault bytes.now) }
 {
-    frame_by_steps(bytes)
+    read_frame_in(Table::Aka, bytes)
+}
+
+/// The same by a table: what bytes are before the attributes, or their first fault there. Takes no memory.
+pub fn read_frame_in(table: Table, bytes: &[u8]) -> Result<Framed<'_>, FrameFault>
+    ensures read { Frames result (frame_at_in table bytes.now) }
+    ensures framed { IfOk result (λ f. IsFramedIn table (frame_of f) bytes.now) }
+    ensures long { IfErr result (λ fault. IsLongFor fault bytes.now) }
+{
+    frame_by_steps(table, bytes)
 }
 
 #[tactic(auto, unfolding(crate::specs::InnerFrame::frame_by_steps))]
-fn frame_by_steps(bytes: &[u8]) -> Result<Framed<'_>, FrameFault>
-    ensures steps { Frames result (frame_by_steps bytes.now) }
+fn frame_by_steps(table: Table, bytes: &[u8]) -> Result<Framed<'_>, FrameFault>
+    ensures steps { Frames result (frame_by_steps table bytes.now) }
     ensures long { IfErr result (λ fault. IsLongFor fault bytes.now) }
 {
     if bytes.len() < 4 {
@@ -74,7 +85,7 @@ fn frame_by_steps(bytes: &[u8]) -> Result<Framed<'_>, FrameFault>
     if !is_code(bytes[0]) {
         return Err(FrameFault::BadCode);
     }
-    sized(bytes[0], bytes[1], length_of(bytes), bytes)
+    sized(table, bytes[0], bytes[1], length_of(bytes), bytes)
 }
 
 /// The number of bytes that Length counts.
@@ -85,8 +96,14 @@ pub fn length_of(bytes: &[u8]) -> usize
     u16::from_be_bytes([bytes[2], bytes[3]]) as usize
 }
 
-fn sized(code: u8, id: u8, size: usize, bytes: &[u8]) -> Result<Framed<'_>, FrameFault>
-    ensures { Frames result (sized_at code id size bytes.now) }
+fn sized(
+    table: Table,
+    code: u8,
+    id: u8,
+    size: usize,
+    bytes: &[u8],
+) -> Result<Framed<'_>, FrameFault>
+    ensures { Frames result (sized_at table code id size bytes.now) }
 {
     if is_wrong_length(code, size, bytes.len()) {
         return Err(FrameFault::LengthDisagrees);
@@ -97,27 +114,33 @@ fn sized(code: u8, id: u8, size: usize, bytes: &[u8]) -> Result<Framed<'_>, Fram
             id,
         });
     }
-    typed(code == 1, id, bytes[4], &bytes[..size])
+    typed(table, code == 1, id, bytes[4], &bytes[..size])
 }
 
-fn typed(request: bool, id: u8, kind: u8, bytes: &[u8]) -> Result<Framed<'_>, FrameFault>
+fn typed(
+    table: Table,
+    request: bool,
+    id: u8,
+    kind: u8,
+    bytes: &[u8],
+) -> Result<Framed<'_>, FrameFault>
     requires { 5 ≤ length bytes.now }
-    ensures { Frames result (typed_at request id kind bytes.now) }
+    ensures { Frames result (typed_at table request id kind bytes.now) }
 {
-    if kind == 1 {
+    if is_identity_in(table, kind) {
         return Ok(Framed::Named {
             request,
             id,
             text: &bytes[5..],
         });
     }
-    if !is_method(kind) {
+    if !is_method_in(table, kind) {
         return Err(FrameFault::OtherType(kind));
     }
     if bytes.len() < 8 {
         return Err(FrameFault::LengthDisagrees);
     }
-    if !is_subtype(bytes[5]) {
+    if !is_subtype_in(table, bytes[5]) {
         return Err(FrameFault::UnknownSubtype(bytes[5]));
     }
     Ok(Framed::Message {
@@ -139,6 +162,33 @@ fn is_wrong_length(code: u8, size: usize, given: usize) -> bool
     ensures { result ≡ is_wrong_length code size given }
 {
     given < size || if 3 <= code { size != 4 } else { size < 5 }
+}
+
+fn is_identity_in(table: Table, kind: u8) -> bool
+    ensures { result ≡ is_identity_in table kind }
+{
+    match table {
+        Table::Aka => kind == 1,
+        Table::Sim => false,
+    }
+}
+
+fn is_method_in(table: Table, kind: u8) -> bool
+    ensures { result ≡ is_method_in table kind }
+{
+    match table {
+        Table::Aka => is_method(kind),
+        Table::Sim => kind == 18,
+    }
+}
+
+fn is_subtype_in(table: Table, subtype: u8) -> bool
+    ensures { result ≡ is_subtype_in table subtype }
+{
+    match table {
+        Table::Aka => is_subtype(subtype),
+        Table::Sim => matches!(subtype, 10 | 11 | 14),
+    }
 }
 
 fn is_method(kind: u8) -> bool

@@ -1,28 +1,51 @@
 //! The attribute at the front of bytes.
 
-ghost use Rattle.std.specs.Prelude.{◌≡◌};
+ghost use Rattle.std.specs.Prelude.{◌≡◌, ◌≢◌, ◌<◌, ℕ, List, length, true, IfOk, IfErr};
+ghost use Rattle.auc_attr.specs.declared.refusal.AttrRefusal.TheVariants as refusal;
+ghost use Rattle.auc_attr.specs.Fault.{kind_at};
+ghost use Rattle.auc_attr.specs.Grammar.{IsAttrIn, IsFaultIn};
 ghost use Rattle.auc_attr.specs.InnerFront.{Gives, row_at, known_at, item_at};
 ghost use Rattle.auc_attr.specs.Item.{item};
+ghost use Rattle.auc_attr.specs.Spelling.{stands_in, fits_item_in};
 
 use crate::body::value_at;
 use crate::refusal::AttrRefusal;
-use crate::table::{Row, row_of};
+use crate::table::{Row, Table, row_in};
 
 /// An attribute's type and value, and the bytes after it.
 #[derive(Clone, Copy)]
 pub struct Found<'a> {
+    /// The type.
     pub kind: u8,
+    /// The value, without length, reserved bytes and fill.
     pub value: &'a [u8],
+    /// The bytes after the attribute.
     pub rest: &'a [u8],
 }
 
-/// The attribute at the front, given whether its type stood before.
+/// The attribute at the front, given whether its type stood before, or its first fault (RFC 4187 §8.1). Takes no
+/// memory.
+pub fn item_at(table: Table, stood: bool, bytes: &[u8]) -> Result<Found<'_>, AttrRefusal>
+    requires { 0 < length bytes.now }
+
+    ensures found { IfOk result (λ f. (seen : List ℕ) → stood ≡ stands_in seen (kind_at bytes.now)
+        → IsAttrIn table seen (item f.kind f.value.now) bytes.now f.rest.now) }
+    ensures fits { IfOk result (λ f. fits_item_in table (item f.kind f.value.now) ≡ true) }
+    ensures shorter { IfOk result (λ f. length f.rest.now < length bytes.now) }
+
+    ensures fault { IfErr result (λ fault. (seen : List ℕ) → stood ≡ stands_in seen (kind_at bytes.now)
+        → IsFaultIn table seen bytes.now fault) }
+    ensures named { IfErr result (λ fault. fault ≢ refusal.NoMemory) }
+{
+    item_by_steps(table, stood, bytes)
+}
+
 #[tactic(auto, unfolding(crate::specs::InnerFront::item_at))]
-pub fn item_at(stood: bool, bytes: &[u8]) -> Result<Found<'_>, AttrRefusal>
-    ensures { Gives (λ f. (item f.kind f.value.now, f.rest.now)) result (item_at stood bytes.now) }
+fn item_by_steps(table: Table, stood: bool, bytes: &[u8]) -> Result<Found<'_>, AttrRefusal>
+    ensures { Gives (λ f. (item f.kind f.value.now, f.rest.now)) result (item_at table stood bytes.now) }
 {
     match bytes {
-        [kind, units, after @ ..] => known_at(row_of(*kind), stood, *kind, *units, after),
+        [kind, units, after @ ..] => known_at(row_in(table, *kind), stood, *kind, *units, after),
         _ => Err(AttrRefusal::Truncated),
     }
 }

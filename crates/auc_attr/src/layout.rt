@@ -3,12 +3,12 @@
 ghost use Rattle.std.specs.Prelude.{◌≡◌, ◌+◌, ◌*◌, ◌≤◌, ◌<◌, ℕ, length, true, replicate};
 ghost use Rattle.std.specs.Int.{w16, to_be_bytes};
 ghost use Rattle.auc_attr.specs.Item.{item};
-ghost use Rattle.auc_attr.specs.Spelling.{fill, fits, fits_item, item_text, shape_text};
+ghost use Rattle.auc_attr.specs.Spelling.{fill, fits, fits_row, fits_item_in, row_text, item_text_in, shape_text};
 ghost use Rattle.auc_attr.specs.InnerParts.{front_bytes, layout_text};
 ghost use Rattle.auc_edge.specs.Reserved.{wrote};
 
 use crate::body::{are_zeros, fill};
-use crate::table::{Shape, row_of};
+use crate::table::{Row, Shape, Table, row_in};
 use auc_edge::Room;
 
 /// Two bytes or none, the value, and zero bytes.
@@ -30,6 +30,8 @@ pub fn fits(shape: Shape, value: &[u8]) -> bool
         Shape::AfterReserved(n) => size == n as usize,
         Shape::BitCounted => 4 <= size && size <= 16,
         Shape::ByteCounted => size <= 1016,
+        Shape::Several => size == 32 || size == 48,
+        Shape::Versions => size % 2 == 0 && 2 <= size && size <= 1016,
         Shape::Ciphertext => size <= 1016 && size % 4 == 0,
         Shape::Hash => size == 0 || size == 20 || size == 32,
         Shape::Zeros => (size == 2 || size == 6 || size == 10) && are_zeros(value),
@@ -48,9 +50,11 @@ pub fn layout_of(shape: Shape, value: &[u8]) -> Layout<'_>
 {
     match shape {
         Shape::Fixed(_) | Shape::Zeros | Shape::Skipped => bare(value),
-        Shape::AfterReserved(_) | Shape::Ciphertext | Shape::Hash => after([0, 0], value),
+        Shape::AfterReserved(_) | Shape::Several | Shape::Ciphertext | Shape::Hash => {
+            after([0, 0], value)
+        }
         Shape::BitCounted => counted(8, value),
-        Shape::ByteCounted => counted(1, value),
+        Shape::ByteCounted | Shape::Versions => counted(1, value),
         Shape::Flag => after([128 * value[0], 0], &[]),
     }
 }
@@ -97,14 +101,23 @@ fn counted(unit: u16, value: &[u8]) -> Layout<'_>
 }
 
 /// The layout of an attribute of a type with a value.
-#[tactic(auto, unfolding(crate::specs::Spelling::fits_item, crate::specs::Spelling::item_text))]
-pub fn layout_of_item(kind: u8, value: &[u8]) -> Layout<'_>
-    requires { fits_item (item kind value.now) ≡ true }
-    ensures text { layout_text kind result ≡ item_text (item kind value.now) }
+pub fn layout_of_item(table: Table, kind: u8, value: &[u8]) -> Layout<'_>
+    requires { fits_item_in table (item kind value.now) ≡ true }
+    ensures text { layout_text kind result ≡ item_text_in table (item kind value.now) }
     ensures size { length (front_bytes result.front) + length result.value.now + result.zeros + 2 ≤ 1020 }
     ensures zeros { result.zeros < 4 }
 {
-    match row_of(kind) {
+    layout_in(row_in(table, kind), value)
+}
+
+/// The layout of a value in a row.
+fn layout_in(row: Option<Row>, value: &[u8]) -> Layout<'_>
+    requires { fits_row row value.now ≡ true }
+    ensures text { (kind : ℕ) → layout_text kind result ≡ row_text row kind value.now }
+    ensures size { length (front_bytes result.front) + length result.value.now + result.zeros + 2 ≤ 1020 }
+    ensures zeros { result.zeros < 4 }
+{
+    match row {
         Some(row) => layout_of(row.shape, value),
         None => unreachable!(),
     }
@@ -113,7 +126,8 @@ pub fn layout_of_item(kind: u8, value: &[u8]) -> Layout<'_>
 /// How many bytes a layout takes, with type and length.
 pub fn size_of(layout: Layout<'_>) -> usize
     requires { length (front_bytes layout.front) + length layout.value.now + layout.zeros + 2 ≤ 1020 }
-    ensures { (kind : ℕ) → result ≡ length (layout_text kind layout.entry) }
+    ensures value { (kind : ℕ) → result ≡ length (layout_text kind layout.entry) }
+    ensures most { result ≤ 1020 }
 {
     2 + front_size(layout.front) + layout.value.len() + layout.zeros
 }

@@ -3,11 +3,12 @@
 ghost use Rattle.std.specs.Prelude.{◌≡◌, ◌+◌, ◌^◌, ◌<◌, ◌≤◌, length, IfSome};
 ghost use Rattle.auc_attr.specs.Frame.{length_of};
 ghost use Rattle.auc_attr.specs.Inner.{place_or};
-ghost use Rattle.auc_attr.specs.Mac.{IsMacIn, IsMacPlace};
+ghost use Rattle.auc_attr.specs.Mac.{IsMacAmongIn, IsMacPlaceIn, IsMacPlace};
 
-use crate::frame::{Framed, read_frame};
+use crate::frame::{Framed, read_frame_in};
 use crate::front::item_at;
-use crate::marks::{is_marked, mark, no_marks};
+use crate::seen::Seen;
+use crate::table::Table;
 
 /// The place of the first of the 16 bytes of AT_MAC's value (RFC 4187 §10.15) in a packet, or `None` if
 /// the bytes have a fault or no AT_MAC. Takes no memory.
@@ -16,7 +17,16 @@ pub fn mac_place(packet: &[u8]) -> Option<usize>
     ensures within { IfSome result (λ place. place + 16 ≤ length_of packet.now) }
     ensures given { IfSome result (λ place. length_of packet.now ≤ length packet.now) }
 {
-    match read_frame(packet) {
+    mac_place_in(Table::Aka, packet)
+}
+
+/// The same by a table (RFC 4187 §10.15, RFC 4186 §10.14). Takes no memory.
+pub fn mac_place_in(table: Table, packet: &[u8]) -> Option<usize>
+    ensures place { IsMacPlaceIn table packet.now result }
+    ensures within { IfSome result (λ place. place + 16 ≤ length_of packet.now) }
+    ensures given { IfSome result (λ place. length_of packet.now ≤ length packet.now) }
+{
+    match read_frame_in(table, packet) {
         Ok(
             Framed::Message {
                 request: _,
@@ -25,26 +35,26 @@ pub fn mac_place(packet: &[u8]) -> Option<usize>
                 subtype: _,
                 attrs,
             },
-        ) => mac_in(attrs),
+        ) => mac_among(table, attrs),
         _ => None,
     }
 }
 
 /// The place in a packet whose attributes these bytes are.
-fn mac_in(attrs: &[u8]) -> Option<usize>
-    ensures place { IsMacIn attrs.now result }
+fn mac_among(table: Table, attrs: &[u8]) -> Option<usize>
+    ensures place { IsMacAmongIn table attrs.now result }
     ensures within { IfSome result (λ place. place + 16 ≤ 8 + length attrs.now) }
 {
     let mut place = None;
-    let mut seen = no_marks();
+    let mut seen = Seen::new();
     let mut rest = attrs;
     while !rest.is_empty() {
-        let found = match item_at(is_marked(&seen, rest[0]), rest) {
+        let found = match item_at(table, seen.is_marked(rest[0]), rest) {
             Ok(found) => found,
             Err(_) => return None,
         };
         place = place_or(place, found.kind, 8 + (attrs.len() - rest.len()));
-        mark(&mut seen, found.kind);
+        seen.mark(found.kind);
         rest = found.rest;
     }
     place

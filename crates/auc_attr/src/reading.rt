@@ -8,8 +8,9 @@ ghost use Rattle.auc_attr.specs.Laws.{is_value};
 use crate::attr_list::AttrList;
 use crate::conversion::attr_of;
 use crate::front::item_at;
-use crate::marks::{is_marked, mark, no_marks};
 use crate::refusal::AttrRefusal;
+use crate::seen::Seen;
+use crate::table::Table;
 use std::alloc::Global;
 
 /// The attributes that bytes are, or their first fault (RFC 4187 §8.1). Reserved bytes and fill are passed
@@ -20,13 +21,13 @@ pub fn read_attrs(alloc: Global, bytes: &[u8]) -> Result<AttrList, AttrRefusal>
     ensures fault { IfErr result (λ fault. FirstFault bytes.now fault) }
 {
     let mut list = AttrList::new(alloc);
-    let mut seen = no_marks();
+    let mut seen = Seen::new();
     let mut rest = bytes;
     while !rest.is_empty() {
-        let found = item_at(is_marked(&seen, rest[0]), rest)?;
+        let found = item_at(Table::Aka, seen.is_marked(rest[0]), rest)?;
         let attr = attr_of(alloc, found.kind, found.value)?;
         list.push(attr)?;
-        mark(&mut seen, found.kind);
+        seen.mark(found.kind);
         rest = found.rest;
     }
     Ok(list)

@@ -1,7 +1,16 @@
 //! The table of attributes: what follows type and length.
 
 ghost use Rattle.std.specs.Prelude.{◌≡◌};
-ghost use Rattle.auc_attr.specs.Table.{row_of, single, repeated};
+ghost use Rattle.auc_attr.specs.Table.{row_of, sim_row_of, row_in, single, repeated};
+
+/// Which attributes there are, and what stands before them in a packet.
+#[derive(Clone, Copy)]
+pub enum Table {
+    /// EAP-AKA (RFC 4187 §10) and EAP-AKA' (RFC 9048 §3 and §4).
+    Aka,
+    /// EAP-SIM (RFC 4186 §10), full authentication alone.
+    Sim,
+}
 
 /// What follows an attribute's type and length.
 #[derive(Clone, Copy)]
@@ -14,6 +23,10 @@ pub enum Shape {
     BitCounted,
     /// The length in bytes in two bytes, up to 1016 bytes, and fill.
     ByteCounted,
+    /// Two reserved bytes, then two or three times 16 bytes.
+    Several,
+    /// The length in bytes in two bytes, versions of two bytes, at least one and up to 1016 bytes, and fill.
+    Versions,
     /// Two reserved bytes, then encrypted attributes.
     Ciphertext,
     /// Two reserved bytes, then a hash of 20 or 32 bytes, or none.
@@ -36,8 +49,17 @@ pub struct Row {
 }
 
 /// The row of a type, or `None` if the type is unknown and may not be skipped.
+pub fn row_in(table: Table, kind: u8) -> Option<Row>
+    ensures { result ≡ row_in table kind }
+{
+    match table {
+        Table::Aka => row_of(kind),
+        Table::Sim => sim_row_of(kind),
+    }
+}
+
 #[tactic(auto, unfolding(crate::specs::Table::row_of))]
-pub fn row_of(kind: u8) -> Option<Row>
+fn row_of(kind: u8) -> Option<Row>
     ensures { result ≡ row_of kind }
 {
     match kind {
@@ -52,6 +74,22 @@ pub fn row_of(kind: u8) -> Option<Row>
         130 => single(Shape::Ciphertext),
         134 => single(Shape::Hash),
         136 => single(Shape::Flag),
+        0..=127 => None,
+        128.. => repeated(Shape::Skipped),
+    }
+}
+
+#[tactic(auto, unfolding(crate::specs::Table::sim_row_of))]
+fn sim_row_of(kind: u8) -> Option<Row>
+    ensures { result ≡ sim_row_of kind }
+{
+    match kind {
+        1 => single(Shape::Several),
+        7 | 11 => single(Shape::AfterReserved(16)),
+        10 | 13 | 17 => single(Shape::AfterReserved(0)),
+        14 => single(Shape::ByteCounted),
+        15 => single(Shape::Versions),
+        16 | 22 => single(Shape::Fixed(2)),
         0..=127 => None,
         128.. => repeated(Shape::Skipped),
     }

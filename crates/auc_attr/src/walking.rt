@@ -9,8 +9,9 @@ ghost use Rattle.auc_attr.specs.InnerValue.{value_or};
 ghost use Rattle.auc_attr.specs.Value.{IsValueIn};
 
 use crate::front::item_at;
-use crate::marks::{is_marked, mark, no_marks};
 use crate::refusal::AttrRefusal;
+use crate::seen::Seen;
+use crate::table::Table;
 
 /// The first fault of bytes as attributes, or `None` if the bytes are attributes: the fault that
 /// [`crate::read_attrs`] reports. Takes no memory.
@@ -19,14 +20,14 @@ pub fn first_fault(bytes: &[u8]) -> Option<AttrRefusal>
     ensures named { IfSome result (λ fault. fault ≢ refusal.NoMemory) }
     ensures none { IfNone result ((items : List Item) × Reads bytes.now items) }
 {
-    let mut seen = no_marks();
+    let mut seen = Seen::new();
     let mut rest = bytes;
     while !rest.is_empty() {
-        let found = match item_at(is_marked(&seen, rest[0]), rest) {
+        let found = match item_at(Table::Aka, seen.is_marked(rest[0]), rest) {
             Ok(found) => found,
             Err(fault) => return Some(fault),
         };
-        mark(&mut seen, found.kind);
+        seen.mark(found.kind);
         rest = found.rest;
     }
     None
@@ -39,15 +40,15 @@ pub fn value_in(bytes: &[u8], kind: u8) -> Option<&[u8]>
     ensures { IsValueIn kind bytes.now (option_copied result) }
 {
     let mut value = None;
-    let mut seen = no_marks();
+    let mut seen = Seen::new();
     let mut rest = bytes;
     while !rest.is_empty() {
-        let found = match item_at(is_marked(&seen, rest[0]), rest) {
+        let found = match item_at(Table::Aka, seen.is_marked(rest[0]), rest) {
             Ok(found) => found,
             Err(_) => return None,
         };
         value = value_or(value, kind, found.kind, found.value);
-        mark(&mut seen, found.kind);
+        seen.mark(found.kind);
         rest = found.rest;
     }
     value

@@ -2,16 +2,15 @@
 
 ghost use Rattle.std.specs.Prelude.{◌≡◌, ◌+◌, ◌^◌, ◌≤◌, ◌<◌, ◌++◌, ◌&&◌, length, true, IfSome, IfNone, OnOk, OnErr};
 ghost use Rattle.auc_attr.specs.Item.{item_of, is_named};
-ghost use Rattle.auc_attr.specs.Spelling.{fits_item, fits_row, may_stand_row, may_follow, writable, spelling, item_text};
-ghost use Rattle.auc_attr.specs.Table.{row_of};
+ghost use Rattle.auc_attr.specs.Spelling.{fits_item, may_follow, writable, spelling, item_text};
 ghost use Rattle.auc_edge.specs.Reserved.{wrote};
 
 use crate::attr::Attr;
 use crate::attr_list::AttrList;
 use crate::conversion::{is_named, parts_of};
-use crate::layout::{fits, layout_of_item, put_layout, size_of};
-use crate::marks::{is_marked, mark, no_marks};
-use crate::table::{Row, row_of};
+use crate::items::{fits_row, may_stand_row, put_item, size_of_item};
+use crate::seen::Seen;
+use crate::table::{Table, row_in};
 use auc_edge::{NoMemory, Octets, Room};
 
 /// Appends attributes to `out`, with zeros as reserved bytes and fill (RFC 4187 §8.1). If memory runs out,
@@ -47,8 +46,7 @@ fn put_attr(attr: &Attr, room: &mut Room)
     ensures { room.new ≡ wrote room.old (item_text (item_of attr.now)) }
 {
     let parts = parts_of(attr);
-    let layout = layout_of_item(parts.kind, parts.value.as_slice());
-    put_layout(room, parts.kind, layout);
+    put_item(Table::Aka, parts.kind, parts.value.as_slice(), room);
 }
 
 /// How many bytes a written attribute takes.
@@ -57,7 +55,7 @@ fn size_of_attr(attr: &Attr) -> usize
     ensures { result ≡ length (item_text (item_of attr.now)) }
 {
     let parts = parts_of(attr);
-    size_of(layout_of_item(parts.kind, parts.value.as_slice()))
+    size_of_item(Table::Aka, parts.kind, parts.value.as_slice())
 }
 
 /// Whether an attribute may be written, given whether its type stood before.
@@ -66,26 +64,8 @@ fn may_follow(attr: &Attr, stood: bool) -> bool
     ensures { result ≡ may_follow attr.now stood }
 {
     let parts = parts_of(attr);
-    let row = row_of(parts.kind);
+    let row = row_in(Table::Aka, parts.kind);
     fits_row(row, parts.value.as_slice()) && is_named(attr) && may_stand_row(row, stood)
-}
-
-fn fits_row(row: Option<Row>, value: &[u8]) -> bool
-    ensures { result ≡ fits_row row value.now }
-{
-    match row {
-        None => false,
-        Some(row) => fits(row.shape, value),
-    }
-}
-
-fn may_stand_row(row: Option<Row>, stood: bool) -> bool
-    ensures { result ≡ may_stand_row row stood }
-{
-    match row {
-        None => false,
-        Some(row) => !(row.once && stood),
-    }
 }
 
 impl AttrList {
@@ -94,13 +74,13 @@ impl AttrList {
     pub fn writable(&self) -> bool
         ensures { result ≡ writable self.now }
     {
-        let mut seen = no_marks();
+        let mut seen = Seen::new();
         for attr in self.as_slice() {
             let kind = parts_of(attr).kind;
-            if !may_follow(attr, is_marked(&seen, kind)) {
+            if !may_follow(attr, seen.is_marked(kind)) {
                 return false;
             }
-            mark(&mut seen, kind);
+            seen.mark(kind);
         }
         true
     }

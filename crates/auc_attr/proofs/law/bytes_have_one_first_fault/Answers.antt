@@ -1,4 +1,4 @@
-use Rattle.auc_attr.proofs.LawLemmas.{one_fault}
+use Rattle.auc_attr.proofs.AkaLemmas.{one_fault}
 use Rattle.auc_attr.proofs.law.bytes_have_one_first_fault.Goals as goal
 
 pub returns : goal.returns

@@ -1,4 +1,4 @@
-use Rattle.auc_attr.proofs.LawLemmas.{found_is_framed}
+use Rattle.auc_attr.proofs.AkaLemmas.{found_is_framed}
 use Rattle.auc_attr.proofs.law.found_frames_stand_there.Goals as goal
 
 pub returns : goal.returns

@@ -4,5 +4,4 @@ use Rattle.auc_attr.proofs.writing.size_of_attr.Goals as goal
 
 pub returns : goal.returns
 returns c =
-    c.size_of.ensures c.parts_of-parts.result.kind ∙ ap length (c.layout_of_item.ensures.text)
-    ∙ ap (λ i. length (item_text i)) (rw c.as_slice.ensures c.parts_of-parts.ensures)
+    c.size_of_item.ensures.value ∙ ap (λ i. length (item_text i)) (rw c.as_slice.ensures c.parts_of-parts.ensures)

@@ -3,7 +3,7 @@ use Rattle.auc_attr.proofs.WritingLemmas.{judge_at, judge_done, judge_fails, jud
 use Rattle.auc_attr.proofs.attr_list.AttrList.writable.Goals as goal
 
 pub loop-attr-init : goal.loop-attr-init
-loop-attr-init c = rw c.as_slice-attr-items.ensures record { kinds = []; marked = c.no_marks-seen.ensures; judged = refl }
+loop-attr-init c = rw c.as_slice-attr-items.ensures record { kinds = []; marked = c.new-seen.ensures; judged = refl }
 
 pub returns-then-not-may_follow : goal.returns-then-not-may_follow
 returns-then-not-may_follow c =
