@@ -52,12 +52,13 @@ impl RandStream {
 }
 
 /// The sixteen bytes of the four words from a place of a key's stream on.
-pub(crate) fn sixteen_from(key: [u8; 32], stream: u64, place: u64) -> [u8; 16]
+pub(crate) fn sixteen_from(key: [u8; 32], stream: u64, place: u128) -> [u8; 16]
+    requires { place + 4 < 2 ^ 68 }
     ensures { result ≡ sixteen_at key stream place }
 {
     let mut words = ChaCha20Rng::from_seed(key);
     words.set_stream(stream);
-    seek(&mut words, u128::from(place));
+    seek(&mut words, place);
     bytes_of(next_four(&mut words))
 }
 

@@ -1,13 +1,16 @@
 //! Random bytes by subscriber and number.
 
 ghost use Rattle.std.specs.Prelude.{◌≡◌};
-ghost use Rattle.auc_random.specs.Random.{nonce_of as nonce_by, rand_of as rand_by, sixteen_at};
+ghost use Rattle.auc_random.specs.Random.{nonce_of as nonce_by, rand_of as rand_by, sim_nonce as sim_nonce_by, sixteen_at};
 
 use crate::rand_stream::{RandStream, sixteen_from};
 use std::marker::Model;
 
 /// The stream of session 0, 2^32.
 const FIRST_SESSION: u64 = 4294967296;
+
+/// The stream of the EAP-SIM sessions of subscriber 0, 2^42.
+const FIRST_SIM: u64 = 4398046511104;
 
 /// The random bytes of a key: ChaCha20, of which each subscriber has a stream. The same key gives the same
 /// bytes again. Contracts see the key's 32 bytes.
@@ -50,12 +53,21 @@ impl Rands {
         self.sixteen_at(FIRST_SESSION + u64::from(session), 4 * u64::from(k))
     }
 
+    /// NONCE_MT (RFC 4186 §10.4) of the EAP-SIM session whose first vector is this number of a subscriber: sixteen bytes.
+    #[tactic(auto, unfolding(crate::specs::Random::sim_nonce))]
+    pub fn sim_nonce(&self, sub: u32, n: u64) -> [u8; 16]
+        ensures { result ≡ sim_nonce_by self.now sub n }
+    {
+        sixteen_from(self.key, FIRST_SIM + u64::from(sub), 4 * u128::from(n))
+    }
+
     /// Sixteen random bytes: the four words from a place of a stream on, each with its least significant byte
-    /// first. The streams below 2^32 are those of the subscribers' RANDs, and the 2^32 after them those of sessions.
+    /// first. The streams below 2^32 are those of the subscribers' RANDs, and the 2^32 after them those of sessions. Stream
+    /// 2^40 has the key of the names, and 2^41 the secrets of a load. The 2^32 from 2^42 on are those of NONCE_MT, by subscriber.
     pub fn sixteen_at(&self, stream: u64, place: u64) -> [u8; 16]
         ensures { result ≡ sixteen_at self.now stream place }
     {
-        sixteen_from(self.key, stream, place)
+        sixteen_from(self.key, stream, u128::from(place))
     }
 
     /// The RANDs of a subscriber, with one generator for many of them.
