@@ -4,7 +4,7 @@ use Rattle.std.specs.List.{list_any}
 use Rattle.auc_lines.specs.declared.part.Identity.{Identity}
 use Rattle.auc_lines.specs.declared.part.Identity.TheVariants.{Held, Permanent, Text}
 use Rattle.auc_lines.specs.declared.part.Line.{Line}
-use Rattle.auc_lines.specs.declared.part.Line.TheVariants.{Draw, Give, Sync, Eps, Fiveg, Sites, Session, Start, Deliver, Repeat, GiveUp, Plain, Tamper, Cut}
+use Rattle.auc_lines.specs.declared.part.Line.TheVariants.{Draw, Give, Sync, Eps, Fiveg, Sites, Sim, Session, Start, Deliver, Repeat, GiveUp, Plain, Tamper, Cut}
 use Rattle.auc_lines.specs.Sites.{deliveries_in}
 use Rattle.auc_lines.specs.declared.part.Part.{Part}
 use Rattle.auc_lines.specs.declared.part.Part.TheVariants.{Round, Restart}
@@ -18,6 +18,7 @@ asked_by (Give sub number) = 0
 asked_by (Eps sub snid) = 1
 asked_by (Fiveg line) = 1
 asked_by (Sites line) = line.size * deliveries_in line.schedule
+asked_by (Sim line) = line.count
 asked_by (Session line) = 2
 asked_by (Start session) = 0
 asked_by (Deliver session end packet) = 0
@@ -44,6 +45,7 @@ held_by (Give sub number) = Some sub
 held_by (Eps sub snid) = None
 held_by (Fiveg line) = Some line.sub
 held_by (Sites line) = None
+held_by (Sim line) = None
 held_by (Session line) = Some line.sub
 held_by (Start session) = None
 held_by (Deliver session end packet) = None
@@ -62,6 +64,7 @@ asks_for (Give sub number) = None
 asks_for (Eps sub snid) = Some sub
 asks_for (Fiveg line) = Some line.sub
 asks_for (Sites line) = Some line.sub
+asks_for (Sim line) = Some line.sub
 asks_for (Session line) = Some line.sub
 asks_for (Start session) = None
 asks_for (Deliver session end packet) = None

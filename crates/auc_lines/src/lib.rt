@@ -5,7 +5,9 @@
 #![tactic(auto)]
 
 mod part;
+mod sim;
 mod sites;
 
 pub use part::{End, FivegLine, Identity, JobPart, Line, Part, RoundPart, SessionLine};
+pub use sim::{SimDelivery, SimLine, SimSchedule};
 pub use sites::{SiteEvent, SitesLine};

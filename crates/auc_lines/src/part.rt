@@ -1,5 +1,6 @@
 //! The parts of a scenario.
 
+use crate::sim::SimLine;
 use crate::sites::SitesLine;
 use auc_edge::{Items, Octets};
 use auc_hmac::Method;
@@ -102,6 +103,8 @@ pub enum Line {
     Fiveg(FivegLine),
     /// Runs sites that hand out the numbers that a master leases to them.
     Sites(SitesLine),
+    /// Asks for 2 or 3 vectors, and runs a session of EAP-SIM with their triplets.
+    Sim(SimLine),
     /// Opens a session.
     Session(SessionLine),
     /// The session's server starts, and sends its first request.
@@ -149,6 +152,7 @@ impl Line {
             Line::Draw { count, .. } | Line::Sync { count, .. } => count,
             Line::Eps { .. } | Line::Fiveg(_) => 1,
             Line::Sites(ref line) => line.count(),
+            Line::Sim(ref line) => line.count(),
             Line::Session(_) => 2,
             Line::Give { .. }
             | Line::Start(_)
@@ -174,6 +178,7 @@ impl Line {
             | Line::Sync { .. }
             | Line::Eps { .. }
             | Line::Sites(_)
+            | Line::Sim(_)
             | Line::Start(_)
             | Line::Deliver { .. }
             | Line::Repeat(_)
@@ -193,6 +198,7 @@ impl Line {
             Line::Sync { sub, count, .. } if count > 0 => Some(sub),
             Line::Fiveg(ref line) => Some(line.sub),
             Line::Sites(ref line) => Some(line.sub()),
+            Line::Sim(ref line) => Some(line.sub()),
             Line::Session(ref line) => Some(line.sub),
             Line::Sync { .. }
             | Line::Give { .. }
