@@ -1,0 +1,9 @@
+-- Inner facts: what only private contracts of this crate cite. Two or three triplets as a list.
+use Rattle.std.specs.Prelude.{List}
+use Rattle.auc_sim.specs.declared.parts.Triplet.{Triplet}
+use Rattle.auc_sim.specs.declared.several.Several.{Several}
+use Rattle.auc_sim.specs.declared.several.Several.TheVariants as several
+
+abbrev pub listed : Several → List Triplet
+listed (several.Two triplets) = triplets
+listed (several.Three triplets) = triplets

@@ -1,0 +1,103 @@
+//! The triplets of a Challenge, and the RANDs that a peer makes them of.
+
+ghost use Rattle.std.specs.Prelude.{◌≡◌, ◌≤◌, ◌*◌, length, flat_map, take};
+ghost use Rattle.auc_sim.specs.InnerSeveral.{listed};
+ghost use Rattle.auc_sim.specs.Keys.{rand_in, sres_in};
+ghost use Rattle.auc_sim.specs.Peer.{cards, has_equal, rands_in};
+
+use crate::parts::Triplet;
+use crate::triplets::card;
+use auc_hmac::piece_of;
+use auc_milenage::Secret;
+
+/// Two or three triplets.
+#[derive(Clone, Copy)]
+pub(crate) enum Several {
+    /// Two.
+    Two([Triplet; 2]),
+    /// Three.
+    Three([Triplet; 3]),
+}
+
+impl Several {
+    /// The triplets of a list of two or three.
+    pub(crate) fn of(triplets: &[Triplet]) -> Several
+        requires least { 2 ≤ length triplets.now }
+        requires most { length triplets.now ≤ 3 }
+        ensures { listed result ≡ triplets.now }
+    {
+        if triplets.len() == 3 {
+            let mut three = [triplets[0]; 3];
+            three.copy_from_slice(triplets);
+            return Several::Three(three);
+        }
+        let mut two = [triplets[0]; 2];
+        two.copy_from_slice(triplets);
+        Several::Two(two)
+    }
+
+    /// The triplets.
+    pub(crate) fn as_slice(&self) -> &[Triplet]
+        ensures all { result.now ≡ listed self.now }
+        ensures least { 2 ≤ length result.now }
+        ensures most { length result.now ≤ 3 }
+    {
+        match self {
+            Several::Two(triplets) => triplets,
+            Several::Three(triplets) => triplets,
+        }
+    }
+}
+
+/// The triplets that a USIM with the secret makes of two or three RANDs.
+pub(crate) fn cards(s: &Secret, rands: &[u8]) -> Several
+    requires { 32 ≤ length rands.now }
+    ensures { listed result ≡ cards s.now (rands_in rands.now) }
+{
+    let first = card(s, piece_of(rands, 0));
+    let second = card(s, piece_of(rands, 16));
+    if rands.len() == 48 {
+        let third = card(s, piece_of(rands, 32));
+        return Several::Three([first, second, third]);
+    }
+    Several::Two([first, second])
+}
+
+/// Whether two of two or three RANDs are equal.
+pub(crate) fn has_equal(rands: &[u8]) -> bool
+    requires { 32 ≤ length rands.now }
+    ensures { result ≡ has_equal (rands_in rands.now) }
+{
+    let first: [u8; 16] = piece_of(rands, 0);
+    let second: [u8; 16] = piece_of(rands, 16);
+    if rands.len() == 48 {
+        let third: [u8; 16] = piece_of(rands, 32);
+        return second == first || third == first || third == second;
+    }
+    second == first
+}
+
+/// The RANDs of two or three triplets, one after another: 16 bytes of each, and then bytes that don't count.
+pub(crate) fn all_rands(triplets: &[Triplet]) -> [u8; 48]
+    requires { length triplets.now ≤ 3 }
+    ensures rands { take (16 * length triplets.now) result ≡ flat_map rand_in triplets.now }
+    ensures size { length (flat_map rand_in triplets.now) ≡ 16 * length triplets.now }
+{
+    let mut out = [0; 48];
+    for i in 0..triplets.len() {
+        out[16 * i..16 * i + 16].copy_from_slice(&triplets[i].rand);
+    }
+    out
+}
+
+/// The SRES values of two or three triplets, one after another: 4 bytes of each, and then bytes that don't count.
+pub(crate) fn all_sres(triplets: &[Triplet]) -> [u8; 12]
+    requires { length triplets.now ≤ 3 }
+    ensures { take (4 * length triplets.now) result ≡ flat_map sres_in triplets.now }
+{
+    let mut out = [0; 12];
+    for i in 0..triplets.len() {
+        out[4 * i..4 * i + 4].copy_from_slice(&triplets[i].sres);
+    }
+    out
+}
