@@ -12,6 +12,7 @@ use Rattle.auc_lines.specs.declared.part.Line.TheVariants as line
 use Rattle.auc_lines.specs.declared.part.End.{End}
 use Rattle.auc_lines.specs.declared.part.End.TheVariants as end
 use Rattle.auc_lines.specs.declared.sites.SiteEvent.{SiteEvent}
+use Rattle.auc_lines.specs.Sim.{SimValue}
 use Rattle.auc_lines.specs.Part.{AreApart, holds, is_held_by, is_that}
 use Rattle.auc_sqn.specs.Past.{Past}
 use Rattle.auc_subs.specs.declared.row.Row.{Row}
@@ -39,9 +40,11 @@ use Rattle.auc_world.specs.Start.{Kept, start_of}
 use Rattle.auc_world.specs.declared.event.Event.{Event}
 use Rattle.auc_world.specs.declared.event.Event.TheVariants as event
 use Rattle.auc_world.specs.declared.event.EventRecord.{EventRecord}
+use Rattle.auc_world.proofs.SimLemmas.{sim_gives_drawn}
 use Rattle.auc_world.proofs.NetLemmas.{AreOf, IsOf, IsPresentedTo, Opens, device_is_of, presented_is_of, sessions_stay}
 use Rattle.auc_world.specs.Setting.{Setting}
 use Rattle.auc_world.specs.Given.{AuthenticatesIf, Before, DrawGives, EventGives, FivegFollows, GiveGives, IsUsimAsked, JobGives, JobsGive, LineGives, OneGives, PlainGives, RelayGives, UsimNotes, VectorsFollow, IsGiven, behind, hxres_lines, is_released, judged_lines, device_of_row, kasme_line, outcome_of, packet_of, past_of, past_before, turned}
+use Rattle.auc_world.specs.Sim.{SimGives}
 use Rattle.auc_world.specs.Sites.{LeaseGives, SiteEventGives, SitesGo, event_of, note_of, sites_start}
 use Rattle.auc_world.specs.VectorAt.{vector_at, vector_of_row}
 use Rattle.auc_world.specs.Pieces.{Piece, lines_of_pieces, IsQuiet, PiecesGive, JobsGiveAfterAllLines}
@@ -130,6 +133,10 @@ sites_quiet set who size sub w (e ∷ events) lines (turn ∷ turns) (front, res
     ap (accepted sub) is ∙ accepted-append sub front rest ∙ ap (λ (sqns : List (List ℕ)). sqns ++ accepted sub rest) (site_event_quiet set who size sub w e front turn first)
     ∙ sites_quiet set who size sub (after_event w turn.event turn.numbers turn.end) events rest turns more
 
+-- nor by a session of EAP-SIM
+sim_quiet : (set : Setting) (l : SimValue) (sub : ℕ) (lines : List LineRecord) → SimGives set l lines → accepted sub lines ≡ []
+sim_quiet set l sub lines gives = sim_gives_drawn (accepted_by sub) set l lines (λ note. refl) gives ∙ draw_quiet set l.sub l.count sub gives.drawn gives.draws
+
 -- nor in an event, if its device is another's
 event_quiet : (sub : ℕ) (r : EventRecord) → IsOf (λ other. (other == sub) ≡ false) (device_in r.result) → accepted sub (Told r ∷ []) ≡ []
 event_quiet sub r other = by (device_in r.result) other
@@ -190,6 +197,7 @@ line_quiet set before net next (line.Fiveg l) sub lines (gives, is) none others 
 )
 line_quiet set before net next (line.Sites l) sub lines ((turns, go), is) none others =
     (sites_quiet set l.sub l.size sub (sites_start l) l.schedule lines turns go, subst (AreOthers sub) (sym is) others)
+line_quiet set before net next (line.Sim l) sub lines (gives, is) none others = (sim_quiet set l sub lines gives, subst (AreOthers sub) (sym is) others)
 line_quiet set before net next (line.Session opening) sub lines gives none others =
     (event_line_quiet set before net next (event.Open opening) sub lines gives others, others_stay set before net next (event.Open opening) sub lines gives others none)
 line_quiet set before net next (line.Start session) sub lines gives none others =
@@ -346,6 +354,7 @@ line_beside set early own beside done net next (line.Fiveg l) lines held still (
   subst (λ (w : Net). AreOf (IsStill own beside) w.sessions) (sym is) still,
 )
 line_beside set early own beside done net next (line.Sites l) lines held still gives = (gives, subst (λ (w : Net). AreOf (IsStill own beside) w.sessions) (sym gives.1) still)
+line_beside set early own beside done net next (line.Sim l) lines held still gives = (gives, subst (λ (w : Net). AreOf (IsStill own beside) w.sessions) (sym gives.1) still)
 line_beside set early own beside done net next (line.Session opening) lines held still gives =
     let e = event.Open opening in
     (event_beside set early own beside done net next e lines still gives, event_still set (place early own done) own beside net next e lines still (held opening.sub (eq-eqb opening.sub opening.sub refl)) gives)

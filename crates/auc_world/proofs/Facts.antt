@@ -19,5 +19,6 @@ pub use Rattle.auc_world.proofs.PlaceMoveLemmas.{get_here, get_there, pushes}
 pub use Rattle.auc_world.proofs.PlainVectorLemmas.{autn_size, rand_block, sixteen_block}
 pub use Rattle.auc_world.proofs.RowPlaceLemmas.{places_differ}
 pub use Rattle.auc_world.proofs.RunLemmas.{IsOfResumption, one_challenge_is_of_one_number, peer_success_is_drawn, peer_success_is_resumed, server_success_is_drawn, server_success_is_resumed}
+pub use Rattle.auc_world.proofs.SimLemmas.{Names, draw_few, draw_names, draw_releasable, follows_nothing, noted, notes_nothing, sim_each, sim_gives_drawn, sim_names, sim_numbers}
 pub use Rattle.auc_world.proofs.SitesLemmas.{lease_ends, sites_append, turns_append}
 pub use Rattle.auc_world.proofs.TurningLemmas.{turn_subs}

@@ -130,6 +130,7 @@ line_runs set before w next (line.Give sub n) lines (gives, is) = stands set w n
 line_runs set before w next (line.Eps sub snid) lines (gives, is) = stands set w next lines is
 line_runs set before w next (line.Fiveg l) lines (gives, is) = stands set w next lines is
 line_runs set before w next (line.Sites l) lines (gives, is) = stands set w next lines is
+line_runs set before w next (line.Sim l) lines (gives, is) = stands set w next lines is
 line_runs set before w next (line.Session opening) lines gives = event_runs set before w next (event.Open opening) lines gives
 line_runs set before w next (line.Start session) lines gives = event_runs set before w next (event.Start session) lines gives
 line_runs set before w next (line.Deliver session at' packet) lines gives = event_runs set before w next (event.Deliver session at' packet) lines gives

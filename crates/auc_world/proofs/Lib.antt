@@ -21,6 +21,7 @@ mod AgainLemmas
 mod AgainHomeLemmas
 mod JobLemmas
 mod RunLemmas
+mod SimLemmas
 mod SitesLemmas
 mod SitesExamples
 mod JobRunLemmas

@@ -43,6 +43,7 @@ pub use Rattle.auc_world.specs.Draws.{DrawGives, IsReleasable, OneGives}
 use Rattle.auc_world.specs.Came.{AreReceived, Came, Presented, TellsNotes, TellsReply, asking_of, bytes_named, came, presented_by}
 use Rattle.auc_world.specs.Happened.{Told, happened}
 use Rattle.auc_world.specs.Net.{Net, other}
+use Rattle.auc_world.specs.Sim.{SimGives}
 use Rattle.auc_world.specs.Sites.{SitesGives}
 use Rattle.auc_world.specs.Start.{Kept, start_of}
 use Rattle.auc_world.specs.declared.event.Event.{Event}
@@ -325,6 +326,7 @@ LineGives set before net (line.Give sub n) lines next = GiveGives set before sub
 LineGives set before net (line.Eps sub snid) lines next = EpsGives set sub snid lines × (next ≡ net)
 LineGives set before net (line.Fiveg line) lines next = FivegGives set before line lines × (next ≡ net)
 LineGives set before net (line.Sites line) lines next = SitesGives set line lines × (next ≡ net)
+LineGives set before net (line.Sim line) lines next = SimGives set line lines × (next ≡ net)
 LineGives set before net (line.Session opening) lines next = EventGives set before net (event.Open opening) lines next
 LineGives set before net (line.Start session) lines next = EventGives set before net (event.Start session) lines next
 LineGives set before net (line.Deliver session at' packet) lines next = EventGives set before net (event.Deliver session at' packet) lines next

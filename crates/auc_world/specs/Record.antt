@@ -2,7 +2,7 @@
 use Rattle.std.specs.Prelude.{ℕ, ◌<◌, Option, Some, None, All}
 use Rattle.auc_world.specs.Event.{asked_in}
 use Rattle.auc_world.specs.declared.further.Further.{Further as Said}
-use Rattle.auc_world.specs.declared.further.Further.TheVariants.{Kasme, HxresStar, Fiveg, Sites}
+use Rattle.auc_world.specs.declared.further.Further.TheVariants.{Kasme, HxresStar, Fiveg, Sites, Sim}
 use Rattle.auc_world.specs.declared.record.LineRecord.{LineRecord}
 use Rattle.auc_world.specs.declared.record.LineRecord.TheVariants.{Vector, Withheld, Exhausted, Sync, Give, Further, Event}
 use Rattle.auc_world.specs.declared.record.PartRecord.{PartRecord}
@@ -15,6 +15,7 @@ further_subscriber (Kasme key) = None
 further_subscriber (HxresStar half) = None
 further_subscriber (Fiveg sub outcome) = Some sub
 further_subscriber (Sites sub note) = Some sub
+further_subscriber (Sim sub note) = Some sub
 
 abbrev pub subscriber_of : LineRecord → Option ℕ
 subscriber_of (Vector sub n) = Some sub

@@ -5,6 +5,10 @@ use Rattle.auc_hmac.specs.declared.keys.KeySet.{KeySet}
 use Rattle.auc_hmac.specs.declared.method.Method.TheVariants as method
 use Rattle.auc_lines.specs.declared.part.Identity.TheVariants as identity
 use Rattle.auc_lines.specs.declared.part.SessionLine.{SessionLine}
+use Rattle.auc_sim.specs.declared.note.SimBecame.{SimBecame}
+use Rattle.auc_sim.specs.declared.note.SimBecame.TheVariants as became
+use Rattle.auc_sim.specs.declared.note.SimNote.{SimNote}
+use Rattle.auc_sim.specs.declared.note.SimNote.TheVariants as said
 use Rattle.auc_vector.specs.declared.turn.Outcome.{Outcome}
 use Rattle.auc_vector.specs.declared.turn.Outcome.TheVariants as outcome
 use Rattle.auc_vector.specs.declared.turn.Step.{Step}
@@ -84,11 +88,22 @@ told_outcome_of_5g fiveg.ServingRefused = fiveg.ServingRefused
 told_outcome_of_5g fiveg.HomeRefused = fiveg.HomeRefused
 told_outcome_of_5g (fiveg.Confirmed home device) = fiveg.Confirmed [] []
 
+-- nor are the packets of EAP-SIM
+abbrev pub told_became : SimBecame → SimBecame
+told_became became.NoSuchPacket = became.NoSuchPacket
+told_became (became.Did what sent) = became.Did (told_what what) sent
+
+abbrev pub told_note_of_sim : SimNote → SimNote
+told_note_of_sim (said.Started bytes) = said.Started []
+told_note_of_sim (said.Delivered at' packet it) = said.Delivered at' packet (told_became it)
+told_note_of_sim (said.Ended agree) = said.Ended agree
+
 abbrev pub told_further : Further → Further
 told_further (further.Kasme key) = further.Kasme key
 told_further (further.HxresStar half) = further.HxresStar half
 told_further (further.Fiveg sub outcome) = further.Fiveg sub (told_outcome_of_5g outcome)
 told_further (further.Sites sub note) = further.Sites sub note
+told_further (further.Sim sub note) = further.Sim sub (told_note_of_sim note)
 
 -- the other lines are told whole
 abbrev pub told_line : LineRecord → LineRecord

@@ -1,9 +1,10 @@
-//! What lines say that follows from a released vector, and what lines for sites say.
+//! What lines say that follows from a released vector, and what lines for sites and for sessions of EAP-SIM say.
 
 ghost use Rattle.std.specs.Prelude.{◌≡◌, IfOk};
 
 use crate::sites::SitesNote;
 use auc_edge::NoMemory;
+use auc_sim::SimNote;
 use std::alloc::Global;
 use std::marker::Model;
 
@@ -20,8 +21,8 @@ pub enum FivegOutcome {
     Confirmed { home: [u8; 32], device: [u8; 32] },
 }
 
-/// What a line says that follows from a released vector, or what a line for sites says.
-#[derive(Clone, Copy)]
+/// What a line says that follows from a released vector, or what a line for sites or for a session of EAP-SIM says.
+#[derive(Drop)]
 pub enum Further {
     /// K_ASME of the vector for the line's serving network (TS 33.401 Annex A.2).
     Kasme([u8; 32]),
@@ -31,6 +32,8 @@ pub enum Further {
     Fiveg { sub: u32, outcome: FivegOutcome },
     /// What happened in an event of the subscriber's sites.
     Sites { sub: u32, note: SitesNote },
+    /// What happened in the subscriber's session of EAP-SIM.
+    Sim { sub: u32, note: SimNote },
 }
 
 impl Further {
@@ -43,7 +46,8 @@ impl Further {
     {
         match *self {
             Further::Kasme(_) | Further::HxresStar(_) => None,
-            Further::Fiveg { sub, .. } | Further::Sites { sub, .. } => Some(sub),
+            Further::Fiveg { sub, .. } | Further::Sites { sub, .. } | Further::Sim { sub, .. } =>
+                Some(sub),
         }
     }
 }

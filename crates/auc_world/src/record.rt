@@ -38,7 +38,8 @@ pub enum LineRecord {
         n: u64,
         verdict: GiveVerdict,
     },
-    /// What follows from a vector that was released for the line, or an event of the line's sites.
+    /// What follows from a vector that was released for the line, an event of the line's sites, or one of its session of
+    /// EAP-SIM.
     Further(BoxedFurther),
     /// An event of the job's sessions.
     Event(BoxedEvent),
