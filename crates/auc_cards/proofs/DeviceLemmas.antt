@@ -63,6 +63,7 @@ line_few count (line.Give sub n) known = known.0
 line_few count (line.Eps sub snid) known = tt
 line_few count (line.Fiveg fiveg) known = known.sub
 line_few count (line.Sites sites) known = tt
+line_few count (line.Sim sim) known = tt
 line_few count (line.Session opening) known = known.0
 line_few count (line.Start session) known = tt
 line_few count (line.Deliver session at' packet) known = tt

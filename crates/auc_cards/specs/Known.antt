@@ -4,6 +4,7 @@ use Rattle.auc_lines.specs.declared.part.FivegLine.{FivegLine}
 use Rattle.auc_lines.specs.declared.part.Line.{Line}
 use Rattle.auc_lines.specs.declared.part.Line.TheVariants as line
 use Rattle.auc_lines.specs.Part.{IsBit, IsShortIdentity, IsStarBit}
+use Rattle.auc_lines.specs.Sim.{IsSimValue}
 use Rattle.auc_lines.specs.Sites.{IsSitesValue}
 use Rattle.auc_sqn.specs.Number.{max_seq}
 
@@ -28,6 +29,7 @@ IsKnownLine subs (line.Give sub n) = (sub < subs) × (1 ≤ n) × (n ≤ max_seq
 IsKnownLine subs (line.Eps sub snid) = sub < subs
 IsKnownLine subs (line.Fiveg fiveg) = IsKnownFiveg subs fiveg
 IsKnownLine subs (line.Sites sites) = (sites.sub < subs) × IsSitesValue sites
+IsKnownLine subs (line.Sim sim) = (sim.sub < subs) × IsSimValue sim
 IsKnownLine subs (line.Session opening) = (opening.sub < subs) × (length opening.name ≤ 255) × IsShortIdentity opening.identity
 IsKnownLine subs (line.Start session) = Unit {0}
 IsKnownLine subs (line.Deliver session end packet) = Unit {0}

@@ -5,6 +5,6 @@ mod LawLemmas
 mod LineLemmas
 mod NameLemmas
 mod ReadingLemmas
+mod ScheduleLemmas
 mod SessionLemmas
-mod SitesLemmas
 mod SoFarLemmas

@@ -2,7 +2,7 @@
 use Rattle.std.proofs.Common.{◌≡◌, ◌<◌, true, List, length, Result, Ok, Err, IfOk, IfSome, refl}
 use Rattle.auc_subs.specs.declared.row.Row.{Row}
 use Rattle.auc_lines.specs.declared.part.Line.{Line}
-use Rattle.auc_lines.specs.declared.part.Line.TheVariants.{Draw, Give, Sync, Eps, Fiveg, Sites, Session, Start, Deliver, Repeat, GiveUp, Plain, Tamper, Cut}
+use Rattle.auc_lines.specs.declared.part.Line.TheVariants.{Draw, Give, Sync, Eps, Fiveg, Sites, Sim, Session, Start, Deliver, Repeat, GiveUp, Plain, Tamper, Cut}
 use Rattle.auc_lines.specs.Part.{held_by}
 use Rattle.auc_script.specs.declared.refusal.ScriptWhy.{ScriptWhy}
 use Rattle.auc_script.specs.InnerRefusal.{Says, as_said}
@@ -22,6 +22,7 @@ known_line rows (Give sub number) is = is.0
 known_line rows (Eps sub snid) is = tt
 known_line rows (Fiveg line) is = is.0
 known_line rows (Sites line) is = tt
+known_line rows (Sim line) is = tt
 known_line rows (Session line) is = is.0
 known_line rows (Start session) is = tt
 known_line rows (Deliver session end packet) is = tt

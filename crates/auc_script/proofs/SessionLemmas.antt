@@ -13,7 +13,7 @@ use Rattle.std.proofs.lemmas.List.Sums.{sum_by-append}
 use Rattle.std.proofs.lemmas.Option.{get_or_from_slice_get, slice_get-get_or, slice_get_within}
 use Rattle.std.proofs.Math.Seq.{get_or-append_seam, take-append_seam}
 use Rattle.auc_lines.specs.declared.part.Line.{Line}
-use Rattle.auc_lines.specs.declared.part.Line.TheVariants.{Draw, Give, Sync, Eps, Fiveg, Sites, Session, Start, Deliver, Repeat, GiveUp, Plain, Tamper, Cut}
+use Rattle.auc_lines.specs.declared.part.Line.TheVariants.{Draw, Give, Sync, Eps, Fiveg, Sites, Sim, Session, Start, Deliver, Repeat, GiveUp, Plain, Tamper, Cut}
 use Rattle.auc_script.specs.declared.refusal.ScriptWhy.{ScriptWhy}
 use Rattle.auc_script.specs.declared.refusal.ScriptWhy.TheVariants as why
 use Rattle.auc_subs.specs.Steps.{◌>>=◌}
@@ -74,6 +74,7 @@ fresh all here begun (Give sub number) order = tt
 fresh all here begun (Eps sub snid) order = tt
 fresh all here begun (Fiveg line) order = tt
 fresh all here begun (Sites line) order = tt
+fresh all here begun (Sim line) order = tt
 fresh all here begun (Start session) order = tt
 fresh all here begun (Deliver session end packet) order = tt
 fresh all here begun (Repeat session) order = tt
@@ -90,6 +91,7 @@ known all here begun (Give sub number) order = tt
 known all here begun (Eps sub snid) order = tt
 known all here begun (Fiveg line) order = tt
 known all here begun (Sites line) order = tt
+known all here begun (Sim line) order = tt
 known all here begun (Start session) order = first (is_among session here) order
   where
     first : (b : Bool) → (require b why.UnknownSession >>= λ known. is_new begun session) ≡ Ok tt → b ≡ true

@@ -20,7 +20,7 @@ use Rattle.auc_script.specs.declared.holders.Holders.{Holders}
 use Rattle.auc_script.specs.declared.sessions.Sessions.{Sessions}
 use Rattle.auc_script.specs.declared.so_far.SoFar.{SoFar}
 use Rattle.auc_lines.specs.declared.part.Line.{Line}
-use Rattle.auc_lines.specs.declared.part.Line.TheVariants.{Draw, Give, Sync, Eps, Fiveg, Sites, Session, Start, Deliver, Repeat, GiveUp, Plain, Tamper, Cut}
+use Rattle.auc_lines.specs.declared.part.Line.TheVariants.{Draw, Give, Sync, Eps, Fiveg, Sites, Sim, Session, Start, Deliver, Repeat, GiveUp, Plain, Tamper, Cut}
 use Rattle.auc_lines.specs.declared.part.Part.{Part}
 use Rattle.auc_lines.specs.declared.part.Part.TheVariants.{Round, Restart}
 use Rattle.auc_lines.specs.Sites.{IsSitesValue, SitesValue, deliveries_in, is_delivery}
@@ -615,6 +615,7 @@ few_asked rows (Give sub number) is = omega arith
 few_asked rows (Eps sub snid) is = omega arith
 few_asked rows (Fiveg line) is = omega arith
 few_asked rows (Sites line) is = few_leased line (is refl).1
+few_asked rows (Sim line) is = omega (arith, (is refl).1.most)
 few_asked rows (Start session) is = omega arith
 few_asked rows (Deliver session end packet) is = omega arith
 few_asked rows (Repeat session) is = omega arith

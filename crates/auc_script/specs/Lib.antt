@@ -8,7 +8,9 @@ pub mod Limits
 pub mod Numbers
 pub mod Reading
 pub mod Scenario
+pub mod Schedule
 pub mod Session
 pub mod SessionLine
+pub mod SimLine
 pub mod SitesLine
 pub mod Word

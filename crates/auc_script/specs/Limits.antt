@@ -10,10 +10,11 @@ use Rattle.auc_subs.specs.Subscriber.{AreSubscribers}
 use Rattle.auc_lines.specs.declared.part.Identity.{Identity}
 use Rattle.auc_lines.specs.declared.part.Identity.TheVariants.{Held, Permanent, Text}
 use Rattle.auc_lines.specs.declared.part.Line.{Line}
-use Rattle.auc_lines.specs.declared.part.Line.TheVariants.{Draw, Give, Sync, Eps, Fiveg, Sites, Session, Start, Deliver, Repeat, GiveUp, Plain, Tamper, Cut}
+use Rattle.auc_lines.specs.declared.part.Line.TheVariants.{Draw, Give, Sync, Eps, Fiveg, Sites, Sim, Session, Start, Deliver, Repeat, GiveUp, Plain, Tamper, Cut}
 use Rattle.auc_lines.specs.declared.part.Part.{Part}
 use Rattle.auc_lines.specs.declared.part.Part.TheVariants.{Round, Restart}
 use Rattle.auc_lines.specs.Part.{AreApart, IsBit, IsShortIdentity, IsStarBit, asked, jobs_of}
+use Rattle.auc_lines.specs.Sim.{IsSimValue}
 use Rattle.auc_lines.specs.Sites.{IsSitesValue}
 use Rattle.auc_script.specs.declared.script.Script.{Script}
 use Rattle.auc_script.specs.Scenario.{rounds_of}
@@ -47,6 +48,7 @@ IsLine rows (Give sub number) = (sub < length rows) × (1 ≤ number) × (number
 IsLine rows (Eps sub snid) = sub < length rows
 IsLine rows (Fiveg line) = (line.sub < length rows) × IsName line.home × IsName line.device × IsStarBit line.bit
 IsLine rows (Sites line) = (line.sub < length rows) × IsSitesValue line
+IsLine rows (Sim line) = (line.sub < length rows) × IsSimValue line
 IsLine rows (Session line) =
     (line.sub < length rows) × (length line.name ≤ longest_name) × IsShortIdentity line.identity
     × IsSession line.session × AreNames line.method line.name line.peer_name × HasText line.identity

@@ -50,7 +50,8 @@ longest_name = 255
 abbrev pub longest_text : ℕ
 longest_text = 255
 
--- how many sites a line for sites may have, how many numbers a lease, and how many events its schedule
+-- how many sites a line for sites may have, how many numbers a lease, and how many events its schedule, or deliveries that of a
+-- session of EAP-SIM
 abbrev pub most_sites : ℕ
 most_sites = 64
 
@@ -59,3 +60,10 @@ most_leased = 32
 
 abbrev pub most_events : ℕ
 most_events = 200
+
+-- how many triplets a session of EAP-SIM may have (RFC 4186 §10.9)
+abbrev pub least_triplets : ℕ
+least_triplets = 2
+
+abbrev pub most_triplets : ℕ
+most_triplets = 3

@@ -35,9 +35,12 @@
 --   sites IMSI SITES SIZE SCHEDULE           in a job; SITES 1 to 64, SIZE 1 to 32; SCHEDULE of 1 to 200 events
 --                                            between commas, each of them ask:S, draw:S or re:S with S from 1
 --                                            to SITES, dP with P to 4294967295, or master; a subscriber's IMSI
+--   sim IMSI COUNT SCHEDULE                  in a job; COUNT 2 or 3; SCHEDULE plain, or 1 to 200 deliveries
+--                                            between commas, each of them pK or sK with K to 4294967295; a
+--                                            subscriber's IMSI
 --
--- All lines together ask for 1000000 vectors at most: a session for two, an eps and a fiveg for one, and a line of sites for
--- SIZE in each event dP. The lines of sessions, tamper and cut in a job count for 1000000 packets at most, a plain for 40 and
+-- All lines together ask for 1000000 vectors at most: a session for two, an eps and a fiveg for one, a line of sites for
+-- SIZE in each event dP, and a sim for COUNT. The lines of sessions, tamper and cut in a job count for 1000000 packets at most, a plain for 40 and
 -- each other for one. A line without a word and a comment say nothing.
 use Rattle.std.specs.Prelude.{ℕ, ◌+◌, ◌==◌, ◌++◌, ◌&&◌, not, nat_le, nat_lt, Bool, false, List, [], ◌∷◌, length, Option, Some, None, is_some, Result, Ok, Err, if◌then◌else◌}
 use Rattle.std.specs.List.{join_with_byte, list_any}
@@ -50,11 +53,11 @@ use Rattle.auc_text.specs.Field.{octets_in}
 use Rattle.auc_text.specs.Text.{words_of}
 use Rattle.auc_subs.specs.Subscriber.{place_of, rows_after}
 use Rattle.auc_lines.specs.declared.part.Line.{Line}
-use Rattle.auc_lines.specs.declared.part.Line.TheVariants.{Draw, Give, Sync, Eps, Fiveg, Sites, Session, Start, Deliver, Repeat, GiveUp, Plain, Tamper, Cut}
+use Rattle.auc_lines.specs.declared.part.Line.TheVariants.{Draw, Give, Sync, Eps, Fiveg, Sites, Sim, Session, Start, Deliver, Repeat, GiveUp, Plain, Tamper, Cut}
 use Rattle.auc_lines.specs.declared.part.Part.{Part}
 use Rattle.auc_lines.specs.declared.part.Part.TheVariants.{Round, Restart}
 use Rattle.auc_lines.specs.Part.{asked, asked_by, held_by, holds, jobs_of, last_bit, last_star_bit}
-use Rattle.auc_script.specs.Numbers.{last_packet, last_place, last_session, longest_realm, most_count, most_jobs, most_leased, most_packets, most_rounds, most_sessions, most_sites, most_vectors, most_workers}
+use Rattle.auc_script.specs.Numbers.{last_packet, last_place, last_session, least_triplets, longest_realm, most_count, most_jobs, most_leased, most_packets, most_rounds, most_sessions, most_sites, most_triplets, most_vectors, most_workers}
 use Rattle.auc_script.specs.declared.refusal.ScriptWhy.{ScriptWhy}
 use Rattle.auc_script.specs.declared.refusal.ScriptWhy.TheVariants as why
 use Rattle.auc_script.specs.declared.header.Header.{Header}
@@ -69,7 +72,8 @@ use Rattle.auc_subs.specs.Steps.{◌>>=◌}
 use Rattle.auc_script.specs.Field.{bit_in, byte_in, end_in, four_fields, full_in, no_field, number_between, one_field, require, three_fields, two_fields}
 use Rattle.auc_script.specs.FivegLine.{fiveg_fields, fiveg_line, hxres_in}
 use Rattle.auc_script.specs.Session.{has_fit_texts, is_among, opened, opened_by, packets, packets_by, sessions_of, started}
-use Rattle.auc_script.specs.SitesLine.{schedule_of}
+use Rattle.auc_script.specs.SimLine.{deliveries_of}
+use Rattle.auc_script.specs.SitesLine.{events_of}
 use Rattle.auc_script.specs.SessionLine.{are_names, are_options, is_identity, method_in, seven_fields, session_line}
 use Rattle.auc_script.specs.Word.{is_comment, word_of}
 
@@ -243,9 +247,18 @@ sites_of rows fields = do
   identity ← ok_or (identity_of four.0) why.Fields
   sites ← number_between 1 most_sites four.1
   size ← number_between 1 most_leased four.2
-  events ← schedule_of sites four.3
+  events ← events_of sites four.3
   sub ← ok_or (place_of rows identity) why.UnknownSubscriber
   Ok (Sites (record { sub = sub; sites = sites; size = size; schedule = events }))
+
+abbrev pub sim_of : List Row → List (List ℕ) → Result Line ScriptWhy
+sim_of rows fields = do
+  three ← three_fields fields
+  identity ← ok_or (identity_of three.0) why.Fields
+  count ← number_between least_triplets most_triplets three.1
+  schedule ← deliveries_of three.2
+  sub ← ok_or (place_of rows identity) why.UnknownSubscriber
+  Ok (Sim (record { sub = sub; count = count; schedule = schedule }))
 
 abbrev pub session_of : List Row → List (List ℕ) → Result Line ScriptWhy
 session_of rows fields = do
@@ -302,6 +315,7 @@ line_of rows job.Give fields = give_of rows fields
 line_of rows job.Eps fields = eps_of rows fields
 line_of rows job.Fiveg fields = fiveg_of rows fields
 line_of rows job.Sites fields = sites_of rows fields
+line_of rows job.Sim fields = sim_of rows fields
 line_of rows job.Session fields = session_of rows fields
 line_of rows job.Start fields = number_of_session fields >>= λ session. Ok (Start session)
 line_of rows job.Deliver fields = deliver_of fields
@@ -327,6 +341,7 @@ in_order all own begun (Give sub number) = Ok tt
 in_order all own begun (Eps sub snid) = Ok tt
 in_order all own begun (Fiveg line) = Ok tt
 in_order all own begun (Sites line) = Ok tt
+in_order all own begun (Sim line) = Ok tt
 in_order all own begun (Session line) = is_new all line.session
 in_order all own begun (Start session) = is_open own session >>= λ known. is_new begun session
 in_order all own begun (Deliver session end packet) = is_open own session

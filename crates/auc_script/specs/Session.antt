@@ -5,7 +5,7 @@ use Rattle.std.specs.List.{filter_map, flat_map, list_any}
 use Rattle.auc_lines.specs.declared.part.Identity.{Identity}
 use Rattle.auc_lines.specs.declared.part.Identity.TheVariants.{Held, Permanent, Text}
 use Rattle.auc_lines.specs.declared.part.Line.{Line}
-use Rattle.auc_lines.specs.declared.part.Line.TheVariants.{Draw, Give, Sync, Eps, Fiveg, Sites, Session, Start, Deliver, Repeat, GiveUp, Plain}
+use Rattle.auc_lines.specs.declared.part.Line.TheVariants.{Draw, Give, Sync, Eps, Fiveg, Sites, Sim, Session, Start, Deliver, Repeat, GiveUp, Plain}
 use Rattle.auc_script.specs.Numbers.{longest_name, longest_text, packets_of_plain}
 
 -- the number of the session that a line opens, and of the one that it starts as a `start` line
@@ -67,6 +67,7 @@ packets_by (Give sub number) = 0
 packets_by (Eps sub snid) = 0
 packets_by (Fiveg line) = 0
 packets_by (Sites line) = 0
+packets_by (Sim line) = 0
 packets_by (Plain session) = packets_of_plain
 packets_by other = 1
 

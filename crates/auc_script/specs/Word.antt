@@ -30,6 +30,7 @@ job_word_of text =
     else if is_text text (codes "eps") then Some job.Eps
     else if is_text text (codes "fiveg") then Some job.Fiveg
     else if is_text text (codes "sites") then Some job.Sites
+    else if is_text text (codes "sim") then Some job.Sim
     else if is_text text (codes "session") then Some job.Session
     else if is_text text (codes "start") then Some job.Start
     else if is_text text (codes "deliver") then Some job.Deliver

@@ -16,6 +16,7 @@ use crate::fiveg_line::read_fiveg;
 use crate::limits::{LAST_PACKET, LAST_PLACE, MAX_COUNT};
 use crate::refusal::{LineRefusal, ScriptWhy};
 use crate::session_line::{read_deliver, read_give_up, read_one_number, read_session};
+use crate::sim_line::read_sim;
 use crate::sites_line::read_sites;
 use crate::word::JobWord;
 use auc_edge::Imsi;
@@ -43,6 +44,7 @@ pub fn read_line(
         JobWord::Eps => said(read_eps(subs, fields)),
         JobWord::Fiveg => read_fiveg(alloc, subs, fields),
         JobWord::Sites => read_sites(alloc, subs, fields),
+        JobWord::Sim => read_sim(alloc, subs, fields),
         JobWord::Session => read_session(alloc, subs, fields),
         JobWord::Start => Ok(Line::Start(read_one_number(fields)?)),
         JobWord::Deliver => said(read_deliver(fields)),

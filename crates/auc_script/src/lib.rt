@@ -2,7 +2,7 @@
 //!
 //! [`Script::read`] reads a scenario's text: lines of words, each line with the first word that says what
 //! it is. `randkey`, `workers`, `print`, `realm` and the scenario's own `subscriber`s come before the first
-//! `round`; a round has `job`s, and a job has lines `draw`, `sync`, `give`, `eps`, `fiveg` and `sites`, those of sessions,
+//! `round`; a round has `job`s, and a job has lines `draw`, `sync`, `give`, `eps`, `fiveg`, `sites` and `sim`, those of sessions,
 //! `session`, `start`, `deliver`, `repeat`, `giveup` and `plain`, and `tamper` and `cut` for a changed packet. A `restart`
 //! may stand once after each round. The first line that is none of these, or stands in a wrong place, or has a wrong field,
 //! or passes a limit, is refused by its number and its first cause, a [`ScriptWhy`].
@@ -21,23 +21,26 @@ mod limits;
 mod number_set;
 mod refusal;
 mod round_so_far;
+mod schedule;
 mod script;
 mod session_line;
 mod sessions;
+mod sim_line;
 mod sites_line;
 mod so_far;
 mod word;
 
 pub use auc_lines::{
-    End, FivegLine, Identity, JobPart, Line, Part, RoundPart, SessionLine, SiteEvent, SitesLine,
+    End, FivegLine, Identity, JobPart, Line, Part, RoundPart, SessionLine, SimDelivery, SimLine,
+    SimSchedule, SiteEvent, SitesLine,
 };
 pub use law::{
     refused_line_is_the_first_wrong, right_text_is_read_whole, text_that_is_read_is_right,
 };
 pub use limits::{
     LAST_PACKET, LAST_PLACE, LAST_SESSION, MAX_COUNT, MAX_EVENTS, MAX_JOBS, MAX_LEASED, MAX_NAME,
-    MAX_PACKETS, MAX_REALM, MAX_ROUNDS, MAX_SESSIONS, MAX_SITES, MAX_TEXT, MAX_VECTORS,
-    MAX_WORKERS, PACKETS_OF_PLAIN,
+    MAX_PACKETS, MAX_REALM, MAX_ROUNDS, MAX_SESSIONS, MAX_SITES, MAX_TEXT, MAX_TRIPLETS,
+    MAX_VECTORS, MAX_WORKERS, MIN_TRIPLETS, PACKETS_OF_PLAIN,
 };
 pub use refusal::{ScriptRefusal, ScriptWhy};
 pub use script::Script;

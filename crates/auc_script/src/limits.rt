@@ -32,5 +32,9 @@ pub const MAX_TEXT: usize = 255;
 pub const MAX_SITES: u64 = 64;
 /// How many numbers a lease may have.
 pub const MAX_LEASED: u64 = 32;
-/// How many events the schedule of a line for sites may have.
+/// How few triplets the server of a session of EAP-SIM may challenge with (RFC 4186 §10.9).
+pub const MIN_TRIPLETS: u64 = 2;
+/// How many triplets it may challenge with.
+pub const MAX_TRIPLETS: u64 = 3;
+/// How many events the schedule of a line for sites may have, and how many deliveries that of a session of EAP-SIM.
 pub const MAX_EVENTS: usize = 200;

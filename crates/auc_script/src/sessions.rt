@@ -62,6 +62,7 @@ impl Sessions {
             | Line::Eps { .. }
             | Line::Fiveg(_)
             | Line::Sites(_)
+            | Line::Sim(_)
             | Line::Tamper { .. }
             | Line::Cut { .. } => Ok(()),
             Line::Session(ref line) => require(!self.all.has(line.session), ScriptWhy::Twice),
@@ -122,7 +123,8 @@ fn packets_by(line: &Line) -> u32
         | Line::Give { .. }
         | Line::Eps { .. }
         | Line::Fiveg(_)
-        | Line::Sites(_) => 0,
+        | Line::Sites(_)
+        | Line::Sim(_) => 0,
         Line::Plain(_) => PACKETS_OF_PLAIN,
         _ => 1,
     }

@@ -1,8 +1,6 @@
 //! The line for sites that hand out leased numbers.
 
-ghost use Rattle.std.specs.Prelude.{◌≡◌, ◌==◌, ◌≤◌, ◌<◌, true, length, count_by, map, All, IfOk, IfSome};
-ghost use Rattle.std.specs.List.{list_all};
-ghost use Rattle.std.specs.Option.{option_copied};
+ghost use Rattle.std.specs.Prelude.{◌≡◌, ◌≤◌, ◌<◌, true, length, map, All, IfOk, IfSome};
 ghost use Rattle.auc_lines.specs.Part.{held_by};
 ghost use Rattle.auc_lines.specs.Sites.{IsOfSites, IsSite};
 ghost use Rattle.auc_text.specs.Text.{words_of};
@@ -12,12 +10,14 @@ ghost use Rattle.auc_script.specs.Limits.{IsLine};
 ghost use Rattle.auc_script.specs.Numbers.{most_events};
 ghost use Rattle.auc_script.specs.Scenario.{sites_of};
 ghost use Rattle.auc_script.specs.Session.{has_fit_texts};
-ghost use Rattle.auc_script.specs.SitesLine.{behind, event_of, events_in, events_of, is_there, schedule_of};
+ghost use Rattle.auc_script.specs.Schedule.{each_of};
+ghost use Rattle.auc_script.specs.SitesLine.{event_of, events_of};
 
 use crate::field::{four_fields, is_text, read_number};
 use crate::limits::{LAST_PACKET, MAX_EVENTS, MAX_LEASED, MAX_SITES};
 use crate::refusal::{LineRefusal, ScriptWhy, require};
-use auc_edge::{Imsi, Items, NoMemory};
+use crate::schedule::{are_there, behind, part_count, part_texts};
+use auc_edge::{Imsi, Items};
 use auc_lines::{Line, SiteEvent, SitesLine};
 use auc_subs::Subscribers;
 use std::alloc::Global;
@@ -43,51 +43,20 @@ fn read_schedule(
     sites: u32,
     schedule: &[u8],
 ) -> Result<Items<SiteEvent>, LineRefusal>
-    ensures value { Says (schedule_of sites schedule.now) result }
+    ensures value { Says (events_of sites schedule.now) result }
     ensures some { IfOk result (λ events. 1 ≤ length events) }
     ensures few { IfOk result (λ events. length events ≤ most_events) }
     ensures named { IfOk result (λ events. All (IsOfSites sites) events) }
 {
-    require(event_count(schedule) <= MAX_EVENTS, ScriptWhy::Fields)?;
-    let texts = event_texts(alloc, schedule)?;
+    require(part_count(schedule) <= MAX_EVENTS, ScriptWhy::Fields)?;
+    let texts = part_texts(alloc, schedule)?;
     require(are_there(texts.as_slice()), ScriptWhy::Fields)?;
     read_events(alloc, sites, texts.as_slice())
 }
 
-/// How many events a schedule has.
-fn event_count(schedule: &[u8]) -> usize
-    ensures value { result ≡ length (events_in schedule.now) }
-    ensures some { 1 ≤ result }
-{
-    comma_count(schedule) + 1
-}
-
-/// How many commas a text has.
-fn comma_count(text: &[u8]) -> usize
-    ensures value { result ≡ count_by (λ byte. byte == 44) text.now }
-    ensures few { result ≤ length text.now }
-{
-    text.iter().filter(|byte| **byte == b',').count()
-}
-
-/// The events of a schedule, as they are written.
-fn event_texts(alloc: Global, schedule: &[u8]) -> Result<Vec<&[u8]>, NoMemory>
-    ensures { IfOk result (λ texts. map (λ text. text.now) texts.items ≡ events_in schedule.now) }
-{
-    let texts = schedule.split(|byte| *byte == b',').collect(alloc)?;
-    Ok(texts)
-}
-
-/// Whether no event is empty.
-fn are_there(texts: &[&[u8]]) -> bool
-    ensures { result ≡ list_all (λ text. is_there text.now) texts.now }
-{
-    texts.iter().all(|text| 1 <= text.len())
-}
-
 /// What some events say, from left to right.
 fn read_events(alloc: Global, sites: u32, texts: &[&[u8]]) -> Result<Items<SiteEvent>, LineRefusal>
-    ensures value { Says (events_of sites (map (λ text. text.now) texts.now)) result }
+    ensures value { Says (each_of (event_of sites) (map (λ text. text.now) texts.now)) result }
     ensures count { IfOk result (λ events. length events ≡ length texts.now) }
     ensures named { IfOk result (λ events. All (IsOfSites sites) events) }
 {
@@ -117,13 +86,6 @@ fn read_event(sites: u32, text: &[u8]) -> Result<SiteEvent, ScriptWhy>
     }
     let number = behind(text, b"d").ok_or(ScriptWhy::Fields)?;
     Ok(SiteEvent::Deliver(read_number(number, 0, LAST_PACKET)? as u32))
-}
-
-/// What stands behind a word at the beginning of a text, or `None` if the text begins otherwise.
-fn behind<'a>(text: &'a [u8], word: &[u8]) -> Option<&'a [u8]>
-    ensures { option_copied result ≡ behind word.now text.now }
-{
-    text.strip_prefix(word)
 }
 
 /// The number of one of so many sites.

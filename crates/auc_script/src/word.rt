@@ -33,6 +33,8 @@ pub enum JobWord {
     Fiveg,
     /// `sites IMSI SITES SIZE SCHEDULE`
     Sites,
+    /// `sim IMSI COUNT SCHEDULE`
+    Sim,
     /// `session T IMSI METHOD SNAME PNAME OPTIONS IDENTITY`
     Session,
     /// `start T`
@@ -125,6 +127,9 @@ fn read_job_word(text: &[u8]) -> Option<JobWord>
     }
     if is_text(text, b"sites") {
         return Some(JobWord::Sites);
+    }
+    if is_text(text, b"sim") {
+        return Some(JobWord::Sim);
     }
     if is_text(text, b"session") {
         return Some(JobWord::Session);

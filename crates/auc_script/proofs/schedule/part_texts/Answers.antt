@@ -2,7 +2,7 @@ use Rattle.std.proofs.Common.{rules, tests}
 use Rattle.std.specs.Prelude.{◌==◌}
 use Rattle.std.proofs.lemmas.Iterator.Consumers.{map_from_collect}
 use Rattle.std.proofs.lemmas.Iterator.Splits.{YieldsList-from_slice_split}
-use Rattle.auc_script.proofs.sites_line.event_texts.Goals as goal
+use Rattle.auc_script.proofs.schedule.part_texts.Goals as goal
 
 pub returns : goal.returns
 returns c =
