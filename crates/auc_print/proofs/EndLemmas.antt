@@ -1,10 +1,11 @@
 -- In a lawful transcript what comes of each event is a step of the end that the event concerns.
-use Rattle.std.proofs.Common.{ℕ, ◌≡◌, refl, sym, subst, Bool, true, false, List, [], ◌∷◌, ◌++◌, map, Option, Some, None, zero, suc, All}
+use Rattle.std.proofs.Common.{ℕ, ◌≡◌, refl, sym, subst, Bool, true, false, List, [], ◌∷◌, ◌++◌, length, map, ◌==◌, Option, Some, None, zero, suc, All}
 use Rattle.std.proofs.lemmas.List.Elements.{All-nil, All-cons, All-append, All-map}
 use Rattle.auc_5g.specs.Keys.{home_of}
 use Rattle.auc_5g.specs.declared.device_keys.DeviceKeys.{DeviceKeys}
 use Rattle.auc_5g.specs.declared.home_keys.HomeKeys.{HomeKeys}
 use Rattle.auc_edge.specs.declared.stop.Stop.{Stop}
+use Rattle.auc_lines.specs.Sim.{SimValue}
 use Rattle.auc_lines.specs.declared.part.End.{End}
 use Rattle.auc_lines.specs.declared.part.End.TheVariants as end
 use Rattle.auc_lines.specs.declared.part.FivegLine.{FivegLine}
@@ -28,8 +29,10 @@ use Rattle.auc_world.specs.Came.{Came, came, came_at_peer, came_at_server, came_
 use Rattle.auc_world.specs.Draws.{DrawGives, OneGives}
 use Rattle.auc_world.specs.Given.{Authenticates, AuthenticatesIf, Before, EventGives, FivegFollows, GiveGives, JobGives, JobsGive, LineGives, PlainGives, RelayGives, VectorsFollow, behind, device_of_row, hxres_lines, judged_lines, kasme_line, outcome_of, packet_of, turned}
 use Rattle.auc_world.specs.Happened.{Delivery, Told, changed_in, delivery_in}
+use Rattle.auc_world.specs.Lines.{numbers_of}
 use Rattle.auc_world.specs.Net.{Net, device_place, other, packet_at, session_place}
 use Rattle.auc_world.specs.Setting.{Setting}
+use Rattle.auc_world.specs.Sim.{SimFollowsIf, SimGives}
 use Rattle.auc_world.specs.Sites.{LeaseGives, SiteEventGives, SitesGo, event_of, note_of, sites_start}
 use Rattle.auc_world.specs.Start.{Kept, start_of}
 use Rattle.auc_world.specs.Transcript.{Course, Leads, ServesPart, stop_before}
@@ -231,6 +234,18 @@ sites_at set sub size w (e ∷ events) lines (turn ∷ turns) (front, rest, part
     (All-append IsAtItsEnd front rest (site_event_at set sub size w e front turn here)
     (sites_at set sub size (after_event w turn.event turn.numbers turn.end) events rest turns more))
 
+-- what a line for a session of EAP-SIM gives
+sim_at : (set : Setting) (l : SimValue) (lines : List LineRecord) → SimGives set l lines → AreAt lines
+sim_at set l lines gives =
+    subst AreAt (sym gives.lines_are)
+    (All-append IsAtItsEnd gives.drawn gives.rest (draw_at set l.sub l.count gives.drawn gives.draws)
+    (by (length (numbers_of l.sub gives.drawn) == l.count) gives.follows))
+  where
+    by : (all : Bool) → SimFollowsIf all set l (numbers_of l.sub gives.drawn) gives.rest → AreAt gives.rest
+    by false none = none_at gives.rest none
+    by true is =
+        subst AreAt (sym is.lines_are) (All-map IsAtItsEnd (λ note. record_of.Further (further.Sim l.sub note)) is.notes (λ k d within. tt))
+
 line_at : (set : Setting) (before : Before) (net : Net) (asked : Line) (lines : List LineRecord) (next : Net) → LineGives set before net asked lines next → AreAt lines
 line_at set before net (line.Draw sub count) lines next gives = draw_at set sub count lines gives.0
 line_at set before net (line.Sync sub seq bit count) lines next gives =
@@ -246,6 +261,7 @@ line_at set before net (line.Fiveg l) lines next gives =
     (λ n rest f. fiveg_at set (behind before (record_of.Vector l.sub n ∷ [])) l n rest f)
 line_at set before net (line.Sites l) lines next gives =
     let run = gives.0 in sites_at set l.sub l.size (sites_start l) l.schedule lines run.0 run.1
+line_at set before net (line.Sim l) lines next gives = sim_at set l lines gives.0
 line_at set before net (line.Session opening) lines next gives = event_at set before net (event.Open opening) lines next gives
 line_at set before net (line.Start session) lines next gives = event_at set before net (event.Start session) lines next gives
 line_at set before net (line.Deliver session at' packet) lines next gives = event_at set before net (event.Deliver session at' packet) lines next gives

@@ -1,5 +1,5 @@
 -- The words of an event's line determine what is told of the event: each piece is cut off at its first word.
-use Rattle.std.proofs.Common.{ℕ, ◌<◌, ◌≤◌, ◌≡◌, ◌∙◌, refl, sym, ap, subst, ◌==◌, min, List, [], ◌∷◌, ◌++◌, get_or, drop, append_assoc, if◌then◌else◌, codes, bytes_eq, Option, Some, None, Result, Ok, Err, arith}
+use Rattle.std.proofs.Common.{ℕ, ◌<◌, ◌≤◌, ◌≡◌, ◌∙◌, refl, sym, ap, subst, Bool, true, false, ◌==◌, min, List, [], ◌∷◌, ◌++◌, get_or, drop, append_assoc, if◌then◌else◌, codes, bytes_eq, Option, Some, None, Result, Ok, Err, arith}
 use Rattle.auc_edge.specs.declared.stop.Stop.{Stop}
 use Rattle.auc_edge.specs.declared.stop.Stop.TheVariants.{Fault, Full}
 use Rattle.auc_lines.specs.declared.part.End.{End}
@@ -32,7 +32,7 @@ use Rattle.auc_world.specs.declared.event.NoteStep.{NoteStep}
 use Rattle.auc_world.specs.declared.event.NoteStep.TheVariants as did
 use Rattle.auc_world.specs.declared.event.WorldRefusal.{WorldRefusal}
 use Rattle.auc_world.specs.declared.event.WorldRefusal.TheVariants as refused
-use Rattle.auc_print.specs.EventText.{came_words, counter_words, end_word, event_words, notes_words, number_words, outcome_words, peer_words, reason_word, refusal_words, resumed_words, resync_words, sent_words, server_words, step_words, stop_word, usim_words, what_words}
+use Rattle.auc_print.specs.EventText.{agree_word, came_words, counter_words, end_word, event_words, notes_words, number_words, outcome_words, peer_words, reason_word, refusal_words, resumed_words, resync_words, sent_words, server_words, step_words, stop_word, usim_words, what_words}
 use Rattle.auc_print.specs.OneText.{CameAt, CameFits, EventFits, IsStepAt, UsimFits, end_of}
 use Rattle.auc_print.proofs.HexLemmas.{hex_injective}
 use Rattle.auc_print.proofs.NumeralLemmas.{numeral_injective}
@@ -87,6 +87,13 @@ end_injective end.Server end.Server e = refl
 end_injective end.Server end.Peer e = let first : get_or (end_word end.Server) 0 0 ≡ get_or (end_word end.Peer) 0 0 = ap (λ w. get_or w 0 0) e in absurd (omega arith)
 end_injective end.Peer end.Server e = let first : get_or (end_word end.Peer) 0 0 ≡ get_or (end_word end.Server) 0 0 = ap (λ w. get_or w 0 0) e in absurd (omega arith)
 end_injective end.Peer end.Peer e = refl
+
+-- and whether keys are equal
+pub agree_injective : (a b : Bool) → agree_word a ≡ agree_word b → a ≡ b
+agree_injective true true e = refl
+agree_injective true false e = let first : get_or (agree_word true) 0 0 ≡ get_or (agree_word false) 0 0 = ap (λ w. get_or w 0 0) e in absurd (omega arith)
+agree_injective false true e = let first : get_or (agree_word false) 0 0 ≡ get_or (agree_word true) 0 0 = ap (λ w. get_or w 0 0) e in absurd (omega arith)
+agree_injective false false e = refl
 
 -- ---- the notes, each with its bound: what comes after it has a number that is at least this
 
@@ -599,7 +606,7 @@ outcome_injective why_words same (outcome.Success keys) (outcome.Failure w) e = 
 outcome_injective why_words same (outcome.Failure v) (outcome.Success keys) e = absurd (two_outcomes (sym (ap (λ ws. word_at ws 1) e)))
 
 -- what is told of a step is determined by its words
-what_injective : {W : Type 0} (why_words : W → List (List ℕ)) → ((v w : W) → why_words v ≡ why_words w → v ≡ w) → (a b : Step W)
+pub what_injective : {W : Type 0} (why_words : W → List (List ℕ)) → ((v w : W) → why_words v ≡ why_words w → v ≡ w) → (a b : Step W)
     → what_words why_words a ≡ what_words why_words b → told_what a ≡ told_what b
 what_injective why_words same (step.Sent bytes) (step.Sent others) e = refl
 what_injective {W} why_words same (step.Ended v bytes) (step.Ended w others) e =

@@ -10,6 +10,8 @@ mod NumeralLemmas
 mod OneTextLemmas
 mod PieceLemmas
 mod RoundLemmas
+mod SimLemmas
 mod SitesLemmas
 mod SpacedLemmas
 mod TextLemmas
+mod WordLemmas

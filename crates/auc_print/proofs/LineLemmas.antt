@@ -1,17 +1,17 @@
 -- The words of a line determine what is told of the line, and so does the text of lines.
-use Rattle.std.proofs.Common.{ℕ, ◌<◌, ◌≡◌, ◌∙◌, refl, sym, ap, Bool, true, false, ◌||◌, List, [], ◌∷◌, ◌++◌, map, drop, length, get_or, flat_map, if◌then◌else◌, codes, bytes_eq, Option, Some, None, Result, Ok, Err, arith}
+use Rattle.std.proofs.Common.{ℕ, ◌<◌, ◌≡◌, ◌∙◌, refl, sym, ap, Bool, true, false, ◌||◌, List, [], ◌∷◌, ◌++◌, map, drop, length, flat_map, if◌then◌else◌, codes, bytes_eq, Option, Some, None, Result, Ok, Err, arith}
 use Rattle.std.specs.List.{AllByRecursion}
 use Rattle.std.proofs.lemmas.List.Concat.{flat_map-append}
-use Rattle.hex.specs.Hex.{encode_lower}
 use Rattle.auc_edge.specs.Identity.{Identity}
-use Rattle.auc_edge.specs.declared.stop.Stop.{Stop}
-use Rattle.auc_edge.specs.declared.stop.Stop.TheVariants.{Fault, Full}
 use Rattle.auc_lines.specs.declared.part.End.{End}
-use Rattle.auc_lines.specs.declared.part.End.TheVariants as end
 use Rattle.auc_peer.specs.declared.why.PeerWhy.{PeerWhy}
 use Rattle.auc_peer.specs.declared.why.PeerWhy.TheVariants as peer_why
 use Rattle.auc_server.specs.declared.why.ServerWhy.{ServerWhy}
 use Rattle.auc_server.specs.declared.why.ServerWhy.TheVariants as server_why
+use Rattle.auc_sim.specs.declared.note.SimBecame.{SimBecame}
+use Rattle.auc_sim.specs.declared.note.SimBecame.TheVariants as became
+use Rattle.auc_sim.specs.declared.note.SimNote.{SimNote}
+use Rattle.auc_sim.specs.declared.note.SimNote.TheVariants as note
 use Rattle.auc_vector.specs.declared.notes.CounterNote.{CounterNote}
 use Rattle.auc_vector.specs.declared.notes.CounterNote.TheVariants as counter
 use Rattle.auc_vector.specs.declared.notes.Notes.{Notes}
@@ -23,8 +23,6 @@ use Rattle.auc_vector.specs.declared.notes.UsimNote.{UsimNote}
 use Rattle.auc_vector.specs.declared.notes.UsimNote.TheVariants as usim
 use Rattle.auc_vector.specs.declared.parts.Vector.{Vector as AuthVector}
 use Rattle.auc_vector.specs.declared.turn.Outcome.TheVariants as outcome
-use Rattle.auc_vector.specs.declared.turn.Reason.{Reason}
-use Rattle.auc_vector.specs.declared.turn.Reason.TheVariants as reason
 use Rattle.auc_vector.specs.declared.turn.Step.{Step}
 use Rattle.auc_vector.specs.declared.turn.Step.TheVariants as step
 use Rattle.auc_world.specs.Record.{IsBelow, subscriber_of}
@@ -51,16 +49,17 @@ use Rattle.auc_world.specs.declared.record.GiveVerdict.{GiveVerdict}
 use Rattle.auc_world.specs.declared.record.GiveVerdict.TheVariants.{Accepted, Sync as SyncFailure, Absent}
 use Rattle.auc_world.specs.declared.record.Closing.{Closing}
 use Rattle.auc_world.specs.declared.record.SessionVerdict.{SessionVerdict}
-use Rattle.auc_print.specs.EventText.{came_lines, came_words, counter_words, end_word, event_words, notes_words, number_words, packet_lines, peer_words, reason_word, resumed_words, resync_words, sent_words, server_words, step_lines, step_sent, step_words, stop_word, usim_words, what_lines, what_words}
-use Rattle.auc_print.specs.Numeral.{numeral}
-use Rattle.auc_print.specs.Text.{Line, RoundLine, JobLine, RecordLine, ClosedLine, SessionLine, HeldLine, BrokenLine, RestartLine, added_lines, agree_word, broken_words, bytes_words, closing_words, further_lines, further_words, give_words, identities_of, line_text, line_words, record_words, session_words, shown_lines, spaced, sync_words}
+use Rattle.auc_print.specs.EventText.{agree_word, came_lines, came_words, counter_words, event_words, notes_words, number_words, packet_lines, peer_words, resumed_words, resync_words, sent_words, server_words, step_lines, step_sent, step_words, usim_words, what_lines, what_sent, what_words}
+use Rattle.auc_print.specs.SimText.{became_lines, sim_lines}
+use Rattle.auc_print.specs.Text.{Line, RoundLine, JobLine, RecordLine, ClosedLine, SessionLine, HeldLine, BrokenLine, RestartLine, added_lines, broken_words, bytes_words, closing_words, further_lines, further_words, give_words, identities_of, line_text, line_words, record_words, session_words, shown_lines, spaced, sync_words}
 use Rattle.auc_print.specs.OneText.{AnswerFits, AreIdentities, GiveFits, IsAtItsEnd}
-use Rattle.auc_print.proofs.EventLemmas.{end_injective, event_injective, notes_flat, stop_injective, word_at}
+use Rattle.auc_print.proofs.EventLemmas.{agree_injective, end_injective, event_injective, notes_flat, stop_injective, word_at}
 use Rattle.auc_print.proofs.FurtherLemmas.{further_injective, further_words_are}
 use Rattle.auc_print.proofs.HexLemmas.{hex_injective}
 use Rattle.auc_print.proofs.ImsiLemmas.{imsi_injective, imsi_word}
 use Rattle.auc_print.proofs.NumeralLemmas.{numeral_injective, numeral_word}
-use Rattle.auc_print.proofs.SpacedLemmas.{IsWord, AllWords, AreWords, AreLines, hex_word, is_word, lines_cut, word_from_test, words_append}
+use Rattle.auc_print.proofs.SpacedLemmas.{AllWords, AreWords, AreLines, hex_word, lines_cut, word_from_test, words_append}
+use Rattle.auc_print.proofs.WordLemmas.{a_stop, agree_word_is, end_word_is, no_more, one_number, some_bytes, stop_word_is, two_numbers, what_words_are}
 
 -- each subscriber that a line names has an identity, and the SQN, K_ASME, HXRES* or changed byte in the line consists of bytes
 abbrev pub LineFits : List Identity → Line → Type 0
@@ -96,31 +95,6 @@ told_of (BrokenLine job breach) = BrokenLine job breach
 told_of RestartLine = RestartLine
 
 -- ---- words
-
--- the words of a stop, of a verdict on an AUTS and of a USIM's answer are words
-stop_word_is : (stop : Stop) → IsWord (stop_word stop)
-stop_word_is Fault = word_from_test (codes "fault") refl
-stop_word_is Full = word_from_test (codes "full") refl
-
-end_word_is : (at' : End) → IsWord (end_word at')
-end_word_is end.Server = word_from_test (codes "server") refl
-end_word_is end.Peer = word_from_test (codes "peer") refl
-
--- words of a number, of two, of bytes
-one_number : (word : List ℕ) (n : ℕ) → is_word word ≡ true → AllWords (word ∷ numeral n ∷ [])
-one_number word n test = (word_from_test word test, (numeral_word n, tt))
-
-two_numbers : (word : List ℕ) (m n : ℕ) → is_word word ≡ true → AllWords (word ∷ numeral m ∷ numeral n ∷ [])
-two_numbers word m n test = (word_from_test word test, (numeral_word m, (numeral_word n, tt)))
-
-a_stop : (word : List ℕ) (n : ℕ) (stop : Stop) → is_word word ≡ true → AllWords (word ∷ numeral n ∷ stop_word stop ∷ [])
-a_stop word n stop test = (word_from_test word test, (numeral_word n, (stop_word_is stop, tt)))
-
-some_bytes : (word bytes : List ℕ) → is_word word ≡ true → AllWords (word ∷ encode_lower bytes ∷ [])
-some_bytes word bytes test = (word_from_test word test, (hex_word bytes, tt))
-
-no_more : (word : List ℕ) → is_word word ≡ true → AllWords (word ∷ [])
-no_more word test = (word_from_test word test, tt)
 
 sync_words_are : (verdict : SyncVerdict) → AllWords (sync_words verdict)
 sync_words_are (Moved seen seq_ms) = two_numbers (codes "moved") seen seq_ms refl
@@ -175,15 +149,6 @@ notes_words_are notes =
     (words_append (resumed_words notes.resumed) _ (resumed_words_are notes.resumed)
     (words_append (usim_words notes.usim) (counter_words notes.counter) (usim_words_are notes.usim) (counter_words_are notes.counter))))
 
-reason_word_is : (a : Reason) → IsWord (reason_word a)
-reason_word_is reason.Closed = word_from_test (codes "closed") refl
-reason_word_is reason.NotForMe = word_from_test (codes "notforme") refl
-reason_word_is reason.OtherType = word_from_test (codes "othertype") refl
-reason_word_is reason.Malformed = word_from_test (codes "malformed") refl
-reason_word_is reason.Unexpected = word_from_test (codes "unexpected") refl
-reason_word_is reason.Missing = word_from_test (codes "missing") refl
-reason_word_is reason.NoContext = word_from_test (codes "nocontext") refl
-
 server_words_are : (a : ServerWhy) → AllWords (server_words a)
 server_words_are server_why.UnknownIdentity = no_more (codes "unknownidentity") refl
 server_words_are server_why.WrongMac = no_more (codes "wrongmac") refl
@@ -213,12 +178,6 @@ peer_words_are peer_why.Undecryptable = no_more (codes "undecryptable") refl
 peer_words_are (peer_why.Notified code) = one_number (codes "notified") code refl
 peer_words_are peer_why.FailureReceived = no_more (codes "failurereceived") refl
 peer_words_are peer_why.GivenUp = no_more (codes "givenup") refl
-
-what_words_are : {W : Type 0} (why_words : W → List (List ℕ)) → ((why : W) → AllWords (why_words why)) → (a : Step W) → AllWords (what_words why_words a)
-what_words_are why_words are (step.Sent bytes) = tt
-what_words_are why_words are (step.Ended (outcome.Success keys) bytes) = (word_from_test (codes "ended") refl, (word_from_test (codes "success") refl, tt))
-what_words_are why_words are (step.Ended (outcome.Failure why) bytes) = (word_from_test (codes "ended") refl, (word_from_test (codes "failure") refl, are why))
-what_words_are why_words are (step.Ignored why) = (word_from_test (codes "ignored") refl, (reason_word_is why, tt))
 
 step_words_are : (a : NoteStep) → AllWords (step_words a)
 step_words_are did.Opened = no_more (codes "open") refl
@@ -261,10 +220,6 @@ answer_words_are identities (Give sub n verdict) =
     (word_from_test (codes "give") refl, (imsi_word identities sub, (numeral_word n, give_words_are verdict)))
 answer_words_are identities (Further said) = further_words_are identities said
 answer_words_are identities (Event r) = event_words_are r.event (came_words r.result) (came_words_are r.result)
-
-agree_word_is : (agree : Bool) → IsWord (agree_word agree)
-agree_word_is true = word_from_test (codes "agree") refl
-agree_word_is false = word_from_test (codes "differ") refl
 
 -- the words of a line are words
 words_are : (identities : List Identity) (line : Line) → AreWords (line_words identities line)
@@ -379,10 +334,21 @@ came_added (Ok note) =
     added_append (packet_lines note.packet (step_sent note.step)) (step_lines note.step) (packet_added note.packet (step_sent note.step)) (step_added note.step)
 came_added (Err why) = tt
 
+became_added : (a : SimBecame) → AreAdded (became_lines a)
+became_added became.NoSuchPacket = tt
+became_added (became.Did what sent) =
+    added_append (packet_lines sent (what_sent what)) (what_lines what) (packet_added sent (what_sent what)) (keys_added what)
+
+sim_added : (a : SimNote) → AreAdded (sim_lines a)
+sim_added (note.Started bytes) = packet_added (Some 1) bytes
+sim_added (note.Delivered at' packet it) = became_added it
+sim_added (note.Ended agree) = tt
+
 further_added : (said : Said) → AreAdded (further_lines said)
 further_added (further.Kasme key) = tt
 further_added (further.HxresStar half) = tt
 further_added (further.Sites sub note) = tt
+further_added (further.Sim sub note) = sim_added note
 further_added (further.Fiveg sub fiveg.NoSeparation) = tt
 further_added (further.Fiveg sub fiveg.ServingRefused) = tt
 further_added (further.Fiveg sub fiveg.HomeRefused) = tt
@@ -448,6 +414,7 @@ own_of_further identities (further.Kasme key) rest = refl
 own_of_further identities (further.HxresStar half) rest = refl
 own_of_further identities (further.Fiveg sub outcome) rest = refl
 own_of_further identities (further.Sites sub note) rest = refl
+own_of_further identities (further.Sim sub note) rest = refl
 
 own_of_words : (identities : List Identity) (line : Line) (rest : List (List (List ℕ)))
     → own (line_words identities line ∷ rest) ≡ line_words identities line ∷ own rest
@@ -573,6 +540,7 @@ kind_of_further identities (further.Kasme key) = refl
 kind_of_further identities (further.HxresStar half) = refl
 kind_of_further identities (further.Fiveg sub outcome) = refl
 kind_of_further identities (further.Sites sub note) = refl
+kind_of_further identities (further.Sim sub note) = refl
 
 kind_of_verdict : (agree : Bool) → is_verdict (agree_word agree) ≡ true
 kind_of_verdict true = refl
@@ -596,10 +564,11 @@ kind_is identities (RecordLine (Give sub n verdict)) = refl
 kind_is identities (RecordLine (Further said)) = kind_of_further identities said
 kind_is identities (RecordLine (Event r)) = kind_of_event r.event (came_words r.result) (in_came r.result)
 
--- whether a word is the first of a line on what follows from a vector, or for sites
+-- whether a word is the first of a line on what follows from a vector, for sites, or for a session of EAP-SIM
 abbrev is_further : List ℕ → Bool
 is_further word =
-    bytes_eq word (codes "kasme") || (bytes_eq word (codes "hxresstar") || (bytes_eq word (codes "fiveg") || bytes_eq word (codes "sites")))
+    bytes_eq word (codes "kasme")
+    || (bytes_eq word (codes "hxresstar") || (bytes_eq word (codes "fiveg") || (bytes_eq word (codes "sites") || bytes_eq word (codes "sim"))))
 
 -- a number for each kind of record, by its first word
 abbrev record_of_word : List ℕ → ℕ
@@ -626,6 +595,7 @@ record_of_further identities (further.Kasme key) = refl
 record_of_further identities (further.HxresStar half) = refl
 record_of_further identities (further.Fiveg sub outcome) = refl
 record_of_further identities (further.Sites sub note) = refl
+record_of_further identities (further.Sim sub note) = refl
 
 record_of_event : (e : SessionEvent) (words : List (List ℕ)) → 6 ≡ record_of_word (word_at (event_words e ++ words) 0)
 record_of_event (event.Open opening) words = refl
@@ -767,12 +737,6 @@ closing_injective identities a b are p e =
     closing_is a b sub first last drawn skipped released withheld
 
 -- so is the verdict on a session
-agree_injective : (a b : Bool) → agree_word a ≡ agree_word b → a ≡ b
-agree_injective true true e = refl
-agree_injective true false e = let first : get_or (agree_word true) 0 0 ≡ get_or (agree_word false) 0 0 = ap (λ w. get_or w 0 0) e in absurd (omega arith)
-agree_injective false true e = let first : get_or (agree_word false) 0 0 ≡ get_or (agree_word true) 0 0 = ap (λ w. get_or w 0 0) e in absurd (omega arith)
-agree_injective false false e = refl
-
 verdict_injective : (a b : SessionVerdict) → session_words a ≡ session_words b → a ≡ b
 verdict_injective a b e =
     let session : a.session ≡ b.session = numeral_injective _ _ (ap (λ ws. word_at ws 1) e) in

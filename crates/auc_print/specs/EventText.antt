@@ -1,5 +1,5 @@
 -- The words of an event's line: those of the event, of the notes in their order, and of the step.
-use Rattle.std.specs.Prelude.{ℕ, List, [], ◌∷◌, ◌++◌, Option, Some, None, Result, Ok, Err, codes}
+use Rattle.std.specs.Prelude.{ℕ, Bool, true, false, List, [], ◌∷◌, ◌++◌, Option, Some, None, Result, Ok, Err, codes}
 use Rattle.hex.specs.Hex.{encode_lower}
 use Rattle.auc_edge.specs.declared.stop.Stop.{Stop}
 use Rattle.auc_edge.specs.declared.stop.Stop.TheVariants.{Fault, Full}
@@ -38,6 +38,11 @@ use Rattle.auc_print.specs.Numeral.{numeral}
 abbrev pub stop_word : Stop → List ℕ
 stop_word Fault = codes "fault"
 stop_word Full = codes "full"
+
+-- the word that says whether the keys of both ends of a session are equal
+abbrev pub agree_word : Bool → List ℕ
+agree_word true = codes "agree"
+agree_word false = codes "differ"
 
 -- ---- the event
 

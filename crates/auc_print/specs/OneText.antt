@@ -63,6 +63,7 @@ FurtherFits (further.Kasme key) = IsBytes key
 FurtherFits (further.HxresStar half) = IsBytes half
 FurtherFits (further.Fiveg sub outcome) = Unit {0}
 FurtherFits (further.Sites sub note) = Unit {0}
+FurtherFits (further.Sim sub note) = Unit {0}
 
 -- those of a job's record, if it has any
 abbrev pub AnswerFits : LineRecord → Type 0

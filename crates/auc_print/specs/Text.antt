@@ -1,5 +1,5 @@
 -- The text of a transcript: lines of words. One space stands between two words, and a line feed ends the line.
-use Rattle.std.specs.Prelude.{ℕ, ◌+◌, Bool, true, false, if◌then◌else◌, List, [], ◌∷◌, ◌++◌, map, slice_index_or, flat_map, codes}
+use Rattle.std.specs.Prelude.{ℕ, ◌+◌, Bool, if◌then◌else◌, List, [], ◌∷◌, ◌++◌, map, slice_index_or, flat_map, codes}
 use Rattle.hex.specs.Hex.{encode_lower}
 use Rattle.auc_edge.specs.Identity.{Identity, digits_of}
 use Rattle.auc_subs.specs.declared.row.Row.{Row}
@@ -7,7 +7,7 @@ use Rattle.auc_vector.specs.declared.parts.Vector.{Vector as AuthVector}
 use Rattle.auc_world.specs.declared.further.FivegOutcome.{FivegOutcome}
 use Rattle.auc_world.specs.declared.further.FivegOutcome.TheVariants.{NoSeparation, ServingRefused, HomeRefused, Confirmed}
 use Rattle.auc_world.specs.declared.further.Further.{Further as Said}
-use Rattle.auc_world.specs.declared.further.Further.TheVariants.{Kasme, HxresStar, Fiveg, Sites}
+use Rattle.auc_world.specs.declared.further.Further.TheVariants.{Kasme, HxresStar, Fiveg, Sites, Sim}
 use Rattle.auc_world.specs.declared.net.Breach.{Breach}
 use Rattle.auc_world.specs.declared.record.LineRecord.{LineRecord}
 use Rattle.auc_world.specs.declared.record.LineRecord.TheVariants.{Vector, Withheld, Exhausted, Sync, Give, Further, Event}
@@ -24,8 +24,9 @@ use Rattle.auc_world.specs.declared.record.RoundRecord.{RoundRecord}
 use Rattle.auc_world.specs.declared.record.SessionVerdict.{SessionVerdict}
 use Rattle.auc_world.specs.Setting.{Setting}
 use Rattle.auc_world.specs.Vectors.{vector_in}
-use Rattle.auc_print.specs.EventText.{came_lines, came_words, end_word, event_words, stop_word}
+use Rattle.auc_print.specs.EventText.{agree_word, came_lines, came_words, end_word, event_words, stop_word}
 use Rattle.auc_print.specs.Numeral.{numeral}
+use Rattle.auc_print.specs.SimText.{sim_lines, sim_words}
 use Rattle.auc_print.specs.SitesText.{sites_words}
 
 -- a line: the beginning of a round or of a job with its number, the record of a job's line, a closing, the verdict on a
@@ -96,12 +97,13 @@ fiveg_word ServingRefused = codes "servingrefused"
 fiveg_word HomeRefused = codes "homerefused"
 fiveg_word (Confirmed home device) = codes "confirmed"
 
--- the words of what follows from a released vector, and of a line for sites
+-- the words of what follows from a released vector, and of a line for sites or for a session of EAP-SIM
 abbrev pub further_words : List Identity → Said → List (List ℕ)
 further_words identities (Kasme key) = codes "kasme" ∷ encode_lower key ∷ []
 further_words identities (HxresStar half) = codes "hxresstar" ∷ encode_lower half ∷ []
 further_words identities (Fiveg sub outcome) = codes "fiveg" ∷ imsi_of identities sub ∷ fiveg_word outcome ∷ []
 further_words identities (Sites sub note) = codes "sites" ∷ imsi_of identities sub ∷ sites_words note
+further_words identities (Sim sub note) = codes "sim" ∷ imsi_of identities sub ∷ sim_words note
 
 -- the words of a job's record
 abbrev pub record_words : List Identity → LineRecord → List (List ℕ)
@@ -120,10 +122,6 @@ closing_words identities closing =
     ∷ numeral closing.drawn ∷ numeral closing.skipped ∷ numeral closing.released ∷ numeral closing.withheld ∷ []
 
 -- the words of the verdict on a session
-abbrev pub agree_word : Bool → List ℕ
-agree_word true = codes "agree"
-agree_word false = codes "differ"
-
 abbrev pub session_words : SessionVerdict → List (List ℕ)
 session_words verdict = codes "session" ∷ numeral verdict.session ∷ agree_word verdict.agree ∷ []
 
@@ -170,9 +168,10 @@ further_lines (Kasme key) = []
 further_lines (HxresStar half) = []
 further_lines (Fiveg sub outcome) = fiveg_lines outcome
 further_lines (Sites sub note) = []
+further_lines (Sim sub note) = sim_lines note
 
 -- the lines that a full print adds after a record's line, besides the bytes of a vector: K_SEAF of a 5G authentication, or
--- the packet and the keys of an event
+-- the packet and the keys of an event or of a session of EAP-SIM
 abbrev pub shown_lines : LineRecord → List (List (List ℕ))
 shown_lines (Vector sub n) = []
 shown_lines (Withheld sub n stop) = []

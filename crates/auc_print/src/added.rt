@@ -5,7 +5,7 @@ ghost use Rattle.auc_print.specs.EventText.{came_lines, keys_words, packet_lines
 ghost use Rattle.auc_print.specs.Inner.{IsFrontOf, lines_text};
 ghost use Rattle.auc_print.specs.Text.{shown_lines, spaced};
 
-use crate::further::print_seaf;
+use crate::further::print_further_lines;
 use crate::word::Word;
 use crate::writer::print_line;
 use auc_edge::{NoMemory, Octets};
@@ -14,13 +14,13 @@ use auc_vector::{Outcome, Step};
 use auc_world::{LineRecord, Note, NoteStep, WorldRefusal};
 
 /// Appends the lines that a full print adds after a record's, besides the bytes of a vector: K_SEAF of a confirmed 5G
-/// authentication, or the packet that an event sent or made and the keys of its Success.
+/// authentication, or the packet that was sent or made in an event or a session of EAP-SIM, and the keys of its Success.
 pub fn print_added(answer: &LineRecord, out: &mut Octets) -> Result<(), NoMemory>
     ensures printed { OnOk result (out.new ≡ out.old ++ lines_text (shown_lines answer.now)) }
     ensures grows { IsFrontOf out.old out.new }
 {
     match answer {
-        LineRecord::Further(further) => print_seaf(further.said(), out),
+        LineRecord::Further(further) => print_further_lines(further.said(), out),
         LineRecord::Event(event) => print_came_lines(&event.record().result, out),
         LineRecord::Vector { .. }
         | LineRecord::Withheld { .. }
@@ -45,7 +45,7 @@ fn print_came_lines(came: &Result<Note, WorldRefusal>, out: &mut Octets) -> Resu
 }
 
 /// Appends the line of a packet, if there is one.
-fn print_packet(packet: Option<u32>, bytes: &[u8], out: &mut Octets) -> Result<(), NoMemory>
+pub fn print_packet(packet: Option<u32>, bytes: &[u8], out: &mut Octets) -> Result<(), NoMemory>
     ensures printed { OnOk result
         (out.new ≡ out.old ++ lines_text (packet_lines packet bytes.now)) }
     ensures grows { IsFrontOf out.old out.new }
@@ -71,7 +71,8 @@ fn bytes_of_step(step: &NoteStep) -> &[u8]
     }
 }
 
-fn bytes_of<W: Drop>(what: &Step<W>) -> &[u8]
+/// The bytes that an end sent, if it did.
+pub fn bytes_of<W: Drop>(what: &Step<W>) -> &[u8]
     ensures { result.now ≡ what_sent what.now }
 {
     match what {
@@ -93,7 +94,8 @@ fn print_step_lines(step: &NoteStep, out: &mut Octets) -> Result<(), NoMemory>
     }
 }
 
-fn print_what_lines<W: Drop>(what: &Step<W>, out: &mut Octets) -> Result<(), NoMemory>
+/// Appends the line of the keys of Success, if an end ended so.
+pub fn print_what_lines<W: Drop>(what: &Step<W>, out: &mut Octets) -> Result<(), NoMemory>
     ensures printed { OnOk result (out.new ≡ out.old ++ lines_text (what_lines what.now)) }
     ensures grows { IsFrontOf out.old out.new }
 {

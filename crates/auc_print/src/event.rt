@@ -230,7 +230,7 @@ fn words_of_peer_why(why: PeerWhy) -> Group<'static>
 }
 
 /// The word that says why what was received is ignored.
-fn word_of_reason(reason: Reason) -> &'static [u8]
+pub fn word_of_reason(reason: Reason) -> &'static [u8]
     ensures { result.now ≡ reason_word reason }
 {
     match reason {

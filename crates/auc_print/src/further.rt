@@ -1,4 +1,5 @@
-//! The lines of what follows from a released vector: keys of EPS, and a 5G authentication; and of what happens at sites.
+//! The lines of what follows from a released vector: keys of EPS, and a 5G authentication; and of what happens at sites and in
+//! sessions of EAP-SIM.
 
 ghost use Rattle.std.specs.Prelude.{◌≡◌, ◌++◌, length, OnOk};
 ghost use Rattle.auc_world.specs.Record.{IsBelow, further_subscriber};
@@ -6,6 +7,7 @@ ghost use Rattle.auc_print.specs.Inner.{IsFrontOf, lines_text};
 ghost use Rattle.auc_print.specs.OneText.{FurtherFits};
 ghost use Rattle.auc_print.specs.Text.{fiveg_word, further_lines, further_words, identities_of, seaf_words, spaced};
 
+use crate::sim::{print_sim_lines, words_of_sim};
 use crate::sites::words_of_note;
 use crate::word::{Word, hex_word};
 use crate::writer::{print_line, print_named};
@@ -13,7 +15,7 @@ use auc_edge::{NoMemory, Octets};
 use auc_subs::Subscribers;
 use auc_world::{FivegOutcome, Further};
 
-/// Appends the line of what follows from a vector, or of what happened at sites.
+/// Appends the line of what follows from a vector, or of what happened at sites or in a session of EAP-SIM.
 pub fn print_further(said: &Further, subs: &Subscribers, out: &mut Octets) -> Result<(), NoMemory>
     requires { IsBelow (length subs.now) (further_subscriber said.now) }
 
@@ -32,6 +34,7 @@ pub fn print_further(said: &Further, subs: &Subscribers, out: &mut Octets) -> Re
         Further::Sites { sub, note } => {
             print_named(b"sites", *sub, &words_of_note(*note), subs, out)
         }
+        Further::Sim { sub, note } => print_named(b"sim", *sub, &words_of_sim(note), subs, out),
     }
 }
 
@@ -47,9 +50,9 @@ fn word_of_fiveg(outcome: &FivegOutcome) -> &'static [u8]
     }
 }
 
-/// Appends the line that a full print adds after it: K_SEAF of the home network and of the device, if a 5G authentication is
-/// confirmed.
-pub fn print_seaf(said: &Further, out: &mut Octets) -> Result<(), NoMemory>
+/// Appends the lines that a full print adds after it: K_SEAF of the home network and of the device, if a 5G authentication is
+/// confirmed; or the packet that was sent in a session of EAP-SIM, and the keys of Success.
+pub fn print_further_lines(said: &Further, out: &mut Octets) -> Result<(), NoMemory>
     ensures printed { OnOk result (out.new ≡ out.old ++ lines_text (further_lines said.now)) }
     ensures grows { IsFrontOf out.old out.new }
 {
@@ -58,6 +61,7 @@ pub fn print_seaf(said: &Further, out: &mut Octets) -> Result<(), NoMemory>
             outcome: FivegOutcome::Confirmed { home, device },
             ..
         } => { print_both(home, device, out) }
+        Further::Sim { note, .. } => print_sim_lines(note, out),
         Further::Fiveg { .. } | Further::Kasme(_) | Further::HxresStar(_) | Further::Sites { .. } =>
             Ok(()),
     }

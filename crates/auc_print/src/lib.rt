@@ -19,6 +19,7 @@ mod law;
 mod line;
 mod notes;
 mod round;
+mod sim;
 mod sites;
 mod word;
 mod writer;

@@ -2,10 +2,11 @@
 
 ghost use Rattle.std.specs.Prelude.{◌≡◌, ◌++◌, ◌∷◌, [], ◌<◌, codes, flat_map, length, take, All, OnOk};
 ghost use Rattle.auc_world.specs.Record.{IsBelow, subscriber_of};
+ghost use Rattle.auc_print.specs.EventText.{agree_word};
 ghost use Rattle.auc_print.specs.Inner.{IsFrontOf, bytes_text, group_texts, premise_text};
 ghost use Rattle.auc_print.specs.Numeral.{numeral};
 ghost use Rattle.auc_print.specs.OneText.{AnswerFits, GiveFits};
-ghost use Rattle.auc_print.specs.Text.{agree_word, broken_words, closing_words, give_words, identities_of, record_words, session_words, spaced, sync_words};
+ghost use Rattle.auc_print.specs.Text.{broken_words, closing_words, give_words, identities_of, record_words, session_words, spaced, sync_words};
 
 use crate::event::{print_event, word_of_end};
 use crate::further::print_further;
@@ -118,7 +119,7 @@ pub fn print_sessions(sessions: &[SessionVerdict], out: &mut Octets) -> Result<(
 }
 
 /// The word that says whether the keys of a session's ends are equal.
-fn word_of_verdict(agree: bool) -> &'static [u8]
+pub fn word_of_verdict(agree: bool) -> &'static [u8]
     ensures { result.now ≡ agree_word agree }
 {
     if agree { b"agree" } else { b"differ" }

@@ -1,0 +1,148 @@
+//! The line of a session of EAP-SIM: its words, and the lines that a full print adds.
+
+ghost use Rattle.std.specs.Prelude.{◌≡◌, ◌++◌, ◌∷◌, OnOk};
+ghost use Rattle.auc_print.specs.EventText.{end_word, what_words};
+ghost use Rattle.auc_print.specs.Inner.{IsFrontOf, group_texts, lines_text, word_texts};
+ghost use Rattle.auc_print.specs.Numeral.{numeral};
+ghost use Rattle.auc_print.specs.SimText.{became_lines, became_words, sim_lines, sim_why_words, sim_words};
+
+use crate::added::{bytes_of, print_packet, print_what_lines};
+use crate::event::{word_of_end, word_of_reason};
+use crate::line::word_of_verdict;
+use crate::word::{Group, Word, one};
+use auc_edge::{NoMemory, Octets};
+use auc_sim::{SimBecame, SimNote, SimWhy};
+use auc_vector::{Outcome, Step};
+use auc_world::End;
+
+/// What happened in a session.
+pub fn words_of_sim(note: &SimNote) -> [Word<'static>; 8]
+    ensures { group_texts result ≡ sim_words note.now }
+{
+    match note {
+        SimNote::Started(_) => eight([Word::Text(b"start"), Word::Text(b"sent"), Word::Number(1)]),
+        SimNote::Delivered {
+            end,
+            packet,
+            became,
+        } => words_of_delivery(*end, *packet, became),
+        SimNote::Ended { agree } => eight(one(word_of_verdict(*agree))),
+    }
+}
+
+/// The end and the number of a packet that was delivered, and what became of it.
+fn words_of_delivery(end: End, packet: u32, became: &SimBecame) -> [Word<'static>; 8]
+    ensures { group_texts result ≡ end_word end ∷ numeral packet ∷ became_words became.now }
+{
+    let [first, second, third, fourth, fifth, sixth] = words_of_became(became);
+    let end = Word::Text(word_of_end(end));
+    let packet = Word::Number(u64::from(packet));
+    [end, packet, first, second, third, fourth, fifth, sixth]
+}
+
+/// What became of a packet that was delivered: the packet that the end sent, if it sent one, and what it did besides.
+fn words_of_became(became: &SimBecame) -> [Word<'static>; 6]
+    ensures { group_texts result ≡ became_words became.now }
+{
+    match became {
+        SimBecame::NoSuchPacket => six(
+            Word::Text(b"nosuchpacket"),
+            Word::Nothing,
+            [Word::Nothing; 4],
+        ),
+        SimBecame::Did { step, sent } => match *sent {
+            None => six(Word::Nothing, Word::Nothing, words_of_did(step)),
+            Some(packet) => {
+                let packet = Word::Number(u64::from(packet));
+                six(Word::Text(b"sent"), packet, words_of_did(step))
+            }
+        },
+    }
+}
+
+/// What an end did besides sending.
+fn words_of_did(step: &Step<SimWhy>) -> [Word<'static>; 4]
+    ensures { group_texts result ≡ what_words sim_why_words step.now }
+{
+    match step {
+        Step::Sent(_) => [Word::Nothing; 4],
+        Step::Ended(Outcome::Success(_), _) => four(b"ended", b"success", [Word::Nothing; 2]),
+        Step::Ended(Outcome::Failure(why), _) => four(b"ended", b"failure", words_of_why(*why)),
+        Step::Ignored(reason) => four(b"ignored", word_of_reason(*reason), [Word::Nothing; 2]),
+    }
+}
+
+/// Why an end ended in Failure.
+fn words_of_why(why: SimWhy) -> [Word<'static>; 2]
+    ensures { group_texts result ≡ sim_why_words why }
+{
+    match why {
+        SimWhy::WrongMac => [Word::Text(b"wrongmac"), Word::Nothing],
+        SimWhy::ClientError(code) => {
+            let code = Word::Number(u64::from(code));
+            [Word::Text(b"clienterror"), code]
+        }
+        SimWhy::Version => [Word::Text(b"version"), Word::Nothing],
+        SimWhy::NotFresh => [Word::Text(b"notfresh"), Word::Nothing],
+        SimWhy::FailureReceived => [Word::Text(b"failurereceived"), Word::Nothing],
+    }
+}
+
+/// Two words before two others.
+fn four(
+    first: &'static [u8],
+    second: &'static [u8],
+    others: [Word<'static>; 2],
+) -> [Word<'static>; 4]
+    ensures { group_texts result ≡ first.now ∷ second.now ∷ group_texts others.entry }
+{
+    let [third, fourth] = others;
+    [Word::Text(first), Word::Text(second), third, fourth]
+}
+
+/// The first two words before the others.
+fn six(
+    first: Word<'static>,
+    second: Word<'static>,
+    others: [Word<'static>; 4],
+) -> [Word<'static>; 6]
+    ensures { group_texts result ≡ word_texts first.entry ++ (word_texts second.entry ++ group_texts others.entry) }
+{
+    let [third, fourth, fifth, sixth] = others;
+    [first, second, third, fourth, fifth, sixth]
+}
+
+/// The same words.
+fn eight(words: Group<'static>) -> [Word<'static>; 8]
+    ensures { group_texts result ≡ group_texts words.entry }
+{
+    let [first, second, third] = words;
+    let none = Word::Nothing;
+    [first, second, third, none, none, none, none, none]
+}
+
+/// Appends the lines that a full print adds after the line: the packet that was sent, and the keys of Success.
+pub fn print_sim_lines(note: &SimNote, out: &mut Octets) -> Result<(), NoMemory>
+    ensures printed { OnOk result (out.new ≡ out.old ++ lines_text (sim_lines note.now)) }
+    ensures grows { IsFrontOf out.old out.new }
+{
+    match note {
+        SimNote::Started(bytes) => print_packet(Some(1), bytes.as_slice(), out),
+        SimNote::Delivered { became, .. } => print_became_lines(became, out),
+        SimNote::Ended { .. } => Ok(()),
+    }
+}
+
+/// Appends the lines of what became of a packet.
+fn print_became_lines(became: &SimBecame, out: &mut Octets) -> Result<(), NoMemory>
+    ensures printed { OnOk result (out.new ≡ out.old ++ lines_text (became_lines became.now)) }
+    ensures grows { IsFrontOf out.old out.new }
+{
+    match became {
+        SimBecame::NoSuchPacket => Ok(()),
+        SimBecame::Did { step, sent } => {
+            print_packet(*sent, bytes_of(step), out)?;
+            print_what_lines(step, out)
+        }
+    }
+}
