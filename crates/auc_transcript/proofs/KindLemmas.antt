@@ -1,12 +1,13 @@
 -- For the laws: each line of a job is an event's or a plain one, or it gives lines of known kinds and leaves the network of the job's
 -- sessions as it is. So the lemmas on lines go by these three kinds.
-use Rattle.std.proofs.Common.{◌≡◌, ℕ, zero, suc, ◌≤◌, ◌==◌, Bool, true, false, List, [], ◌∷◌, ◌++◌, map, All, Option, Some, None, refl, sym, ap, ◌∙◌, subst, append_assoc, append-nil}
+use Rattle.std.proofs.Common.{◌≡◌, ℕ, zero, suc, ◌≤◌, ◌==◌, Bool, true, false, List, [], ◌∷◌, ◌++◌, length, map, All, Option, Some, None, refl, sym, ap, ◌∙◌, subst, append_assoc, append-nil}
 use Rattle.std.specs.Prelude.{if◌then◌else◌, slice_get}
 use Rattle.std.proofs.lemmas.Bool.{eqb-true}
 use Rattle.std.proofs.lemmas.List.Elements.{All-cons, All-nil}
 use Rattle.auc_5g.specs.Keys.{home_of}
 use Rattle.auc_5g.specs.declared.device_keys.DeviceKeys.{DeviceKeys}
 use Rattle.auc_5g.specs.declared.home_keys.HomeKeys.{HomeKeys}
+use Rattle.auc_lines.specs.Sim.{SimValue}
 use Rattle.auc_lines.specs.declared.part.FivegLine.{FivegLine}
 use Rattle.auc_lines.specs.declared.part.Line.{Line}
 use Rattle.auc_lines.specs.declared.part.Line.TheVariants as line
@@ -14,6 +15,7 @@ use Rattle.auc_lines.specs.declared.part.SessionLine.{SessionLine}
 use Rattle.auc_lines.specs.declared.sites.SiteEvent.{SiteEvent}
 use Rattle.auc_random.specs.Random.{rand_of}
 use Rattle.auc_request.specs.Request.{is_separated}
+use Rattle.auc_sim.specs.declared.note.SimNote.{SimNote}
 use Rattle.auc_sites.specs.Network.{Network, Turn, after_event}
 use Rattle.auc_sites.specs.Run.{judgement_in}
 use Rattle.auc_sites.specs.declared.master.Judged.{Judged}
@@ -22,8 +24,10 @@ use Rattle.auc_sqn.specs.Number.{max_seq}
 use Rattle.auc_subs.specs.declared.row.Row.{Row}
 use Rattle.auc_vector.specs.declared.parts.Vector.{Vector as AuthVector}
 use Rattle.auc_world.specs.Given.{AuthenticatesIf, Before, DrawGives, EpsGives, EventGives, FivegFollows, FivegGives, GiveGives, IsGiven, IsReleasable, LineGives, OneGives, SyncGives, VectorsFollow, behind, device_of_row, hxres_lines, is_released, judged_lines, kasme_line, outcome_of, past_before, turned}
+use Rattle.auc_world.specs.Lines.{numbers_of}
 use Rattle.auc_world.specs.Net.{Net}
 use Rattle.auc_world.specs.Setting.{Setting}
+use Rattle.auc_world.specs.Sim.{SimFollowsIf, SimGives}
 use Rattle.auc_world.specs.Sites.{LeaseGives, SiteEventGives, SitesGo, event_of, note_of, sites_start}
 use Rattle.auc_world.specs.VectorAt.{vector_at, vector_of_row}
 use Rattle.auc_world.specs.declared.event.Event.{Event as Happens}
@@ -35,6 +39,7 @@ use Rattle.auc_world.specs.declared.record.LineRecord.{LineRecord}
 use Rattle.auc_world.specs.declared.record.LineRecord.TheVariants.{Vector, Withheld, Exhausted, Sync, Give, Further, Event}
 use Rattle.auc_world.specs.declared.record.SyncVerdict.{SyncVerdict}
 use Rattle.auc_world.specs.declared.record.SyncVerdict.TheVariants as verdict
+use Rattle.auc_world.proofs.Facts.{noted}
 use Rattle.auc_transcript.specs.Completeness.{opening_by}
 use Rattle.auc_transcript.specs.Headline.{IsOutsideSessions}
 
@@ -185,6 +190,24 @@ sites_known set place sub size w (e ∷ events) lines (turn ∷ turns) (front, r
     (known-append set place front rest (site_event_known set place sub size w e front turn gives)
     (sites_known set (behind place front) sub size (after_event w turn.event turn.numbers turn.end) events rest turns more))
 
+-- a session of EAP-SIM: what is said of it, and what is drawn before
+notes_known : (set : Setting) (place : Before) (sub : ℕ) (notes : List SimNote) → AreKnown set place (noted sub notes)
+notes_known set place sub [] = tt
+notes_known set place sub (note ∷ notes) = (tt, notes_known set (behind place (Further (further.Sim sub note) ∷ [])) sub notes)
+
+sim_known : (set : Setting) (place : Before) (l : SimValue) (lines : List LineRecord) → SimGives set l lines → AreKnown set place lines
+sim_known set place l lines gives =
+    subst (AreKnown set place) (sym gives.lines_are)
+    (known-append set place gives.drawn gives.rest (draw_known set place l.sub l.count gives.drawn gives.draws)
+    (by (length (numbers_of l.sub gives.drawn) == l.count) gives.follows))
+  where
+    after : Before
+    after = behind place gives.drawn
+
+    by : (all : Bool) → SimFollowsIf all set l (numbers_of l.sub gives.drawn) gives.rest → AreKnown set after gives.rest
+    by false none = none_known set after gives.rest none
+    by true follows = subst (AreKnown set after) (sym follows.lines_are) (notes_known set after l.sub follows.notes)
+
 -- ---- the three kinds
 
 -- a line without an event: it opens no session, gives lines of known kinds, and leaves the network as it is
@@ -228,6 +251,8 @@ module _ (P : Line → Type 0) (quiet : (l : Line) → IsQuiet l → P l) (happe
       quiet _ (record { opens = λ session. refl; gives = λ set place w next lines g. (fiveg_known set place l lines g.0, g.1) })
   by_kind (line.Sites l) =
       quiet _ (record { opens = λ session. refl; gives = λ set place w next lines g. (sites_known set place l.sub l.size (sites_start l) l.schedule lines g.0.0 g.0.1, g.1) })
+  by_kind (line.Sim l) =
+      quiet _ (record { opens = λ session. refl; gives = λ set place w next lines g. (sim_known set place l lines g.0, g.1) })
   by_kind (line.Session opening) = happens (event.Open opening)
   by_kind (line.Start session) = happens (event.Start session)
   by_kind (line.Deliver session at' packet) = happens (event.Deliver session at' packet)

@@ -47,6 +47,7 @@ use Rattle.auc_world.specs.declared.record.PartRecord.{PartRecord}
 use Rattle.auc_world.specs.declared.record.PartRecord.TheVariants as record_of
 use Rattle.auc_world.specs.declared.record.SyncVerdict.{SyncVerdict}
 use Rattle.auc_world.specs.declared.record.SyncVerdict.TheVariants as verdict
+use Rattle.auc_world.proofs.Facts.{sim_each}
 use Rattle.auc_transcript.specs.Keys.{AreNetsAfter}
 use Rattle.auc_transcript.specs.Leases.{EachLeasedNumberIsHandedOutOnce, JobHandsOut, JobsHandOut, SitesHandOutAfter, handed_by, handed_out, number_noted}
 use Rattle.auc_transcript.proofs.HandingLemmas.{IsSilent, draw_silent, lease_silent, one_silent, silent_out, sites_hand_out}
@@ -263,6 +264,8 @@ module _ (law : EachNumberIsHandedOutOnce) (set : Setting) where
       (one_silent set l.sub sub (λ n rest. FivegFollows set (behind before (Vector l.sub n ∷ [])) l n rest) lines
       (λ n rest f. fiveg_silent sub set (behind before (Vector l.sub n ∷ [])) l n rest f) gives)
   line_hands sub before net next (line.Sites l) lines (gives, same) rising = site_hands sub l lines gives rising
+  line_hands sub before net next (line.Sim l) lines (gives, same) rising =
+      silent_hands sub lines (sim_each (IsSilent sub) set l lines (λ note. refl) gives (draw_silent set l.sub l.count sub gives.drawn gives.draws))
   line_hands sub before net next (line.Session opening) lines gives rising = silent_hands sub lines (event_silent sub set before net next (event.Open opening) lines gives)
   line_hands sub before net next (line.Start session) lines gives rising = silent_hands sub lines (event_silent sub set before net next (event.Start session) lines gives)
   line_hands sub before net next (line.Deliver session at' packet) lines gives rising =

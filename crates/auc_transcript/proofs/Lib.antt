@@ -64,6 +64,8 @@ mod ToldEventLemmas
 mod ToldCounterLemmas
 mod SystemLemmas
 mod SystemWitnessLemmas
+mod SimSessionLemmas
+mod SimWitnessLemmas
 mod HandingLemmas
 mod LeaseLemmas
 mod RisingLemmas

@@ -20,6 +20,7 @@ use Rattle.auc_server.specs.Replies.{Replies}
 use Rattle.auc_server.specs.Server.{ServerEnd}
 use Rattle.auc_server.specs.Table.{silent}
 use Rattle.auc_server.specs.declared.reply.Reply.{Reply}
+use Rattle.auc_sim.specs.SessionLaws.{EachSessionHasOneRun}
 use Rattle.auc_vector.specs.declared.notes.Notes.{Notes}
 use Rattle.auc_vector.specs.declared.turn.Turn.{Turn}
 use Rattle.auc_world.specs.Came.{AreReceived, Came, RepliesAt, RepliesIn, TellsNotes, TellsReply, bytes_named, by_peer, came, came_at_peer, came_at_server, came_delivered, presented_at, presented_by, presented_in, received_at, received_by}
@@ -34,11 +35,12 @@ use Rattle.auc_world.specs.declared.net.SentPacket.{SentPacket}
 use Rattle.auc_world.specs.declared.net.Session.{Session}
 use Rattle.auc_transcript.proofs.ReplyLemmas.{replies_once}
 
--- equal bytes are received alike, opened alike, and read alike
+-- equal bytes are received alike, opened alike, and read alike; and a session of EAP-SIM runs in one way
 pub record Laws : Type 0 where
   pub received : OneReceived
   pub walk : OneWalk
   pub opening : OneOpening
+  pub runs : EachSessionHasOneRun
 
 -- an event comes to the same by what was told of it twice
 pub record AreOne (came other : Came) (moved moved_other : Net) (found found_other : Option Finding) : Type 0 where

@@ -1,20 +1,25 @@
 -- For the law of one told transcript: two lists of records that a line without an event gives are one, if the same is told of them.
-use Rattle.std.proofs.Common.{◌≡◌, ℕ, zero, suc, Bool, true, false, List, [], ◌∷◌, ◌++◌, map, Option, Some, None, refl, sym, ap, subst, ◌∙◌, append_assoc}
+use Rattle.std.proofs.Common.{◌≡◌, ℕ, zero, suc, ◌==◌, Bool, true, false, List, [], ◌∷◌, ◌++◌, length, map, Option, Some, None, refl, sym, ap, subst, ◌∙◌, append_assoc}
 use Rattle.std.specs.Prelude.{slice_get}
 use Rattle.std.proofs.lemmas.List.{append_cancel_left, map-append}
 use Rattle.auc_5g.specs.Keys.{home_of}
+use Rattle.auc_lines.specs.Sim.{SimValue}
 use Rattle.auc_lines.specs.Sites.{SitesValue}
 use Rattle.auc_lines.specs.declared.part.FivegLine.{FivegLine}
 use Rattle.auc_lines.specs.declared.sites.SiteEvent.{SiteEvent}
 use Rattle.auc_random.specs.Random.{rand_of}
 use Rattle.auc_request.specs.Request.{is_separated}
+use Rattle.auc_sim.specs.Session.{SimRuns}
+use Rattle.auc_sim.specs.SessionLaws.{EachSessionHasOneRun}
 use Rattle.auc_sites.specs.Network.{Network, Turn, after_event}
 use Rattle.auc_sites.specs.Run.{judgement_in}
 use Rattle.auc_sites.specs.declared.master.Judged.{Judged}
 use Rattle.auc_sites.specs.declared.master.Judged.TheVariants as judged
 use Rattle.auc_subs.specs.declared.row.Row.{Row}
 use Rattle.auc_world.specs.Given.{Authenticates, AuthenticatesIf, Before, DrawGives, EpsGives, FivegFollows, FivegGives, OneGives, SyncGives, VectorsFollow, behind, device_of_row, judged_lines, kasme_line}
+use Rattle.auc_world.specs.Lines.{numbers_of}
 use Rattle.auc_world.specs.Setting.{Setting}
+use Rattle.auc_world.specs.Sim.{SimFollowsIf, SimGives, sim_inputs}
 use Rattle.auc_world.specs.Sites.{LeaseGives, SiteEventGives, SitesGives, SitesGo, event_of, note_of, sites_start, turn_of}
 use Rattle.auc_world.specs.Told.{told_job, told_line}
 use Rattle.auc_world.specs.VectorAt.{vector_at, vector_of_row}
@@ -24,6 +29,7 @@ use Rattle.auc_world.specs.declared.record.LineRecord.{LineRecord}
 use Rattle.auc_world.specs.declared.record.LineRecord.TheVariants.{Vector, Withheld, Exhausted, Sync, Give, Further, Event}
 use Rattle.auc_world.specs.declared.record.SyncVerdict.{SyncVerdict}
 use Rattle.auc_world.specs.declared.record.SyncVerdict.TheVariants as verdict
+use Rattle.auc_world.proofs.Facts.{noted}
 
 -- ---- lists
 
@@ -235,3 +241,28 @@ sites_go_one set sub size w (e ∷ events) xs ys rest others (turn ∷ turns) (o
 
 pub sites_one : (set : Setting) (l : SitesValue) (xs ys rest others : List LineRecord) → SitesGives set l xs → SitesGives set l ys → told_job (xs ++ rest) ≡ told_job (ys ++ others) → xs ≡ ys
 sites_one set l xs ys rest others (turns, gives) (also_turns, gave) same = sites_go_one set l.sub l.size (sites_start l) l.schedule xs ys rest others turns also_turns gives gave same
+
+-- ---- sessions of EAP-SIM
+
+-- what is drawn is told, and the session runs in one way
+pub sim_one : EachSessionHasOneRun → (set : Setting) (l : SimValue) (xs ys rest others : List LineRecord) → SimGives set l xs → SimGives set l ys
+    → told_job (xs ++ rest) ≡ told_job (ys ++ others) → xs ≡ ys
+sim_one law set l xs ys rest others gives gave same =
+    gives.lines_are ∙ ap (λ (ls : List LineRecord). ls ++ gives.rest) drawn ∙ ap (λ (ls : List LineRecord). gave.drawn ++ ls) follow ∙ sym gave.lines_are
+  where
+    cut : told_job (gives.drawn ++ (gives.rest ++ rest)) ≡ told_job (gave.drawn ++ (gave.rest ++ others))
+    cut = ap told_job (sym (ap (λ (ls : List LineRecord). ls ++ rest) gives.lines_are ∙ append_assoc gives.drawn gives.rest rest)) ∙ same
+        ∙ ap told_job (ap (λ (ls : List LineRecord). ls ++ others) gave.lines_are ∙ append_assoc gave.drawn gave.rest others)
+
+    drawn : gives.drawn ≡ gave.drawn
+    drawn = draw_one set l.sub l.count gives.drawn gave.drawn (gives.rest ++ rest) (gave.rest ++ others) gives.draws gave.draws cut
+
+    by : (all : Bool) (numbers : List ℕ) → SimFollowsIf all set l numbers gives.rest → SimFollowsIf all set l numbers gave.rest → gives.rest ≡ gave.rest
+    by false numbers none nothing = none ∙ sym nothing
+    by true numbers f g =
+        let runs = subst (λ (r : Row). SimRuns (sim_inputs set r l.sub numbers) l.schedule g.notes) (some_rows (slice_get set.rows l.sub) g.row f.row g.there f.there) g.runs in
+        f.lines_are ∙ ap (noted l.sub) (law (sim_inputs set f.row l.sub numbers) l.schedule f.notes g.notes f.runs runs) ∙ sym g.lines_are
+
+    follow : gives.rest ≡ gave.rest
+    follow = by (length (numbers_of l.sub gives.drawn) == l.count) (numbers_of l.sub gives.drawn) gives.follows
+        (subst (λ (ds : List LineRecord). SimFollowsIf (length (numbers_of l.sub ds) == l.count) set l (numbers_of l.sub ds) gave.rest) (sym drawn) gave.follows)

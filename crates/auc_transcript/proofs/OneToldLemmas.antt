@@ -27,7 +27,7 @@ use Rattle.auc_world.specs.declared.record.RoundRecord.{RoundRecord}
 use Rattle.auc_world.specs.declared.record.SessionVerdict.{SessionVerdict}
 use Rattle.auc_transcript.specs.OneTold.{EachToldTranscriptIsOne}
 use Rattle.auc_transcript.proofs.OneEventLemmas.{Laws, event_one}
-use Rattle.auc_transcript.proofs.OneLineLemmas.{answered_one, conses, draw_one, eps_one, fiveg_one, heads, same_rest, sites_one, sync_one, tails}
+use Rattle.auc_transcript.proofs.OneLineLemmas.{answered_one, conses, draw_one, eps_one, fiveg_one, heads, same_rest, sim_one, sites_one, sync_one, tails}
 
 -- lines that begin with others of which the same is told: those are the same, lead to the same network, and the same is told
 -- of the rest
@@ -117,6 +117,8 @@ line_one laws set before also_before net next also_next (line.Fiveg l) xs ys res
     quiet_one net next also_next xs ys rest others (fiveg_one set before also_before l xs ys rest others gives gave same) is was same
 line_one laws set before also_before net next also_next (line.Sites l) xs ys rest others (gives, is) (gave, was) same =
     quiet_one net next also_next xs ys rest others (sites_one set l xs ys rest others gives gave same) is was same
+line_one laws set before also_before net next also_next (line.Sim l) xs ys rest others (gives, is) (gave, was) same =
+    quiet_one net next also_next xs ys rest others (sim_one laws.runs set l xs ys rest others gives gave same) is was same
 line_one laws set before also_before net next also_next (line.Session opening) xs ys rest others gives gave same =
     event_lines_one laws set before also_before net next also_next (event.Open opening) xs ys rest others gives gave same
 line_one laws set before also_before net next also_next (line.Start session) xs ys rest others gives gave same =

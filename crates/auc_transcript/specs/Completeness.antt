@@ -44,6 +44,7 @@ session_named (line.Give sub n) = None
 session_named (line.Eps sub snid) = None
 session_named (line.Fiveg authentication) = None
 session_named (line.Sites sites) = None
+session_named (line.Sim sim) = None
 session_named (line.Session opening) = None
 session_named (line.Start session) = Some session
 session_named (line.Deliver session end packet) = Some session
@@ -61,6 +62,7 @@ opening_by session (line.Give sub n) = None
 opening_by session (line.Eps sub snid) = None
 opening_by session (line.Fiveg authentication) = None
 opening_by session (line.Sites sites) = None
+opening_by session (line.Sim sim) = None
 opening_by session (line.Session opening) = if opening.session == session then Some opening else None
 opening_by session (line.Start started) = None
 opening_by session (line.Deliver delivered end packet) = None

@@ -18,7 +18,7 @@ use Rattle.auc_world.specs.Sites.{SitesGo, sites_start}
 use Rattle.auc_world.specs.Start.{Kept, fresh_kept, kept_by_jobs, start_of}
 use Rattle.auc_world.specs.Transcript.{IsLawful, lines_of}
 use Rattle.auc_world.specs.declared.further.Further.{Further as Said}
-use Rattle.auc_world.specs.declared.further.Further.TheVariants.{Kasme, HxresStar, Fiveg, Sites}
+use Rattle.auc_world.specs.declared.further.Further.TheVariants.{Kasme, HxresStar, Fiveg, Sites, Sim}
 use Rattle.auc_world.specs.declared.record.LineRecord.{LineRecord}
 use Rattle.auc_world.specs.declared.record.LineRecord.TheVariants.{Vector, Withheld, Exhausted, Sync, Give, Further, Event}
 use Rattle.auc_world.specs.declared.record.PartRecord.{PartRecord}
@@ -44,6 +44,7 @@ handed_in sub (Kasme key) = []
 handed_in sub (HxresStar half) = []
 handed_in sub (Fiveg s outcome) = []
 handed_in sub (Sites s said) = if s == sub then number_noted said else []
+handed_in sub (Sim s said) = []
 
 -- the number that a line says that one of a subscriber's sites handed out
 abbrev pub handed_by : ℕ → LineRecord → List ℕ

@@ -7,5 +7,6 @@ pub mod OneTold
 pub mod Position
 pub mod Presented
 pub mod Rounds
+pub mod SimSessions
 pub mod Systems
 pub mod Witnesses

@@ -1,13 +1,15 @@
 -- Witnesses of the promises: for each promise transcripts of a few lines that meet its premise, with a part left open. The promise
 -- determines that part. So no promise is empty: if nothing met the premise, it would determine nothing, and the law here would be
 -- false.
-use Rattle.std.specs.Prelude.{◌≡◌, ◌≢◌, ℕ, ◌≤◌, true, false, List, [], ◌∷◌, ◌++◌, map, replicate, Contains, Option, Some, None, Ok}
+use Rattle.std.specs.Prelude.{◌≡◌, ◌≢◌, ℕ, ◌≤◌, Bool, true, false, List, [], ◌∷◌, ◌++◌, map, replicate, Contains, Option, Some, None, Ok}
 use Rattle.auc_attr.specs.declared.attr.Attr.TheVariants as attr
+use Rattle.auc_edge.specs.declared.stop.Stop.{Stop}
 use Rattle.auc_history.specs.History.{numbers_after}
 use Rattle.auc_hmac.specs.declared.keys.KeySet.{KeySet}
 use Rattle.auc_hmac.specs.declared.keys.Master.TheVariants as master
 use Rattle.auc_hmac.specs.declared.method.Method.TheVariants as method
 use Rattle.auc_ident.specs.Permanent.{username}
+use Rattle.auc_lines.specs.Sim.{IsSchedule, SimValue}
 use Rattle.auc_lines.specs.Sites.{SitesValue}
 use Rattle.auc_lines.specs.declared.part.End.TheVariants as end
 use Rattle.auc_lines.specs.declared.part.FivegLine.{FivegLine}
@@ -16,6 +18,8 @@ use Rattle.auc_lines.specs.declared.part.Line.TheVariants as line
 use Rattle.auc_lines.specs.declared.part.Part.{Part}
 use Rattle.auc_lines.specs.declared.part.Part.TheVariants as part
 use Rattle.auc_lines.specs.declared.part.SessionLine.{SessionLine}
+use Rattle.auc_lines.specs.declared.sim.SimSchedule.{SimSchedule}
+use Rattle.auc_lines.specs.declared.sim.SimSchedule.TheVariants.{Plain}
 use Rattle.auc_lines.specs.declared.sites.SiteEvent.TheVariants as site_event
 use Rattle.auc_packet.specs.Spelling.{packet_text}
 use Rattle.auc_packet.specs.declared.packet.Packet.{Packet}
@@ -32,6 +36,9 @@ use Rattle.auc_server.specs.Server.{started}
 use Rattle.auc_server.specs.Table.{silent}
 use Rattle.auc_server.specs.declared.server.ServerState.{ServerState}
 use Rattle.auc_server.specs.declared.server.ServerState.TheVariants as state
+use Rattle.auc_sim.specs.SessionLaws.{Succeeds as SimSucceeds}
+use Rattle.auc_sim.specs.declared.note.SimNote.{SimNote}
+use Rattle.auc_sim.specs.declared.note.SimNote.TheVariants as sim_note
 use Rattle.auc_sqn.specs.Number.{sqn_bytes}
 use Rattle.auc_subs.specs.declared.row.Row.{Row}
 use Rattle.auc_vector.specs.Vector.{autn_of}
@@ -59,7 +66,7 @@ use Rattle.auc_world.specs.declared.net.Session.{Session}
 use Rattle.auc_world.specs.declared.record.GiveVerdict.{GiveVerdict}
 use Rattle.auc_world.specs.declared.record.GiveVerdict.TheVariants as given
 use Rattle.auc_world.specs.declared.record.LineRecord.{LineRecord}
-use Rattle.auc_world.specs.declared.record.LineRecord.TheVariants.{Vector, Give, Further, Event}
+use Rattle.auc_world.specs.declared.record.LineRecord.TheVariants.{Vector, Withheld, Give, Further, Event}
 use Rattle.auc_world.specs.declared.record.PartRecord.{PartRecord}
 use Rattle.auc_world.specs.declared.record.PartRecord.TheVariants as record_of
 use Rattle.auc_world.specs.declared.record.Premise.TheVariants as premise
@@ -74,6 +81,7 @@ use Rattle.auc_transcript.specs.Headline.{FailsExactlyByPlace, IsFailure}
 use Rattle.auc_transcript.specs.Keys.{EndsAgree}
 use Rattle.auc_transcript.specs.Leases.{LeasesAreKept}
 use Rattle.auc_transcript.specs.Presented.{FailsExactlyByPlaceInSessions, FindsRightMacs, IsNotedFailure}
+use Rattle.auc_transcript.specs.SimSessions.{SimSessionsAgree}
 use Rattle.auc_transcript.specs.Systems.{AuthenticationsAreConfirmed}
 
 -- ---- one subscriber, and a round of one job
@@ -422,3 +430,32 @@ leased n = transcript_of (leased_lines n)
 -- it is the vector's, whatever network there is
 abbrev pub LeaseIsKept : Type 0
 LeaseIsKept = (key : List ℕ) (n : ℕ) (net : Net) → LeasesAreKept (setting key) (sites_round ∷ []) (leased n) ((net ∷ []) ∷ []) → n ≡ 1
+
+-- ---- EAP-SIM
+
+-- a session with two triplets
+abbrev pub sim_line : SimSchedule → SimValue
+sim_line schedule = record { sub = 0; count = 2; schedule = schedule }
+
+abbrev pub sim_round : SimSchedule → Part
+sim_round schedule = part.Round ((line.Sim (sim_line schedule) ∷ []) ∷ [])
+
+-- the first two vectors are released for it, and this is said of it
+abbrev pub sim_lines : List SimNote → List LineRecord
+sim_lines notes = Vector 0 1 ∷ Vector 0 2 ∷ map (λ note. Further (further.Sim 0 note)) notes
+
+-- by whichever schedule, if both ends ended in Success, then with equal keys, whatever network there is
+abbrev pub SimEndsAgree : Type 0
+SimEndsAgree = (key : List ℕ) (schedule : SimSchedule) (agree : Bool) (net : Net) → IsSchedule schedule
+    → SimSessionsAgree (setting key) (sim_round schedule ∷ []) (transcript_of (sim_lines (sim_note.Ended agree ∷ []))) ((net ∷ []) ∷ []) → agree ≡ true
+
+-- by the plain one, they did
+abbrev pub SimSessionSucceeds : Type 0
+SimSessionSucceeds = (key : List ℕ) (notes : List SimNote) (net : Net) → rand_of key 0 1 ≢ rand_of key 0 2
+    → SimSessionsAgree (setting key) (sim_round Plain ∷ []) (transcript_of (sim_lines notes)) ((net ∷ []) ∷ []) → SimSucceeds notes
+
+-- the second number is withheld: nothing is said of a session
+abbrev pub SimSessionIsNone : Type 0
+SimSessionIsNone = (key : List ℕ) (schedule : SimSchedule) (stop : Stop) (notes : List SimNote) (net : Net) → IsSchedule schedule
+    → SimSessionsAgree (setting key) (sim_round schedule ∷ [])
+    (transcript_of (Vector 0 1 ∷ Withheld 0 2 stop ∷ map (λ note. Further (further.Sim 0 note)) notes)) ((net ∷ []) ∷ []) → notes ≡ []

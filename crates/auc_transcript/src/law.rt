@@ -9,8 +9,9 @@ ghost use Rattle.auc_transcript.specs.OneTold.{EachToldTranscriptIsOne};
 ghost use Rattle.auc_transcript.specs.Position.{EachMoveStandsBetween, EachPlaceIsAPosition};
 ghost use Rattle.auc_transcript.specs.Presented.{EachFailureInSessionsIsByPlace, EachFailureInSessionsOfRoundsIsByPlace, EachPresentedVectorHasARightMac};
 ghost use Rattle.auc_transcript.specs.Rounds.{EachFailureInRoundsIsByPlace, EachSqnInRoundsIsGenuine};
+ghost use Rattle.auc_transcript.specs.SimSessions.{EachSimSessionAgrees};
 ghost use Rattle.auc_transcript.specs.Systems.{EachHonestAuthenticationIsConfirmed};
-ghost use Rattle.auc_transcript.specs.Witnesses.{AcceptanceIsOwn, AuthenticationIsConfirmed, ContextsAreKept, CountersAreNoted, KeysAreEqual, LeaseIsKept, MacIsRight, PlacesDecide, PlacesDecideInSessions, PlainSessionWins, ResumedSessionWins};
+ghost use Rattle.auc_transcript.specs.Witnesses.{AcceptanceIsOwn, AuthenticationIsConfirmed, ContextsAreKept, CountersAreNoted, KeysAreEqual, LeaseIsKept, MacIsRight, PlacesDecide, PlacesDecideInSessions, PlainSessionWins, ResumedSessionWins, SimEndsAgree, SimSessionIsNone, SimSessionSucceeds};
 
 use auc_5g::each_device_agrees_with_its_home;
 use auc_attr::bytes_have_one_reading_or_one_fault;
@@ -30,6 +31,11 @@ use auc_seal::{
 use auc_server::{
     each_turn_keeps_the_challenge_or_sends_one, each_turn_keeps_the_keys_of_its_inputs,
     no_turn_gives_an_ordinal_back,
+};
+use auc_sim::{
+    each_card_has_the_triplet_of_its_vector,
+    each_plain_session_succeeds as each_plain_sim_session_succeeds, each_session_agrees,
+    each_session_has_one_run,
 };
 use auc_sites::each_number_is_handed_out_once;
 use auc_vector::each_autn_carries_the_sqn_of_its_number;
@@ -109,6 +115,7 @@ pub fn each_told_transcript_is_one()
     bytes_have_one_reading_or_one_fault();
     equal_bytes_are_received_alike();
     opening_has_one_answer();
+    each_session_has_one_run();
 }
 
 /// A server and a peer that ended in Success over one challenge or in one fast re-authentication have equal keys, by whichever
@@ -146,6 +153,7 @@ pub fn each_transcript_keeps_contexts()
     bytes_have_one_reading_or_one_fault();
     equal_bytes_are_received_alike();
     opening_has_one_answer();
+    each_session_has_one_run();
 }
 
 /// The lines of a job lead from its first network to its last, and to no other. So there is one network before each event of a job,
@@ -156,6 +164,7 @@ pub fn each_job_leads_on()
     bytes_have_one_reading_or_one_fault();
     equal_bytes_are_received_alike();
     opening_has_one_answer();
+    each_session_has_one_run();
 }
 
 /// A lawful transcript leads to networks of its jobs' sessions, and to no others. Each round tells of a breach
@@ -167,6 +176,7 @@ pub fn each_breach_is_told()
     bytes_have_one_reading_or_one_fault();
     equal_bytes_are_received_alike();
     opening_has_one_answer();
+    each_session_has_one_run();
 }
 
 /// A session whose ends suit each other, and that has its `plain` line and no other event line, ends in Success at both ends
@@ -182,6 +192,7 @@ pub fn each_plain_session_agrees()
     bytes_have_one_reading_or_one_fault();
     equal_bytes_are_received_alike();
     opening_has_one_answer();
+    each_session_has_one_run();
     each_plain_session_succeeds();
 }
 
@@ -194,6 +205,7 @@ pub fn each_resumed_session_agrees()
     bytes_have_one_reading_or_one_fault();
     equal_bytes_are_received_alike();
     opening_has_one_answer();
+    each_session_has_one_run();
     each_resumed_session_succeeds();
 }
 
@@ -215,6 +227,17 @@ pub fn each_leased_number_is_handed_out_once()
     each_number_is_handed_out_once();
 }
 
+/// Whatever is lost, repeated or reordered, two ends of a session of EAP-SIM that both end in Success have equal keys, so no line says
+/// that they differ. If each packet is delivered once to the other end, and the RANDs of the vectors differ, both end in Success
+/// (RFC 4186 §3). A line that gets fewer vectors than it asks for has no session.
+pub fn each_sim_session_agrees()
+    ensures { EachSimSessionAgrees }
+{
+    each_card_has_the_triplet_of_its_vector();
+    each_session_agrees();
+    each_plain_sim_session_succeeds();
+}
+
 /// No promise is empty: for each there are transcripts of a few lines that meet its premise, with a part left open that the promise
 /// determines.
 pub fn each_promise_has_a_witness()
@@ -229,6 +252,9 @@ pub fn each_promise_has_a_witness()
     ensures resumed { ResumedSessionWins }
     ensures authentications { AuthenticationIsConfirmed }
     ensures leases { LeaseIsKept }
+    ensures sim_ends { SimEndsAgree }
+    ensures sim_plain { SimSessionSucceeds }
+    ensures sim_none { SimSessionIsNone }
 {
     written_packets_are_read();
 }

@@ -27,6 +27,9 @@
 //! A number that a site hands out is that of a vector which its line released before, and no number is handed out twice for a
 //! subscriber (`specs/Leases`).
 //!
+//! Whatever packets are delivered in a session of EAP-SIM, two ends that both end in Success have equal keys; by the plain schedule
+//! both do, if the RANDs differ (`specs/SimSessions`).
+//!
 //! None of these promises is empty: transcripts of a few lines meet the premise of each (`specs/Witnesses`).
 #![tactic(auto)]
 
@@ -38,7 +41,7 @@ pub use law::{
     each_honest_authentication_is_confirmed, each_job_leads_on,
     each_leased_number_is_handed_out_once, each_number_is_above_what_was_reserved,
     each_plain_session_agrees, each_promise_has_a_witness, each_resumed_session_agrees,
-    each_sqn_outside_sessions_is_genuine, each_told_transcript_is_one,
+    each_sim_session_agrees, each_sqn_outside_sessions_is_genuine, each_told_transcript_is_one,
     each_transcript_keeps_contexts, each_transcript_may_restart, each_usim_accepts_none_twice,
     move_between_numbers_stands_between, no_vector_comes_twice, place_is_a_position,
 };

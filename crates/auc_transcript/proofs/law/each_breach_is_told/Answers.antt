@@ -1,4 +1,4 @@
--- The laws are lemmas on transcripts, by the laws of bytes and of decryption.
+-- The laws are lemmas on transcripts, by the laws of bytes, of decryption and of runs.
 use Rattle.auc_transcript.proofs.BreachLemmas.{each_breach_is_told, each_transcript_has_its_nets}
 use Rattle.auc_transcript.proofs.law.each_breach_is_told.Goals as goal
 
@@ -7,6 +7,7 @@ returns-clause-nets c = each_transcript_has_its_nets (record {
   received = c.equal_bytes_are_received_alike.ensures;
   walk = c.bytes_have_one_reading_or_one_fault.ensures;
   opening = c.opening_has_one_answer.ensures;
+  runs = c.each_session_has_one_run.ensures;
 })
 
 pub returns-clause-told : goal.returns-clause-told
@@ -14,4 +15,5 @@ returns-clause-told c = each_breach_is_told (record {
   received = c.equal_bytes_are_received_alike.ensures;
   walk = c.bytes_have_one_reading_or_one_fault.ensures;
   opening = c.opening_has_one_answer.ensures;
+  runs = c.each_session_has_one_run.ensures;
 })

@@ -1,4 +1,4 @@
--- The law is a lemma on the lines of a job, by the laws of bytes and of decryption.
+-- The law is a lemma on the lines of a job, by the laws of bytes, of decryption and of runs.
 use Rattle.auc_transcript.proofs.OwnContextLemmas.{each_job_leads_on}
 use Rattle.auc_transcript.proofs.law.each_job_leads_on.Goals as goal
 
@@ -7,4 +7,5 @@ returns c = each_job_leads_on (record {
   received = c.equal_bytes_are_received_alike.ensures;
   walk = c.bytes_have_one_reading_or_one_fault.ensures;
   opening = c.opening_has_one_answer.ensures;
+  runs = c.each_session_has_one_run.ensures;
 })

@@ -1,4 +1,4 @@
--- The law is a lemma on transcripts, by the law of a plain session in a job's network, and by the laws of bytes and of decryption.
+-- The law is a lemma on transcripts, by the law of a plain session in a job's network, and by the laws of bytes, of decryption and of runs.
 use Rattle.auc_transcript.proofs.PlainLemmas.{each_plain_session_agrees}
 use Rattle.auc_transcript.proofs.law.each_plain_session_agrees.Goals as goal
 
@@ -8,6 +8,7 @@ returns c = each_plain_session_agrees (record {
     received = c.equal_bytes_are_received_alike.ensures;
     walk = c.bytes_have_one_reading_or_one_fault.ensures;
     opening = c.opening_has_one_answer.ensures;
+    runs = c.each_session_has_one_run.ensures;
   };
   plain = c.each_plain_session_succeeds.ensures;
 })

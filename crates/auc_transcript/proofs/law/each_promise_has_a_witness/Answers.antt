@@ -1,6 +1,7 @@
 -- The laws are lemmas on the witnesses, by the law of written packets.
 use Rattle.auc_transcript.proofs.LeaseWitnessLemmas.{lease_is_kept}
 use Rattle.auc_transcript.proofs.OwnWitnessLemmas.{acceptance_is_own}
+use Rattle.auc_transcript.proofs.SimWitnessLemmas.{sim_ends_agree, sim_session_is_none, sim_session_succeeds}
 use Rattle.auc_transcript.proofs.SystemWitnessLemmas.{authentication_is_confirmed}
 use Rattle.auc_transcript.proofs.WitnessLemmas.{contexts_are_kept, counters_are_noted, keys_are_equal, mac_is_right, places_decide, places_decide_in_sessions, plain_session_wins, resumed_session_wins}
 use Rattle.auc_transcript.proofs.law.each_promise_has_a_witness.Goals as goal
@@ -37,3 +38,12 @@ returns-clause-authentications c = authentication_is_confirmed
 
 pub returns-clause-leases : goal.returns-clause-leases
 returns-clause-leases c = lease_is_kept
+
+pub returns-clause-sim_ends : goal.returns-clause-sim_ends
+returns-clause-sim_ends c = sim_ends_agree
+
+pub returns-clause-sim_plain : goal.returns-clause-sim_plain
+returns-clause-sim_plain c = sim_session_succeeds
+
+pub returns-clause-sim_none : goal.returns-clause-sim_none
+returns-clause-sim_none c = sim_session_is_none

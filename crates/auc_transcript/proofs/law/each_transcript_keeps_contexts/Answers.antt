@@ -31,5 +31,6 @@ returns c set reserved stop parts records nets are block held lawful lead =
         received = c.equal_bytes_are_received_alike.ensures;
         walk = c.bytes_have_one_reading_or_one_fault.ensures;
         opening = c.opening_has_one_answer.ensures;
+        runs = c.each_session_has_one_run.ensures;
       }) c.each_acceptance_is_of_the_own_context.ensures set parts records nets lead;
     }
