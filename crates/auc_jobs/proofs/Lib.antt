@@ -5,6 +5,7 @@ mod DrawingLemmas
 mod UsimLemmas
 mod JobLemmas
 mod SilentLemmas
+mod SimLemmas
 mod SiteLemmas
 mod EventLemmas
 mod PlaceLemmas

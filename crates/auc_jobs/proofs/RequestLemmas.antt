@@ -1,16 +1,18 @@
 -- For requests of one subscriber: what holds of each of their lines.
-use Rattle.std.proofs.Common.{◌≡◌, ℕ, zero, suc, Bool, true, false, List, [], ◌∷◌, ◌++◌, map, sym, subst}
-use Rattle.std.specs.Prelude.{All, Option, None, Some}
+use Rattle.std.proofs.Common.{◌≡◌, ℕ, zero, suc, Bool, true, false, List, [], ◌∷◌, ◌++◌, length, map, sym, subst}
+use Rattle.std.specs.Prelude.{◌==◌, All, Option, None, Some}
 use Rattle.std.proofs.lemmas.List.Elements.{All-append, All-cons, All-nil}
 use Rattle.auc_5g.specs.declared.device_keys.DeviceKeys.{DeviceKeys}
 use Rattle.auc_5g.specs.declared.home_keys.HomeKeys.{HomeKeys}
 use Rattle.auc_5g.specs.Keys.{home_of}
 use Rattle.auc_edge.specs.declared.stop.Stop.{Stop}
+use Rattle.auc_lines.specs.Sim.{SimValue}
 use Rattle.auc_lines.specs.Sites.{SitesValue}
 use Rattle.auc_lines.specs.declared.part.FivegLine.{FivegLine}
 use Rattle.auc_lines.specs.declared.sites.SiteEvent.{SiteEvent}
 use Rattle.auc_random.specs.Random.{rand_of}
 use Rattle.auc_request.specs.Request.{is_separated}
+use Rattle.auc_sim.specs.declared.note.SimNote.{SimNote}
 use Rattle.auc_sites.specs.Network.{Network, Turn, after_event}
 use Rattle.auc_sites.specs.Run.{judgement_in}
 use Rattle.auc_sites.specs.declared.master.Judged.{Judged}
@@ -26,8 +28,11 @@ use Rattle.auc_world.specs.declared.record.SyncVerdict.{SyncVerdict}
 use Rattle.auc_world.specs.declared.record.SyncVerdict.TheVariants as verdict
 use Rattle.auc_world.specs.Given.{AuthenticatesIf, Before, DrawGives, EpsGives, FivegFollows, FivegGives, GiveGives, IsReleasable, OneGives, SyncGives, VectorsFollow, behind, device_of_row, hxres_lines, judged_lines, kasme_line, outcome_of, turned}
 use Rattle.auc_world.specs.Setting.{Setting}
+use Rattle.auc_world.specs.Lines.{numbers_of}
+use Rattle.auc_world.specs.Sim.{SimFollowsIf, SimGives}
 use Rattle.auc_world.specs.Sites.{LeaseGives, SitesGives, SitesGo, event_of, sites_start}
 use Rattle.auc_world.specs.VectorAt.{vector_at, vector_of_row}
+use Rattle.auc_jobs.specs.InnerSim.{said_lines}
 
 -- each line that a request of a subscriber may give is so
 pub record AreSo (set : Setting) (sub : ℕ) (P : LineRecord → Type 0) : Type 0 where
@@ -132,3 +137,18 @@ module _ (set : Setting) (line : SitesValue) (P : LineRecord → Type 0) (are : 
 
   pub sites_lines : (lines : List LineRecord) → SitesGives set line lines → All P lines
   sites_lines lines (turns, gives) = go_lines (sites_start line) line.schedule lines turns gives
+
+-- the vectors and the session of a line for EAP-SIM
+module _ (set : Setting) (line : SimValue) (P : LineRecord → Type 0) (are : AreSo set line.sub P) where
+  note_lines : (notes : List SimNote) → All P (said_lines line.sub notes)
+  note_lines [] = All-nil P
+  note_lines (note ∷ notes) = All-cons P _ (said_lines line.sub notes) (are.further _) (note_lines notes)
+
+  session_lines : (whole : Bool) (numbers : List ℕ) (lines : List LineRecord) → SimFollowsIf whole set line numbers lines → All P lines
+  session_lines false numbers lines follows = none set line.sub P are lines follows
+  session_lines true numbers lines follows = subst (All P) (sym follows.lines_are) (note_lines follows.notes)
+
+  pub sim_lines : (lines : List LineRecord) → SimGives set line lines → All P lines
+  sim_lines lines gives =
+      subst (All P) (sym gives.lines_are) (All-append P gives.drawn gives.rest (draw_lines set line.sub P are line.count gives.drawn gives.draws)
+      (session_lines (length (numbers_of line.sub gives.drawn) == line.count) (numbers_of line.sub gives.drawn) gives.rest gives.follows))

@@ -35,7 +35,7 @@ use Rattle.auc_jobs.specs.InnerServing.{before_at, Stands, ServesLines}
 use Rattle.auc_jobs.specs.InnerUsims.{OwnDevices, has_usim, usim_in, AreCopies}
 use Rattle.auc_jobs.proofs.EventLemmas.{IsOwnEvent, IsOwnNumber, event_lines, plain_lines}
 use Rattle.auc_jobs.proofs.CopyLemmas.{copies_found, copies_keyed}
-use Rattle.auc_jobs.proofs.RequestLemmas.{AreSo, draw_lines, eps_lines, fiveg_lines, give_lines, sites_lines, sync_lines}
+use Rattle.auc_jobs.proofs.RequestLemmas.{AreSo, draw_lines, eps_lines, fiveg_lines, give_lines, sim_lines, sites_lines, sync_lines}
 
 -- ---- before the job
 
@@ -142,6 +142,7 @@ line_releasable set before net next (line.Give sub n) lines (gives, is) = give_l
 line_releasable set before net next (line.Eps sub snid) lines (gives, is) = eps_lines set sub (IsReleasableLine set) (requests_releasable set sub) snid lines gives
 line_releasable set before net next (line.Fiveg fiveg) lines (gives, is) = fiveg_lines set fiveg (IsReleasableLine set) (requests_releasable set fiveg.sub) before lines gives
 line_releasable set before net next (line.Sites sites) lines (gives, is) = sites_lines set sites (IsReleasableLine set) (requests_releasable set sites.sub) lines gives
+line_releasable set before net next (line.Sim sim) lines (gives, is) = sim_lines set sim (IsReleasableLine set) (requests_releasable set sim.sub) lines gives
 
 -- those of a job
 pub job_releasable : (set : Setting) (before : Before) (net last : Net) (job : List Line) (lines : List LineRecord) → JobGives set before net job lines last → All (IsReleasableLine set) lines

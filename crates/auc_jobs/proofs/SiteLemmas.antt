@@ -1,5 +1,5 @@
 -- For lines for sites: the numbers of a lease, what an event draws and where it leads, and the events of a line.
-use Rattle.std.proofs.Common.{◌≡◌, ℕ, zero, suc, ◌+◌, ◌-◌, ◌<◌, ◌≤◌, List, [], ◌∷◌, ◌++◌, drop, length, refl, sym, ◌∙◌, ap, arith, subst, append_assoc, append-nil, eq-eqb}
+use Rattle.std.proofs.Common.{◌≡◌, ℕ, zero, suc, ◌+◌, ◌-◌, ◌≤◌, List, [], ◌∷◌, ◌++◌, drop, length, refl, sym, ◌∙◌, ap, arith, subst, append_assoc, append-nil, eq-eqb}
 use Rattle.std.specs.Prelude.{IfOk, Option, Some, None, Result, Ok, Err, replicate, slice_get}
 use Rattle.std.proofs.lemmas.List.{length-replicate}
 use Rattle.std.proofs.lemmas.Option.{slice_get_past}
@@ -14,11 +14,10 @@ use Rattle.auc_sites.specs.Network.{Network, Turn, after_delivery, after_event, 
 use Rattle.auc_sites.specs.Reply.{reply_by, reply_to_new}
 use Rattle.auc_sites.specs.Run.{judgement_in, judgement_on}
 use Rattle.auc_sites.specs.Site.{SiteState, answer_to}
-use Rattle.auc_sites.specs.SiteNet.{Delivers, NetState, after as state_behind, after_delivery_of, after_new_grant, delivery_by, delivery_of, delivery_to, number_of, packet_numbered, site_at, state_of}
+use Rattle.auc_sites.specs.SiteNet.{Delivers, NetState, after as state_behind, after_delivery_of, delivery_by, delivery_of, delivery_to, number_of, packet_numbered, state_of}
 use Rattle.auc_sites.specs.declared.grant.Grant.{Grant}
 use Rattle.auc_sites.specs.declared.master.Judged.{Judged}
 use Rattle.auc_sites.specs.declared.master.Judged.TheVariants as judged
-use Rattle.auc_sites.specs.declared.master.Reply.{Reply}
 use Rattle.auc_sites.specs.declared.master.Reply.TheVariants as reply
 use Rattle.auc_sites.specs.declared.packet.Packet.{Packet}
 use Rattle.auc_sites.specs.declared.packet.Packet.TheVariants.{Asking, Granting}

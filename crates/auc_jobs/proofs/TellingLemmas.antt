@@ -32,7 +32,7 @@ use Rattle.auc_world.proofs.Facts.{withheld_of-held_of}
 use Rattle.auc_jobs.specs.declared.claiming.ClaimedJob.{ClaimedJob}
 use Rattle.auc_jobs.specs.Serving.{IsKnownLine, AreKnown}
 use Rattle.auc_jobs.proofs.EventLemmas.{IsOwnEvent, IsOwnNumber, event_lines, plain_lines}
-use Rattle.auc_jobs.proofs.RequestLemmas.{AreSo, draw_lines, eps_lines, fiveg_lines, give_lines, sites_lines, sync_lines}
+use Rattle.auc_jobs.proofs.RequestLemmas.{AreSo, draw_lines, eps_lines, fiveg_lines, give_lines, sim_lines, sites_lines, sync_lines}
 
 -- ---- what a pass did stays
 
@@ -82,6 +82,7 @@ line_own set before net next (asked.Give sub n) lines known (gives, is) = give_l
 line_own set before net next (asked.Eps sub snid) lines known (gives, is) = eps_lines set sub (IsOwn (length set.rows)) (requests_own set sub known) snid lines gives
 line_own set before net next (asked.Fiveg fiveg) lines known (gives, is) = fiveg_lines set fiveg (IsOwn (length set.rows)) (requests_own set fiveg.sub known.sub) before lines gives
 line_own set before net next (asked.Sites sites) lines known (gives, is) = sites_lines set sites (IsOwn (length set.rows)) (requests_own set sites.sub known.0) lines gives
+line_own set before net next (asked.Sim sim) lines known (gives, is) = sim_lines set sim (IsOwn (length set.rows)) (requests_own set sim.sub known.0) lines gives
 line_own set before net next (asked.Session opened) lines known gives = event_lines set (IsOwn (length set.rows)) (λ e c own. own) before net next (event.Open opened) lines gives
 line_own set before net next (asked.Start session) lines known gives = event_lines set (IsOwn (length set.rows)) (λ e c own. own) before net next (event.Start session) lines gives
 line_own set before net next (asked.Deliver session at' packet) lines known gives = event_lines set (IsOwn (length set.rows)) (λ e c own. own) before net next (event.Deliver session at' packet) lines gives

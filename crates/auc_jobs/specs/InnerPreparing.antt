@@ -1,6 +1,6 @@
 -- Inner facts: what only private contracts of this crate cite. Here: the reservations that a round needs before its workers
 -- begin.
-use Rattle.std.specs.Prelude.{◌≢◌, ℕ, suc, ◌+◌, ◌<◌, ◌&&◌, min, nat_le, nat_lt, Bool, List, [], ◌∷◌, ◌++◌, All, AllPairs, slice_index, if◌then◌else◌}
+use Rattle.std.specs.Prelude.{◌≢◌, ℕ, suc, ◌+◌, ◌<◌, ◌&&◌, min, nat_le, nat_lt, Bool, List, [], ◌∷◌, All, AllPairs, slice_index, if◌then◌else◌}
 use Rattle.std.specs.List.{list_any}
 use Rattle.auc_draw.specs.Values.{KeeperValue}
 use Rattle.auc_keeper.specs.Keeper.{MayRise}

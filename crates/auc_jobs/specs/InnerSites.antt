@@ -13,7 +13,6 @@ use Rattle.auc_sites.specs.declared.request.Request.{Request}
 use Rattle.auc_sites.specs.declared.site.Taken.TheVariants as taken
 use Rattle.auc_sites.specs.declared.site_net.Delivery.{Delivery}
 use Rattle.auc_sites.specs.declared.site_net.Delivery.TheVariants as delivery
-use Rattle.auc_world.specs.Given.{Before}
 use Rattle.auc_world.specs.Draws.{DrawGives}
 use Rattle.auc_world.specs.Lines.{numbers_of}
 use Rattle.auc_world.specs.Setting.{Setting}

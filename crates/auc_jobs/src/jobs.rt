@@ -106,6 +106,7 @@ impl<C: Centre> Worker<'_, C> {
             Line::Eps { sub, snid } => self.eps(rt, alloc, sub, snid),
             Line::Fiveg(ref line) => self.fiveg(rt, alloc, line),
             Line::Sites(ref line) => self.sites(rt, alloc, line),
+            Line::Sim(ref line) => self.sim(rt, alloc, line),
             Line::Session(ref line) => self.open(rt, alloc, line),
             Line::Start(session) => self.happen_alone(rt, alloc, Event::Start(session)),
             Line::Deliver {

@@ -3,8 +3,9 @@
 //! [`serve`] opens the shared words of a round at the words of a [`State`]. Each worker claims jobs and serves their lines
 //! at its desk: it draws vectors (TS 33.102 §6.3.2), resynchronises with a USIM's AUTS (§6.3.5), presents vectors to USIMs
 //! (§6.3.3), derives the key of EPS (TS 33.401 Annex A.2), authenticates devices as in 5G (TS 33.501 §6.1.3.2), runs sites
-//! with leased numbers, and runs the job's sessions (RFC 4187 §3, RFC 9048 §3) in a network of their own, with copies of the
-//! USIMs that the job holds and of what their homes and devices keep (RFC 4187 §4.1.1.7).
+//! with leased numbers, runs sessions of EAP-SIM (RFC 4186 §3), and runs the job's sessions (RFC 4187 §3, RFC 9048 §3) in a
+//! network of their own, with copies of the USIMs that the job holds and of what their homes and devices keep
+//! (RFC 4187 §4.1.1.7).
 //! A number is released only within the limits of the journal, which the workers share in a lock. After the words are closed
 //! it answers the record of the round, the state after it, and the journal. Its contract is that the round is lawful, by the
 //! definitions of `auc_world`, and that the journal's limits cover what was released (`specs/Round`). If an append is refused,
@@ -25,6 +26,7 @@ mod jobs;
 mod preparing;
 mod round;
 mod round_jobs;
+mod sim;
 mod sites;
 mod state;
 mod stopping;

@@ -38,7 +38,7 @@ fn outcome_of(home: &HomeKeys, device: &DeviceKeys, res_star: [u8; 16]) -> Fiveg
 }
 
 impl<C: Centre> Worker<'_, C> {
-    /// Says what follows from a released vector, or an event of sites.
+    /// Says what follows from released vectors, or an event of sites.
     pub(crate) fn say(&mut self, alloc: Global, said: Further) -> Result<(), NoMemory>
         ensures said { OnOk result (WorkerServes C.kept C.goes self.old self.new
             (λ before lines. lines ≡ LineRecord.Further said ∷ [])) }

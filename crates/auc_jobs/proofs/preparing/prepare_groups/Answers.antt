@@ -1,4 +1,4 @@
-use Rattle.std.proofs.Common.{◌≡◌, ◌≢◌, ℕ, List, All, length, sym, ◌∙◌, ap, subst}
+use Rattle.std.proofs.Common.{◌≢◌, ℕ, List, All, length, sym, ◌∙◌, ap, subst}
 use Rattle.auc_edge.specs.Identity.{Identity}
 use Rattle.auc_jobs.specs.InnerPreparing.{AreReservable}
 use Rattle.auc_jobs.proofs.PreparingLemmas.{rest_reservable}

@@ -1,4 +1,4 @@
-use Rattle.std.proofs.Common.{◌≡◌, ◌+◌, ◌≤◌, ◌∙◌, List, ℕ, ap, length, subst, sym}
+use Rattle.std.proofs.Common.{◌+◌, ◌≤◌, ◌∙◌, List, ℕ, ap, length, subst, sym}
 use Rattle.auc_sites.specs.Network.{after_reply, with_last}
 use Rattle.auc_sites.specs.SiteNet.{NetState, after_new_grant}
 use Rattle.auc_sites.specs.declared.master.Reply.TheVariants as reply

@@ -1,6 +1,7 @@
-use Rattle.std.proofs.Common.{◌≡◌, ◌-◌, ◌+◌, ◌∙◌, [], ◌∷◌, List, ap, arith, length, refl, subst, ℕ}
+use Rattle.std.proofs.Common.{◌≡◌, ◌-◌, ◌+◌, ◌∙◌, [], ◌∷◌, List, ap, arith, length, refl, subst, sym, ℕ}
 use Rattle.std.proofs.lemmas.List.{length-append}
-use Rattle.std.specs.Prelude.{IfSome, Option}
+use Rattle.std.proofs.lemmas.List.Elements.{All-append, All-nil}
+use Rattle.std.specs.Prelude.{All, IfSome, Option}
 use Rattle.std.proofs.Math.Nat.{sub-zero}
 use Rattle.auc_sites.proofs.Facts.{drawn_above, drawn_more}
 use Rattle.auc_history.specs.declared.entry.Entry.TheVariants.{Drawn}
@@ -8,7 +9,9 @@ use Rattle.auc_world.specs.Given.{Before}
 use Rattle.auc_world.specs.Setting.{Setting}
 use Rattle.auc_world.specs.declared.record.LineRecord.{LineRecord}
 use Rattle.auc_jobs.specs.InnerServing.{IsNext}
+use Rattle.auc_jobs.specs.InnerSim.{IsNumber}
 use Rattle.auc_jobs.specs.InnerSites.{IsLease}
+use Rattle.auc_jobs.proofs.SimLemmas.{numbers_one}
 use Rattle.auc_jobs.proofs.SiteLemmas.{LeaseGoesOn, lease_begins, lease_ends_early, lease_more, lease_whole}
 use Rattle.auc_jobs.proofs.WorkerLemmas.{also_serves, goes_on_more, more_serves, none_serves}
 use Rattle.auc_jobs.proofs.worker.Worker.lease.Goals as goal
@@ -24,6 +27,7 @@ loop-init g c = record {
   net = refl;
   count = rw c.new-lease.ensures refl;
   own = rw c.new-lease.ensures (g.met.C.Centre.stays c.args.self.now.centre c.args.sub);
+  numbers = rw c.new-lease.ensures (All-nil IsNumber);
   drawn =
       rw c.new-lease.ensures (also_serves g.C.Centre.kept g.C.Centre.goes c.args.self.now c.args.self.now (λ before lines. lines ≡ [])
       (λ before. LeaseGoesOn c.args.self.now.set c.args.sub (c.args.size - 0) c.args.size [])
@@ -45,6 +49,9 @@ loop-preserved g c = record {
   count = ap length c.push.ensures ∙ length-append c.loop.lease (c.in-Some.n ∷ []) ∙ ap (λ (k : ℕ). k + 1) c.loop.invariant.count;
   own = drawn_more g.C.Centre.goes c.args.sub c.in-Some.n c.loop.lease c.push.new.self c.args.self.now.centre c.loop.self.centre c.draw_next.new.self.centre g.met.C.Centre.joins
       c.push.ensures c.loop.invariant.own (subst (λ (o : Option ℕ). IfSome o (λ n. g.C.Centre.goes c.loop.self.centre c.args.sub (Drawn n ∷ []) [] c.draw_next.new.self.centre)) c.in-Some.is c.in_ok-n.ensures.own);
+  numbers =
+      subst (All IsNumber) (sym c.push.ensures) (All-append IsNumber c.loop.lease (c.in-Some.n ∷ []) c.loop.invariant.numbers
+      (numbers_one c.in_ok-n.field-0 c.in-Some.n c.in-Some.is c.in_ok-n.ensures.number));
   drawn =
       more_serves g.C.Centre.kept g.C.Centre.goes c.args.self.now c.loop.self c.draw_next.new.self
       (λ before. LeaseGoesOn c.args.self.now.set c.args.sub (c.args.size - c.loop.counter) c.args.size c.loop.lease)

@@ -1,5 +1,6 @@
-use Rattle.std.proofs.Common.{◌≡◌, ◌-◌, [], length}
+use Rattle.std.proofs.Common.{◌≡◌, ◌-◌, [], All, length}
 use Rattle.auc_sites.specs.Drawing.{entries_of}
+use Rattle.auc_jobs.specs.InnerSim.{IsNumber}
 use Rattle.auc_jobs.specs.InnerWorker.{GoesOnWith, WorkerServes}
 use Rattle.auc_jobs.proofs.SiteLemmas.{LeaseGoesOn}
 use Rattle.auc_jobs.proofs.worker.Worker.lease.Given as goal
@@ -10,5 +11,6 @@ invariant-loop g l = record {
   net : l.self.world.net ≡ l.fn.self.world.net;
   count : length l.lease ≡ l.counter;
   own : g.C.Centre.goes l.fn.self.centre l.sub (entries_of l.lease) [] l.self.centre;
+  numbers : All IsNumber l.lease;
   drawn : WorkerServes g.C.Centre.kept g.C.Centre.goes l.fn.self l.self (λ before. LeaseGoesOn l.fn.self.set l.sub (l.size - l.counter) l.size l.lease);
 }

@@ -1,5 +1,6 @@
 use Rattle.std.proofs.Common.{List}
 use Rattle.auc_world.specs.Given.{Before, DrawGives, EpsGives, FivegGives, GiveGives, SyncGives}
+use Rattle.auc_world.specs.Sim.{SimGives}
 use Rattle.auc_world.specs.Sites.{SitesGives}
 use Rattle.auc_world.specs.declared.record.LineRecord.{LineRecord}
 use Rattle.auc_jobs.proofs.LineLemmas.{on_ok_map}
@@ -41,6 +42,12 @@ returns-in-Sites-clause-served g c =
     rw c.in-Sites.is (on_ok_map c.sites.result c.sites.ensures.given (λ serves.
     still_serves g.C.Centre.kept g.C.Centre.goes c.args.self.now c.sites.new.self (λ (before : Before) (lines : List LineRecord). SitesGives c.args.self.now.set c.in-Sites.line lines)
     c.sites.ensures.net serves))
+
+pub returns-in-Sim-clause-served : goal.returns-in-Sim-clause-served
+returns-in-Sim-clause-served g c =
+    rw c.in-Sim.is (on_ok_map c.sim.result c.sim.ensures.given (λ serves.
+    still_serves g.C.Centre.kept g.C.Centre.goes c.args.self.now c.sim.new.self (λ (before : Before) (lines : List LineRecord). SimGives c.args.self.now.set c.in-Sim.line lines)
+    c.sim.ensures.net serves))
 
 pub returns-in-Session-clause-served : goal.returns-in-Session-clause-served
 returns-in-Session-clause-served g c = rw c.in-Session.is c.open.ensures.opened

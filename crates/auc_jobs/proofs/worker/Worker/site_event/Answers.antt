@@ -1,7 +1,7 @@
 use Rattle.std.proofs.Common.{◌+◌, ◌∙◌, ℕ, ap, length, refl}
 use Rattle.std.specs.Prelude.{Option}
 use Rattle.auc_lines.specs.declared.sites.SiteEvent.TheVariants as asked
-use Rattle.auc_sites.specs.SiteNet.{NetState, number_of, site_at}
+use Rattle.auc_sites.specs.SiteNet.{NetState, site_at}
 use Rattle.auc_world.specs.Sites.{note_of_draw, note_of_number}
 use Rattle.auc_world.specs.declared.sites.SitesNote.TheVariants as note
 use Rattle.auc_jobs.specs.InnerSites.{EventDoes}
