@@ -19,6 +19,7 @@ line_holds count sub (line.Give s n) known held = let same = eqb-true s sub held
 line_holds count sub (line.Eps s snid) known held = absurd (cc)
 line_holds count sub (line.Fiveg fiveg) known held = let same = eqb-true fiveg.sub sub held in let here = known.sub in omega (arith, same, here)
 line_holds count sub (line.Sites sites) known held = absurd (cc)
+line_holds count sub (line.Sim sim) known held = absurd (cc)
 line_holds count sub (line.Session opening) known held = let same = eqb-true opening.sub sub held in let here = known.0 in omega (arith, same, here)
 line_holds count sub (line.Start session) known held = absurd (cc)
 line_holds count sub (line.Deliver session at' packet) known held = absurd (cc)

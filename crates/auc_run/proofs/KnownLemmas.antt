@@ -7,7 +7,7 @@ use Rattle.auc_script.specs.Limits.{IsLine, IsPart, IsWithin}
 use Rattle.auc_script.specs.Numbers.{most_jobs}
 use Rattle.auc_lines.specs.Part.{jobs_of}
 use Rattle.auc_lines.specs.declared.part.Line.{Line}
-use Rattle.auc_lines.specs.declared.part.Line.TheVariants.{Draw, Sync, Give, Eps, Fiveg, Sites, Session, Start, Deliver, Repeat, GiveUp, Plain, Tamper, Cut}
+use Rattle.auc_lines.specs.declared.part.Line.TheVariants.{Draw, Sync, Give, Eps, Fiveg, Sites, Sim, Session, Start, Deliver, Repeat, GiveUp, Plain, Tamper, Cut}
 use Rattle.auc_lines.specs.declared.part.Part.{Part}
 use Rattle.auc_lines.specs.declared.part.Part.TheVariants.{Round, Restart}
 use Rattle.auc_script.specs.declared.script.Script.{Script}
@@ -31,6 +31,7 @@ known_line rows (Eps sub snid) is = is
 known_line rows (Fiveg line) is =
     record { sub = is.0; home = record { some = is.1.0; short = is.1.1 }; device = record { some = is.2.0; short = is.2.1 }; bit = is.3 }
 known_line rows (Sites line) is = is
+known_line rows (Sim line) is = is
 known_line rows (Session line) is = (is.0, is.1, is.2)
 known_line rows (Start session) is = tt
 known_line rows (Deliver session at' packet) is = tt

@@ -1,11 +1,12 @@
 -- For the rounds: the lines of a lawful round name subscribers alone.
-use Rattle.std.proofs.Common.{◌≡◌, ℕ, zero, suc, ◌<◌, List, [], ◌∷◌, ◌++◌, length, All, Bool, true, false, map, Option, Some, None, arith}
+use Rattle.std.proofs.Common.{◌≡◌, ℕ, zero, suc, ◌<◌, List, [], ◌∷◌, ◌++◌, length, ◌==◌, All, Bool, true, false, map, Option, Some, None, arith}
 use Rattle.std.specs.Prelude.{slice_get}
 use Rattle.std.proofs.lemmas.List.Elements.{All-nil, All-cons, All-append, All-same}
 use Rattle.auc_5g.specs.Keys.{home_of, standard_of}
 use Rattle.auc_5g.specs.declared.device_keys.DeviceKeys.{DeviceKeys}
 use Rattle.auc_5g.specs.declared.home_keys.HomeKeys.{HomeKeys}
 use Rattle.auc_jobs.specs.Serving.{IsKnownLine, AreAllKnown}
+use Rattle.auc_lines.specs.Sim.{SimValue}
 use Rattle.auc_lines.specs.declared.part.End.{End}
 use Rattle.auc_lines.specs.declared.part.End.TheVariants as end
 use Rattle.auc_lines.specs.declared.part.FivegLine.{FivegLine}
@@ -18,6 +19,7 @@ use Rattle.auc_sites.specs.Network.{Network, Turn, after_event}
 use Rattle.auc_sites.specs.Run.{judgement_in}
 use Rattle.auc_sites.specs.declared.master.Judged.{Judged}
 use Rattle.auc_sites.specs.declared.master.Judged.TheVariants as judged
+use Rattle.auc_sim.specs.declared.note.SimNote.{SimNote}
 use Rattle.auc_server.specs.Server.{ServerEnd}
 use Rattle.auc_server.specs.declared.options.ServerOptions.{ServerOptions}
 use Rattle.auc_vector.specs.Notes.{Asking}
@@ -33,9 +35,11 @@ use Rattle.auc_world.specs.declared.record.GiveVerdict.{GiveVerdict}
 use Rattle.auc_world.specs.declared.record.GiveVerdict.TheVariants as given
 use Rattle.auc_world.specs.Given.{AuthenticatesIf, Before, DrawGives, EventGives, FivegFollows, GiveGives, OneGives, device_of_row, hxres_lines, judged_lines, kasme_line, outcome_of, turned, IsCentreAsked, JobGives, JobsGive, LineGives, PlainGives, RelayGives, SyncGives, VectorsFollow, behind, packet_of}
 use Rattle.auc_world.specs.Happened.{Delivery, Told, changed_in, delivery_in}
+use Rattle.auc_world.specs.Lines.{numbers_of}
 use Rattle.auc_world.specs.Net.{Net, device_place, other, packet_at, session_place}
 use Rattle.auc_world.specs.Record.{IsBelow, subscriber_of}
 use Rattle.auc_world.specs.Setting.{Setting}
+use Rattle.auc_world.specs.Sim.{SimFollowsIf, SimGives}
 use Rattle.auc_world.specs.Sites.{LeaseGives, SiteEventGives, SitesGo, event_of, note_of, sites_start}
 use Rattle.auc_world.specs.Start.{Kept, start_of}
 use Rattle.auc_world.specs.declared.event.Event.{Event}
@@ -173,6 +177,30 @@ sites_named set sub size w (e ∷ events) lines (turn ∷ turns) inside (front, 
     (All-append (IsNamed (length set.rows)) front rest (site_event_named set sub size w e front turn inside gives)
     (sites_named set sub size (after_event w turn.event turn.numbers turn.end) events rest turns inside more))
 
+-- ---- sessions of EAP-SIM
+
+-- what happens in a session names its subscriber
+said_named : (count sub : ℕ) (notes : List SimNote) → sub < count → All (IsNamed count) (map (λ note. record_of.Further (further.Sim sub note)) notes)
+said_named count sub [] inside = All-nil (IsNamed count)
+said_named count sub (first ∷ notes) inside =
+    All-cons (IsNamed count) (record_of.Further (further.Sim sub first)) (map (λ note. record_of.Further (further.Sim sub note)) notes) inside
+    (said_named count sub notes inside)
+
+-- what is said if all vectors were released
+sim_said_named : (all : Bool) (set : Setting) (l : SimValue) (numbers : List ℕ) (lines : List LineRecord) → l.sub < length set.rows
+    → SimFollowsIf all set l numbers lines → All (IsNamed (length set.rows)) lines
+sim_said_named false set l numbers lines inside none = none_named (length set.rows) lines none
+sim_said_named true set l numbers lines inside is =
+    All-same (IsNamed (length set.rows)) lines (map (λ note. record_of.Further (further.Sim l.sub note)) is.notes) is.lines_are
+    (said_named (length set.rows) l.sub is.notes inside)
+
+-- what a line gives
+sim_named : (set : Setting) (l : SimValue) (lines : List LineRecord) → l.sub < length set.rows → SimGives set l lines → All (IsNamed (length set.rows)) lines
+sim_named set l lines inside gives =
+    All-same (IsNamed (length set.rows)) lines (gives.drawn ++ gives.rest) gives.lines_are
+    (All-append (IsNamed (length set.rows)) gives.drawn gives.rest (draw_named set l.sub l.count gives.drawn inside gives.draws)
+    (sim_said_named (length (numbers_of l.sub gives.drawn) == l.count) set l (numbers_of l.sub gives.drawn) gives.rest inside gives.follows))
+
 -- ---- events
 
 -- for whom the centre was asked
@@ -290,6 +318,7 @@ line_named set before net (line.Fiveg l) lines next known (gives, same) =
     (λ n rest f. fiveg_named set (behind before (record_of.Vector l.sub n ∷ [])) l n rest known.sub f)
 line_named set before net (line.Sites l) lines next known ((turns, go), same) =
     sites_named set l.sub l.size (sites_start l) l.schedule lines turns known.0 go
+line_named set before net (line.Sim l) lines next known (gives, same) = sim_named set l lines known.0 gives
 line_named set before net (line.Session opened) lines next known gives = event_named set before net (event.Open opened) lines next gives
 line_named set before net (line.Start session) lines next known gives = event_named set before net (event.Start session) lines next gives
 line_named set before net (line.Deliver session at' packet) lines next known gives = event_named set before net (event.Deliver session at' packet) lines next gives

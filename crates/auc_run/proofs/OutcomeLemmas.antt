@@ -18,6 +18,7 @@ use Rattle.auc_transcript.specs.Keys.{EachAuthenticationAgrees, EachBreachIsTold
 use Rattle.auc_transcript.specs.Leases.{EachLeasedNumberIsHandedOutOnce}
 use Rattle.auc_transcript.specs.OneTold.{EachToldTranscriptIsOne}
 use Rattle.auc_transcript.specs.Presented.{EachFailureInSessionsIsByPlace, EachPresentedVectorHasARightMac}
+use Rattle.auc_transcript.specs.SimSessions.{EachSimSessionAgrees}
 use Rattle.auc_transcript.specs.Systems.{EachHonestAuthenticationIsConfirmed}
 use Rattle.auc_world.proofs.Facts.{length-opened, sixteen_block}
 use Rattle.auc_world.specs.Agreement.{IsRealm}
@@ -47,6 +48,7 @@ pub record Laws : Type 0 where
   pub resumed : EachResumedSessionAgrees
   pub authentications : EachHonestAuthenticationIsConfirmed
   pub leases : EachLeasedNumberIsHandedOutOnce
+  pub sim_sessions : EachSimSessionAgrees
 
 -- subscribers, a realm, and parts that can be served
 record Fits (rows : List Row) (script : Script) (parts : List Part) : Type 0 where
@@ -106,6 +108,7 @@ is_output laws rows script reserved stop parts records end fits fit leads =
       resumed = laws.resumed set reserved stop parts records own.0 fits.subscribers fits.realm (end, leads) own.1;
       authentications = laws.authentications set parts records own.0 fits.subscribers own.1;
       leases = laws.leases set reserved stop parts records own.0 (end, leads) own.1;
+      sim_sessions = laws.sim_sessions set parts records own.0 fits.subscribers fits.realm own.1;
     }
 
 -- what holds of some parts holds of the first of them

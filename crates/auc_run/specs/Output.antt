@@ -13,6 +13,7 @@ use Rattle.auc_transcript.specs.Headline.{AreAboveReserved, VectorsDiffer, Accep
 use Rattle.auc_transcript.specs.Keys.{AreNets, BreachesAreTold, EndsAgree}
 use Rattle.auc_transcript.specs.Leases.{LeasesAreKept}
 use Rattle.auc_transcript.specs.Presented.{FailsExactlyByPlaceInSessions, FindsRightMacs}
+use Rattle.auc_transcript.specs.SimSessions.{SimSessionsAgree}
 use Rattle.auc_transcript.specs.Systems.{AuthenticationsAreConfirmed}
 use Rattle.auc_world.specs.Net.{Net}
 use Rattle.auc_world.specs.Transcript.{Course, Leads, IsLawful, beginning, lines_of}
@@ -42,7 +43,9 @@ text_of rows script records = transcript_text (setting_of rows script) script.fu
 -- peer from accepting a challenge; and so does one whose server takes up a context again that its device has with the same counter.
 -- A 5G authentication with one name of the serving network at both ends and with no bit turned over is confirmed exactly if the
 -- USIM accepts the vector, and both ends have the same XRES*, K_AUSF and K_SEAF. No number is handed out twice for a subscriber by the
--- sites of any lines, and each is that of a vector that its line released before
+-- sites of any lines, and each is that of a vector that its line released before. Two ends of a session of EAP-SIM that both end in
+-- Success have equal keys, whatever is lost, repeated or reordered; and both do if each packet is delivered once to the other end, and
+-- the RANDs of the session's vectors differ
 pub record IsOutput (rows : List Row) (script : Script) (reserved : List ℕ) (stop : Option Stop) (parts : List Part) (end : Course) (text : List ℕ) : Type 0 where
   pub transcript : List PartRecord
   -- it is lawful, and this is where it ends
@@ -67,3 +70,4 @@ pub record IsOutput (rows : List Row) (script : Script) (reserved : List ℕ) (s
   pub resumed : ResumedSessionsAgree (setting_of rows script) parts transcript nets
   pub authentications : AuthenticationsAreConfirmed (setting_of rows script) parts transcript nets
   pub leases : LeasesAreKept (setting_of rows script) parts transcript nets
+  pub sim_sessions : SimSessionsAgree (setting_of rows script) parts transcript nets

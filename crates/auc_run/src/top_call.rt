@@ -39,8 +39,8 @@ use auc_subs::Subscribers;
 use auc_transcript::{
     each_authentication_agrees, each_breach_is_told, each_failure_in_sessions_is_by_place,
     each_honest_authentication_is_confirmed, each_leased_number_is_handed_out_once,
-    each_plain_session_agrees, each_resumed_session_agrees, each_told_transcript_is_one,
-    each_transcript_keeps_contexts,
+    each_plain_session_agrees, each_resumed_session_agrees, each_sim_session_agrees,
+    each_told_transcript_is_one, each_transcript_keeps_contexts,
 };
 use std::alloc::Global;
 use std::sync::Wait;
@@ -291,6 +291,7 @@ fn run_input<R: Threads + Wait + Sync, K: Sink, D: Disk + Drop + Send, G: Gate +
             each_resumed_session_agrees();
             each_honest_authentication_is_confirmed();
             each_leased_number_is_handed_out_once();
+            each_sim_session_agrees();
             is_realm(input.script.realm.as_slice());
             serve_parts(rt, alloc, &input.script, &input.subs, journal, out, gate)
         }

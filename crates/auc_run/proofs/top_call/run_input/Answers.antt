@@ -33,6 +33,7 @@ returns-in-Ok-clause-ran g c = λ told files read.
       resumed = c.each_resumed_session_agrees.ensures;
       authentications = c.each_honest_authentication_is_confirmed.ensures;
       leases = c.each_leased_number_is_handed_out_once.ensures;
+      sim_sessions = c.each_sim_session_agrees.ensures;
     } in
     leave_runs told files (g.D.Disk.seen c.args.disk) (MayLeave g.D.Disk.seen g.D.Disk.may_leave c.args.disk c.serve_parts.result.disk) ended old new
     (files_run laws g.D.Disk.seen g.D.Disk.may_leave g.D.Disk.faults told files script rows c.args.disk c.serve_parts.result.disk c.in-Ok.journal ended old new
