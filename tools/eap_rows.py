@@ -16,6 +16,7 @@ from ends import needs, run_main
 if __name__ == "__main__":
     needs("cryptography", __doc__)
 
+import sim_rows
 from eap.attributes import attr, number_attr, res_attr, sixteen, text_attr
 from eap.keys import Keys
 from eap.lines import RANDOM_KEY, Ends
@@ -769,6 +770,7 @@ def rows():
     """Each line and its answer."""
     yield from server_rows()
     yield from peer_rows()
+    yield from sim_rows.rows()
 
 
 def main():

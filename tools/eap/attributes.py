@@ -1,8 +1,9 @@
-"""The attributes of EAP-AKA and EAP-AKA' (RFC 4187 §10, RFC 9048 §3): their types, one walk through them,
-and how their values are written and read. It needs no library."""
+"""The attributes of EAP-AKA and EAP-AKA' (RFC 4187 §10, RFC 9048 §3) and of EAP-SIM (RFC 4186 §10): their types, one walk through
+them, and how their values are written and read. It needs no library."""
 
 AT_RAND, AT_AUTN, AT_RES, AT_AUTS, AT_PADDING, AT_NONCE_MT = 1, 2, 3, 4, 6, 7
 AT_PERMANENT_ID_REQ, AT_MAC, AT_NOTIFICATION, AT_ANY_ID_REQ, AT_IDENTITY = 10, 11, 12, 13, 14
+AT_VERSION_LIST, AT_SELECTED_VERSION = 15, 16
 AT_FULLAUTH_ID_REQ, AT_COUNTER, AT_COUNTER_TOO_SMALL, AT_NONCE_S, AT_CLIENT_ERROR_CODE = 17, 19, 20, 21, 22
 AT_KDF_INPUT, AT_KDF = 23, 24
 AT_IV, AT_ENCR_DATA, AT_NEXT_PSEUDONYM, AT_NEXT_REAUTH_ID, AT_CHECKCODE = 129, 130, 132, 133, 134
@@ -17,6 +18,10 @@ SIZES = {**dict.fromkeys((AT_RAND, AT_AUTN, AT_MAC, AT_NONCE_S, AT_IV), {18}),
          AT_AUTS: {14}, AT_PADDING: {2, 6, 10}, AT_CHECKCODE: {2, 22, 34}}
 TEXTS = AT_IDENTITY, AT_KDF_INPUT, AT_NEXT_PSEUDONYM, AT_NEXT_REAUTH_ID
 KNOWN = {*SIZES, AT_RES, AT_ENCR_DATA, *TEXTS}
+# The same of EAP-SIM, whose AT_RAND has two or three challenges. Each is there at most once.
+SIM_SIZES = {AT_RAND: {34, 50}, **dict.fromkeys((AT_NONCE_MT, AT_MAC), {18}),
+             **dict.fromkeys((*ID_REQUESTS, AT_SELECTED_VERSION, AT_CLIENT_ERROR_CODE), {2})}
+SIM_TEXTS = AT_IDENTITY, AT_VERSION_LIST
 
 
 class Fault(Exception):
@@ -98,3 +103,29 @@ def read(data):
         if kind in KNOWN:
             found.setdefault(kind, sized(kind, value) if kind in (AT_RES, *TEXTS) else value)
     return found
+
+
+def read_sim(data):
+    """The values by type of a message of EAP-SIM. A type from 128 on is left out."""
+    found = {}
+    for kind, start, end in places_in(data):
+        value = data[start:end]
+        if kind is None or kind < 128 and kind not in (*SIM_SIZES, *SIM_TEXTS) or kind in found:
+            raise Fault
+        if kind in SIM_SIZES and len(value) not in SIM_SIZES[kind]:
+            raise Fault
+        if kind in SIM_TEXTS:
+            value = counted(value)
+        if kind == AT_VERSION_LIST and (not value or len(value) % 2):
+            raise Fault
+        if kind < 128:
+            found[kind] = value
+    return found
+
+
+def counted(value):
+    """The bytes behind their number in two bytes, which leave less than a unit of the value."""
+    size = number_in(value)
+    if size > 1016 or -size % 4 + size != len(value) - 2:
+        raise Fault
+    return value[2:2 + size]

@@ -1,6 +1,6 @@
-"""The packets of EAP (RFC 3748), and the messages of EAP-AKA and EAP-AKA' in them, written and read, with
-what protects them: AT_MAC, AT_ENCR_DATA and AT_CHECKCODE (RFC 4187 §8 to §10, RFC 9048 §3). What is
-encrypted alone needs `cryptography`."""
+"""The packets of EAP (RFC 3748), and the messages of EAP-AKA, EAP-AKA' and EAP-SIM in them, written and
+read, with what protects them: AT_MAC, AT_ENCR_DATA and AT_CHECKCODE (RFC 4187 §8 to §10, RFC 9048 §3, RFC
+4186 §8 to §10). What is encrypted alone needs `cryptography`."""
 import hashlib
 import hmac
 
@@ -12,12 +12,15 @@ from .ciphers import decrypted, encrypted
 REQUEST, RESPONSE, SUCCESS, FAILURE = 1, 2, 3, 4
 CODES = {REQUEST: "Request", RESPONSE: "Response", SUCCESS: "Success", FAILURE: "Failure"}
 # Types of packets: EAP's own ones, and the methods.
-IDENTITY, NAK, AKA, PRIME = 1, 3, 23, 50
-METHODS = {AKA: "AKA", PRIME: "AKA'"}
+IDENTITY, NAK, SIM, AKA, PRIME = 1, 3, 18, 23, 50
+METHODS = {SIM: "SIM", AKA: "AKA", PRIME: "AKA'"}
 CHALLENGE, REJECT, SYNC, AKA_IDENTITY, NOTIFICATION, REAUTHENTICATION, CLIENT_ERROR = 1, 2, 4, 5, 12, 13, 14
 SUBTYPES = {CHALLENGE: "Challenge", REJECT: "Authentication-Reject", SYNC: "Synchronization-Failure",
             AKA_IDENTITY: "Identity", NOTIFICATION: "Notification", REAUTHENTICATION: "Reauthentication",
             CLIENT_ERROR: "Client-Error"}
+# Those of EAP-SIM (RFC 4186 §8.1).
+START, SIM_CHALLENGE = 10, 11
+SIM_SUBTYPES = {START: "Start", SIM_CHALLENGE: "Challenge", CLIENT_ERROR: "Client-Error"}
 # Which attributes below 128 each message may have, by its subtype and whether it is a request; and those of
 # EAP-AKA' alone.
 MAY = {(CHALLENGE, True): {AT_RAND, AT_AUTN, AT_MAC}, (CHALLENGE, False): {AT_RES, AT_MAC},
@@ -60,7 +63,7 @@ class Head:
         if length > len(data) or length < 4 + has_type or not has_type and length != 4:
             raise Fault
         self.data, self.kind = data[:length], data[4] if has_type else None
-        if self.kind in METHODS and length < 8:
+        if self.kind in (AKA, PRIME) and length < 8:
             raise Fault
 
 
@@ -82,10 +85,15 @@ def lacking(code, subtype, attrs):
     return [it for it in NEEDED.get((subtype, code == REQUEST), ()) if it not in attrs]
 
 
+def name_of_subtype(kind, subtype):
+    """What a message of a method is called by its subtype; nothing if the method has none such."""
+    return (SIM_SUBTYPES if kind == SIM else SUBTYPES).get(subtype)
+
+
 # ---- AT_MAC
 
 def hash_of(kind):
-    return "sha1" if kind == AKA else "sha256"
+    return "sha256" if kind == PRIME else "sha1"
 
 
 def mac(kind, key, data):

@@ -3,7 +3,7 @@ import struct
 
 from .ciphers import chacha20
 
-SESSIONS_STREAM, NAMES_STREAM = 2**32, 2**40
+SESSIONS_STREAM, NAMES_STREAM, SIM_STREAM = 2**32, 2**40, 2**42
 
 
 def sixteen_of(key, stream, word):
@@ -15,6 +15,11 @@ def sixteen_of(key, stream, word):
 def rand_of(key, place, number):
     """RAND of a number of the subscriber at a place."""
     return sixteen_of(key, place, 4 * number)
+
+
+def nonce_of_sim(key, place, number):
+    """NONCE_MT of the session of EAP-SIM that begins with a number of the subscriber at a place."""
+    return sixteen_of(key, SIM_STREAM + place, 4 * number)
 
 
 class Draws:

@@ -6,6 +6,7 @@ ghost use Rattle.auc_sqn.specs.Number.{max_seq};
 
 use crate::peer_end::PeerEnd;
 use crate::server_end::ServerEnd;
+use crate::sim_end::{SimPeerEnd, SimServerEnd};
 use crate::text::Text;
 use auc_core::Core;
 use auc_edge::{NoMemory, Octets};
@@ -26,6 +27,10 @@ pub enum End {
     Server(ServerEnd<CoreCentre>),
     /// A peer.
     Peer(PeerEnd),
+    /// A server of EAP-SIM.
+    SimServer(SimServerEnd),
+    /// A peer of EAP-SIM.
+    SimPeer(SimPeerEnd),
 }
 
 /// What is printed of a line that is none of those above.
@@ -36,6 +41,8 @@ enum First {
     Remark,
     Server,
     Peer,
+    SimServer,
+    SimPeer,
     Next,
     Bytes,
     Repeat,
@@ -48,6 +55,8 @@ fn first_of(word: &str) -> First {
         "#" => First::Remark,
         "server" => First::Server,
         "peer" => First::Peer,
+        "simserver" => First::SimServer,
+        "simpeer" => First::SimPeer,
         "next" => First::Next,
         "bytes" => First::Bytes,
         "repeat" => First::Repeat,
@@ -80,6 +89,8 @@ impl End {
             First::Remark => text.put(line),
             First::Server => self.begin_server(alloc, rest, text),
             First::Peer => self.begin_peer(alloc, rest, text),
+            First::SimServer => self.begin_sim_server(alloc, rest, text),
+            First::SimPeer => self.begin_sim_peer(alloc, rest, text),
             First::Next => self.begin_next(alloc, rest, text),
             First::Bytes => self.receive_digits(rt, alloc, rest, text),
             First::Repeat => self.repeat(alloc, text),
@@ -105,6 +116,24 @@ impl End {
         self.set(new_peer(alloc, number(word), options), text);
     }
 
+    fn begin_sim_server(&mut self, alloc: Global, rest: &str, text: &mut Text) {
+        let (word, count) = halves(rest);
+        match SimServerEnd::begin(alloc, number(word), count == "3", text) {
+            Ok(server) => *self = End::SimServer(server),
+            Err(NoMemory) => text.fail(),
+        }
+    }
+
+    fn begin_sim_peer(&mut self, alloc: Global, rest: &str, text: &mut Text) {
+        match SimPeerEnd::begin(alloc, number(rest)) {
+            Ok(peer) => {
+                text.put("peer");
+                *self = End::SimPeer(peer);
+            }
+            Err(NoMemory) => text.fail(),
+        }
+    }
+
     fn set(&mut self, end: Result<End, NoMemory>, text: &mut Text) {
         match end {
             Ok(end) => *self = end,
@@ -128,6 +157,8 @@ impl End {
                 }
                 Err(NoMemory) => text.fail(),
             },
+            End::SimServer(server) => server.next(alloc, text),
+            End::SimPeer(peer) => peer.next(alloc, text),
         }
     }
 
@@ -144,6 +175,8 @@ impl End {
             End::Neither => text.put(NOT_UNDERSTOOD),
             End::Server(server) => server.receive(rt, alloc, bytes, text),
             End::Peer(peer) => peer.receive(alloc, bytes, text),
+            End::SimServer(server) => server.receive(alloc, bytes, text),
+            End::SimPeer(peer) => peer.receive(alloc, bytes, text),
         }
     }
 
@@ -156,7 +189,7 @@ impl End {
 
     fn give_up(&mut self, alloc: Global, text: &mut Text) {
         match self {
-            End::Neither => text.put(NOT_UNDERSTOOD),
+            End::Neither | End::SimServer(_) | End::SimPeer(_) => text.put(NOT_UNDERSTOOD),
             End::Server(server) => server.give_up(alloc, text),
             End::Peer(peer) => peer.give_up(alloc, text),
         }

@@ -1,16 +1,18 @@
-//! Reads what happens to an end of a session of EAP-AKA (RFC 4187) or EAP-AKA' (RFC 9048), a line each, and prints what the
-//! end does.
+//! Reads what happens to an end of a session of EAP-AKA (RFC 4187), EAP-AKA' (RFC 9048) or EAP-SIM (RFC 4186), a line each,
+//! and prints what the end does.
 //!
 //! | Line | What happens |
 //! |---|---|
 //! | `# TEXT` | nothing; the line is printed |
 //! | `server WORD held`, `server WORD none` | a server begins. The subscriber's last number is WORD, and it is held or not |
 //! | `peer WORD` | a peer begins, whose USIM counts the numbers up to WORD as accepted |
+//! | `simserver WORD 2`, `simserver WORD 3` | a server of EAP-SIM begins, with the triplets of 2 or 3 numbers after WORD |
+//! | `simpeer WORD` | a peer of EAP-SIM begins, with the NONCE_MT of the number WORD |
 //! | `next` | the next session of the server, or of the peer at its device |
 //! | `bytes HEX` | the end receives these bytes |
-//! | `repeat`, `giveup` | the server repeats its last request; the end gives up |
+//! | `repeat`, `giveup` | the server repeats its last request; the end gives up. Ends of EAP-SIM do neither |
 //!
-//! After the words of the first three lines stand options, in any order but for the last:
+//! After the words of `server`, `peer` and of their `next` stand options, in any order but for the last:
 //!
 //! | Option | What it says |
 //! |---|---|
@@ -30,6 +32,7 @@
 mod end;
 mod peer_end;
 mod server_end;
+mod sim_end;
 mod text;
 mod turn;
 

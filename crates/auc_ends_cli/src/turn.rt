@@ -5,6 +5,7 @@ use auc_edge::{Octets, Stop};
 use auc_hmac::KeySet;
 use auc_peer::PeerWhy;
 use auc_server::ServerWhy;
+use auc_sim::SimWhy;
 use auc_vector::{
     CounterNote, Notes, NumberNote, Outcome, Reason, ResyncNote, Step, Turn, UsimNote,
 };
@@ -44,6 +45,20 @@ pub fn put_peer_step(step: &Step<PeerWhy>, text: &mut Text) {
         Step::Ended(Outcome::Failure(why), bytes) => {
             text.put("ended failure ");
             put_peer_why(*why, text);
+            put_after(bytes, text);
+        }
+    }
+}
+
+/// A step of an end of EAP-SIM.
+pub fn put_sim_step(step: &Step<SimWhy>, text: &mut Text) {
+    match step {
+        Step::Sent(bytes) => put_sent(bytes.as_slice(), text),
+        Step::Ignored(reason) => put_ignored(*reason, text),
+        Step::Ended(Outcome::Success(keys), bytes) => put_success(keys, bytes, text),
+        Step::Ended(Outcome::Failure(why), bytes) => {
+            text.put("ended failure ");
+            put_sim_why(*why, text);
             put_after(bytes, text);
         }
     }
@@ -201,6 +216,19 @@ fn word_of_server_why(why: ServerWhy) -> &'static str {
         ServerWhy::Rejected => "rejected",
         ServerWhy::ClientError(_) => "clienterror ",
         ServerWhy::GivenUp => "givenup",
+    }
+}
+
+fn put_sim_why(why: SimWhy, text: &mut Text) {
+    match why {
+        SimWhy::WrongMac => text.put("wrongmac"),
+        SimWhy::ClientError(code) => {
+            text.put("clienterror ");
+            text.put_number(code as u64);
+        }
+        SimWhy::Version => text.put("version"),
+        SimWhy::NotFresh => text.put("notfresh"),
+        SimWhy::FailureReceived => text.put("failurereceived"),
     }
 }
 
