@@ -22,4 +22,6 @@ mod random;
 #[cfg(test)]
 mod reauth;
 #[cfg(test)]
+mod sim;
+#[cfg(test)]
 mod text;

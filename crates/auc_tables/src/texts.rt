@@ -1,7 +1,9 @@
 //! How scenarios and subscribers are read.
 
 use auc_edge::Items;
-use auc_lines::{FivegLine, Identity, JobPart, Line, SessionLine, SiteEvent, SitesLine};
+use auc_lines::{
+    FivegLine, Identity, JobPart, Line, SessionLine, SimLine, SimSchedule, SiteEvent, SitesLine,
+};
 use auc_script::{Part, Script, ScriptRefusal};
 use auc_subs::{AddRefusal, SubsRefusal, Subscribers};
 use std::alloc::{AllocError, Global};
@@ -84,6 +86,7 @@ fn text_of_line(alloc: Global, line: &Line) -> Result<String, AllocError> {
         }
         Line::Fiveg(line) => text_of_fiveg(alloc, line),
         Line::Sites(line) => text_of_sites(alloc, line),
+        Line::Sim(line) => text_of_sim(alloc, line),
         Line::Session(line) => text_of_session(alloc, line),
         Line::Start(session) => format!(in alloc; "Start({session})"),
         Line::Deliver {
@@ -146,6 +149,25 @@ fn text_of_event(alloc: Global, event: SiteEvent) -> Result<String, AllocError> 
         SiteEvent::Restart(site) => format!(in alloc; "Restart({site})"),
         SiteEvent::MasterRestart => String::from_str(alloc, "MasterRestart"),
     }
+}
+
+/// A session of EAP-SIM: `Plain`, or how many deliveries it has, and its first nine.
+fn text_of_sim(alloc: Global, line: &SimLine) -> Result<String, AllocError> {
+    let (sub, count) = (line.sub(), line.count());
+    let mut text = format!(in alloc; "Sim {{ sub: {sub}, count: {count}, ")?;
+    match line.schedule() {
+        SimSchedule::Plain => text.push_str("Plain")?,
+        SimSchedule::Steps(deliveries) => {
+            let count = deliveries.len();
+            text.push_str(format!(in alloc; "deliveries: {count}")?.as_str())?;
+            for delivery in deliveries.as_slice().iter().take(9) {
+                let (end, packet) = (delivery.end, delivery.packet);
+                text.push_str(format!(in alloc; " {end:?}({packet})")?.as_str())?;
+            }
+        }
+    }
+    text.push_str(" }")?;
+    Ok(text)
 }
 
 /// A session with its texts as hexadecimal digits.

@@ -13,15 +13,15 @@ use std::alloc::Global;
 use std::test::Fail;
 
 // By hand: sites and packets by their numbers, and a number by itself.
-fn events_of_sites() -> [FurtherCase; 6] {
+fn event_of_sites(place: usize) -> FurtherCase {
     let of = |note| Further::Sites { sub: 0, note };
-    [
-        (
+    match place {
+        0 => (
             of(SitesNote::Asked { site: 2, packet: 3 }),
             b"sites 001010000000001 ask 2 sent 3\n",
             b"",
         ),
-        (
+        1 => (
             of(SitesNote::Number {
                 site: 2,
                 n: MAX_SEQ,
@@ -29,27 +29,27 @@ fn events_of_sites() -> [FurtherCase; 6] {
             b"sites 001010000000001 draw 2 number 8796093022207\n",
             b"",
         ),
-        (
+        2 => (
             of(SitesNote::Empty { site: 1 }),
             b"sites 001010000000001 draw 1 empty\n",
             b"",
         ),
-        (
+        3 => (
             of(SitesNote::Restarted { site: 64 }),
             b"sites 001010000000001 restart 64\n",
             b"",
         ),
-        (
+        4 => (
             of(SitesNote::MasterRestarted),
             b"sites 001010000000001 master\n",
             b"",
         ),
-        (
+        _ => (
             of(delivered(0, SitesOutcome::NoSuchPacket)),
             b"sites 001010000000001 deliver 0 nosuchpacket\n",
             b"",
         ),
-    ]
+    }
 }
 
 fn delivered(packet: u32, outcome: SitesOutcome) -> SitesNote {
@@ -57,43 +57,43 @@ fn delivered(packet: u32, outcome: SitesOutcome) -> SitesNote {
 }
 
 // By hand.
-fn deliveries_of_sites() -> [FurtherCase; 6] {
+fn delivery_of_sites(place: usize) -> FurtherCase {
     let of = |packet, outcome| Further::Sites {
         sub: 1,
         note: delivered(packet, outcome),
     };
-    [
-        (
+    match place {
+        0 => (
             of(1, SitesOutcome::Granted { count: 4, sent: 2 }),
             b"sites 000007 deliver 1 granted 4 sent 2\n",
             b"",
         ),
-        (
+        1 => (
             of(1, SitesOutcome::Again { count: 4, sent: 3 }),
             b"sites 000007 deliver 1 again 4 sent 3\n",
             b"",
         ),
-        (
+        2 => (
             of(5, SitesOutcome::Old),
             b"sites 000007 deliver 5 old\n",
             b"",
         ),
-        (
+        3 => (
             of(6, SitesOutcome::Refused),
             b"sites 000007 deliver 6 refused\n",
             b"",
         ),
-        (
+        4 => (
             of(2, SitesOutcome::Taken { count: 32 }),
             b"sites 000007 deliver 2 taken 32\n",
             b"",
         ),
-        (
+        _ => (
             of(3, SitesOutcome::NotMine),
             b"sites 000007 deliver 3 notmine\n",
             b"",
         ),
-    ]
+    }
 }
 
 #[test]
@@ -107,12 +107,14 @@ fn lines_for_sites_are_the_same_in_each_print(rt: HostRuntime) -> Result<(), Fai
         names: &names,
         realm: b"",
     };
-    for cases in [events_of_sites(), deliveries_of_sites()] {
-        for case in cases {
-            for full in [false, true] {
-                let (text, wanted) = further_text(rt.alloc(), case, full, &set)?;
-                assert_eq!(rt; text.as_slice(), wanted.as_slice());
-            }
+    for full in [false, true] {
+        for place in 0..6 {
+            let (text, wanted) = further_text(rt.alloc(), event_of_sites(place), full, &set)?;
+            assert_eq!(rt; text.as_slice(), wanted.as_slice());
+        }
+        for place in 0..6 {
+            let (text, wanted) = further_text(rt.alloc(), delivery_of_sites(place), full, &set)?;
+            assert_eq!(rt; text.as_slice(), wanted.as_slice());
         }
     }
     Ok(())

@@ -14,3 +14,5 @@ mod load;
 mod print;
 #[cfg(test)]
 mod printing;
+#[cfg(test)]
+mod sim;

@@ -159,7 +159,7 @@ pub(crate) fn record_text(
     Ok((text, wanted))
 }
 
-// The text of a round of what follows from a vector, or of what happened at sites.
+// The text of a round of what follows from a vector, or of what happened at sites or in a session of EAP-SIM.
 pub(crate) fn further_text(
     alloc: Global,
     case: FurtherCase,

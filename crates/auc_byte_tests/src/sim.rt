@@ -1,0 +1,123 @@
+//! Packets of EAP-SIM: by hand, and those of RFC 4186 Appendix A.
+
+use auc_attr::AttrRefusal;
+use auc_edge::Octets;
+use auc_sim::{
+    SimPacket, SimRefusal, nonce_in, read_sim, receive_sim, selected_in, versions_in, write_sim,
+};
+use std::alloc::Global;
+use std::process::Abort;
+
+// RFC 3748 §4, RFC 4186 §8.1 and §10, by hand.
+#[test]
+fn first_fault_of_a_packet_is_told(rt: HostRuntime) {
+    let alloc = rt.alloc();
+    let cases: [(&[u8], SimRefusal); 14] = [
+        (&[1, 2, 0], SimRefusal::Short),
+        (&[5, 2, 0, 4], SimRefusal::BadCode),
+        (&[3, 2, 0, 5, 0], SimRefusal::LengthDisagrees),
+        (&[1, 2, 0, 5, 1], SimRefusal::OtherType(1)),
+        (&[1, 2, 0, 5, 50], SimRefusal::OtherType(50)),
+        (&[1, 2, 0, 7, 18, 10, 0], SimRefusal::LengthDisagrees),
+        (&[1, 2, 0, 8, 18, 12, 0, 0], SimRefusal::UnknownSubtype(12)),
+        (
+            &[1, 2, 0, 12, 18, 10, 0, 0, 12, 1, 0, 0],
+            SimRefusal::Attr(AttrRefusal::UnknownType(12)),
+        ),
+        (
+            &[1, 2, 0, 12, 18, 10, 0, 0, 10, 0, 0, 0],
+            SimRefusal::Attr(AttrRefusal::ZeroLength),
+        ),
+        (
+            &[1, 2, 0, 12, 18, 10, 0, 0, 15, 1, 0, 0],
+            SimRefusal::Attr(AttrRefusal::BadLength(15)),
+        ),
+        (
+            &[1, 2, 0, 16, 18, 10, 0, 0, 15, 2, 0, 3, 0, 1, 0, 0],
+            SimRefusal::Attr(AttrRefusal::BadLength(15)),
+        ),
+        (
+            &[1, 2, 0, 12, 18, 14, 0, 0, 22, 2, 0, 0],
+            SimRefusal::Attr(AttrRefusal::Truncated),
+        ),
+        (
+            &[1, 2, 0, 16, 18, 10, 0, 0, 16, 1, 0, 1, 16, 1, 0, 1],
+            SimRefusal::Attr(AttrRefusal::Twice(16)),
+        ),
+        // One RAND.
+        (
+            &[
+                1, 2, 0, 28, 18, 11, 0, 0, 1, 5, 0, 0, 0, 0, 0, 0, 0, 0, 0, 0, 0, 0, 0, 0, 0, 0, 0,
+                0,
+            ],
+            SimRefusal::Attr(AttrRefusal::BadLength(1)),
+        ),
+    ];
+    for (bytes, refusal) in cases {
+        assert!(rt;
+            read_sim(alloc, bytes).err() == Some(refusal),
+            "at {bytes:?}"
+        );
+    }
+}
+
+// RFC 4186 Appendix A.3, A.4 and A.7.
+const START: [u8; 16] = [1, 1, 0, 16, 18, 10, 0, 0, 15, 2, 0, 2, 0, 1, 0, 0];
+
+const ANSWER: [u8; 32] = [
+    2, 1, 0, 32, 18, 10, 0, 0, 7, 5, 0, 0, 1, 35, 69, 103, 137, 171, 205, 239, 254, 220, 186, 152,
+    118, 84, 50, 16, 16, 1, 0, 1,
+];
+
+const SUCCESS: [u8; 4] = [3, 2, 0, 4];
+
+/// Whether a packet is written as these bytes.
+fn is_written_as(rt: &impl Abort, alloc: Global, packet: &SimPacket, bytes: &[u8]) -> bool {
+    assert!(rt; packet.writable());
+    let mut out = Octets::new(alloc);
+    write_sim(packet, &mut out).expect(rt, "memory");
+    out.as_slice() == bytes
+}
+
+#[test]
+fn packet_is_read_and_written_again(rt: HostRuntime) {
+    let alloc = rt.alloc();
+    let cases: [&[u8]; 6] = [
+        &START,
+        &ANSWER,
+        &SUCCESS,
+        // AT_ANY_ID_REQ, an AT_VERSION_LIST of two versions, and an unknown type that may be skipped.
+        &[
+            1, 1, 0, 24, 18, 10, 0, 0, 13, 1, 0, 0, 15, 2, 0, 4, 0, 2, 0, 1, 200, 1, 0, 0,
+        ],
+        &[2, 1, 0, 16, 18, 10, 0, 0, 14, 2, 0, 1, 49, 0, 0, 0],
+        &[2, 2, 0, 12, 18, 14, 0, 0, 22, 1, 0, 3],
+    ];
+    for bytes in cases {
+        let packet = read_sim(alloc, bytes).expect(&rt, "a packet");
+        assert!(rt; is_written_as(&rt, alloc, &packet, bytes), "at {bytes:?}");
+    }
+}
+
+#[test]
+fn attributes_of_a_start_are_found(rt: HostRuntime) {
+    let alloc = rt.alloc();
+    let start = receive_sim(alloc, &START).expect(&rt, "memory");
+    assert!(rt; start.place == None);
+    match start.packet {
+        Some(SimPacket::Sim { attrs, .. }) => {
+            assert!(rt; versions_in(&attrs) == Some(&[0, 1]));
+            assert!(rt; nonce_in(&attrs) == None);
+        }
+        _ => panic!(rt; "no Start"),
+    }
+    match read_sim(alloc, &ANSWER) {
+        Ok(SimPacket::Sim { attrs, .. }) => {
+            assert!(rt; selected_in(&attrs) == Some(1));
+            assert!(rt;
+                nonce_in(&attrs) == Some(0x0123456789abcdef_fedcba9876543210u128.to_be_bytes())
+            );
+        }
+        _ => panic!(rt; "no Start"),
+    }
+}
