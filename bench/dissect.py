@@ -6,7 +6,7 @@ attribute types that we wrote, in their order.
 
 The packets are those that auc_packet_cli writes (the lines 'written HEX' of crates/auc_packet_cli/stdout), and each packet
 of each example with a session, which is run with `print full`; these also in the captures that tools/pcap makes. A packet
-with an AT_IDENTITY of no bytes is left out, because tshark calls it malformed. The script needs tshark and text2pcap
+with an AT_IDENTITY of no bytes is left out, because tshark calls it malformed, and so are copies that the network changed. The script needs tshark and text2pcap
 (apt-get install tshark); if they are missing, it says so and ends.
 """
 import shutil
@@ -19,11 +19,14 @@ from measure import TOP, program
 
 sys.path += [str(TOP / "examples"), str(TOP / "tools")]
 from eap.attributes import AT_IDENTITY, places_in
-from eap.messages import METHODS
+from eap.messages import METHODS, SIM
 from ends import run_main
 from full import transcripts
 
-FIELDS = ["eap.code", "eap.id", "eap.len", "eap.aka.subtype", "eap.aka.subtype.type", "_ws.malformed"]
+# The dissector names what EAP-SIM has by itself, and what both methods of AKA have together.
+FIELDS = ["eap.code", "eap.id", "eap.len", "eap.aka.subtype", "eap.aka.subtype.type", "eap.sim.subtype", "eap.sim.subtype.type",
+          "_ws.malformed"]
+CHANGES = "tamper", "cut"
 
 
 def written(path):
@@ -32,7 +35,14 @@ def written(path):
 
 
 def sent(transcript):
-    return [bytes.fromhex(line.split()[2]) for line in transcript.splitlines() if line.startswith("packet ")]
+    """The packets that ends sent: not those that the network changed, which no dissector need take."""
+    lines = transcript.splitlines()
+    pairs = [(before, line) for before, line in zip(lines, lines[1:]) if line.startswith("packet ")]
+    return [bytes.fromhex(line.split()[2]) for before, line in pairs if before.split()[0] not in CHANGES]
+
+
+def has_changes(transcript):
+    return any(line.split(" ")[0] in CHANGES for line in transcript.splitlines())
 
 
 def attributes(packet):
@@ -48,8 +58,9 @@ def has_empty_identity(packet):
 def expected(packet):
     """What tshark has to show of a packet, field by field."""
     subtype = str(packet[5]) if len(packet) > 5 and packet[4] in METHODS else ""
-    types = ",".join(str(kind) for kind, _ in attributes(packet))
-    return [str(packet[0]), str(packet[1]), str(int.from_bytes(packet[2:4], "big")), subtype, types, ""]
+    message, none = [subtype, ",".join(str(kind) for kind, _ in attributes(packet))], ["", ""]
+    of_method = none + message if len(packet) > 5 and packet[4] == SIM else message + none
+    return [str(packet[0]), str(packet[1]), str(int.from_bytes(packet[2:4], "big")), *of_method, ""]
 
 
 def dump(packet):
@@ -103,9 +114,10 @@ def main():
     for name, transcript in transcripts(program()):
         packets = sent(transcript)
         judge(name, packets)
-        # Each packet is in the capture at least once, and nothing else is.
-        frames = captured(transcript)
-        if len(frames) < len(packets) or set(map(tuple, frames)) != set(map(tuple, map(expected, packets))):
+        # Each packet is in the capture at least once, and nothing else is but what the network changed.
+        frames, wanted = captured(transcript), set(map(tuple, map(expected, packets)))
+        others = set(map(tuple, frames)) - wanted
+        if len(frames) < len(packets) or wanted - set(map(tuple, frames)) or others and not has_changes(transcript):
             sys.exit(f"{name}: the capture has other packets")
 
 

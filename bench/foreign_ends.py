@@ -21,6 +21,9 @@ CONFIG_EAP_AKA_PRIME and CONFIG_RADIUS_SERVER, each `=y`; there `make hostapd`. 
 Our server with wpa_supplicant, of each five sessions: a full authentication; a re-authentication; one by an AKA-Identity round,
 which gives no further identity; so a full authentication by the pseudonym; and a re-authentication.
 
+In EAP-SIM each session is a full authentication: our peer has the Start request of hostapd, which asks for any identity, and our
+server challenges with three triplets.
+
 From the sixth session on the first of five is a re-authentication, too. Each session has to be what is told above and to succeed at
 both ends, with equal MSK and EMSK, and RADIUS has to tell that MSK. It needs Debian's packages hostapd and eapoltest, and Python's
 `cryptography`. The exit status is 0 only if all is so.
@@ -44,16 +47,16 @@ if __name__ == "__main__":
 
 import foreign_trial
 import foreign_verdict
-from eap.lines import RANDOM_KEY
+from eap.lines import RANDOM_KEY, SIM_DIGIT
 from eap.session import Row, Subscriber
 from eap.streams import rand_of
-from eap.usim import Usim, sqn_of
+from eap.usim import Usim, sqn_of, triplet
 from foreign_ours import PROGRAM, Program
 from foreign_radius import Radius
 from foreign_verdict import AFTER_SYNC, AGAIN, FULL
 
 # hostapd's name of a method; the name of its network is fixed.
-METHODS = {"aka": "AKA", "prime": "AKA'"}
+METHODS = {"aka": "AKA", "prime": "AKA'", "sim": "SIM"}
 AHEAD, TURN, BEFORE_RESTART, NAME_SIZE = 100, 5, 3, 33
 PEER_OPTIONS = ((), (), ("permanent",), (), ())
 SERVER_OPTIONS = (("pseudonym", "reauth"), ("pseudonym", "reauth"), ("any", "pseudonym"), ("any", "pseudonym", "reauth"),
@@ -76,8 +79,10 @@ def in_turn(of_five, count):
     return tuple(of_five[number % TURN] for number in range(count))
 
 
-def kinds(count, has_names):
-    """What the sessions of a pair have to be."""
+def kinds(method, count, has_names):
+    """What the sessions of a pair have to be. In EAP-SIM each is a full authentication."""
+    if method == "sim":
+        return (FULL,) * count
     if not has_names:
         return (AFTER_SYNC, *[FULL] * (count - 1))
     return FIRST_KINDS[:count] + in_turn(LATER_KINDS, max(0, count - TURN))
@@ -97,13 +102,25 @@ class Centre:
             word, imsi, *rest = asked.decode().split()
             if word == "AKA-REQ-AUTH":
                 sockets.sendto(f"AKA-RESP-AUTH {imsi} {self.vector()}".encode(), sender)
+            elif word == "SIM-REQ-AUTH":
+                triplets = " ".join(self.triplet() for _ in range(int(rest[0])))
+                sockets.sendto(f"SIM-RESP-AUTH {imsi} {triplets}".encode(), sender)
             elif word == "AKA-AUTS":
                 self.resynchronise(*map(bytes.fromhex, rest))
 
-    def vector(self):
+    def drawn(self):
+        """The next number, its RAND, and what Milenage gives of it."""
         number = self.row.draw()
         rand = rand_of(RANDOM_KEY, self.row.place, number)
-        f = self.row.subscriber.functions(rand)
+        return number, rand, self.row.subscriber.functions(rand)
+
+    def triplet(self):
+        _, rand, f = self.drawn()
+        sres, kc = triplet(f.res, f.ck, f.ik)
+        return f"{kc.hex()}:{sres.hex()}:{rand.hex()}"
+
+    def vector(self):
+        number, rand, f = self.drawn()
         return " ".join(it.hex() for it in (rand, f.autn(sqn_of(number), self.row.amf), f.ik, f.ck, f.res))
 
     def resynchronise(self, auts, rand):
@@ -114,9 +131,18 @@ class Centre:
 
 def usim():
     """What wpa_supplicant's USIM answers to each challenge."""
-    array = Usim(Subscriber().functions, AHEAD)
+    functions = Subscriber().functions
+    array = Usim(functions, AHEAD)
 
-    def answer(rand, autn):
+    def gsm(rand):
+        f = functions(bytes.fromhex(rand))
+        sres, kc = triplet(f.res, f.ck, f.ik)
+        return f"{kc.hex()}:{sres.hex()}"
+
+    def answer(kind, *values):
+        if kind == "GSM-AUTH":
+            return f"GSM-AUTH:{':'.join(map(gsm, values))}"
+        rand, autn = values
         _, f, auts = array.challenge(bytes.fromhex(rand), bytes.fromhex(autn))
         if auts:
             return f"UMTS-AUTS:{auts.hex()}"
@@ -164,12 +190,13 @@ def with_hostapd(given, method):
         hostapd.begin(Centre().play, hostapd.bound(folder / "centre"))
         servers = Servers(folder, given.hostapd)
         server = foreign_trial.Server(Radius(hostapd.SECRET), ("127.0.0.1", port), 10)
-        chosen = foreign_trial.Chosen(method, "WLAN", AHEAD, given.sessions, in_turn(PEER_OPTIONS, given.sessions))
+        identity = SIM_DIGIT + Subscriber().imsi.encode()
+        chosen = foreign_trial.Chosen(method, "WLAN", AHEAD, given.sessions, in_turn(PEER_OPTIONS, given.sessions), identity)
         sessions = list(foreign_trial.with_server(end, server, chosen, servers.before))
         servers.end()
     end.close()
     names = re.findall(r"AT_NEXT_REAUTH_ID \((.*)\)", servers.logs)
-    return sessions, keys_in(servers.logs, SERVER_WON), kinds(given.sessions, all(len(it) == NAME_SIZE for it in names))
+    return sessions, keys_in(servers.logs, SERVER_WON), kinds(method, given.sessions, all(len(it) == NAME_SIZE for it in names))
 
 
 def with_wpa_supplicant(given, method):
@@ -187,7 +214,7 @@ def with_wpa_supplicant(given, method):
     hostapd.wait_until(lambda: len(sessions) == given.sessions, "the last session")
     foreign_trial.give_keys(sessions, [msk for msk, _ in keys_in(log, PEER_WON)])
     end.close()
-    return sessions, keys_in(log, PEER_WON), kinds(given.sessions, True)
+    return sessions, keys_in(log, PEER_WON), kinds(method, given.sessions, True)
 
 
 def is_as_it_has_to_be(given, pair, sessions, told, wanted):

@@ -21,7 +21,7 @@ IMSI = "001010000000001"
 SECRET = b"radius"
 TOOLS = ("hostapd", "eapol_test")
 # The leading digits of permanent identities, and those of names that a server gives.
-PERMANENT, NAMES = {"AKA": "0", "AKA'": "6"}, "2478"
+PERMANENT, NAMES = {"AKA": "0", "AKA'": "6", "SIM": "1"}, "2478"
 # AUTN of zeros, but for the separation bit of the AMF, without which a peer refuses EAP-AKA'.
 AUTN = "00" * 6 + "80" + "00" * 9
 
@@ -77,18 +77,19 @@ def play_centre(sockets):
             sockets.sendto(f"AKA-RESP-AUTH {imsi} {rand} {AUTN} {rand} {rand} {rand}".encode(), sender)
 
 
-def same(rand, autn):
+def same(kind, rand, autn):
     """What a USIM answers to a challenge, IK, CK and RES: RAND each."""
     return f"UMTS-AUTH:{rand}:{rand}:{rand}"
 
 
 def play_usim(sockets, answer):
-    """Answers each challenge."""
+    """Answers each challenge, of one kind or another: `UMTS-AUTH` with RAND and AUTN, `GSM-AUTH` with each RAND."""
     while True:
         _, found, asked = sockets.recv(4096).decode().partition("CTRL-REQ-SIM-")
         if found:
-            network, _, rand, autn = asked.split(":")
-            sockets.send(f"CTRL-RSP-SIM-{network}:{answer(rand, autn[:32])}".encode())
+            # The last value ends where the text for a user begins.
+            network, kind, *values = asked.split(" ")[0].split(":")
+            sockets.send(f"CTRL-RSP-SIM-{network}:{answer(kind, *values)}".encode())
 
 
 def begin(play, *given):

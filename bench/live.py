@@ -39,7 +39,6 @@ METHODS = {"AKA": ("0", 500), "AKA'": ("6", 5000), "SIM": ("1", 0)}
 SESSIONS, CLIENTS, SUBSCRIBERS = 3, 4, 12
 # Vectors are kept ahead for fewer subscribers than there are, so that the program runs all the time.
 AHEAD, MOST_ANSWERS, LONGEST_WAIT = 8, 100, 3
-hostapd.PERMANENT["SIM"] = "1"
 
 
 def options():

@@ -2,7 +2,7 @@
 ends and the USIMs of tools/eap. It shares nothing with the crates, and needs Python's `cryptography`.
 
 `World(TEXT).output()` is what `run` prints of a scenario that `is_readable`: one job a round, and in it
-lines of sessions alone. No subscriber's last number may be drawn.
+lines of sessions alone, those of EAP-SIM among them. No subscriber's last number may be drawn.
 """
 import sys
 from dataclasses import replace
@@ -13,12 +13,17 @@ sys.path.append(str(TOP / "tools"))
 from eap.peer import Peer
 from eap.server import Server
 from eap.session import Device, Home, Row, Subscriber
+from eap.sim import SimPeer, SimServer
+from eap.streams import nonce_of_sim, rand_of
+from eap.usim import sqn_of
 
 TYPES = {"aka": 23, "prime": 50}
 # What each letter of a session's options is called at an end.
 OPTIONS = {"p": "pseudonym", "r": "reauth", "a": "any", "b": "bidding", "d": "hasprime"}
 HEADER = {"randkey", "print", "realm", "subscriber"}
-EVENTS = {"session", "start", "deliver", "repeat", "giveup", "plain", "tamper", "cut"}
+EVENTS = {"session", "start", "deliver", "repeat", "giveup", "plain", "tamper", "cut", "sim"}
+# The ends of a `sim` line by the letters of its schedule.
+SIM_ENDS = {"p": "peer", "s": "server"}
 
 
 def lines_of(text):
@@ -147,6 +152,10 @@ class Job:
             self.world.say(f"{text} made {len(self.packets)}")
             self.world.show(f"packet {len(self.packets)} {data.hex()}")
 
+    def sim(self, imsi, count, schedule):
+        row = next(row for row in self.world.rows if row.subscriber.imsi == imsi)
+        SimJob(self.world, row, [self.world.drawn(row) for _ in range(int(count))]).run(schedule)
+
     def hand_over(self, text, end, at):
         data, before = self.packets[at - 1][0], end.inputs
         answer = end.deliver(data)
@@ -154,6 +163,50 @@ class Job:
         if end.has_checked and not self.broken and (data, role, inputs) not in self.packets:
             self.broken = text.removeprefix("deliver ")
         return self.tell(text, end, answer)
+
+
+class SimJob:
+    """The session of a `sim` line: both ends, and the packets between them, which count from 1."""
+
+    def __init__(self, world, row, challenges):
+        self.world, self.imsi, self.packets = world, row.subscriber.imsi, []
+        identity = b"1" + self.imsi.encode() + (b"@" + world.realm if world.realm else b"")
+        nonce = nonce_of_sim(world.key, row.place, challenges[0][0])
+        self.ends = {"server": SimServer(identity, [(rand, f) for _, rand, f in challenges]),
+                     "peer": SimPeer(identity, row.subscriber.functions, nonce)}
+        self.tell("start", self.ends["server"], self.ends["server"].start())
+
+    def tell(self, text, end, answer):
+        """Prints a line, and answers whether a packet is sent."""
+        what, sent = answer
+        if sent is not None:
+            self.packets.append(sent)
+        words = [f"sim {self.imsi} {text}", f"sent {len(self.packets)}" if sent is not None else "", what]
+        self.world.say(" ".join(it for it in words if it))
+        if sent is not None:
+            self.world.show(f"packet {len(self.packets)} {sent.hex()}")
+        if what == "ended success":
+            self.world.show(end.keys.text())
+        return sent is not None
+
+    def deliver(self, word, at):
+        if not 1 <= at <= len(self.packets):
+            self.world.say(f"sim {self.imsi} {word} {at} nosuchpacket")
+            return False
+        end = self.ends[word]
+        return self.tell(f"{word} {at}", end, end.deliver(self.packets[at - 1]))
+
+    def run(self, schedule):
+        if schedule == "plain":
+            words = ["peer", "server"]
+            while self.deliver(words[0], len(self.packets)):
+                words.reverse()
+        else:
+            for part in schedule.split(","):
+                self.deliver(SIM_ENDS[part[0]], int(part[1:]))
+        server, peer = self.ends["server"], self.ends["peer"]
+        if server.has_won and peer.has_won:
+            self.world.say(f"sim {self.imsi} {'agree' if server.keys.words == peer.keys.words else 'differ'}")
 
 
 class World:
@@ -192,6 +245,17 @@ class World:
         if self.full:
             self.say(line)
 
+    def drawn(self, row):
+        """A subscriber's next vector: its number, its RAND, and the functions of it."""
+        number = row.draw()
+        if number is None:
+            raise ValueError("a subscriber's last number was drawn")
+        rand = rand_of(self.key, row.place, number)
+        f = row.subscriber.functions(rand)
+        self.say(f"vector {row.subscriber.imsi} {number}")
+        self.show("bytes " + " ".join(it.hex() for it in (rand, f.autn(sqn_of(number), row.amf), f.res, f.ck, f.ik)))
+        return number, rand, f
+
     def output(self):
         for number, lines in enumerate(self.rounds, 1):
             self.say(f"round {number}")
@@ -210,4 +274,5 @@ class World:
         for session in sorted(job.sessions.values(), key=lambda it: it.number):
             if session.has_verdict():
                 self.say(f"session {session.number} {session.verdict()}")
-        self.say(f"premise broken 1 {job.broken}" if job.broken else "premise held")
+        if job.sessions:
+            self.say(f"premise broken 1 {job.broken}" if job.broken else "premise held")

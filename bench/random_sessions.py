@@ -6,7 +6,8 @@
 There are COUNT scenarios, 200 unless it is given, from the seed FIRST on, 0 unless it is given. A scenario has up to three
 rounds, up to three subscribers, some of which share their keys, and up to five sessions a round, of both methods, with any
 options and identities, among them pseudonyms and re-authentication identities that weren't given. Its packets are lost, repeated
-and crossed, in half of the scenarios the network changes some of them, and half print all bytes. Before that the examples that
+and crossed, in half of the scenarios the network changes some of them, and half print all bytes. Between the events stand sessions of
+EAP-SIM, over networks of the same kind that change nothing. Before that the examples that
 network.py can read are compared with their expected outputs.
 
 The seed of each scenario whose output differs is printed with the first line that does; the exit status is 1 if there is
@@ -52,7 +53,7 @@ def scenario(seed):
         openings = [session_line(choose, number, imsis[:1] if leans else imsis, Names(key), leans) for number in sessions]
         job = Job(world, [line.split() for line in openings])
         job.run()
-        lines += openings + events(choose, sessions, job, leans, changes)
+        lines += openings + events(choose, sessions, job, imsis, leans, changes)
     return "".join(line + "\n" for line in lines)
 
 
@@ -68,9 +69,9 @@ def session_line(choose, number, imsis, names, leans):
     return f"session {number} {choose.choice(imsis)} {method} {both} {options} {identity}"
 
 
-def events(choose, sessions, job, leans, changes):
+def events(choose, sessions, job, imsis, leans, changes):
     """Events of sessions, each of which happens in a job at once: packets go mostly to an end of the other role. If the network
-    changes packets, changed copies are delivered as others are."""
+    changes packets, changed copies are delivered as others are. Some sessions of EAP-SIM stand between them."""
     lines, left = [], list(sessions)
 
     def happen(line):
@@ -83,11 +84,23 @@ def events(choose, sessions, job, leans, changes):
     if changes:
         meddle(choose, left, job.packets, happen)
     for _ in range(choose.randint(2, 30)):
+        if choose.random() < 0.06:
+            happen(sim_line(choose, choose.choice(imsis)))
         if changes and choose.random() < 0.25:
             happen(change(choose, job.packets))
         else:
             happen(event(choose, sessions, left, job.packets))
     return lines
+
+
+def sim_line(choose, imsi):
+    """A session of EAP-SIM: a plain one, or one in which packets are delivered besides those of a plain one, and some of these
+    aren't."""
+    parts = ["p1", "s2", "p3", "s4", "p5"]
+    for _ in range(choose.randint(0, 8)):
+        parts.insert(choose.randint(0, len(parts)), f"{choose.choice('ps')}{choose.randint(0, 9)}")
+    schedule = ",".join(part for part in parts if choose.random() < 0.95) or "s1"
+    return f"sim {imsi} {choose.choice([2, 3])} {choose.choice(['plain', schedule, schedule])}"
 
 
 def race(choose, left, packets, happen):

@@ -1,5 +1,5 @@
 """Our ends in a trial with a foreign one, for tools/foreign: the program of crates/auc_ends_cli, whose server and peer are the
-proved crates auc_server and auc_peer, or the ends of tools/eap, which are Python.
+proved crates auc_server, auc_peer and auc_sim, or the ends of tools/eap, which are Python.
 
 Either gets a line of text for each packet and answers by one, as crates/auc_ends_cli/src/main.rt has them.
 """
@@ -15,6 +15,8 @@ from transcript import NOTES
 
 PROGRAM = Path(__file__).resolve().parent.parent / "crates/auc_ends_cli/out/auc_ends_cli"
 KEY_WORDS = 5
+# How many triplets our server of EAP-SIM challenges with.
+TRIPLETS = 3
 
 
 @dataclass
@@ -89,12 +91,16 @@ def network_of(method, network):
 
 def server_line(number, chosen, options):
     """Begins a session of our server. The subscriber's last number counts for the first one alone."""
+    if chosen.method == "sim":
+        return f"simserver {chosen.number} {TRIPLETS}" if number == 0 else "next"
     first = f"server {chosen.number} held" if number == 0 else "next"
     return first + "".join(f" {it}" for it in options) + network_of(chosen.method, chosen.network)
 
 
 def peer_line(number, chosen, options):
-    """Begins a session of our peer. The USIM's number counts for the first one alone."""
+    """Begins a session of our peer. The USIM's number counts for the first one alone; in EAP-SIM it is that of NONCE_MT."""
+    if chosen.method == "sim":
+        return f"simpeer {chosen.number + 1}" if number == 0 else "next"
     first = f"peer {chosen.number}" if number == 0 else "next"
     return first + "".join(f" {it}" for it in options) + network_of(chosen.method, chosen.network)
 

@@ -8,6 +8,7 @@ import time
 from dataclasses import dataclass
 
 import foreign_radius
+from eap.messages import IDENTITY, RESPONSE, packet
 from foreign_ours import peer_line, server_line
 from foreign_radius import ACCEPT, CHALLENGE, CODES, REJECT, STATE
 from foreign_verdict import Session
@@ -27,6 +28,8 @@ class Chosen:
     number: int = 0
     sessions: int = 5
     options: tuple = ((),)
+    # The identity that an access point tells in EAP-SIM. Our peer of the other methods is asked for it.
+    identity: bytes = b""
     # Seconds without a packet after which a session ends, and that the first packet of one may take.
     patience: float = 10
     wait: float = 120
@@ -80,9 +83,18 @@ class Server:
         return None, why
 
 
-def ran_with_server(end, server, session):
+def first_identity(end, session, chosen):
+    """The EAP-Response/Identity of our peer; in EAP-SIM that of the access point, since our peer takes that method's messages alone."""
+    if chosen.method != "sim":
+        return session.hear(end, IDENTITY_REQUEST, made=True).packet
+    told = packet(RESPONSE, IDENTITY_REQUEST[1], bytes([IDENTITY]) + chosen.identity)
+    session.add("peer", told, made=True)
+    return told
+
+
+def ran_with_server(end, server, session, chosen):
     """Carries a session's packets between our peer and a server, until one of them ends it."""
-    eap, states = session.hear(end, IDENTITY_REQUEST, made=True).packet, []
+    eap, states = first_identity(end, session, chosen), []
     name = eap[5:]
     while eap:
         asked, answered, session.silence = server.ask(name, eap, states)
@@ -105,7 +117,7 @@ def with_server(end, server, chosen, before=lambda number: None):
         before(number)
         session = Session(number + 1, "peer", chosen.method, f"the server at {shown_address(server.address)}")
         session.began(end.tell(peer_line(number, chosen, chosen.options_of(number))))
-        ran_with_server(end, server, session)
+        ran_with_server(end, server, session, chosen)
         if not session.end and (last := session.last("server")):
             # Our peer tells its cause at the end of the session alone.
             session.hear(end, bytes([4, last.data[1], 0, 4]), made=True)

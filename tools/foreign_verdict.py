@@ -9,15 +9,15 @@ from eap.attributes import (AT_AUTN, AT_AUTS, AT_CHECKCODE, AT_IDENTITY, AT_KDF_
                             AT_RES, NAMES, number_in, text_in, values_in)
 from eap.keys import Keys
 from eap.messages import (AKA, AKA_IDENTITY, CHALLENGE, CLIENT_ERROR, IDENTITY, METHODS, NAK, NOTIFICATION,
-                          PRIME, REAUTHENTICATION, REJECT, REQUEST, RESPONSE, SUBTYPES, SYNC, checkcode,
-                          is_sealed, lacking, right_mac, within)
+                          PRIME, REAUTHENTICATION, REJECT, REQUEST, RESPONSE, SIM, SYNC, checkcode, is_sealed,
+                          lacking, name_of_subtype, right_mac, within)
 from eap.milenage import xor
 from eap.names import username
 from foreign_ours import Answer
 from report_packets import parts_of
 from transcript import name_of, other
 
-TITLES = {"aka": "EAP-AKA", "prime": "EAP-AKA'"}
+TITLES = {"aka": "EAP-AKA", "prime": "EAP-AKA'", "sim": "EAP-SIM"}
 FULL, AFTER_SYNC, AGAIN = "full authentication", "full authentication after a resynchronisation", "re-authentication"
 KINDS = {"full": FULL, "sync": AFTER_SYNC, "reauth": AGAIN, "any": ""}
 EQUAL, DIFFERENT, UNSEEN, FAILED = "equal keys", "keys differ", "keys unseen", "fails"
@@ -118,7 +118,8 @@ class Session:
         return answer
 
     def give_up(self, end):
-        if not self.end:
+        # An end of EAP-SIM has nothing to give up.
+        if not self.end and self.method != "sim":
             self.answers.append(end.tell("giveup"))
 
     @property
@@ -184,7 +185,7 @@ class Judge:
         """The last challenge up to a packet that has RAND and AUTN."""
         for it in reversed(session.packets[:packet.number] if packet else session.packets):
             found = it.attributes
-            if it.subtype == CHALLENGE and it.data[0] == 1 and len(found.get(AT_RAND, b"")) == len(found.get(AT_AUTN, b"")) == 18:
+            if it.kind != SIM and it.subtype == CHALLENGE and it.data[0] == 1 and len(found.get(AT_RAND, b"")) == len(found.get(AT_AUTN, b"")) == 18:
                 return it
         return None
 
@@ -291,7 +292,7 @@ def shown(text):
 
 def form_of(packet):
     """Where the form of a packet breaks, as far as that can be seen."""
-    if packet.subtype not in SUBTYPES:
+    if not name_of_subtype(packet.kind, packet.subtype):
         return f"the subtype {packet.subtype} isn't known"
     if packet.data[0] == 1 and packet.subtype in (REJECT, SYNC, CLIENT_ERROR):
         return "a server doesn't send this message"

@@ -149,6 +149,8 @@ def rows_of(session):
 def facts_of(session):
     """A session's method and subscriber, or why they aren't known."""
     method, imsi = " and ".join(transcript.methods_of(session)), transcript.subscriber_of(session)
+    if session.imsi:
+        return f"{method}, subscriber {imsi}"
     if transcript.is_brief(session):
         subscriber = f", subscriber {imsi}" if imsi else ""
         return f"{'method' if imsi else 'method and subscriber'} not in a brief print{subscriber}"

@@ -89,7 +89,7 @@ def subscribers_of(sessions, objects, scenario):
         number, imsi = session.number, None
         if number in drawn and session.round in intervals:
             imsi = intervals[session.round].owner(drawn[number])
-        imsi = imsi or told_in(session, names) or scenario.get(number)
+        imsi = imsi or session.imsi or told_in(session, names) or scenario.get(number)
         found.devices[number], found.challenged[number] = scenario.get(number, imsi), imsi
         if imsi is not None:
             names.update(dict.fromkeys(names_given(session), imsi))

@@ -5,11 +5,12 @@ from dataclasses import dataclass, field
 
 import transcript
 from eap.attributes import (AT_AUTN, AT_AUTS, AT_BIDDING, AT_CHECKCODE, AT_CLIENT_ERROR_CODE, AT_ENCR_DATA,
-                            AT_IDENTITY, AT_IV, AT_KDF, AT_KDF_INPUT, AT_MAC, AT_NONCE_S, AT_NOTIFICATION,
-                            AT_RAND, AT_RES, NAMES, number_in, places_in, text_in)
+                            AT_IDENTITY, AT_IV, AT_KDF, AT_KDF_INPUT, AT_MAC, AT_NONCE_MT, AT_NONCE_S, AT_NOTIFICATION,
+                            AT_RAND, AT_RES, AT_SELECTED_VERSION, AT_VERSION_LIST, NAMES, number_in, places_in, text_in)
 from eap.keys import master_key
-from eap.messages import (AKA, CODES, IDENTITY, METHODS, REAUTHENTICATION, REQUEST, RESPONSE, SUBTYPES,
-                          is_sealed)
+from eap.messages import (AKA, CODES, IDENTITY, METHODS, PRIME, REAUTHENTICATION, REQUEST, RESPONSE, SIM, is_sealed,
+                          name_of_subtype)
+from eap.usim import triplet
 from transcript import Change, identity_in, rows_in
 
 
@@ -34,9 +35,16 @@ def of_checkcode(value):
     return f"hash of the AKA-Identity packets {hashed}" if hashed else "the session has no AKA-Identity packets"
 
 
+def versions_in(value):
+    return [str(number_in(value[at:])) for at in range(0, len(value) - 1, 2)]
+
+
 # What the value of an attribute says, by its type.
 MEANINGS = {
-    AT_RAND: lambda value: f"RAND {value[2:].hex()}",
+    AT_RAND: lambda value: "RAND " + ", ".join(value[at:at + 16].hex() for at in range(2, len(value), 16)),
+    AT_NONCE_MT: lambda value: f"NONCE_MT {value[2:].hex()}",
+    AT_VERSION_LIST: lambda value: f"versions {', '.join(versions_in(text_in(value)))}",
+    AT_SELECTED_VERSION: lambda value: f"version {number_in(value)}",
     AT_AUTN: of_autn,
     AT_RES: lambda value: f"RES {value[2:2 + number_in(value) // 8].hex()}, {number_in(value)} bits",
     AT_AUTS: lambda value: f"SQN_MS xor AK* {value[:6].hex()}; MAC-S {value[6:].hex()}",
@@ -63,6 +71,10 @@ class Authentication:
     vector: list | None = None
     counter: int | None = None
     nonce: bytes = b""
+    # In EAP-SIM: the RANDs, the vectors of the job by their RANDs, and the versions that the server offers.
+    rands: list = field(default_factory=list)
+    vectors: dict = field(default_factory=dict)
+    versions: bytes = b""
     keys: dict = field(default_factory=dict)
     # Its place in the data of the page; -1 as long as it has none.
     place: int = -1
@@ -95,15 +107,28 @@ def parts_of(data):
     kind = data[4]
     parts.append(["Type", 4, 5, f"EAP-{METHODS[kind]}" if kind in METHODS else "Identity" if kind == IDENTITY else str(kind)])
     if kind in METHODS and len(data) >= 8:
-        parts += [["Subtype", 5, 6, SUBTYPES.get(data[5], str(data[5]))], ["Reserved", 6, 8, ""]]
+        parts += [["Subtype", 5, 6, name_of_subtype(kind, data[5]) or str(data[5])], ["Reserved", 6, 8, ""]]
         return parts + attribute_parts(data, 8)
     return parts + ([["Type-Data", 5, len(data), shown_text(data[5:]) if kind == IDENTITY else ""]] if len(data) > 5 else [])
 
 
 # ---- authentications
 
+def begun_sim(event):
+    """The same in EAP-SIM, by the packets: the Challenge answers a Start response."""
+    found = transcript.attributes_of(event.sent) if event.sent else {}
+    if AT_RAND not in found or event.delivered is None:
+        return None
+    told, first = transcript.attributes_of(event.delivered), transcript.attributes_of(event.session.network[0])
+    rands = [found[AT_RAND][at:at + 16] for at in range(2, len(found[AT_RAND]), 16)]
+    return Authentication("full authentication", SIM, identity_in(event.delivered), nonce=told.get(AT_NONCE_MT, b"")[2:], rands=rands,
+                          vectors=event.session.vectors, versions=text_in(first.get(AT_VERSION_LIST, b"\0\0")))
+
+
 def begun(event, ends):
     """The authentication that a server begins in an event; nothing if it begins none."""
+    if event.session.imsi:
+        return begun_sim(event)
     notes = {note.split(" ")[0]: note.split(" ")[1:] for note in event.notes}
     if not event.sent or not {"drew", "resumed"} & notes.keys() or len(event.sent.data or b"") < 8:
         return None
@@ -141,11 +166,27 @@ def authentications_of(sessions):
     return made_by
 
 
+def triplets_of(it):
+    """SRES and Kc of each RAND of a session of EAP-SIM; none if the vectors' bytes aren't told."""
+    told = [it.vectors.get(rand.hex()) for rand in it.rands]
+    return [triplet(*map(bytes.fromhex, (xres, ck, ik))) for _, xres, ck, ik in told] if all(told) else []
+
+
+def inputs_of_sim(it):
+    triplets = triplets_of(it)
+    rows = [["RAND", ", ".join(rand.hex() for rand in it.rands)]]
+    rows += [[name, ", ".join(one[place].hex() for one in triplets) or "not known"] for place, name in enumerate(("SRES", "Kc"))]
+    rows += [["NONCE_MT", it.nonce.hex()], ["versions", ", ".join(versions_in(it.versions))]]
+    return rows + [["keys are", "PRF(MK): K_encr, K_aut, MSK, EMSK; MK = SHA-1(identity | Kc | NONCE_MT | versions | selected version)"]]
+
+
 def rows_of(it):
     """The inputs of the keys of an authentication, and the keys, each with its name."""
     rows = [["method", f"EAP-{METHODS.get(it.method, it.method)}"]]
     rows += [["identity", shown_text(it.identity)]] if it.identity is not None else []
-    if it.counter is None:
+    if it.method == SIM:
+        rows += inputs_of_sim(it)
+    elif it.counter is None:
         rows += [["network name", shown_text(it.name)]] if it.method != AKA else []
         rows += inputs_of_challenge(it) if it.vector else []
     else:
@@ -174,15 +215,21 @@ def inputs_of_challenge(it):
 def shown_keys(it):
     """The printed keys, those of the server if it has some, without the zeros that fill those of EAP-AKA up."""
     encr, aut, again, msk, emsk = it.keys.get("server") or it.keys["peer"]
-    return (encr, aut[:32], "", msk, emsk) if it.method == AKA else (encr, aut, again, msk, emsk)
+    return (encr, aut, again, msk, emsk) if it.method == PRIME else (encr, aut[:32], "", msk, emsk)
 
 
 def mac_of(packet, it):
     """In words, what AT_MAC of a packet is made from, and whether it is right."""
-    behind = it.nonce if packet.data[0] == RESPONSE and packet.data[5] == REAUTHENTICATION else b""
-    name = "SHA-1" if it.method == AKA else "SHA-256"
+    behind, whose = b"", ""
+    if it.method == SIM:
+        behind, whose = (it.nonce, "NONCE_MT") if packet.data[0] == REQUEST else (b"".join(sres for sres, _ in triplets_of(it)), "the SRES")
+    elif packet.data[0] == RESPONSE and packet.data[5] == REAUTHENTICATION:
+        behind, whose = it.nonce, "NONCE_S"
+    name = "SHA-256" if it.method == PRIME else "SHA-1"
     what = f"HMAC-{name}-128 under K_aut over the packet, with zeros in the place of the MAC"
-    what += " and NONCE_S behind it" if behind else ""
+    what += f" and {whose} behind it" if behind else ""
+    if whose == "the SRES" and not behind:
+        return f"{what} and the SRES behind it. The vectors' bytes aren't printed, so it wasn't computed."
     if not it.keys:
         return f"{what}. K_aut isn't printed, so it wasn't computed."
     right = is_sealed(it.method, bytes.fromhex(shown_keys(it)[1]), packet.data, behind)

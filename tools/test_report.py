@@ -70,6 +70,27 @@ sites 001010000000001 master
 sites 001010000000001 deliver 0 nosuchpacket
 closed 001010000000001 0 2 2 0 2 0
 """
+# Sessions of EAP-SIM, one behind the other, with each form of a line and the bytes of two packets and of keys.
+SIM = f"""round 1
+job 1
+vector 001010000000001 1
+vector 001010000000001 2
+sim 001010000000001 start sent 1
+packet 1 01010014120a00000a0100000f02000200010000
+sim 001010000000001 peer 1 sent 2
+sim 001010000000001 server 1 ignored notforme
+sim 001010000000001 server 9 nosuchpacket
+sim 001010000000001 server 2 sent 3 ended failure clienterror 1
+sim 001010000000001 peer 3 ended failure version
+sim 001010000000001 start sent 1
+sim 001010000000001 server 1 sent 2 ended success
+packet 2 03020004
+keys {'5e' * 16} {'6f' * 16}{'00' * 16} {'00' * 32} {'7a' * 64} {'8b' * 64}
+sim 001010000000001 peer 2 ended success
+sim 001010000000001 agree
+sim 001010000000001 differ
+closed 001010000000001 0 2 2 0 2 0
+"""
 # The network changes packets of a session. A refused change makes none.
 CHANGED = """round 1
 job 1
@@ -131,12 +152,20 @@ def form_of(forms, found):
 
 def line_of(found):
     """The line of an object, so that a test can compare it with the transcript's."""
+    if found["kind"] == "sim" and "event" in found:
+        return line_of_sim(found)
     if found["kind"] != "event":
         return filled(form_of((LINES | REFUSED_FORMS)[found["kind"]], found), found)
     ends = [found["end"]] if found["event"] in ("deliver", "giveup") else []
     # The `word` or `number` of a note isn't that of the step.
     words = [found["event"], found["session"], *ends, *([found["packet"]] if "packet" in found else [])]
     words += [filled(form_of(NOTES, note), note) for note in found["notes"]]
+    words += ["sent", found["sent"]] if "sent" in found else []
+    return " ".join(str(it) for it in [*words, filled(form_of(STEPS, found), found)] if it != "")
+
+
+def line_of_sim(found):
+    words = ["sim", found["imsi"], *(["start"] if found["event"] == "start" else [found["end"], found["packet"]])]
     words += ["sent", found["sent"]] if "sent" in found else []
     return " ".join(str(it) for it in [*words, filled(form_of(STEPS, found), found)] if it != "")
 
@@ -164,7 +193,7 @@ class Objects(unittest.TestCase):
     def test_each_kind_of_line_is_in_the_examples_or_here(self):
         rare = ("round 1\njob 1\nwithheld 001010000000001 7 full\nexhausted 001010000000001 8796093022208\n"
                 "sync 001010000000001 beyond 268435457 0\npremise broken 1 2 peer 3\n")
-        texts = [rare, FURTHER, SITES, CHANGED, *(path.read_text() for path in EXPECTED), "usage\n", "refused scenario 3 fields\n"]
+        texts = [rare, FURTHER, SITES, SIM, CHANGED, *(path.read_text() for path in EXPECTED), "usage\n", "refused scenario 3 fields\n"]
         kinds = {it["kind"] for text in texts for it in objects_in(text)}
         self.assertEqual(kinds, LINES.keys() | REFUSED_FORMS.keys() | {"event"})
         objects = list(objects_in(rare))
@@ -217,6 +246,40 @@ class Objects(unittest.TestCase):
             error = printed("-", given=f"round 1\njob 1\n{line}\n")[2]
             self.assertEqual(error, f"transcript: -: line 3: {line!r} is no line of a transcript\n")
 
+    def test_line_of_eap_sim_is_an_object_by_its_event(self):
+        objects = list(objects_in(SIM))
+        self.assertEqual([line_of(it) for it in objects], SIM.splitlines())
+        self.assertTrue(all(it["imsi"] == "001010000000001" and (it["round"], it["job"]) == (1, 1) for it in objects[4:-1]))
+        found = [{name: it[name] for name in it if name not in ("line", "round", "job", "imsi")} for it in objects[4:-1]]
+        self.assertEqual([it.pop("kind") for it in found if it["kind"] == "sim"], ["sim"] * 11)
+        self.assertEqual(found[:7], [
+            {"event": "start", "end": "server", "sent": 1},
+            {"kind": "packet", "packet": 1, "bytes": "01010014120a00000a0100000f02000200010000", "end": "server"},
+            {"event": "deliver", "end": "peer", "packet": 1, "sent": 2}, {"event": "deliver", "end": "server", "packet": 1, "ignored": "notforme"},
+            {"event": "deliver", "end": "server", "packet": 9, "refused": "nosuchpacket"},
+            {"event": "deliver", "end": "server", "packet": 2, "sent": 3, "ended": "failure", "why": "clienterror", "code": 1},
+            {"event": "deliver", "end": "peer", "packet": 3, "ended": "failure", "why": "version"}])
+        self.assertEqual((found[10]["kind"], found[10]["end"], found[10]["k_encr"]), ("keys", "server", "5e" * 16))
+        self.assertEqual(found[-2:], [{"verdict": "agree"}, {"verdict": "differ"}])
+
+    def test_page_shows_sessions_of_eap_sim_with_their_packets(self):
+        data = report.data_of(text_of("sim-full-print"), {}, "sim-full-print")
+        session, = data["sessions"]
+        self.assertEqual(session[:5], ["sim1", 1, 1, "001010000000001", "agree"])
+        told = [[[data["texts"][name], data["texts"][meaning]] for name, _, _, meaning in packet[6]] for packet in session[8]]
+        self.assertEqual([data["texts"][packet[3]] for packet in session[8]],
+                         ["Request/SIM-Start", "Response/SIM-Start", "Request/SIM-Challenge", "Response/SIM-Challenge", "Success"])
+        self.assertIn(["AT_VERSION_LIST", "versions 1"], told[0])
+        self.assertIn(["AT_SELECTED_VERSION", "version 1"], told[1])
+        self.assertIn(["AT_RAND", "RAND 8a35d86fbcde6accb2cc7d4cd8ea2492, 2b23cce7a26023ab3f0eef693ac87f64"], told[2])
+        macs = [data["texts"][packet[9]] for packet in session[8] if packet[9] >= 0]
+        self.assertEqual([(it.split(" and ")[1].split(" behind")[0], it.endswith("it is right.")) for it in macs],
+                         [("NONCE_MT", True), ("the SRES", True)])
+        [[title, rows]] = data["authentications"]
+        self.assertEqual((title, dict(rows)["SRES"], dict(rows)["its ends"]), ("full authentication", "be4e916e, a3d8a74c", "both have equal keys"))
+        [[imsi, steps, closed]] = data["subscribers"]
+        self.assertEqual((imsi, [step[1:] for step in steps], closed), ("001010000000001", [[DRAWN, 1], [DRAWN, 2]], [[1, 0, 2, 2, 0, 2, 0]]))
+
     def test_changed_packet_is_of_no_end(self):
         objects = list(objects_in(CHANGED))
         self.assertEqual([line_of(it) for it in objects], CHANGED.splitlines())
@@ -231,7 +294,7 @@ class Objects(unittest.TestCase):
                 list(objects_in(f"round 1\njob 1\nsession 1 open\n{line}\n"))
 
     def test_page_names_each_kind_and_field(self):
-        for text in [FURTHER, SITES, CHANGED, *(path.read_text() for path in EXPECTED)]:
+        for text in [FURTHER, SITES, SIM, CHANGED, *(path.read_text() for path in EXPECTED)]:
             for found in objects_in(text):
                 for it in [found, *found.get("notes", [])]:
                     for name in it:
@@ -338,11 +401,14 @@ class Reports(unittest.TestCase):
             page, _ = page_of(text)
             data = json.loads(page.scripts[0])
             opened = [int(line.split(" ")[1]) for line in text.splitlines() if re.fullmatch(r"session \d+ open", line)]
-            self.assertEqual([it[0] for it in data["sessions"]], opened, path.name)
+            begun = [f"sim{place}" for place in range(1, 1 + len(re.findall(r"(?m)^sim \d+ start", text)))]
+            shown = [it[0] for it in data["sessions"]]
+            self.assertEqual(([it for it in shown if it not in begun], [it for it in shown if it in begun]), (opened, begun), path.name)
             # A change of a packet that isn't there belongs to no session.
-            words = transcript.EVENTS.keys() | transcript.CHANGES.keys()
+            words = transcript.EVENTS.keys() | transcript.CHANGES.keys() | {"sim"}
             events = [line for line in text.splitlines() if line.split(" ")[0] in words]
-            events = [line for line in events if line.split(" ")[0] in transcript.EVENTS or not line.endswith(" nosuchpacket")]
+            events = [line for line in events if line.split(" ")[0] not in transcript.CHANGES or not line.endswith(" nosuchpacket")]
+            events = [line for line in events if not re.fullmatch(r"sim \d+ (agree|differ)", line)]
             self.assertEqual(sorted(row[2] for it in data["sessions"] for row in it[6]), sorted(events), path.name)
             self.assertEqual(data["lines"], text.count("\n"))
 
@@ -497,7 +563,12 @@ class Numbers(unittest.TestCase):
         for path in sorted(EXAMPLES.glob("*.scenario")):
             scenario = report_numbers.scenario_subscribers(path.read_text())
             data = report.data_of(path.with_suffix(".expected").read_text(), scenario, path.name)
-            self.assertEqual([it[3] for it in data["sessions"]], list(scenario.values()), path.name)
+            rows = map(str.split, path.read_text().splitlines())
+            sims = [row[1] for row in rows if len(row) == 4 and row[0] == "sim"]
+            devices = {True: [], False: []}
+            for it in data["sessions"]:
+                devices[isinstance(it[0], int)].append(it[3])
+            self.assertEqual(devices, {True: list(scenario.values()), False: sims}, path.name)
 
 
 class Growth(unittest.TestCase):

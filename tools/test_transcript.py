@@ -114,6 +114,48 @@ ignored othertype |<-- 2 Request/type 23 (changed copy of 1) ----------    |    
 """
 
 
+# Two sessions of EAP-SIM, each with packets of its own, between events of a session.
+SIM = """round 1
+job 2
+session 7 open
+start 7 sent 1
+packet 1 0101000501
+vector 001010000000001 1
+vector 001010000000001 2
+sim 001010000000001 start sent 1
+packet 1 01010014120a00000a0100000f02000200010000
+sim 001010000000001 peer 1 sent 2
+packet 2 0201000c120e000016010000
+sim 001010000000001 server 9 nosuchpacket
+sim 001010000000001 peer 1 sent 3
+packet 3 0201000c120e000016010000
+sim 001010000000001 server 3 sent 4 ended failure clienterror 0
+packet 4 04010004
+vector 001010000000001 3
+vector 001010000000001 4
+sim 001010000000001 start sent 1
+packet 1 01010014120a00000a0100000f02000200010000
+deliver 7 peer 1 sent 2
+packet 2 020100060130
+closed 001010000000001 0 4 4 0 4 0
+premise held
+"""
+
+SIM_LADDER = """session sim1, round 1, job 2: EAP-SIM, subscriber 001010000000001
+server: failure clienterror 0, peer: not ended
+
+   peer                                                         server                         centre
+     |                                                            |                             |
+     |                                                            | start                       |
+     |<-- 1 Request/SIM-Start (AT_PERMANENT_ID_REQ) --------------|                             |
+     |--- 2 Response/SIM-Client-Error -----------------------x    |                             |
+     |                                                            | packet 9: nosuchpacket      |
+     |<-- 1 Request/SIM-Start (AT_PERMANENT_ID_REQ, again) -------|                             |
+     |--- 3 Response/SIM-Client-Error (copy of 2) --------------->| ended failure clienterror 0 |
+     |    x-- 4 Failure ------------------------------------------|                             |
+"""
+
+
 def frames_in(capture):
     """The frames of a pcapng file, each with its time, its bytes and its comments."""
     frames, place = [], 0
@@ -171,6 +213,15 @@ class Captures(unittest.TestCase):
             (19, "020000000007", "0101000517", ["line 19: deliver 7 peer 2 ignored closed", "packet 2 is delivered again", copy(2, 1)]),
         ])
 
+    def test_session_of_eap_sim_is_a_conversation_of_its_own(self):
+        frames = frames_in(pcap.capture(pcap.frames_of(transcript.sessions_in(SIM))))
+        shown = [(time // 1000, data[:6].hex(), data[6:12].hex(), data[18:20].hex()) for time, data, _ in frames]
+        self.assertEqual(shown, [
+            (10, "020002000001", "020003000001", "0101"), (10, "020003000001", "020002000001", "0201"),
+            (13, "020002000001", "020003000001", "0101"), (15, "020003000001", "020002000001", "0201"),
+            (15, "020002000001", "020003000001", "0401"), (19, "020002000002", "020003000002", "0101"),
+            (21, "020000000007", "020001000007", "0101"), (21, "020001000007", "020000000007", "0201")])
+
     def test_full_print_is_captured(self):
         with tempfile.TemporaryDirectory() as folder:
             path = Path(folder) / "capture"
@@ -207,6 +258,18 @@ class Charts(unittest.TestCase):
         lines = ["start 1 sent 1", "packet 1 0101000501", "tamper 1 4 01 made 2", "packet 2 0101000501", "deliver 1 peer 2 ignored closed"]
         self.assertEqual([row.label for row in ladder_of(lines).rows[3:]], ["2 Request/Identity (changed copy of 1)"])
 
+    def test_session_of_eap_sim_has_a_ladder(self):
+        sessions = transcript.sessions_in(SIM)
+        self.assertEqual([session.number for session in sessions], [7, "sim1", "sim2"])
+        shown = ladders.ladder_of(sessions[1])
+        self.assertEqual(chart.text_ladder(shown, chart.columns_of([shown])), SIM_LADDER)
+        brief = "".join(line + "\n" for line in SIM.splitlines() if not line.startswith("packet "))
+        self.assertEqual(ladders.ladder_of(transcript.sessions_in(brief)[1]).facts, "EAP-SIM, subscriber 001010000000001")
+        done = subprocess.run([TOOLS / "chart", "-", "--session", "sim1"], input=SIM, capture_output=True, text=True)
+        self.assertEqual((done.returncode, done.stdout, done.stderr), (0, SIM_LADDER, ""))
+        done = subprocess.run([TOOLS / "chart", "-", "--session", "sim3"], input=SIM, capture_output=True, text=True)
+        self.assertEqual((done.returncode, done.stderr), (2, "chart: -: it has no session sim3\n"))
+
     def test_changed_copy_tells_nothing_of_its_session(self):
         # The copies tell another method and another identity than the ends.
         lines = ["start 1 sent 1", f"packet 1 {AKA}", f"deliver 1 peer 1 sent 2", f"packet 2 {response(PERMANENT)}", "tamper 1 4 32 made 3",
@@ -214,7 +277,7 @@ class Charts(unittest.TestCase):
         self.assertEqual(ladder_of(lines).facts, "EAP-AKA, subscriber 001010000000001")
 
     def test_picture_has_each_label(self):
-        for text in [CHANGED, *(path.read_text() for path in EXAMPLES.glob("*.expected"))]:
+        for text in [CHANGED, SIM, *(path.read_text() for path in EXAMPLES.glob("*.expected"))]:
             shown = [it for it in self.ladders(text) if it.rows]
             if shown:
                 root = ElementTree.fromstring(picture.picture(shown))
@@ -276,7 +339,10 @@ class Titles(unittest.TestCase):
     def test_no_subscriber_of_an_example_is_wrong(self):
         for path in EXAMPLES.glob("*.expected"):
             scenario = path.with_suffix(".scenario").read_text().splitlines()
-            told = {words[1]: words[2] for words in map(str.split, scenario) if len(words) > 6 and words[0] == "session"}
+            rows = [line.split() for line in scenario]
+            told = {words[1]: words[2] for words in rows if len(words) > 6 and words[0] == "session"}
+            sims = [words[1] for words in rows if len(words) == 4 and words[0] == "sim"]
+            told |= {f"sim{place}": imsi for place, imsi in enumerate(sims, 1)}
             for session in transcript.sessions_in(path.read_text()):
                 imsi = transcript.subscriber_of(session)
                 # In the first session of this one a device tells the identity of another subscriber.
@@ -613,6 +679,16 @@ class Inputs(unittest.TestCase):
             (begun + "start x sent 1\n", "line 4: 'x' isn't a number"),
             (begun + "start 1 sent 1\npacket 2 0101000501\n", "line 5: the bytes aren't those of the packet"),
             (begun + "keys 00 00 00 00 00\n", "line 4: the keys are of no end"),
+            ("sim 001010000000001 start sent 1\n", "line 1: a session is opened outside of a job"),
+            (begun + "sim 001010000000001 peer 1 sent 2\n", "line 4: no session of 001010000000001 was started by a `sim` line"),
+            (begun + "sim 123456 start sent 1\nsim 1234567 peer 1 sent 2\n", "line 5: no session of 1234567 was started by a `sim` line"),
+            (begun + "sim 123456 start sent 1\njob 2\nsim 123456 peer 1 sent 2\n", "line 6: no session of 123456 was started by a `sim` line"),
+            (begun + "sim 123456 start sent 2\n", "line 4: 'sim 123456 start sent 2' is no line of a transcript"),
+            (begun + "sim 123456 start sent 1\nsim 123456 peer 1\n", "line 5: 'sim 123456 peer 1' is no line of a transcript"),
+            (begun + "sim 123456 start sent 1\nsim 123456 peer 2 sent 2\n", "line 5: packet 2 wasn't sent before"),
+            (begun + "sim 123456 start sent 1\nsim 123456 peer 1 sent 3\n", "line 5: packet 3 follows packet 1"),
+            (begun + "sim 123456 start sent 1\nsim 123456 peer 1 drew 2\n", "line 5: 'drew' is nothing that an end does"),
+            (begun + "sim 123456 start sent 1\nsim 123456 agree now\n", "line 5: 'sim 123456 agree now' is no line of a transcript"),
             (begun + "tamper 1 0 00 made 1\n", "line 4: packet 1 wasn't sent before"),
             (begun + "cut 1 0 nosuchplace\n", "line 4: packet 1 wasn't sent before"),
             (begun + "start 1 sent 1\ncut 1 0 made 3\n", "line 5: packet 3 follows packet 1"),

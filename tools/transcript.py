@@ -1,7 +1,8 @@
 """Reads a transcript, which is what `auc run` prints: its sessions, their events and packets. tools/pcap, tools/chart and
 tools/report show it; tools/transcript_lines.py has its other lines.
 
-A packet's number counts the packets of its job, and a session's number is its own in the whole transcript.
+A packet's number counts the packets of its job, and a session's number is its own in the whole transcript. The session of a `sim`
+line has packets of its own, which count from 1, and is called `sim1`, `sim2` and so on, as the transcript has them.
 """
 import re
 import sys
@@ -11,13 +12,15 @@ from eap.attributes import (AT_COUNTER, AT_COUNTER_TOO_SMALL, AT_ENCR_DATA, AT_I
                             AT_NEXT_PSEUDONYM, AT_NEXT_REAUTH_ID, AT_NONCE_S, AT_PADDING, ID_REQUESTS, NAMES,
                             text_in, values_in)
 from eap.ciphers import decrypted
-from eap.messages import CODES, IDENTITY, METHODS, SUBTYPES
+from eap.messages import CODES, IDENTITY, METHODS, SIM, name_of_subtype
 from eap.names import username
 
 # How many words follow the first one of a note, and the ends that they come from.
 CENTRE_NOTES = {"moved": 2, "inrange": 2, "beyond": 2, "drew": 1, "exhausted": 1, "withheld": 2}
 OWN_NOTES = {"badauts": 0, "resumed": 1, "accepted": 1, "sync": 1, "wrongmac": 0, "counter": 1, "small": 1}
 NOTES = CENTRE_NOTES | OWN_NOTES
+# The name of the session of a `sim` line.
+SIM_NAME = r"sim[1-9][0-9]*"
 # The first words of the lines that tell nothing of a session's packets.
 OTHER_LINES = {"restart", "vector", "withheld", "exhausted", "sync", "give", "kasme", "hxresstar", "fiveg", "seaf", "sites"}
 # Of an event's line, the words before its notes.
@@ -26,8 +29,8 @@ EVENTS = {"start": 2, "repeat": 2, "giveup": 3, "deliver": 4}
 CHANGES = {"tamper": 4, "cut": 3}
 REFUSALS = {"nosuchpacket", "nosuchend", "started"}
 ENDS = ("server", "peer")
-# What an identity is, by the form of its username (RFC 4187 §4.1.1.6 to §4.1.1.8, RFC 9048 §5.1).
-FORMS = {"permanent": rb"[06][0-9]{6,15}", "pseudonym": rb"[27][0-9a-f]{32}", "re-authentication": rb"[48][0-9a-f]{32}"}
+# What an identity is, by the form of its username (RFC 4186 §4.2.1.6, RFC 4187 §4.1.1.6 to §4.1.1.8, RFC 9048 §5.1).
+FORMS = {"permanent": rb"[016][0-9]{6,15}", "pseudonym": rb"[27][0-9a-f]{32}", "re-authentication": rb"[48][0-9a-f]{32}"}
 # How the value of an encrypted attribute is shown.
 ENCRYPTED = {
     AT_COUNTER: lambda value: f"AT_COUNTER {int.from_bytes(value, 'big')}",
@@ -93,9 +96,15 @@ class Change:
 
 @dataclass
 class Session:
-    number: int
+    # A number, or the name of the session of a `sim` line.
+    number: int | str
     round: int
     job: int
+    # The packets of its network: all of its job, or, of a `sim` line, its own.
+    network: list
+    # The subscriber of a `sim` line, which the line names, and the vectors of its job; nothing for other sessions.
+    imsi: str = ""
+    vectors: dict = field(default_factory=dict)
     events: list = field(default_factory=list)
     # The packets that its ends sent. Those that the network made of them, and the lines that say so, are apart.
     packets: list = field(default_factory=list)
@@ -113,6 +122,8 @@ class Session:
 @dataclass
 class Job:
     packets: list = field(default_factory=list)
+    # With a full print: AUTN, XRES, CK and IK of the vectors that its lines released, by their RANDs.
+    vectors: dict = field(default_factory=dict)
     sessions: dict = field(default_factory=dict)
 
 
@@ -121,12 +132,12 @@ def other(end):
 
 
 def name_of(data):
-    """What a packet is called in RFC 3748, RFC 4187 and RFC 9048; nothing if its bytes aren't known."""
+    """What a packet is called in RFC 3748, RFC 4186, RFC 4187 and RFC 9048; nothing if its bytes aren't known."""
     code = CODES.get(data[0], "") if data else ""
     if data is None or len(data) < 5 or code not in ("Request", "Response"):
         return code
-    if data[4] in METHODS and len(data) > 5 and data[5] in SUBTYPES:
-        return f"{code}/{METHODS[data[4]]}-{SUBTYPES[data[5]]}"
+    if data[4] in METHODS and len(data) > 5 and name_of_subtype(data[4], data[5]):
+        return f"{code}/{METHODS[data[4]]}-{name_of_subtype(data[4], data[5])}"
     return f"{code}/Identity" if data[4] == IDENTITY else f"{code}/type {data[4]}"
 
 
@@ -176,6 +187,8 @@ def is_brief(session):
 
 def methods_of(session):
     """The methods of a session's packets; none if none of them is of a method, or if their bytes aren't known."""
+    if session.imsi:
+        return [f"EAP-{METHODS[SIM]}"]
     kinds = {packet.data[4] for packet in session.packets if len(packet.data or b"") > 5 and packet.data[0] in (1, 2)}
     return [f"EAP-{name}" for kind, name in METHODS.items() if kind in kinds]
 
@@ -184,7 +197,10 @@ def subscriber_of(session):
     """The IMSI of a session's subscriber; nothing if the transcript doesn't tell it.
 
     A session that draws a number has a subscriber whose number moves in its round. One that takes up a context has a subscriber
-    whose number moved in its round or before. Else the subscriber is the one whose permanent identity the peer told last."""
+    whose number moved in its round or before. Else the subscriber is the one whose permanent identity the peer told last. A `sim`
+    line names its own."""
+    if session.imsi:
+        return session.imsi
     notes = {note.split()[0] for event in session.events for note in event.notes}
     if "drew" in notes and session.only_moved:
         return session.only_moved
@@ -212,6 +228,8 @@ class Reader:
         self.sessions, self.round, self.job_number, self.job, self.event = {}, 0, 0, None, None
         # The line before, if it changes a packet.
         self.change = None
+        # The session of the last `sim` line of the job, and how many sessions of such lines there are.
+        self.sim, self.sims = None, 0
         # The sessions of the round, and the subscribers whose numbers moved in it and up to it.
         self.opened, self.moved, self.ever = [], set(), set()
 
@@ -243,6 +261,8 @@ class Reader:
             self.read_event(line, text, words)
         elif word in CHANGES and len(words) > CHANGES[word]:
             self.read_change(line, text, words)
+        elif word == "sim" and len(words) > 2:
+            self.read_sim(line, text, words)
         elif word == "closed" and len(words) > 1:
             self.event = None
             self.moved.add(words[1])
@@ -259,7 +279,7 @@ class Reader:
             self.round, self.job = number, None
             self.opened, self.moved = [], set()
         else:
-            self.job_number, self.job = number, Job()
+            self.job_number, self.job, self.sim = number, Job(), None
 
     def end_round(self):
         """A round's subscribers are known at its last line, and not if the transcript ends before it."""
@@ -277,7 +297,7 @@ class Reader:
         elif self.job is None:
             raise Unreadable("a session is opened outside of a job")
         else:
-            session = Session(number, self.round, self.job_number)
+            session = Session(number, self.round, self.job_number, self.job.packets)
             self.job.sessions[number] = self.sessions[number] = session
             self.opened.append(session)
 
@@ -290,11 +310,13 @@ class Reader:
         packet.data = bytes.fromhex(words[2])
 
     def bytes_of_vector(self, words):
-        """Those of a session's number. The bytes after a line `vector` are of no event."""
+        """Those of a session's number. The bytes after a line `vector` are of no event, and may be those of a triplet."""
         if not all(re.fullmatch(r"([0-9a-f]{2})+", word) for word in words[1:]):
             raise Unreadable("the bytes aren't those of a vector")
         if self.event:
             self.event.vector = words[1:]
+        elif self.job:
+            self.job.vectors[words[1]] = words[2:]
 
     def keys(self, words):
         if not self.event or not re.fullmatch(r"[0-9a-f]{32}", words[1]):
@@ -311,19 +333,50 @@ class Reader:
         event = Event(line, text, word, session, end)
         rest = words[EVENTS[word]:]
         if word == "deliver":
-            event.delivered = self.packet_of_job(self.number(words[3]), rest)
-            event.arrives = event.delivered is not None and rest != ["nosuchend"]
-            if event.arrives:
-                event.delivered.deliveries.append(event)
+            self.deliver(event, words[3], rest)
         self.read_notes(event, rest)
         self.read_step(event, rest)
         session.events.append(event)
         self.event = event
 
+    def deliver(self, event, word, rest):
+        event.delivered = self.packet_in(event.session.network, self.number(word), rest)
+        event.arrives = event.delivered is not None and rest != ["nosuchend"]
+        if event.arrives:
+            event.delivered.deliveries.append(event)
+
+    def read_sim(self, line, text, words):
+        """A line of a session of EAP-SIM: its start, a delivery, or whether the keys of both ends are equal."""
+        imsi, what, rest = words[1], words[2], words[3:]
+        if what == "start":
+            self.open_sim(imsi)
+        session = self.sim
+        if session is None or session.imsi != imsi:
+            raise Unreadable(f"no session of {imsi[:15]} was started by a `sim` line before")
+        if what in ("agree", "differ") and not rest:
+            session.verdict, self.event = what, None
+            return
+        event = Event(line, text, "start", session, "server")
+        if what in ENDS and len(rest) > 1:
+            event.word, event.end = "deliver", what
+            self.deliver(event, rest[0], rest[1:])
+        elif what != "start" or rest != ["sent", "1"]:
+            raise Unreadable(f"{text[:60]!r} is no line of a transcript")
+        self.read_step(event, rest if what == "start" else rest[1:])
+        session.events.append(event)
+        self.event = event
+
+    def open_sim(self, imsi):
+        if self.job is None:
+            raise Unreadable("a session is opened outside of a job")
+        self.sims += 1
+        self.sim = Session(f"sim{self.sims}", self.round, self.job_number, [], imsi, self.job.vectors)
+        self.sessions[self.sim.number] = self.sim
+
     def read_change(self, line, text, words):
         count = CHANGES[words[0]]
         rest = words[count:]
-        source = self.packet_of_job(self.number(words[1]), rest)
+        source = self.packet_in(self.job.packets if self.job else [], self.number(words[1]), rest)
         change = Change(line, text, " ".join(words[:count]), source)
         if rest[0] == "made" and len(rest) == 2:
             change.sent = self.next_packet(rest[1], source.session, source.sender, change, source)
@@ -337,20 +390,20 @@ class Reader:
         self.event, self.change = None, change
 
     def next_packet(self, word, *what):
-        packets = self.job.packets
+        session, sender, event, source = what
+        packets = session.network
         if self.number(word) != len(packets) + 1:
             raise Unreadable(f"packet {word} follows packet {len(packets)}")
-        session, sender, event, source = what
         packets.append(Packet(len(packets) + 1, session, sender, event, source=source))
         return packets[-1]
 
-    def packet_of_job(self, number, rest):
-        """A packet of the job by its number; nothing if the line says that there is none."""
+    def packet_in(self, packets, number, rest):
+        """A packet by its number; nothing if the line says that there is none."""
         if rest == ["nosuchpacket"]:
             return None
-        if self.job is None or not 1 <= number <= len(self.job.packets):
+        if not 1 <= number <= len(packets):
             raise Unreadable(f"packet {number} wasn't sent before")
-        return self.job.packets[number - 1]
+        return packets[number - 1]
 
     def read_notes(self, event, rest):
         """Takes the notes from the front of the words."""

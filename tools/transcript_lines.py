@@ -35,6 +35,7 @@ LINES = {
               "sites {imsi} {event=deliver} {packet} {result=taken} {count}",
               "sites {imsi} {event=draw} {site} {result=number} {number}", "sites {imsi} {event=draw} {site} {result=empty}",
               "sites {imsi} {event=restart} {site}", "sites {imsi} {event=master}"],
+    "sim": ["sim {imsi} {verdict=agree}", "sim {imsi} {verdict=differ}"],
     "session": ["session {session} open"],
     "verdict": ["session {session} {verdict=agree}", "session {session} {verdict=differ}"],
     "tamper": ["tamper {packet} {place} {byte} made {made}", "tamper {packet} {place} {byte} {refused=nosuchpacket}",
@@ -113,12 +114,21 @@ def read_as(patterns, text):
     raise Unreadable(f"{text[:60]!r} is no line of a transcript")
 
 
+def whose(event):
+    """The session and the end of an event. That of a `sim` line has the subscriber in place of a session's number."""
+    session = event.session
+    return ({"imsi": session.imsi} if session.imsi else {"session": session.number}) | {"end": event.end}
+
+
 def fields_of_event(event):
-    """What an event did: its notes taken apart, and then its step."""
-    found = {"kind": "event", "event": event.word, "session": event.session.number, "end": event.end}
+    """What an event did: its notes taken apart, and then its step. One of a `sim` line has no notes."""
+    found = {"kind": "event", "event": event.word} | whose(event)
     if event.word == "deliver":
         found["packet"] = int(event.text.split(" ")[3])
-    found["notes"] = [read_by(NOTE_PATTERNS, note) for note in event.notes]
+    if event.session.imsi:
+        found["kind"] = "sim"
+    else:
+        found["notes"] = [read_by(NOTE_PATTERNS, note) for note in event.notes]
     if event.sent:
         found["sent"] = event.sent.number
     return found | read_by(STEP_PATTERNS, event.step)
@@ -157,8 +167,7 @@ class Lines:
         if found["kind"] in ("kasme", "hxresstar", "fiveg", "seaf"):
             return found | self.vector_of(found)
         if found["kind"] in ("packet", "keys") and self.reader.event:
-            event = self.reader.event
-            return found | {"session": event.session.number, "end": event.end}
+            return found | whose(self.reader.event)
         return found
 
     def vector_of(self, found):
