@@ -27,7 +27,8 @@ SCENARIO = [
     ("Then come rounds. A round has jobs, a job has lines:", "| Line | Meaning |"),
     ("The fields of a session line:", "| Field of a `session` line | What it is |"),
     ("The letters of OPTIONS:", "| Option | What it does |"),
-    ("The events of a SCHEDULE:", "| Event | What happens |"),
+    ("The events of the SCHEDULE of a `sites` line:", "| Event | What happens |"),
+    ("The SCHEDULE of a `sim` line:", "| SCHEDULE | What happens |"),
 ]
 SUBSCRIBERS = [
     ("The first record of the file is imsi,k,kind,op,amf,seq,usim. Each further one is a subscriber with these fields, as"

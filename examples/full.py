@@ -20,8 +20,8 @@ def ran(program, scenario):
 
 
 def transcripts(program):
-    """The name of each example with a session, and its transcript with `print full`."""
+    """The name of each example with a session, also of EAP-SIM, and its transcript with `print full`."""
     for path in sorted(HERE.glob("*.scenario")):
         lines = path.read_text().splitlines()
-        if any(line.startswith("session ") for line in lines):
+        if any(line.startswith(("session ", "sim ")) for line in lines):
             yield path.stem, ran(program, with_full_print(lines))
