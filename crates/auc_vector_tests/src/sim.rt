@@ -150,6 +150,36 @@ fn won(step: &Step<SimWhy>) -> Option<KeySet> {
     }
 }
 
+/// What a peer sends after these bytes.
+fn from_peer(alloc: Global, peer: &mut SimPeer, bytes: &[u8]) -> Result<Octets, NoMemory> {
+    Ok(sent(alloc, peer.on_bytes(alloc, bytes)?))
+}
+
+/// The server's Challenge, after its Start request.
+fn challenge_of(
+    alloc: Global,
+    server: &mut SimServer,
+    peer: &mut SimPeer,
+    start: &[u8],
+) -> Result<Octets, NoMemory> {
+    let answer = from_peer(alloc, peer, start)?;
+    Ok(sent(alloc, server.on_bytes(alloc, answer.as_slice())?))
+}
+
+/// The keys of both ends after the Challenge.
+fn keys_after(
+    alloc: Global,
+    server: &mut SimServer,
+    peer: &mut SimPeer,
+    challenge: &[u8],
+) -> Result<(Option<KeySet>, Option<KeySet>), NoMemory> {
+    let answer = from_peer(alloc, peer, challenge)?;
+    let step = server.on_bytes(alloc, answer.as_slice())?;
+    let keys = won(&step);
+    let last = sent(alloc, step);
+    Ok((keys, won(&peer.on_bytes(alloc, last.as_slice())?)))
+}
+
 /// The keys of both ends after a session without loss, with the triplets of these RANDs.
 fn keys_of_both(
     alloc: Global,
@@ -157,15 +187,10 @@ fn keys_of_both(
 ) -> Result<(Option<KeySet>, Option<KeySet>), NoMemory> {
     let s = secret();
     let triplets = rands.map(|byte| card(&s, [byte; 16]));
-    let (mut server, start) = SimServer::start(alloc, b"1001010000000001", &triplets)?;
     let mut peer = SimPeer::new(alloc, s, b"1001010000000001", [9; 16])?;
-    let first = sent(alloc, peer.on_bytes(alloc, start.as_slice())?);
-    let challenge = sent(alloc, server.on_bytes(alloc, first.as_slice())?);
-    let second = sent(alloc, peer.on_bytes(alloc, challenge.as_slice())?);
-    let step = server.on_bytes(alloc, second.as_slice())?;
-    let keys = won(&step);
-    let last = sent(alloc, step);
-    Ok((keys, won(&peer.on_bytes(alloc, last.as_slice())?)))
+    let (mut server, start) = SimServer::start(alloc, b"1001010000000001", &triplets)?;
+    let challenge = challenge_of(alloc, &mut server, &mut peer, start.as_slice())?;
+    keys_after(alloc, &mut server, &mut peer, challenge.as_slice())
 }
 
 #[test]
