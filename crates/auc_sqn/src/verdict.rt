@@ -9,4 +9,6 @@ pub enum Verdict {
     Old(u64),
     /// The SEQ is more than 2^28 above this one, the greatest that was accepted.
     Far(u64),
+    /// This one, the greatest SEQ that was accepted, is above the SEQ by the age limit or more.
+    Aged(u64),
 }
