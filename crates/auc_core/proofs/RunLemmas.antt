@@ -1,10 +1,8 @@
 -- What a run of the core leaves of each subscriber, by induction on the run.
-use Rattle.std.proofs.Common.{◌≡◌, ◌≢◌, ℕ, ◌+◌, ◌<◌, ◌≤◌, ◌==◌, nat_le, Bool, true, false, if◌then◌else◌, List, [], ◌∷◌, ◌++◌, length, slice_index, slice_set, arith, ap, sym, ◌∙◌, subst, refl, All, eq-eqb}
+use Rattle.std.proofs.Common.{◌≡◌, ◌≢◌, ℕ, ◌+◌, ◌<◌, ◌≤◌, ◌==◌, nat_le, Bool, true, false, if◌then◌else◌, List, [], ◌∷◌, ◌++◌, length, slice_index, arith, ap, sym, ◌∙◌, subst, refl, eq-eqb}
 use Rattle.std.proofs.lemmas.Bool.{eqb-true, leb-true, leb-false}
 use Rattle.std.proofs.lemmas.List.{length-set, get_or-set_same, get_or-set_other}
 use Rattle.std.proofs.lemmas.List.Concat.{flat_map-append}
-use Rattle.std.proofs.lemmas.List.Elements.{All-set, All-get_or}
-use Rattle.auc_sqn.specs.Number.{max_seq}
 use Rattle.auc_history.specs.declared.entry.Entry.{Entry}
 use Rattle.auc_history.specs.declared.entry.Entry.TheVariants.{Drawn, Look}
 use Rattle.auc_history.specs.History.{IsLegal, drawn, drawn_by}
@@ -14,108 +12,177 @@ use Rattle.auc_core.specs.declared.event.Event.{Event}
 use Rattle.auc_core.specs.declared.event.Event.TheVariants.{Draw, Resync}
 use Rattle.auc_core.specs.declared.event.Reply.{Reply}
 use Rattle.auc_core.specs.declared.event.Reply.TheVariants.{Number, Exhausted, Moved, InRange, Beyond}
-use Rattle.auc_core.specs.Step.{Knows, Replies, standing, word_after, Steps, entries_made, Run, event_subscriber, history_made, number_drawn, numbers_drawn, EachHistoryIsLegal, NoNumberComesTwice}
-
--- no word is above the mark
-abbrev AreWords : List ℕ → Type 0
-AreWords words = All (λ word. word ≤ max_seq + 1) words
+use Rattle.auc_core.specs.Step.{CoreState, Knows, Replies, standing, word_after, Steps, entries_made, Run, event_subscriber, history_made, number_drawn, numbers_drawn, EachHistoryIsLegal, NoNumberComesTwice}
 
 -- the first refused draw makes the mark, and a later one nothing
-refused_goes : (b : Bool) (word w : ℕ) → max_seq ≤ word → w ≡ max_seq → word ≤ max_seq + 1 → nat_le word w ≡ b
-    → Goes max_seq word (if b then Drawn (w + 1) ∷ [] else []) (w + 1)
-refused_goes true word w last same most is = (let low = leb-true word w is in omega arith, refl)
-refused_goes false word w last same most is = let high = leb-false word w is in omega arith
+refused_goes : (b : Bool) (top word w : ℕ) → top ≤ word → w ≡ top → word ≤ top + 1 → nat_le word w ≡ b
+    → Goes top word (if b then Drawn (w + 1) ∷ [] else []) (w + 1)
+refused_goes true top word w last same most is = (let low = leb-true word w is in omega arith, refl)
+refused_goes false top word w last same most is = let high = leb-false word w is in omega arith
 
 -- a look at the number that stands is one at the word, and after a refused draw nothing
-look_goes : (b : Bool) (word seen : ℕ) → seen ≡ standing word → nat_le word seen ≡ b
-    → Goes max_seq word (if b then Look seen ∷ [] else []) word
-look_goes true word seen names is = (let low = leb-true word seen is in grind arith, refl)
-look_goes false word seen names is = refl
+look_goes : (b : Bool) (top word seen : ℕ) → seen ≡ standing top word → nat_le word seen ≡ b
+    → Goes top word (if b then Look seen ∷ [] else []) word
+look_goes true top word seen names is = (let low = leb-true word seen is in grind arith, refl)
+look_goes false top word seen names is = refl
+
+-- the SEQ of an event, if it has one, is at most a top
+abbrev IsWithin : ℕ → Event → Type 0
+IsWithin top (Draw sub) = Unit {0}
+IsWithin top (Resync sub seq_ms) = seq_ms ≤ top
 
 -- the entries of an answer are a walk from the word before it to the word after it
-answer_goes : (word : ℕ) (event : Event) (reply : Reply) (words : List ℕ) → Knows words event → Replies word event reply
-    → word ≤ max_seq + 1 → Goes max_seq word (entries_made word reply) (word_after word reply)
-answer_goes word (Draw sub) (Number n) words knows (below, next) most = (next, refl)
-answer_goes word (Draw sub) (Exhausted w) words knows (last, same) most = refused_goes (nat_le word w) word w last same most refl
-answer_goes word (Draw sub) (Moved from to) words knows answers most = absurd answers
-answer_goes word (Draw sub) (InRange seen seq) words knows answers most = absurd answers
-answer_goes word (Draw sub) (Beyond seen seq) words knows answers most = absurd answers
-answer_goes word (Resync sub seq_ms) (Number n) words knows answers most = absurd answers
-answer_goes word (Resync sub seq_ms) (Exhausted w) words knows answers most = absurd answers
-answer_goes word (Resync sub seq_ms) (Moved from to) words (known, number) ((begins, ends), up) most = (grind arith, omega arith, omega arith, refl)
-answer_goes word (Resync sub seq_ms) (InRange seen seq) words knows ((names, same), low, near) most = look_goes (nat_le word seen) word seen names refl
-answer_goes word (Resync sub seq_ms) (Beyond seen seq) words knows ((names, same), far) most = look_goes (nat_le word seen) word seen names refl
+answer_goes : (top word : ℕ) (event : Event) (reply : Reply) → IsWithin top event → Replies top word event reply
+    → word ≤ top + 1 → Goes top word (entries_made word reply) (word_after word reply)
+answer_goes top word (Draw sub) (Number n) within (below, next) most = (next, refl)
+answer_goes top word (Draw sub) (Exhausted w) within (last, same) most = refused_goes (nat_le word w) top word w last same most refl
+answer_goes top word (Draw sub) (Moved from to) within answers most = absurd answers
+answer_goes top word (Draw sub) (InRange seen seq) within answers most = absurd answers
+answer_goes top word (Draw sub) (Beyond seen seq) within answers most = absurd answers
+answer_goes top word (Resync sub seq_ms) (Number n) within answers most = absurd answers
+answer_goes top word (Resync sub seq_ms) (Exhausted w) within answers most = absurd answers
+answer_goes top word (Resync sub seq_ms) (Moved from to) within ((begins, ends), up) most = (grind arith, omega arith, omega arith, refl)
+answer_goes top word (Resync sub seq_ms) (InRange seen seq) within ((names, same), low, near) most = look_goes (nat_le word seen) top word seen names refl
+answer_goes top word (Resync sub seq_ms) (Beyond seen seq) within ((names, same), far) most = look_goes (nat_le word seen) top word seen names refl
+
+-- the SEQ of an event that the core knows is at most its subscriber's top
+known_within : (state : CoreState) (event : Event) → Knows state event → IsWithin (slice_index state.tops (event_subscriber event)) event
+known_within state (Draw sub) known = tt
+known_within state (Resync sub seq_ms) (known, number) = number
 
 -- the entries of an answer are a legal history from the word before it to the word after it
-pub answer_is_legal : (word : ℕ) (event : Event) (reply : Reply) (words : List ℕ) → Knows words event → Replies word event reply
-    → word ≤ max_seq + 1 → IsLegal max_seq word (word_after word reply) (entries_made word reply)
-answer_is_legal word event reply words knows answers most =
-    IsLegal-from_goes max_seq word (word_after word reply) (entries_made word reply) (answer_goes word event reply words knows answers most)
+pub answer_is_legal : (state : CoreState) (event : Event) (reply : Reply) → Knows state event
+    → Replies (slice_index state.tops (event_subscriber event)) (slice_index state.words (event_subscriber event)) event reply
+    → slice_index state.words (event_subscriber event) ≤ slice_index state.tops (event_subscriber event) + 1
+    → IsLegal (slice_index state.tops (event_subscriber event)) (slice_index state.words (event_subscriber event))
+    (word_after (slice_index state.words (event_subscriber event)) reply) (entries_made (slice_index state.words (event_subscriber event)) reply)
+answer_is_legal state event reply knows answers most =
+    let top = slice_index state.tops (event_subscriber event) in
+    let word = slice_index state.words (event_subscriber event) in
+    IsLegal-from_goes top word (word_after word reply) (entries_made word reply)
+    (answer_goes top word event reply (known_within state event knows) answers most)
 
 -- no answer leaves a word above the mark
-answer_keeps_bound : (word : ℕ) (event : Event) (reply : Reply) (words : List ℕ) → Knows words event → Replies word event reply
-    → word ≤ max_seq + 1 → word_after word reply ≤ max_seq + 1
-answer_keeps_bound word (Draw sub) (Number n) words knows (below, next) most = omega arith
-answer_keeps_bound word (Draw sub) (Exhausted w) words knows (last, same) most = omega arith
-answer_keeps_bound word (Draw sub) (Moved from to) words knows answers most = absurd answers
-answer_keeps_bound word (Draw sub) (InRange seen seq) words knows answers most = absurd answers
-answer_keeps_bound word (Draw sub) (Beyond seen seq) words knows answers most = absurd answers
-answer_keeps_bound word (Resync sub seq_ms) (Number n) words knows answers most = absurd answers
-answer_keeps_bound word (Resync sub seq_ms) (Exhausted w) words knows answers most = absurd answers
-answer_keeps_bound word (Resync sub seq_ms) (Moved from to) words (known, number) ((begins, ends), up) most = omega arith
-answer_keeps_bound word (Resync sub seq_ms) (InRange seen seq) words knows answers most = most
-answer_keeps_bound word (Resync sub seq_ms) (Beyond seen seq) words knows answers most = most
+answer_keeps_bound : (top word : ℕ) (event : Event) (reply : Reply) → IsWithin top event → Replies top word event reply
+    → word ≤ top + 1 → word_after word reply ≤ top + 1
+answer_keeps_bound top word (Draw sub) (Number n) within (below, next) most = omega arith
+answer_keeps_bound top word (Draw sub) (Exhausted w) within (last, same) most = omega arith
+answer_keeps_bound top word (Draw sub) (Moved from to) within answers most = absurd answers
+answer_keeps_bound top word (Draw sub) (InRange seen seq) within answers most = absurd answers
+answer_keeps_bound top word (Draw sub) (Beyond seen seq) within answers most = absurd answers
+answer_keeps_bound top word (Resync sub seq_ms) (Number n) within answers most = absurd answers
+answer_keeps_bound top word (Resync sub seq_ms) (Exhausted w) within answers most = absurd answers
+answer_keeps_bound top word (Resync sub seq_ms) (Moved from to) within ((begins, ends), up) most = omega arith
+answer_keeps_bound top word (Resync sub seq_ms) (InRange seen seq) within answers most = most
+answer_keeps_bound top word (Resync sub seq_ms) (Beyond seen seq) within answers most = most
 
 -- an event of the core's is of one of its subscribers
-pub known_subscriber : (words : List ℕ) (event : Event) → Knows words event → event_subscriber event < length words
-known_subscriber words (Draw sub) known = known
-known_subscriber words (Resync sub seq_ms) (known, number) = known
+pub known_subscriber : (state : CoreState) (event : Event) → Knows state event → event_subscriber event < length state.words
+known_subscriber state (Draw sub) known = known
+known_subscriber state (Resync sub seq_ms) (known, number) = known
 
--- the words after a step are no higher than the mark
-steps_keep_bound : (old new : List ℕ) (event : Event) (reply : Reply) → AreWords old → Knows old event → Steps old event reply new → AreWords new
-steps_keep_bound old new event reply words knows (answers, is) =
-    let word = slice_index old (event_subscriber event) in
-    let most = All-get_or (λ w. w ≤ max_seq + 1) old (event_subscriber event) 0 (known_subscriber old event knows) words in
-    subst AreWords (sym is) (All-set (λ w. w ≤ max_seq + 1) old (event_subscriber event) (word_after word reply)
-    (answer_keeps_bound word event reply old knows answers most) words)
+-- a step keeps the tops
+pub steps_keep_tops : (old new : CoreState) (event : Event) (reply : Reply) → Steps old event reply new → new.tops ≡ old.tops
+steps_keep_tops old new event reply (answers, is) = ap (λ (state : CoreState). state.tops) is
 
 -- each list of words is as long as the one before
-steps_keep_length : (old new : List ℕ) (event : Event) (reply : Reply) → Steps old event reply new → length new ≡ length old
+pub steps_keep_length : (old new : CoreState) (event : Event) (reply : Reply) → Steps old event reply new → length new.words ≡ length old.words
 steps_keep_length old new event reply (answers, is) =
-    ap length is ∙ length-set old (event_subscriber event) (word_after (slice_index old (event_subscriber event)) reply)
+    let sub = event_subscriber event in
+    ap (λ (state : CoreState). length state.words) is ∙ length-set old.words sub (word_after (slice_index old.words sub) reply)
+
+-- the word of the event's subscriber after a step
+pub word_of_step : (old new : CoreState) (event : Event) (reply : Reply) → Knows old event → Steps old event reply new
+    → slice_index new.words (event_subscriber event) ≡ word_after (slice_index old.words (event_subscriber event)) reply
+word_of_step old new event reply knows (answers, is) =
+    let sub = event_subscriber event in
+    ap (λ (state : CoreState). slice_index state.words sub) is
+    ∙ get_or-set_same old.words sub (word_after (slice_index old.words sub) reply) 0 (known_subscriber old event knows)
+
+-- the word of another subscriber after it
+other_of_step : (old new : CoreState) (event : Event) (reply : Reply) (sub : ℕ) → Steps old event reply new → sub ≢ event_subscriber event
+    → slice_index new.words sub ≡ slice_index old.words sub
+other_of_step old new event reply sub (answers, is) apart =
+    let s = event_subscriber event in
+    ap (λ (state : CoreState). slice_index state.words sub) is
+    ∙ get_or-set_other old.words s sub (word_after (slice_index old.words s) reply) 0 apart
+
+-- a subscriber's top after a step
+top_of_step : (old new : CoreState) (event : Event) (reply : Reply) (sub : ℕ) → Steps old event reply new
+    → slice_index new.tops sub ≡ slice_index old.tops sub
+top_of_step old new event reply sub steps = ap (λ (tops : List ℕ). slice_index tops sub) (steps_keep_tops old new event reply steps)
+
+-- subscribers that aren't told to be one differ
+apart_of : (s sub : ℕ) → (s == sub) ≡ false → sub ≢ s
+apart_of s sub other same = let yes = eq-eqb s sub (sym same) in let no : ⊥ = cc in no
+
+-- a subscriber's word after a step is no higher than its mark
+bound_of_step : (b : Bool) (old new : CoreState) (event : Event) (reply : Reply) (sub : ℕ) → Knows old event → Steps old event reply new
+    → (event_subscriber event == sub) ≡ b → slice_index old.words sub ≤ slice_index old.tops sub + 1
+    → slice_index new.words sub ≤ slice_index new.tops sub + 1
+bound_of_step true old new event reply sub knows steps same most =
+    let one = eqb-true (event_subscriber event) sub same in
+    let there : slice_index old.words (event_subscriber event) ≤ slice_index old.tops (event_subscriber event) + 1 =
+    let P : ℕ → Type 0 = λ s. slice_index old.words s ≤ slice_index old.tops s + 1 in subst P (sym one) most in
+    let kept = answer_keeps_bound (slice_index old.tops (event_subscriber event)) (slice_index old.words (event_subscriber event)) event reply
+    (known_within old event knows) steps.0 there in
+    let word : slice_index new.words (event_subscriber event) ≤ slice_index new.tops (event_subscriber event) + 1 =
+    let here = word_of_step old new event reply knows steps in
+    let top = top_of_step old new event reply (event_subscriber event) steps in omega arith in
+    let Q : ℕ → Type 0 = λ s. slice_index new.words s ≤ slice_index new.tops s + 1 in subst Q one word
+bound_of_step false old new event reply sub knows steps other most =
+    let here = other_of_step old new event reply sub steps (apart_of (event_subscriber event) sub other) in
+    let top = top_of_step old new event reply sub steps in omega arith
 
 -- a step of the subscriber and the steps after it, or of another and the steps after it
-run_is_legal : (b : Bool) (old next : List ℕ) (event : Event) (reply : Reply) (sub closing : ℕ) (entries : ℕ → List Entry)
-    → AreWords old → sub < length old → Knows old event → Steps old event reply next → (event_subscriber event == sub) ≡ b
-    → IsLegal max_seq (slice_index next sub) closing (entries (slice_index next sub))
-    → IsLegal max_seq (slice_index old sub) closing
-    (if b then entries_made (slice_index old sub) reply ++ entries (word_after (slice_index old sub) reply) else entries (slice_index old sub))
-run_is_legal true old next event reply sub closing entries words known knows (answers, is) same rest =
+run_is_legal : (b : Bool) (old next : CoreState) (event : Event) (reply : Reply) (sub closing : ℕ) (entries : ℕ → List Entry)
+    → slice_index old.words sub ≤ slice_index old.tops sub + 1 → Knows old event → Steps old event reply next → (event_subscriber event == sub) ≡ b
+    → IsLegal (slice_index next.tops sub) (slice_index next.words sub) closing (entries (slice_index next.words sub))
+    → IsLegal (slice_index old.tops sub) (slice_index old.words sub) closing
+    (if b then entries_made (slice_index old.words sub) reply ++ entries (word_after (slice_index old.words sub) reply) else entries (slice_index old.words sub))
+run_is_legal true old next event reply sub closing entries most knows steps same rest =
     let one = eqb-true (event_subscriber event) sub same in
-    let word = slice_index old sub in
-    let answers_sub : Replies word event reply = rw one at answers in
-    let set_sub : next ≡ slice_set old sub (word_after word reply) = rw one at is in
-    let here : slice_index next sub ≡ word_after word reply =
-    ap (λ (ws : List ℕ). slice_index ws sub) set_sub ∙ get_or-set_same old sub (word_after word reply) 0 known in
-    let rest_here : IsLegal max_seq (word_after word reply) closing (entries (word_after word reply)) =
-    let P : ℕ → Type 0 = λ w. IsLegal max_seq w closing (entries w) in subst P here rest in
-    IsLegal-append max_seq word (word_after word reply) closing (entries_made word reply) (entries (word_after word reply))
-    (answer_is_legal word event reply old knows answers_sub (All-get_or (λ w. w ≤ max_seq + 1) old sub 0 known words)) rest_here
-run_is_legal false old next event reply sub closing entries words known knows (answers, is) other rest =
-    let s = event_subscriber event in
-    let apart : sub ≢ s = λ same. (let yes = eq-eqb s sub (sym same) in let no : ⊥ = cc in no) in
-    let here : slice_index next sub ≡ slice_index old sub =
-    ap (λ (ws : List ℕ). slice_index ws sub) is ∙ get_or-set_other old s sub (word_after (slice_index old s) reply) 0 apart in
-    let P : ℕ → Type 0 = λ w. IsLegal max_seq w closing (entries w) in subst P here rest
+    let P : ℕ → Type 0 = λ s. IsLegal (slice_index old.tops s) (slice_index old.words s) closing
+    (entries_made (slice_index old.words s) reply ++ entries (word_after (slice_index old.words s) reply)) in
+    let most_there : slice_index old.words (event_subscriber event) ≤ slice_index old.tops (event_subscriber event) + 1 =
+    let Q : ℕ → Type 0 = λ s. slice_index old.words s ≤ slice_index old.tops s + 1 in subst Q (sym one) most in
+    let rest_there : IsLegal (slice_index next.tops (event_subscriber event)) (slice_index next.words (event_subscriber event)) closing (entries (slice_index next.words (event_subscriber event))) =
+    let R : ℕ → Type 0 = λ s. IsLegal (slice_index next.tops s) (slice_index next.words s) closing (entries (slice_index next.words s)) in subst R (sym one) rest in
+    subst P one (own_is_legal old next event reply closing entries most_there knows steps rest_there)
+  where
+    -- a step of the subscriber's own
+    own_is_legal : (old next : CoreState) (event : Event) (reply : Reply) (closing : ℕ) (entries : ℕ → List Entry)
+        → slice_index old.words (event_subscriber event) ≤ slice_index old.tops (event_subscriber event) + 1 → Knows old event → Steps old event reply next
+        → IsLegal (slice_index next.tops (event_subscriber event)) (slice_index next.words (event_subscriber event)) closing (entries (slice_index next.words (event_subscriber event)))
+        → IsLegal (slice_index old.tops (event_subscriber event)) (slice_index old.words (event_subscriber event)) closing
+        (entries_made (slice_index old.words (event_subscriber event)) reply ++ entries (word_after (slice_index old.words (event_subscriber event)) reply))
+    own_is_legal old next event reply closing entries most knows steps rest =
+        let sub = event_subscriber event in
+        let top = slice_index old.tops sub in
+        let word = slice_index old.words sub in
+        let here : slice_index next.words sub ≡ word_after word reply = word_of_step old next event reply knows steps in
+        let under : IsLegal top (slice_index next.words sub) closing (entries (slice_index next.words sub)) =
+        let T : ℕ → Type 0 = λ t. IsLegal t (slice_index next.words sub) closing (entries (slice_index next.words sub)) in
+        subst T (top_of_step old next event reply sub steps) rest in
+        let from_here : IsLegal top (word_after word reply) closing (entries (word_after word reply)) =
+        let W : ℕ → Type 0 = λ w. IsLegal top w closing (entries w) in subst W here under in
+        IsLegal-append top word (word_after word reply) closing (entries_made word reply) (entries (word_after word reply))
+        (answer_is_legal old event reply knows steps.0 most) from_here
+run_is_legal false old next event reply sub closing entries most knows steps other rest =
+    let here = other_of_step old next event reply sub steps (apart_of (event_subscriber event) sub other) in
+    let under : IsLegal (slice_index old.tops sub) (slice_index next.words sub) closing (entries (slice_index next.words sub)) =
+    let T : ℕ → Type 0 = λ t. IsLegal t (slice_index next.words sub) closing (entries (slice_index next.words sub)) in
+    subst T (top_of_step old next event reply sub steps) rest in
+    let W : ℕ → Type 0 = λ w. IsLegal (slice_index old.tops sub) w closing (entries w) in subst W here under
 
 -- every run leaves a legal history of each subscriber
 pub each_history_is_legal : EachHistoryIsLegal
-each_history_is_legal old new [] sub words leads known =
-    let P : List ℕ → Type 0 = λ ws. IsLegal max_seq (slice_index old sub) (slice_index ws sub) [] in
-    subst P leads (IsLegal-nil max_seq (slice_index old sub))
-each_history_is_legal old new ((event, reply) ∷ run) sub words (next, knows, steps, more) known =
-    run_is_legal (event_subscriber event == sub) old next event reply sub (slice_index new sub) (λ word. history_made sub word run) words known knows steps refl
-    (each_history_is_legal next new run sub (steps_keep_bound old next event reply words knows steps) more
+each_history_is_legal old new [] sub most leads known =
+    let P : CoreState → Type 0 = λ state. IsLegal (slice_index old.tops sub) (slice_index old.words sub) (slice_index state.words sub) [] in
+    subst P leads (IsLegal-nil (slice_index old.tops sub) (slice_index old.words sub))
+each_history_is_legal old new ((event, reply) ∷ run) sub most (next, knows, steps, more) known =
+    run_is_legal (event_subscriber event == sub) old next event reply sub (slice_index new.words sub) (λ word. history_made sub word run) most knows steps refl
+    (each_history_is_legal next new run sub (bound_of_step (event_subscriber event == sub) old next event reply sub knows steps refl most) more
     (let same = steps_keep_length old next event reply steps in omega arith))
 
 -- the number of an answer is drawn in its entries
@@ -148,10 +215,10 @@ numbers_are_drawn n sub word ((event, reply) ∷ run) =
 
 -- no run draws a number twice for a subscriber
 pub no_number_comes_twice : NoNumberComesTwice
-no_number_comes_twice old new run sub words leads known =
-    let word = slice_index old sub in
-    let legal = each_history_is_legal old new run sub words leads known in
+no_number_comes_twice old new run sub most leads known =
+    let word = slice_index old.words sub in
+    let legal = each_history_is_legal old new run sub most leads known in
     differ_from_times (numbers_drawn sub run)
     (λ n. let drawn_too = numbers_are_drawn n sub word run in
-    let once = legal_draws_once max_seq word (slice_index new sub) (history_made sub word run) legal n in
+    let once = legal_draws_once (slice_index old.tops sub) word (slice_index new.words sub) (history_made sub word run) legal n in
     omega (arith, drawn_too, once))
