@@ -8,7 +8,6 @@ use lib.ListN.{get_elem?}
 use Rattle.atomic_table.specs.Table.{Me, Splits as Cuts, Joins, Final, Seen}
 use Rattle.auc_history.specs.Split.{Splits, times}
 use Rattle.auc_history.proofs.Facts.{times_at}
-use Rattle.auc_sqn.specs.Number.{max_seq}
 use Rattle.auc_draw.specs.declared.rule.Deed.{Deed}
 use Rattle.auc_draw.specs.declared.rule.View.{View}
 use Rattle.auc_draw.specs.Deeds.{entries_of, claims_of}
@@ -27,15 +26,15 @@ use Rattle.auc_draw.proofs.SeatLemmas.{splits_ok, joins_ok, Whole, whole_splits,
 -- ---- a split from the keeper's seat
 
 -- a pass may be split from the keeper's seat, from which fewer than 64 were
-pub splits_at : (openings limits : List ℕ) (id i : ℕ) (note : Note) (me : Me (Unit {0}) View) → id ≡ 0 → me ≡ (keeper_view i note, []) → i < 64 → Cuts (Keeps openings limits) id me.0 (after_split me.0) new_view
-splits_at openings limits id i note me first is room =
-    let P : ℕ → Type 0 = λ k. Cuts (Keeps openings limits) k me.0 (after_split me.0) new_view in
-    subst P (sym first) (splits_ok openings limits me.0 (omega (arith, ap (λ (m : Me (Unit {0}) View). m.0.split) is, room)))
+pub splits_at : (openings tops limits : List ℕ) (id i : ℕ) (own : List ℕ) (note : Note) (me : Me (Unit {0}) View) → id ≡ 0 → me ≡ (keeper_view i own note, []) → i < 64 → Cuts (Keeps openings tops limits) id me.0 (after_split me.0) (new_view me.0.tops)
+splits_at openings tops limits id i own note me first is room =
+    let P : ℕ → Type 0 = λ k. Cuts (Keeps openings tops limits) k me.0 (after_split me.0) (new_view me.0.tops) in
+    subst P (sym first) (splits_ok openings tops limits me.0 (omega (arith, ap (λ (m : Me (Unit {0}) View). m.0.split) is, room)))
 
 -- a new pass keeps no word
-pub nothing_noted : (kept : List ℕ) (n : ℕ) → kept ≡ replicate n 0 → (deeds : List Deed) → deeds ≡ [] → Notes kept deeds
-nothing_noted kept n is deeds none =
-    subst (λ (ds : List Deed). Notes kept ds) (sym none) (subst (λ (ks : List ℕ). Notes ks []) (sym is) (record {
+pub nothing_noted : (tops marks : List ℕ) (n : ℕ) → marks ≡ replicate n 0 → (deeds : List Deed) → deeds ≡ [] → Notes tops marks deeds
+nothing_noted tops marks n is deeds none =
+    subst (λ (ds : List Deed). Notes tops marks ds) (sym none) (subst (λ (ks : List ℕ). Notes tops ks []) (sym is) (record {
       each = λ i within. ap noted (sym (get_or-replicate n i 0 0 (omega (arith, within, length-replicate {A = ℕ} n 0))));
       ordered = record { each = λ sub k j d below within. absurd (omega arith) };
     }))
@@ -43,11 +42,11 @@ nothing_noted kept n is deeds none =
 -- ---- a join into the keeper's seat
 
 -- a pass may be joined into the keeper's seat
-pub joins_at : (openings limits : List ℕ) (id passes other : ℕ) (note : Note) (lists : List (List Deed)) (me : Me (Unit {0}) View) (w : View) → id ≡ 0 → me ≡ (keeper_view_with passes note lists, []) → w.active ≡ 1
-    → Joins (Keeps openings limits) id me.0 other w (after_join me.0 w) spent_view
-joins_at openings limits id passes other note lists me w first is active =
-    let P : ℕ → Type 0 = λ k. Joins (Keeps openings limits) k me.0 other w (after_join me.0 w) spent_view in
-    subst P (sym first) (joins_ok openings limits me.0 w other (ap (λ (m : Me (Unit {0}) View). m.0.own) is) active)
+pub joins_at : (openings tops limits : List ℕ) (id passes other : ℕ) (own : List ℕ) (note : Note) (lists : List (List Deed)) (me : Me (Unit {0}) View) (w : View) → id ≡ 0 → me ≡ (keeper_view_with passes own note lists, []) → w.active ≡ 1
+    → Joins (Keeps openings tops limits) id me.0 other w (after_join me.0 w) spent_view
+joins_at openings tops limits id passes other own note lists me w first is active =
+    let P : ℕ → Type 0 = λ k. Joins (Keeps openings tops limits) k me.0 other w (after_join me.0 w) spent_view in
+    subst P (sym first) (joins_ok openings tops limits me.0 w other (ap (λ (m : Me (Unit {0}) View). m.0.own) is) active)
 
 -- one element goes from the rest to what is done
 pub moved_over : {X : Type 0} (done rest next all : List X) (x : X) → done ++ rest ≡ all → rest ≡ x ∷ next → (done ++ x ∷ []) ++ next ≡ all
@@ -68,12 +67,12 @@ in_rest P done rest next all x is rest_is each =
     middle P (y ∷ done) next x each = middle P done next x (λ k d within. each (suc k) d (omega (arith, within)))
 
 -- the keeper's view after a further join
-pub joined_more : (passes : ℕ) (note : Note) (done : List PassValue) (x : PassValue) (me new : Me (Unit {0}) View) (w : View) → me ≡ (keeper_view_with passes note (map (λ p. p.deeds) done), []) → new ≡ (after_join me.0 w, me.1)
-    → w.own ≡ x.deeds → new ≡ (keeper_view_with passes note (map (λ p. p.deeds) (done ++ x ∷ [])), [])
-joined_more passes note done x me new w is step deeds =
+pub joined_more : (passes : ℕ) (tops : List ℕ) (note : Note) (done : List PassValue) (x : PassValue) (me new : Me (Unit {0}) View) (w : View) → me ≡ (keeper_view_with passes tops note (map (λ p. p.deeds) done), []) → new ≡ (after_join me.0 w, me.1)
+    → w.own ≡ x.deeds → new ≡ (keeper_view_with passes tops note (map (λ p. p.deeds) (done ++ x ∷ [])), [])
+joined_more passes tops note done x me new w is step deeds =
     step ∙ ap (λ (m : Me (Unit {0}) View). (after_join m.0 w, m.1)) is
-    ∙ ap (λ (l : List Deed). (keeper_view_with passes note (map (λ p. p.deeds) done ++ l ∷ []), [])) deeds
-    ∙ ap (λ (ls : List (List Deed)). (keeper_view_with passes note ls, [])) (sym (map-append (λ (p : PassValue). p.deeds) done (x ∷ [])))
+    ∙ ap (λ (l : List Deed). (keeper_view_with passes tops note (map (λ p. p.deeds) done ++ l ∷ []), [])) deeds
+    ∙ ap (λ (ls : List (List Deed)). (keeper_view_with passes tops note ls, [])) (sym (map-append (λ (p : PassValue). p.deeds) done (x ∷ [])))
 
 -- ---- the words
 
@@ -99,22 +98,22 @@ elem_index (w ∷ words) (suc k) n at = elem_index words k n at
 -- ---- the closing
 
 -- what contracts see of a book with this key, and of a keeper's pass with this note
-abbrev book_of : TableId → List ℕ → List ℕ → BookValue
-book_of id openings limits = record { id = id; openings = openings; limits = limits }
+abbrev book_of : TableId → List ℕ → List ℕ → List ℕ → BookValue
+book_of id openings tops limits = record { id = id; openings = openings; tops = tops; limits = limits }
 
 abbrev keeper_of : TableId → ℕ → Note → KeeperValue
 keeper_of id passes note = record { id = id; passes = passes; limits = note.limits; seen = note.seen; stop = note.stop }
 
 -- the words and the lists of a closed table are those of a closed book
-closes : (of kept : TableId) (openings limits words last : List ℕ) (slots : List (Unit {0})) (passes id : ℕ) (note : Note) (lists : List (List Deed)) (v : View) (closed : ClosedValue)
-    → id ≡ 0 → v ≡ keeper_view_with passes note lists → length lists ≡ passes → Final (Seen (Keeps openings limits) id v) words slots
+closes : (of kept : TableId) (openings tops own limits words last : List ℕ) (slots : List (Unit {0})) (passes id : ℕ) (note : Note) (lists : List (List Deed)) (v : View) (closed : ClosedValue)
+    → id ≡ 0 → v ≡ keeper_view_with passes own note lists → length lists ≡ passes → Final (Seen (Keeps openings tops limits) id v) words slots
     → length last ≡ length openings → ((k : ℕ) → k < length openings → get_elem? words k ≡ some (slice_index last k)) → closed ≡ record { words = last; lists = lists }
-    → Closes (book_of of openings limits) lists (keeper_of kept passes note) closed
-closes of kept openings limits words last slots passes id note lists v closed first is many final sized reads end =
+    → Closes (book_of of openings tops limits) lists (keeper_of kept passes note) closed
+closes of kept openings tops own limits words last slots passes id note lists v closed first is many final sized reads end =
     let s = final.0 in
     let seen = final.1 in
     let at : get_elem? s.views 0 ≡ some v = subst (λ k. get_elem? s.views k ≡ some v) first seen.1 in
-    let whole : Whole openings s v = record {
+    let whole : Whole openings tops s v = record {
       rule = seen.0.numbers;
       first = at;
       active = ap (λ (x : View). x.active) is;
@@ -126,13 +125,13 @@ closes of kept openings limits words last slots passes id note lists v closed fi
     let tied : IsTied openings limits s.words note = subst (λ (n : Note). IsTied openings limits s.words n) noted seen.0.limits.tied in
     let told : All (AreTold note) lists =
     subst (λ (ls : List (List Deed)). All (AreTold note) ls) held (subst (λ (n : Note). All (AreTold n) v.joined) noted (seen.0.limits.told 0 v at).joined) in
-    subst (λ (e : ClosedValue). Closes (book_of of openings limits) lists (keeper_of kept passes note) e) (sym end) (record {
+    subst (λ (e : ClosedValue). Closes (book_of of openings tops limits) lists (keeper_of kept passes note) e) (sym end) (record {
       same = refl;
       many = sized;
-      splits = λ sub known. subst (λ (n : ℕ). Splits max_seq (slice_index openings sub) n (map (entries_of sub) lists)) (word sub known)
-          (subst (λ (ls : List (List Deed)). Splits max_seq (slice_index openings sub) (slice_index s.words sub) (map (entries_of sub) ls)) held (whole_splits openings s v whole sub known));
-      bounded = λ sub known. subst (λ (n : ℕ). n ≤ max_seq + 64) (word sub known) (whole_bounded openings s v whole sub known);
-      taken = (slice_index s.words (length openings), subst (λ (ls : List (List Deed)). AreTaken (slice_index s.words (length openings)) (flat_map claims_of ls)) held (whole_taken openings s v whole));
+      splits = λ sub known. subst (λ (n : ℕ). Splits (slice_index tops sub) (slice_index openings sub) n (map (entries_of sub) lists)) (word sub known)
+          (subst (λ (ls : List (List Deed)). Splits (slice_index tops sub) (slice_index openings sub) (slice_index s.words sub) (map (entries_of sub) ls)) held (whole_splits openings tops s v whole sub known));
+      bounded = λ sub known. subst (λ (n : ℕ). n ≤ slice_index tops sub + 64) (word sub known) (whole_bounded openings tops s v whole sub known);
+      taken = (slice_index s.words (length openings), subst (λ (ls : List (List Deed)). AreTaken (slice_index s.words (length openings)) (flat_map claims_of ls)) held (whole_taken openings tops s v whole));
       sized = tied.sized;
       released = λ sub known k l within. released_told note sub _ (told k l within);
       withheld = λ sub known k l within. held_told note sub _ (told k l within);
@@ -145,14 +144,14 @@ closes of kept openings limits words last slots passes id note lists v closed fi
     })
 
 -- the same, with each fact as the code has it
-pub closes_at : (of kept : TableId) (key named : Key) (book : BookValue) (keeper : KeeperValue) (words last : List ℕ) (slots : List (Unit {0})) (passes id : ℕ) (note : Note) (lists : List (List Deed)) (v : View) (closed : ClosedValue)
-    → key ≡ named → book_of of named.openings.items named.limits.items ≡ book → keeper_of kept passes note ≡ keeper → id ≡ 0 → v ≡ keeper_view_with passes note lists → length lists ≡ passes
-    → Final (Seen (Keeps key.openings.items key.limits.items) id v) words slots → length last ≡ length named.openings.items → ((k : ℕ) → k < length named.openings.items → get_elem? words k ≡ some (slice_index last k))
+pub closes_at : (of kept : TableId) (own : List ℕ) (key named : Key) (book : BookValue) (keeper : KeeperValue) (words last : List ℕ) (slots : List (Unit {0})) (passes id : ℕ) (note : Note) (lists : List (List Deed)) (v : View) (closed : ClosedValue)
+    → key ≡ named → book_of of named.openings.items named.tops.items named.limits.items ≡ book → keeper_of kept passes note ≡ keeper → id ≡ 0 → v ≡ keeper_view_with passes own note lists → length lists ≡ passes
+    → Final (Seen (Keeps key.openings.items key.tops.items key.limits.items) id v) words slots → length last ≡ length named.openings.items → ((k : ℕ) → k < length named.openings.items → get_elem? words k ≡ some (slice_index last k))
     → closed ≡ record { words = last; lists = lists } → Closes book lists keeper closed
-closes_at of kept key named book keeper words last slots passes id note lists v closed same book_is keeper_is first is many final sized reads end =
-    subst (λ (b : BookValue). Closes b lists keeper closed) book_is (subst (λ (k : KeeperValue). Closes (book_of of named.openings.items named.limits.items) lists k closed) keeper_is
-    (closes of kept named.openings.items named.limits.items words last slots passes id note lists v closed first is many
-    (subst (λ (k : Key). Final (Seen (Keeps k.openings.items k.limits.items) id v) words slots) same final) sized reads end))
+closes_at of kept own key named book keeper words last slots passes id note lists v closed same book_is keeper_is first is many final sized reads end =
+    subst (λ (b : BookValue). Closes b lists keeper closed) book_is (subst (λ (k : KeeperValue). Closes (book_of of named.openings.items named.tops.items named.limits.items) lists k closed) keeper_is
+    (closes of kept named.openings.items named.tops.items own named.limits.items words last slots passes id note lists v closed first is many
+    (subst (λ (k : Key). Final (Seen (Keeps k.openings.items k.tops.items k.limits.items) id v) words slots) same final) sized reads end))
 
 -- ---- the claims
 

@@ -10,7 +10,6 @@ use Rattle.auc_history.specs.History.{covers, covered, last_of, IsMove, IsFound}
 use Rattle.auc_history.specs.Merge.{is_last}
 use Rattle.auc_history.specs.Split.{times}
 use Rattle.auc_history.proofs.Facts.{times-cons, times-append, times-numbers_after}
-use Rattle.auc_sqn.specs.Number.{max_seq}
 use Rattle.auc_draw.specs.InnerRule.{IsCovered}
 use Rattle.auc_draw.proofs.ViewLemmas.{all_cons, times_flat}
 
@@ -26,11 +25,11 @@ any_head P x xs p = (zero, x, omega arith, refl, p)
 any_map : {X : Type 0} (P Q : X → Type 0) (xs : List X) → ((x : X) → P x → Q x) → Any P xs → Any Q xs
 any_map P Q xs f (k, y, within, at, p) = (k, y, within, at, f y p)
 
--- an entry that a step makes at a word, and the next word
-pub record Leads (word next : ℕ) (e : Entry) : Type 0 where
+-- an entry that a step makes at a word of a subscriber with this greatest number, and the next word
+pub record Leads (top word next : ℕ) (e : Entry) : Type 0 where
   pub up : word ≤ next
   pub covers : (n : ℕ) → times n (covers e) ≡ (if nat_lt word n && nat_le n next then 1 else 0)
-  pub move : IsMove max_seq e
+  pub move : IsMove top e
   pub found : (opening : ℕ) (es : List Entry) → (word ≡ opening) ⊎ Any (λ d. last_of d ≡ Some word) es → IsFound opening (e ∷ es) e
   pub ends : (next ≡ word) ⊎ (last_of e ≡ Some next)
 
@@ -39,8 +38,8 @@ one_number : (n word : ℕ) → ◌≡◌ {A = ℕ} (cond (word + 1 == n) 1 0 + 
 one_number n word = grind (arith, nat_tests)
 
 -- a draw
-pub draw_leads : (word : ℕ) → Leads word (word + 1) (Drawn (word + 1))
-draw_leads word = record {
+pub draw_leads : (top word : ℕ) → Leads top word (word + 1) (Drawn (word + 1))
+draw_leads top word = record {
   up = omega arith;
   covers = λ n. times-cons n (word + 1) [] ∙ one_number n word;
   move = tt;
@@ -49,8 +48,8 @@ draw_leads word = record {
 }
 
 -- a move
-pub move_leads : (word to next : ℕ) → word < to → to ≤ max_seq → next ≡ to → Leads word next (Moved word to)
-move_leads word to next low number is = record {
+pub move_leads : (top word to next : ℕ) → word < to → to ≤ top → next ≡ to → Leads top word next (Moved word to)
+move_leads top word to next low number is = record {
   up = omega (arith, low, is);
   covers = λ n. times-numbers_after n (to - word) word ∙ ap (λ k. if nat_lt word n && nat_le n k then 1 else 0) (let up : word + (to - word) ≡ next = omega (arith, low, is) in up);
   move = (low, number);
@@ -63,8 +62,8 @@ no_number : (n word : ℕ) → ◌≡◌ {A = ℕ} 0 (if nat_lt word n && nat_le
 no_number n word = grind (arith, nat_tests)
 
 -- a look
-pub look_leads : (word next : ℕ) → next ≡ word → Leads word next (Look word)
-look_leads word next is = record {
+pub look_leads : (top word next : ℕ) → next ≡ word → Leads top word next (Look word)
+look_leads top word next is = record {
   up = omega (arith, is);
   covers = λ n. no_number n word ∙ ap (λ k. if nat_lt word n && nat_le n k then 1 else 0) (sym is);
   move = tt;
@@ -85,12 +84,12 @@ found_more opening e (Look seen) es (inl is) = inl is
 found_more opening e (Look seen) es (inr any) = inr (any_cons (λ x. last_of x ≡ Some seen) e es any)
 
 -- a further entry, which leads to the next word
-pub covered_more : (opening word next : ℕ) (e : Entry) (es : List Entry) → IsCovered opening word es → Leads word next e → IsCovered opening next (e ∷ es)
-covered_more opening word next e es c leads = record {
+pub covered_more : (top opening word next : ℕ) (e : Entry) (es : List Entry) → IsCovered top opening word es → Leads top word next e → IsCovered top opening next (e ∷ es)
+covered_more top opening word next e es c leads = record {
   forward = omega (arith, c.forward, leads.up);
   once = λ n. times-append n (covers e) (covered es) ∙ ap (λ k. k + times n (covered es)) (leads.covers n)
       ∙ ap (λ k. (if nat_lt word n && nat_le n next then 1 else 0) + k) (c.once n) ∙ two_ranges n opening word next c.forward leads.up;
-  moves = all_cons (IsMove max_seq) e es leads.move c.moves;
+  moves = all_cons (IsMove top) e es leads.move c.moves;
   looks = all_cons (IsFound opening (e ∷ es)) e es (leads.found opening es c.stands) (λ k d within. found_more opening e _ es (c.looks k d within));
   stands = ⊎_elim
       (λ (same : next ≡ word). ⊎_elim
@@ -134,11 +133,11 @@ found_permuted opening xs ys (Look seen) same (inl is) = inl is
 found_permuted opening xs ys (Look seen) same (inr any) = inr (ends_permuted seen xs ys same any)
 
 -- what entries cover doesn't depend on their order
-pub covered_permuted : (opening word : ℕ) (xs ys : List Entry) → IsCovered opening word xs → IsPermutation xs ys → IsCovered opening word ys
-covered_permuted opening word xs ys c same = record {
+pub covered_permuted : (top opening word : ℕ) (xs ys : List Entry) → IsCovered top opening word xs → IsPermutation xs ys → IsCovered top opening word ys
+covered_permuted top opening word xs ys c same = record {
   forward = c.forward;
   once = λ n. times_permuted n xs ys same ∙ c.once n;
-  moves = All-permutation (IsMove max_seq) xs ys same c.moves;
+  moves = All-permutation (IsMove top) xs ys same c.moves;
   looks = λ k d within. found_permuted opening xs ys _ same (All-permutation (IsFound opening xs) xs ys same c.looks k d within);
   stands = ⊎_elim (λ (here : word ≡ opening). inl here) (λ (there : Any (λ d. last_of d ≡ Some word) xs). inr (ends_permuted word xs ys same there)) c.stands;
 }

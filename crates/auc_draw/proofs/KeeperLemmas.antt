@@ -6,7 +6,6 @@ use Rattle.auc_sqn.specs.Number.{max_seq}
 use Rattle.auc_draw.specs.declared.rule.View.{View}
 use Rattle.auc_draw.specs.Values.{KeeperValue}
 use Rattle.auc_draw.specs.InnerRule.{NotesLimit}
-use Rattle.auc_draw.specs.InnerLimits.{raised}
 use Rattle.auc_draw.proofs.LimitLemmas.{MayRise}
 
 -- what contracts see of a keeper's pass

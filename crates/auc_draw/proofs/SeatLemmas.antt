@@ -32,8 +32,8 @@ no_pairs : {X : Type 0} (R : X → X → Type 0) → AllPairs R []
 no_pairs R k j d below within = absurd (omega arith)
 
 -- no entries fit at each word
-nothing_fits : (word active : ℕ) → Fits word active []
-nothing_fits word active = record { marked = omega arith; ordered = no_pairs IsBefore; below = all_nil (λ e. reach_of e ≤ word) }
+nothing_fits : (top word active : ℕ) → Fits top word active []
+nothing_fits top word active = record { marked = omega arith; ordered = no_pairs IsBefore; below = all_nil (λ e. reach_of e ≤ word) }
 
 -- no claims fit at each word
 nothing_claims : (word active : ℕ) → FitsClaims word active []
@@ -46,11 +46,11 @@ nothing_between : (n word : ℕ) → ◌≡◌ {A = ℕ} 0 (if nat_lt word n && 
 nothing_between n word = grind (arith, nat_tests)
 
 -- no entries cover an opening up to itself
-nothing_covers : (opening word : ℕ) → word ≡ opening → IsCovered opening word []
-nothing_covers opening word is = record {
+nothing_covers : (top opening word : ℕ) → word ≡ opening → IsCovered top opening word []
+nothing_covers top opening word is = record {
   forward = omega (arith, is);
   once = λ n. nothing_between n word ∙ ap (λ k. if nat_lt k n && nat_le n word then 1 else 0) is;
-  moves = all_nil (IsMove max_seq);
+  moves = all_nil (IsMove top);
   looks = all_nil (IsFound opening []);
   stands = inl is;
 }
@@ -60,14 +60,14 @@ nothing_below : (n : ℕ) → ◌≡◌ {A = ℕ} 0 (if nat_lt n 0 then 1 else 0
 nothing_below n = grind (arith, nat_tests)
 
 -- the words of an opening keep the part on numbers
-opens_numbers : (openings rest : List ℕ) (note : Note) → All (λ n. n ≤ max_seq) openings → KeepsNumbers openings (opening (openings ++ 0 ∷ rest) [] (keeper_view 0 note))
-opens_numbers openings rest note low = record {
+opens_numbers : (openings tops rest : List ℕ) (note : Note) → ((i : ℕ) → i < length openings → slice_index openings i ≤ slice_index tops i) → KeepsNumbers openings tops (opening (openings ++ 0 ∷ rest) [] (keeper_view 0 tops note))
+opens_numbers openings tops rest note low = record {
   room = omega (arith, length-append openings (0 ∷ rest));
   numbers = record {
-    bounded = λ i known. omega (arith, low i 0 known, word i known);
-    covers = λ i known. nothing_covers (slice_index openings i) (slice_index words i) (word i known);
-    fits = λ j v at i known. one (λ u. Fits (slice_index words i) u.active (entries_of i u.own)) (nothing_fits (slice_index words i) 0) j v at;
-    rests = λ j v at i known. one (λ u. All (FitsJoined i) u.joined) (all_nil (FitsJoined i)) j v at;
+    bounded = λ i known. omega (arith, low i known, word i known);
+    covers = λ i known. nothing_covers (slice_index tops i) (slice_index openings i) (slice_index words i) (word i known);
+    fits = λ j v at i known. one (λ u. Fits (slice_index tops i) (slice_index words i) u.active (entries_of i u.own)) (nothing_fits (slice_index tops i) (slice_index words i) 0) j v at;
+    rests = λ j v at i known. one (λ u. All (FitsJoined (slice_index tops i) i) u.joined) (all_nil (FitsJoined (slice_index tops i) i)) j v at;
   };
   jobs = record {
     bounded = omega (arith, last);
@@ -92,8 +92,8 @@ opens_numbers openings rest note low = record {
     last : slice_index words (length openings) ≡ 0
     last = ap (λ k. slice_index words k) (omega arith) ∙ get_or-append-add openings (0 ∷ rest) 0 0
 
-    one : (P : View → Type 0) → P (keeper_view 0 note) → (j : ℕ) (v : View) → get_elem? (keeper_view 0 note ∷ []) j ≡ some v → P v
-    one P here zero v at = subst P (some-injective (keeper_view 0 note) v at) here
+    one : (P : View → Type 0) → P (keeper_view 0 tops note) → (j : ℕ) (v : View) → get_elem? (keeper_view 0 tops note ∷ []) j ≡ some v → P v
+    one P here zero v at = subst P (some-injective (keeper_view 0 tops note) v at) here
     one P here (suc j) v at = absurd (some-ne-none v (sym at))
 
 -- the words of an opening
@@ -101,9 +101,9 @@ abbrev opened : List ℕ → List ℕ → List ℕ
 opened openings limits = openings ++ 0 ∷ 0 ∷ limits
 
 -- they keep the part on limits
-opens_limits : (openings limits : List ℕ) → length limits ≡ length openings → All (λ n. n ≤ max_seq) limits
-    → KeepsLimits openings limits (opening (opened openings limits) [] (keeper_view 0 (opening_note openings limits)))
-opens_limits openings limits many low = record {
+opens_limits : (openings tops limits : List ℕ) → length limits ≡ length openings → All (λ n. n ≤ max_seq) limits
+    → KeepsLimits openings limits (opening (opened openings limits) [] (keeper_view 0 tops (opening_note openings limits)))
+opens_limits openings tops limits many low = record {
   sized = omega (arith, many, length-append openings (0 ∷ 0 ∷ limits));
   tied = record {
     sized = many;
@@ -126,17 +126,17 @@ opens_limits openings limits many low = record {
     note : Note
     note = opening_note openings limits
 
-    one : (j : ℕ) (v : View) → get_elem? (keeper_view 0 note ∷ []) j ≡ some v → IsTold note v
-    one zero v at = subst (λ (u : View). IsTold note u) (some-injective (keeper_view 0 note) v at) (record { own = told_none note; joined = all_nil (AreTold note) })
+    one : (j : ℕ) (v : View) → get_elem? (keeper_view 0 tops note ∷ []) j ≡ some v → IsTold note v
+    one zero v at = subst (λ (u : View). IsTold note u) (some-injective (keeper_view 0 tops note) v at) (record { own = told_none note; joined = all_nil (AreTold note) })
     one (suc j) v at = absurd (some-ne-none v (sym at))
 
 -- the words of an opening keep the rule
-pub opens_ok : (openings limits words : List ℕ) → words ≡ openings ++ 0 ∷ 0 ∷ limits → length limits ≡ length openings → All (λ n. n ≤ max_seq) openings → All (λ n. n ≤ max_seq) limits
-    → Keeps openings limits (opening words [] (keeper_view 0 (opening_note openings limits)))
-opens_ok openings limits words is many low under =
-    subst (λ (ws : List ℕ). Keeps openings limits (opening ws [] (keeper_view 0 (opening_note openings limits)))) (sym is) (record {
-      numbers = opens_numbers openings (0 ∷ limits) (opening_note openings limits) low;
-      limits = opens_limits openings limits many under;
+pub opens_ok : (openings tops limits words : List ℕ) → words ≡ openings ++ 0 ∷ 0 ∷ limits → length limits ≡ length openings → ((i : ℕ) → i < length openings → slice_index openings i ≤ slice_index tops i)
+    → All (λ n. n ≤ max_seq) limits → Keeps openings tops limits (opening words [] (keeper_view 0 tops (opening_note openings limits)))
+opens_ok openings tops limits words is many low under =
+    subst (λ (ws : List ℕ). Keeps openings tops limits (opening ws [] (keeper_view 0 tops (opening_note openings limits)))) (sym is) (record {
+      numbers = opens_numbers openings tops (0 ∷ limits) (opening_note openings limits) low;
+      limits = opens_limits openings tops limits many under;
     })
 
 -- ---- a further view with no deeds
@@ -162,15 +162,15 @@ sum_push : (f : View → ℕ) (views : List View) (r : View) → sum_by f (views
 sum_push f views r = omega (arith, sum_by-append f views (r ∷ []), sum_by-cons f r [])
 
 -- a further view without deeds keeps the part on numbers
-numbers_push : (openings : List ℕ) (s : State (Unit {0}) View) (r : View) → Numbers openings s → Bare r → Numbers openings record { words = s.words; homes = s.homes; views = s.views ++ r ∷ [] }
-numbers_push openings s r rule bare = record {
-  bounded = λ i known. omega (arith, rule.bounded i known, sum_push (λ v. marks_in (view_entries i v)) s.views r);
-  covers = λ i known. subst (λ (es : List Entry). IsCovered (slice_index openings i) (slice_index s.words i) es) (sym (flat_push (view_entries i) s.views r (bare_entries i r bare))) (rule.covers i known);
+numbers_push : (openings tops : List ℕ) (s : State (Unit {0}) View) (r : View) → Numbers openings tops s → Bare r → Numbers openings tops record { words = s.words; homes = s.homes; views = s.views ++ r ∷ [] }
+numbers_push openings tops s r rule bare = record {
+  bounded = λ i known. omega (arith, rule.bounded i known, sum_push (λ v. marks_in (slice_index tops i) (view_entries i v)) s.views r);
+  covers = λ i known. subst (λ (es : List Entry). IsCovered (slice_index tops i) (slice_index openings i) (slice_index s.words i) es) (sym (flat_push (view_entries i) s.views r (bare_entries i r bare))) (rule.covers i known);
   fits = λ j u at i known. ⊎_elim (λ (old : get_elem? s.views j ≡ some u). rule.fits j u old i known)
-      (λ (new : r ≡ u). subst (λ (x : View). Fits (slice_index s.words i) x.active (entries_of i x.own)) new (subst (λ (ds : List Deed). Fits (slice_index s.words i) r.active (entries_of i ds)) (sym bare.own) (nothing_fits (slice_index s.words i) r.active)))
+      (λ (new : r ≡ u). subst (λ (x : View). Fits (slice_index tops i) (slice_index s.words i) x.active (entries_of i x.own)) new (subst (λ (ds : List Deed). Fits (slice_index tops i) (slice_index s.words i) r.active (entries_of i ds)) (sym bare.own) (nothing_fits (slice_index tops i) (slice_index s.words i) r.active)))
       (at_snoc s.views r u j at);
   rests = λ j u at i known. ⊎_elim (λ (old : get_elem? s.views j ≡ some u). rule.rests j u old i known)
-      (λ (new : r ≡ u). subst (λ (x : View). All (FitsJoined i) x.joined) new (subst (λ (l : List (List Deed)). All (FitsJoined i) l) (sym bare.joined) (all_nil (FitsJoined i))))
+      (λ (new : r ≡ u). subst (λ (x : View). All (FitsJoined (slice_index tops i) i) x.joined) new (subst (λ (l : List (List Deed)). All (FitsJoined (slice_index tops i) i) l) (sym bare.joined) (all_nil (FitsJoined (slice_index tops i) i))))
       (at_snoc s.views r u j at);
 }
 
@@ -190,55 +190,58 @@ jobs_push place s r rule bare = record {
 -- ---- a split
 
 -- a split keeps the part on numbers
-splits_numbers : (openings : List ℕ) (v : View) → v.split + 1 ≤ 64 → Cuts (KeepsNumbers openings) 0 v (after_split v) new_view
-splits_numbers openings v room s rule at = record {
+splits_numbers : (openings tops : List ℕ) (v : View) → v.split + 1 ≤ 64 → Cuts (KeepsNumbers openings tops) 0 v (after_split v) (new_view v.tops)
+splits_numbers openings tops v room s rule at = record {
   room = rule.room;
-  numbers = numbers_push openings mid new_view (numbers_still openings s 0 v (after_split v) s.words rule.numbers at (λ i known. refl) alike (λ i. refl)) bare;
-  jobs = jobs_push (length openings) mid new_view (jobs_still (length openings) s 0 v (after_split v) s.words rule.jobs at refl alike refl) bare;
+  numbers = numbers_push openings tops mid new (numbers_still openings tops s 0 v (after_split v) s.words rule.numbers at (λ i known. refl) alike (λ i. refl)) bare;
+  jobs = jobs_push (length openings) mid new (jobs_still (length openings) s 0 v (after_split v) s.words rule.jobs at refl alike refl) bare;
   seats = record {
-    counted = omega (arith, rule.seats.counted, sum_push passes_in mid.views new_view, sum_push (λ x. x.split) mid.views new_view, total_set passes_in s.views 0 v (after_split v) at, split);
-    few = omega (arith, sum_push (λ x. x.split) mid.views new_view, split, room, total_first (λ x. x.split) s.views v at (λ j u there apart. (rule.seats.alone j u there apart).0));
+    counted = omega (arith, rule.seats.counted, sum_push passes_in mid.views new, sum_push (λ x. x.split) mid.views new, total_set passes_in s.views 0 v (after_split v) at, split);
+    few = omega (arith, sum_push (λ x. x.split) mid.views new, split, room, total_first (λ x. x.split) s.views v at (λ j u there apart. (rule.seats.alone j u there apart).0));
     alone = λ j u there apart. ⊎_elim
         (λ (old : get_elem? mid.views j ≡ some u). rule.seats.alone j u (sym (set_else s.views 0 j (after_split v) apart) ∙ old) apart)
-        (λ (new : new_view ≡ u). (ap (λ (x : View). x.split) (sym new), ap (λ (x : View). x.joined) (sym new)))
-        (at_snoc mid.views new_view u j there);
+        (λ (last : new ≡ u). (ap (λ (x : View). x.split) (sym last), ap (λ (x : View). x.joined) (sym last)))
+        (at_snoc mid.views new u j there);
     idle = λ j u there none. ⊎_elim
         (λ (old : get_elem? mid.views j ≡ some u). ⊎_elim
         (λ (mine : (j ≡ 0) × (after_split v ≡ u)). ap (λ (x : View). x.own) (sym mine.1) ∙ rule.seats.idle 0 v at (ap (λ (x : View). x.active) mine.1 ∙ none))
         (λ (theirs : (j ≢ 0) × (get_elem? s.views j ≡ some u)). rule.seats.idle j u theirs.1 none)
         (at_set s.views 0 j (after_split v) u old))
-        (λ (new : new_view ≡ u). ap (λ (x : View). x.own) (sym new))
-        (at_snoc mid.views new_view u j there);
+        (λ (last : new ≡ u). ap (λ (x : View). x.own) (sym last))
+        (at_snoc mid.views new u j there);
   };
 }
   where
     mid : State (Unit {0}) View
     mid = record { words = s.words; homes = s.homes; views = slice_set s.views 0 (after_split v) }
 
+    new : View
+    new = new_view v.tops
+
     alike : Alike v (after_split v)
     alike = record { joined = refl; active = refl }
 
-    bare : Bare new_view
+    bare : Bare new
     bare = record { own = refl; joined = refl }
 
     split : sum_by (λ x. x.split) (set s.views 0 (after_split v)) + v.split ≡ sum_by (λ x. x.split) s.views + (v.split + 1)
     split = total_set (λ x. x.split) s.views 0 v (after_split v) at
 
 -- and the part on limits
-splits_limits : (openings limits : List ℕ) (v : View) → Cuts (KeepsLimits openings limits) 0 v (after_split v) new_view
+splits_limits : (openings limits : List ℕ) (v : View) → Cuts (KeepsLimits openings limits) 0 v (after_split v) (new_view v.tops)
 splits_limits openings limits v s rule at =
     let told = rule.told 0 v at in
     let mid : State (Unit {0}) View = record { words = s.words; homes = s.homes; views = slice_set s.views 0 (after_split v) } in
     let stepped : KeepsLimits openings limits mid = limits_stepped openings limits s 0 (after_split v) s.words s.homes rule (still_same openings s.words s.words refl) (first_same s.views 0 v (after_split v) at refl) (record { own = told.own; joined = told.joined }) in
-    limits_push openings limits mid 0 (after_split v) new_view stepped (there s.views v at) refl refl
+    limits_push openings limits mid 0 (after_split v) (new_view v.tops) stepped (there s.views v at) refl refl
   where
     there : (views : List View) (u : View) → get_elem? views 0 ≡ some u → get_elem? (set views 0 (after_split v)) 0 ≡ some (after_split v)
     there [] u at = absurd (some-ne-none u (sym at))
     there (x ∷ xs) u at = refl
 
 -- a pass may be split from the keeper's seat
-pub splits_ok : (openings limits : List ℕ) (v : View) → v.split + 1 ≤ 64 → Cuts (Keeps openings limits) 0 v (after_split v) new_view
-splits_ok openings limits v room s rule at = record { numbers = splits_numbers openings v room s rule.numbers at; limits = splits_limits openings limits v s rule.limits at }
+pub splits_ok : (openings tops limits : List ℕ) (v : View) → v.split + 1 ≤ 64 → Cuts (Keeps openings tops limits) 0 v (after_split v) (new_view v.tops)
+splits_ok openings tops limits v room s rule at = record { numbers = splits_numbers openings tops v room s rule.numbers at; limits = splits_limits openings limits v s rule.limits at }
 
 -- a view that is put where it stands
 set_same : (views : List View) (j : ℕ) (v : View) → get_elem? views j ≡ some v → set views j v ≡ views
@@ -247,11 +250,11 @@ set_same (x ∷ xs) zero v at = ap (λ (y : View). y ∷ xs) (sym (some-injectiv
 set_same (x ∷ xs) (suc j) v at = ap (λ (ys : List View). x ∷ ys) (set_same xs j v at)
 
 -- a seat that shows the joined lists
-shows_numbers : (openings : List ℕ) (id : ℕ) (v : View) → Cuts (KeepsNumbers openings) id v v (lists_view v)
-shows_numbers openings id v s rule at =
-    subst (λ (views : List View). KeepsNumbers openings record { words = s.words; homes = s.homes; views = views ++ lists_view v ∷ [] }) (sym (set_same s.views id v at)) (record {
+shows_numbers : (openings tops : List ℕ) (id : ℕ) (v : View) → Cuts (KeepsNumbers openings tops) id v v (lists_view v)
+shows_numbers openings tops id v s rule at =
+    subst (λ (views : List View). KeepsNumbers openings tops record { words = s.words; homes = s.homes; views = views ++ lists_view v ∷ [] }) (sym (set_same s.views id v at)) (record {
       room = rule.room;
-      numbers = numbers_push openings s (lists_view v) rule.numbers bare;
+      numbers = numbers_push openings tops s (lists_view v) rule.numbers bare;
       jobs = jobs_push (length openings) s (lists_view v) rule.jobs bare;
       seats = record {
         counted = omega (arith, rule.seats.counted, sum_push passes_in s.views (lists_view v), sum_push (λ x. x.split) s.views (lists_view v));
@@ -267,9 +270,9 @@ shows_numbers openings id v s rule at =
     bare = record { own = refl; joined = refl }
 
 -- a seat may be split off that tells a closed book the joined lists
-pub shows_ok : (openings limits : List ℕ) (id : ℕ) (v : View) → Cuts (Keeps openings limits) id v v (lists_view v)
-shows_ok openings limits id v s rule at = record {
-  numbers = shows_numbers openings id v s rule.numbers at;
+pub shows_ok : (openings tops limits : List ℕ) (id : ℕ) (v : View) → Cuts (Keeps openings tops limits) id v v (lists_view v)
+shows_ok openings tops limits id v s rule at = record {
+  numbers = shows_numbers openings tops id v s rule.numbers at;
   limits = subst (λ (views : List View). KeepsLimits openings limits record { words = s.words; homes = s.homes; views = views ++ lists_view v ∷ [] }) (sym (set_same s.views id v at))
       (limits_push openings limits s id v (lists_view v) rule.limits at refl refl);
 }
@@ -369,32 +372,35 @@ joined_view_entries i s v w other meets =
     (subst (λ (views : List View). IsPermutation (es ++ all_view_entries i D) (all_view_entries i views)) turned more)
 
 -- a join keeps what holds of the numbers
-numbers_joined : (openings : List ℕ) (s : State (Unit {0}) View) (v w : View) (other : ℕ) → Numbers openings s → Meets s v w other
-    → Numbers openings record { words = s.words; homes = s.homes; views = after s v w other }
-numbers_joined openings s v w other rule meets = record {
+numbers_joined : (openings tops : List ℕ) (s : State (Unit {0}) View) (v w : View) (other : ℕ) → Numbers openings tops s → Meets s v w other
+    → Numbers openings tops record { words = s.words; homes = s.homes; views = after s v w other }
+numbers_joined openings tops s v w other rule meets = record {
   bounded = λ i known. omega (
     arith,
     rule.bounded i known,
-    joined_total (λ x. marks_in (view_entries i x)) s v w other meets
-        (omega (arith, ap marks_in (entries_joined i s v w other meets) ∙ sum_by-append mark_by (view_entries i v) (entries_of i w.own), ap marks_in (entries_of_pass i s v w other meets))),
+    joined_total (λ x. marks_in (slice_index tops i) (view_entries i x)) s v w other meets (omega (
+      arith,
+      ap (marks_in (slice_index tops i)) (entries_joined i s v w other meets) ∙ sum_by-append (mark_by (slice_index tops i)) (view_entries i v) (entries_of i w.own),
+      ap (marks_in (slice_index tops i)) (entries_of_pass i s v w other meets),
+    )),
   );
-  covers = λ i known. covered_permuted (slice_index openings i) (slice_index s.words i) (all_view_entries i s.views) (all_view_entries i (after s v w other)) (rule.covers i known) (joined_view_entries i s v w other meets);
+  covers = λ i known. covered_permuted (slice_index tops i) (slice_index openings i) (slice_index s.words i) (all_view_entries i s.views) (all_view_entries i (after s v w other)) (rule.covers i known) (joined_view_entries i s v w other meets);
   fits = λ j u at i known. ⊎_elim
-      (λ (gone : spent_view ≡ u). subst (λ (x : View). Fits (slice_index s.words i) x.active (entries_of i x.own)) gone (nothing_fits (slice_index s.words i) 0))
+      (λ (gone : spent_view ≡ u). subst (λ (x : View). Fits (slice_index tops i) (slice_index s.words i) x.active (entries_of i x.own)) gone (nothing_fits (slice_index tops i) (slice_index s.words i) 0))
       (λ (rest : ((j ≡ 0) × (after_join v w ≡ u)) ⊎ ((j ≢ 0) × (get_elem? s.views j ≡ some u))). ⊎_elim
-      (λ (mine : (j ≡ 0) × (after_join v w ≡ u)). subst (λ (x : View). Fits (slice_index s.words i) x.active (entries_of i x.own)) mine.1 (rule.fits 0 v meets.first i known))
+      (λ (mine : (j ≡ 0) × (after_join v w ≡ u)). subst (λ (x : View). Fits (slice_index tops i) (slice_index s.words i) x.active (entries_of i x.own)) mine.1 (rule.fits 0 v meets.first i known))
       (λ (theirs : (j ≢ 0) × (get_elem? s.views j ≡ some u)). rule.fits j u theirs.1 i known) rest)
       (one_of s v w other j u at);
   rests = λ j u at i known. ⊎_elim
-      (λ (gone : spent_view ≡ u). subst (λ (x : View). All (FitsJoined i) x.joined) gone (all_nil (FitsJoined i)))
+      (λ (gone : spent_view ≡ u). subst (λ (x : View). All (FitsJoined (slice_index tops i) i) x.joined) gone (all_nil (FitsJoined (slice_index tops i) i)))
       (λ (rest : ((j ≡ 0) × (after_join v w ≡ u)) ⊎ ((j ≢ 0) × (get_elem? s.views j ≡ some u))). ⊎_elim
-      (λ (mine : (j ≡ 0) × (after_join v w ≡ u)). subst (λ (x : View). All (FitsJoined i) x.joined) mine.1
-      (All-append (FitsJoined i) v.joined (w.own ∷ []) (rule.rests 0 v meets.first i known) (all_cons (FitsJoined i) w.own [] (joins i known) (all_nil (FitsJoined i)))))
+      (λ (mine : (j ≡ 0) × (after_join v w ≡ u)). subst (λ (x : View). All (FitsJoined (slice_index tops i) i) x.joined) mine.1
+      (All-append (FitsJoined (slice_index tops i) i) v.joined (w.own ∷ []) (rule.rests 0 v meets.first i known) (all_cons (FitsJoined (slice_index tops i) i) w.own [] (joins i known) (all_nil (FitsJoined (slice_index tops i) i)))))
       (λ (theirs : (j ≢ 0) × (get_elem? s.views j ≡ some u)). rule.rests j u theirs.1 i known) rest)
       (one_of s v w other j u at);
 }
   where
-    joins : (i : ℕ) → i < length openings → FitsJoined i w.own
+    joins : (i : ℕ) → i < length openings → FitsJoined (slice_index tops i) i w.own
     joins i known = let fits = rule.fits other w meets.second i known in record { marked = omega (arith, fits.marked, meets.active); ordered = fits.ordered }
 
 -- and what holds of the jobs
@@ -429,10 +435,10 @@ jobs_joined place s v w other rule meets = record {
     joins = omega (arith, (rule.fits other w meets.second).wide, meets.active)
 
 -- a join keeps the part on numbers
-joins_numbers : (openings : List ℕ) (v w : View) (other : ℕ) → v.own ≡ [] → w.active ≡ 1 → Joins (KeepsNumbers openings) 0 v other w (after_join v w) spent_view
-joins_numbers openings v w other idle active s rule first apart second = record {
+joins_numbers : (openings tops : List ℕ) (v w : View) (other : ℕ) → v.own ≡ [] → w.active ≡ 1 → Joins (KeepsNumbers openings tops) 0 v other w (after_join v w) spent_view
+joins_numbers openings tops v w other idle active s rule first apart second = record {
   room = rule.room;
-  numbers = numbers_joined openings s v w other rule.numbers meets;
+  numbers = numbers_joined openings tops s v w other rule.numbers meets;
   jobs = jobs_joined (length openings) s v w other rule.jobs meets;
   seats = record {
     counted = joined_total passes_in s v w other meets (omega (arith, length-append v.joined (w.own ∷ []), active, ap (λ (l : List (List Deed)). length l) meets.plain)) ∙ rule.seats.counted
@@ -475,37 +481,37 @@ joins_limits openings limits v w other s rule first apart second =
     limits_stepped openings limits mid other spent_view s.words s.homes stepped same (first_else mid.views other spent_view apart) (record { own = told_none (first_note mid.views); joined = all_nil (AreTold (first_note mid.views)) })
 
 -- a pass may be joined into the keeper's seat
-pub joins_ok : (openings limits : List ℕ) (v w : View) (other : ℕ) → v.own ≡ [] → w.active ≡ 1 → Joins (Keeps openings limits) 0 v other w (after_join v w) spent_view
-joins_ok openings limits v w other idle active s rule first apart second =
-    record { numbers = joins_numbers openings v w other idle active s rule.numbers first apart second; limits = joins_limits openings limits v w other s rule.limits first apart second }
+pub joins_ok : (openings tops limits : List ℕ) (v w : View) (other : ℕ) → v.own ≡ [] → w.active ≡ 1 → Joins (Keeps openings tops limits) 0 v other w (after_join v w) spent_view
+joins_ok openings tops limits v w other idle active s rule first apart second =
+    record { numbers = joins_numbers openings tops v w other idle active s rule.numbers first apart second; limits = joins_limits openings limits v w other s rule.limits first apart second }
 
 -- ---- the closing
 
 -- all passes were joined into the keeper's view, which is the first
-pub record Whole (openings : List ℕ) (s : State (Unit {0}) View) (v : View) : Type 0 where
-  pub rule : KeepsNumbers openings s
+pub record Whole (openings tops : List ℕ) (s : State (Unit {0}) View) (v : View) : Type 0 where
+  pub rule : KeepsNumbers openings tops s
   pub first : get_elem? s.views 0 ≡ some v
   pub active : v.active ≡ 0
   pub all : length v.joined ≡ v.split
 
 -- the other views have no deeds
-others_bare : (openings : List ℕ) (s : State (Unit {0}) View) (v : View) → Whole openings s v → (j : ℕ) (u : View) → get_elem? s.views j ≡ some u → j ≢ 0 → Bare u
-others_bare openings s v whole j u at apart =
+others_bare : (openings tops : List ℕ) (s : State (Unit {0}) View) (v : View) → Whole openings tops s v → (j : ℕ) (u : View) → get_elem? s.views j ≡ some u → j ≢ 0 → Bare u
+others_bare openings tops s v whole j u at apart =
     let alone = whole.rule.seats.alone in
     let split = total_first (λ x. x.split) s.views v whole.first (λ k x there far. (alone k x there far).0) in
     let none = total_rest passes_in s.views v whole.first (omega (arith, whole.rule.seats.counted, split, whole.active, whole.all)) j u at apart in
     record { own = whole.rule.seats.idle j u at (omega (arith, none)); joined = (alone j u at apart).1 }
 
 -- so all entries are those of the joined lists
-joined_entries : (openings : List ℕ) (s : State (Unit {0}) View) (v : View) (i : ℕ) → Whole openings s v → all_view_entries i s.views ≡ flat_map (entries_of i) v.joined
-joined_entries openings s v i whole =
-    flat_first (view_entries i) s.views v whole.first (λ j u at apart. bare_entries i u (others_bare openings s v whole j u at apart))
+joined_entries : (openings tops : List ℕ) (s : State (Unit {0}) View) (v : View) (i : ℕ) → Whole openings tops s v → all_view_entries i s.views ≡ flat_map (entries_of i) v.joined
+joined_entries openings tops s v i whole =
+    flat_first (view_entries i) s.views v whole.first (λ j u at apart. bare_entries i u (others_bare openings tops s v whole j u at apart))
     ∙ ap (λ (ds : List Deed). flat_map (entries_of i) v.joined ++ entries_of i ds) (whole.rule.seats.idle 0 v whole.first whole.active) ∙ append-nil (flat_map (entries_of i) v.joined)
 
 -- and all claims are theirs
-joined_claims : (openings : List ℕ) (s : State (Unit {0}) View) (v : View) → Whole openings s v → all_view_claims s.views ≡ flat_map claims_of v.joined
-joined_claims openings s v whole =
-    flat_first view_claims s.views v whole.first (λ j u at apart. bare_claims u (others_bare openings s v whole j u at apart))
+joined_claims : (openings tops : List ℕ) (s : State (Unit {0}) View) (v : View) → Whole openings tops s v → all_view_claims s.views ≡ flat_map claims_of v.joined
+joined_claims openings tops s v whole =
+    flat_first view_claims s.views v whole.first (λ j u at apart. bare_claims u (others_bare openings tops s v whole j u at apart))
     ∙ ap (λ (ds : List Deed). flat_map claims_of v.joined ++ claims_of ds) (whole.rule.seats.idle 0 v whole.first whole.active) ∙ append-nil (flat_map claims_of v.joined)
 
 -- the entries of lists, one list after the other
@@ -514,27 +520,27 @@ flat_map_map f [] = refl
 flat_map_map f (l ∷ ls) = ap (λ (es : List Entry). f l ++ es) (flat_map_map f ls)
 
 -- each joined list is in order
-orders : (i : ℕ) (ls : List (List Deed)) → All (FitsJoined i) ls → All IsInOrder (map (entries_of i) ls)
-orders i [] all k d within = absurd (omega arith)
-orders i (l ∷ ls) all zero d within = (all 0 l (omega arith)).ordered
-orders i (l ∷ ls) all (suc k) d within = orders i ls (λ k d within. all (suc k) d (omega (arith, within))) k d (omega (arith, within))
+orders : (top i : ℕ) (ls : List (List Deed)) → All (FitsJoined top i) ls → All IsInOrder (map (entries_of i) ls)
+orders top i [] all k d within = absurd (omega arith)
+orders top i (l ∷ ls) all zero d within = (all 0 l (omega arith)).ordered
+orders top i (l ∷ ls) all (suc k) d within = orders top i ls (λ k d within. all (suc k) d (omega (arith, within))) k d (omega (arith, within))
 
 -- entries that are covered, in lists that are in order, are a split
-split_of : (opening word : ℕ) (es : List Entry) (lists : List (List Entry)) → es ≡ all_entries lists → IsCovered opening word es → All IsInOrder lists → Splits max_seq opening word lists
-split_of opening word es lists is c ordered =
-    let here : IsCovered opening word (all_entries lists) = subst (λ (xs : List Entry). IsCovered opening word xs) is c in
+split_of : (top opening word : ℕ) (es : List Entry) (lists : List (List Entry)) → es ≡ all_entries lists → IsCovered top opening word es → All IsInOrder lists → Splits top opening word lists
+split_of top opening word es lists is c ordered =
+    let here : IsCovered top opening word (all_entries lists) = subst (λ (xs : List Entry). IsCovered top opening word xs) is c in
     record { forward = here.forward; once = here.once; ordered = ordered; moves = here.moves; looks = here.looks }
 
 -- at the close the joined lists split a history of each subscriber
-pub whole_splits : (openings : List ℕ) (s : State (Unit {0}) View) (v : View) → Whole openings s v → (i : ℕ) → i < length openings → Splits max_seq (slice_index openings i) (slice_index s.words i) (map (entries_of i) v.joined)
-whole_splits openings s v whole i known =
-    split_of (slice_index openings i) (slice_index s.words i) (all_view_entries i s.views) (map (entries_of i) v.joined) (joined_entries openings s v i whole ∙ flat_map_map (entries_of i) v.joined)
-    (whole.rule.numbers.covers i known) (orders i v.joined (whole.rule.numbers.rests 0 v whole.first i known))
+pub whole_splits : (openings tops : List ℕ) (s : State (Unit {0}) View) (v : View) → Whole openings tops s v → (i : ℕ) → i < length openings → Splits (slice_index tops i) (slice_index openings i) (slice_index s.words i) (map (entries_of i) v.joined)
+whole_splits openings tops s v whole i known =
+    split_of (slice_index tops i) (slice_index openings i) (slice_index s.words i) (all_view_entries i s.views) (map (entries_of i) v.joined) (joined_entries openings tops s v i whole ∙ flat_map_map (entries_of i) v.joined)
+    (whole.rule.numbers.covers i known) (orders (slice_index tops i) i v.joined (whole.rule.numbers.rests 0 v whole.first i known))
 
 -- the claimed numbers are those below the job word
-pub whole_taken : (openings : List ℕ) (s : State (Unit {0}) View) (v : View) → Whole openings s v → AreTaken (slice_index s.words (length openings)) (flat_map claims_of v.joined)
-whole_taken openings s v whole = record { once = λ n. ap (times n) (sym (joined_claims openings s v whole)) ∙ whole.rule.jobs.once n }
+pub whole_taken : (openings tops : List ℕ) (s : State (Unit {0}) View) (v : View) → Whole openings tops s v → AreTaken (slice_index s.words (length openings)) (flat_map claims_of v.joined)
+whole_taken openings tops s v whole = record { once = λ n. ap (times n) (sym (joined_claims openings tops s v whole)) ∙ whole.rule.jobs.once n }
 
--- and no word is more than 64 above the greatest number
-pub whole_bounded : (openings : List ℕ) (s : State (Unit {0}) View) (v : View) → Whole openings s v → (i : ℕ) → i < length openings → slice_index s.words i ≤ max_seq + 64
-whole_bounded openings s v whole i known = omega (arith, whole.rule.numbers.bounded i known, few_marks openings s i whole.rule.numbers whole.rule.seats known)
+-- and no word is more than 64 above its subscriber's greatest number
+pub whole_bounded : (openings tops : List ℕ) (s : State (Unit {0}) View) (v : View) → Whole openings tops s v → (i : ℕ) → i < length openings → slice_index s.words i ≤ slice_index tops i + 64
+whole_bounded openings tops s v whole i known = omega (arith, whole.rule.numbers.bounded i known, few_marks openings tops s i whole.rule.numbers whole.rule.seats known)

@@ -61,14 +61,15 @@ claims_more n deeds = flat_map-append claims_by deeds (Claimed n ∷ [])
 -- ---- the bounds
 
 -- a view has no more marks of a subscriber than it stands for passes
-weighs : (i : ℕ) (openings : List ℕ) (s : State (Unit {0}) View) → Numbers openings s → i < length openings → (j : ℕ) (v : View) → get_elem? s.views j ≡ some v → marks_in (view_entries i v) ≤ passes_in v
-weighs i openings s rule known j v at =
-    let few = few_in mark_by (entries_of i) v.joined (all_pairs_map (FitsJoined i) (λ l. marks_in (entries_of i l) ≤ 1) v.joined (λ l r. r.marked) (rule.rests j v at i known)) in
-    omega (arith, few, (rule.fits j v at i known).marked, sum_by-append mark_by (flat_map (entries_of i) v.joined) (entries_of i v.own))
+weighs : (i : ℕ) (openings tops : List ℕ) (s : State (Unit {0}) View) → Numbers openings tops s → i < length openings → (j : ℕ) (v : View) → get_elem? s.views j ≡ some v → marks_in (slice_index tops i) (view_entries i v) ≤ passes_in v
+weighs i openings tops s rule known j v at =
+    let top = slice_index tops i in
+    let few = few_in (mark_by top) (entries_of i) v.joined (all_pairs_map (FitsJoined top i) (λ l. marks_in top (entries_of i l) ≤ 1) v.joined (λ l r. r.marked) (rule.rests j v at i known)) in
+    omega (arith, few, (rule.fits j v at i known).marked, sum_by-append (mark_by top) (flat_map (entries_of i) v.joined) (entries_of i v.own))
 
 -- so there are at most 64
-pub few_marks : (openings : List ℕ) (s : State (Unit {0}) View) (i : ℕ) → Numbers openings s → Seats s.views → i < length openings → sum_by (λ v. marks_in (view_entries i v)) s.views ≤ 64
-few_marks openings s i rule seats known = omega (arith, seats.few, seats.counted, total_below (λ v. marks_in (view_entries i v)) passes_in s.views (weighs i openings s rule known))
+pub few_marks : (openings tops : List ℕ) (s : State (Unit {0}) View) (i : ℕ) → Numbers openings tops s → Seats s.views → i < length openings → sum_by (λ v. marks_in (slice_index tops i) (view_entries i v)) s.views ≤ 64
+few_marks openings tops s i rule seats known = omega (arith, seats.few, seats.counted, total_below (λ v. marks_in (slice_index tops i) (view_entries i v)) passes_in s.views (weighs i openings tops s rule known))
 
 -- a view has no more claimed numbers of over 32 bits than it stands for passes
 claims_weigh : (at : ℕ) (s : State (Unit {0}) View) → Jobs at s → (j : ℕ) (v : View) → get_elem? s.views j ≡ some v → wide_in (view_claims v) ≤ passes_in v
@@ -116,23 +117,23 @@ pub claims_alike : (v w : View) → Alike v w → claims_of w.own ≡ claims_of 
 claims_alike v w alike same = ap (λ (l : List (List Deed)). flat_map claims_of l ++ claims_of w.own) alike.joined ∙ ap (λ (ns : List ℕ). flat_map claims_of v.joined ++ ns) same
 
 -- a step that makes no entry keeps what holds of the numbers
-pub numbers_still : (openings : List ℕ) (s : State (Unit {0}) View) (id : ℕ) (v w : View) (words : List ℕ) → Numbers openings s → get_elem? s.views id ≡ some v
+pub numbers_still : (openings tops : List ℕ) (s : State (Unit {0}) View) (id : ℕ) (v w : View) (words : List ℕ) → Numbers openings tops s → get_elem? s.views id ≡ some v
     → ((i : ℕ) → i < length openings → slice_index words i ≡ slice_index s.words i) → Alike v w → ((i : ℕ) → entries_of i w.own ≡ entries_of i v.own)
-    → Numbers openings record { words = words; homes = s.homes; views = slice_set s.views id w }
-numbers_still openings s id v w words rule at word alike same = record {
-  bounded = λ i known. omega (arith, rule.bounded i known, word i known, total_set (λ x. marks_in (view_entries i x)) s.views id v w at, ap marks_in (entries_alike i v w alike (same i)));
+    → Numbers openings tops record { words = words; homes = s.homes; views = slice_set s.views id w }
+numbers_still openings tops s id v w words rule at word alike same = record {
+  bounded = λ i known. omega (arith, rule.bounded i known, word i known, total_set (λ x. marks_in (slice_index tops i) (view_entries i x)) s.views id v w at, ap (marks_in (slice_index tops i)) (entries_alike i v w alike (same i)));
   covers = λ i known.
       let still = flat_set_same (view_entries i) s.views id v w at (entries_alike i v w alike (same i)) in
-      subst (λ (n : ℕ). IsCovered (slice_index openings i) n (all_view_entries i (slice_set s.views id w))) (sym (word i known))
-      (subst (λ (es : List Entry). IsCovered (slice_index openings i) (slice_index s.words i) es) (sym still) (rule.covers i known));
-  fits = λ j u there i known. subst (λ (n : ℕ). Fits n u.active (entries_of i u.own)) (sym (word i known)) (⊎_elim
-      (λ (mine : (j ≡ id) × (w ≡ u)). subst (λ (x : View). Fits (slice_index s.words i) x.active (entries_of i x.own)) mine.1
-      (subst (λ (a : ℕ). Fits (slice_index s.words i) a (entries_of i w.own)) (sym alike.active)
-      (subst (λ (es : List Entry). Fits (slice_index s.words i) v.active es) (sym (same i)) (rule.fits id v at i known))))
+      subst (λ (n : ℕ). IsCovered (slice_index tops i) (slice_index openings i) n (all_view_entries i (slice_set s.views id w))) (sym (word i known))
+      (subst (λ (es : List Entry). IsCovered (slice_index tops i) (slice_index openings i) (slice_index s.words i) es) (sym still) (rule.covers i known));
+  fits = λ j u there i known. subst (λ (n : ℕ). Fits (slice_index tops i) n u.active (entries_of i u.own)) (sym (word i known)) (⊎_elim
+      (λ (mine : (j ≡ id) × (w ≡ u)). subst (λ (x : View). Fits (slice_index tops i) (slice_index s.words i) x.active (entries_of i x.own)) mine.1
+      (subst (λ (a : ℕ). Fits (slice_index tops i) (slice_index s.words i) a (entries_of i w.own)) (sym alike.active)
+      (subst (λ (es : List Entry). Fits (slice_index tops i) (slice_index s.words i) v.active es) (sym (same i)) (rule.fits id v at i known))))
       (λ (theirs : (j ≢ id) × (get_elem? s.views j ≡ some u)). rule.fits j u theirs.1 i known)
       (at_set s.views id j w u there));
   rests = λ j u there i known. ⊎_elim
-      (λ (mine : (j ≡ id) × (w ≡ u)). subst (λ (x : View). All (FitsJoined i) x.joined) mine.1 (subst (λ (l : List (List Deed)). All (FitsJoined i) l) (sym alike.joined) (rule.rests id v at i known)))
+      (λ (mine : (j ≡ id) × (w ≡ u)). subst (λ (x : View). All (FitsJoined (slice_index tops i) i) x.joined) mine.1 (subst (λ (l : List (List Deed)). All (FitsJoined (slice_index tops i) i) l) (sym alike.joined) (rule.rests id v at i known)))
       (λ (theirs : (j ≢ id) × (get_elem? s.views j ≡ some u)). rule.rests j u theirs.1 i known)
       (at_set s.views id j w u there);
 }
@@ -162,29 +163,29 @@ did_alike v d = record { joined = refl; active = refl }
 
 -- ---- a step on a number word
 
--- an entry that may be made at a word, from which it leads to another
-pub record Adds (word next : ℕ) (e : Entry) (es : List Entry) (total : ℕ) : Type 0 where
+-- an entry that may be made at a word of a subscriber with this greatest number, from which it leads to another
+pub record Adds (top word next : ℕ) (e : Entry) (es : List Entry) (total : ℕ) : Type 0 where
   pub rises : word ≤ next
   pub before : (d : Entry) → reach_of d ≤ word → IsBefore d e
   pub reach : reach_of e ≤ next
-  pub marked : marks_in es + mark_by e ≤ 1
-  pub bound : next ≤ max_seq + total + mark_by e
-  pub leads : Leads word next e
+  pub marked : marks_in top es + mark_by top e ≤ 1
+  pub bound : next ≤ top + total + mark_by top e
+  pub leads : Leads top word next e
 
 -- what fits at a word fits at a higher one
-pub fits_higher : (word next active : ℕ) (es : List Entry) → word ≤ next → Fits word active es → Fits next active es
-fits_higher word next active es up fits = record {
+pub fits_higher : (top word next active : ℕ) (es : List Entry) → word ≤ next → Fits top word active es → Fits top next active es
+fits_higher top word next active es up fits = record {
   marked = fits.marked;
   ordered = fits.ordered;
   below = λ k d within. let low = fits.below k d within in omega (arith, low, up);
 }
 
 -- and a further entry
-fits_more : (word next total active : ℕ) (e : Entry) (es : List Entry) → active ≡ 1 → Fits word active es → Adds word next e es total → Fits next active (es ++ e ∷ [])
-fits_more word next total active e es one fits adds = record {
-  marked = omega (arith, one, adds.marked, sum_by-append mark_by es (e ∷ []), sum_by-cons mark_by e []);
+fits_more : (top word next total active : ℕ) (e : Entry) (es : List Entry) → active ≡ 1 → Fits top word active es → Adds top word next e es total → Fits top next active (es ++ e ∷ [])
+fits_more top word next total active e es one fits adds = record {
+  marked = omega (arith, one, adds.marked, sum_by-append (mark_by top) es (e ∷ []), sum_by-cons (mark_by top) e []);
   ordered = all_pairs_push IsBefore es e fits.ordered (λ k d within. adds.before (get_or es k d) (fits.below k d within));
-  below = All-append (λ d. reach_of d ≤ next) es (e ∷ []) (fits_higher word next active es adds.rises fits).below (all_cons (λ d. reach_of d ≤ next) e [] adds.reach (all_nil (λ d. reach_of d ≤ next)));
+  below = All-append (λ d. reach_of d ≤ next) es (e ∷ []) (fits_higher top word next active es adds.rises fits).below (all_cons (λ d. reach_of d ≤ next) e [] adds.reach (all_nil (λ d. reach_of d ≤ next)));
 }
 
 -- a view's entries after a deed of the subscriber
@@ -195,25 +196,25 @@ entries_with_deed sub v e = ap (λ (es : List Entry). flat_map (entries_of sub) 
 entries_with_other : (i sub : ℕ) (v : View) (e : Entry) → i ≢ sub → view_entries i (with_deed v (Made sub e)) ≡ view_entries i v
 entries_with_other i sub v e apart = ap (λ (es : List Entry). flat_map (entries_of i) v.joined ++ es) (entries_other i sub v.own e apart)
 
-record Stands (openings : List ℕ) (s : State (Unit {0}) View) (id : ℕ) (v : View) (sub : ℕ) : Type 0 where
-  pub rule : KeepsNumbers openings s
+record Stands (openings tops : List ℕ) (s : State (Unit {0}) View) (id : ℕ) (v : View) (sub : ℕ) : Type 0 where
+  pub rule : KeepsNumbers openings tops s
   pub at : get_elem? s.views id ≡ some v
   pub known : sub < length openings
   pub active : v.active ≡ 1
 
 -- an entry that may be made keeps what holds of the numbers
-numbers_more : (openings : List ℕ) (s : State (Unit {0}) View) (id : ℕ) (v : View) (sub next : ℕ) (e : Entry) → Stands openings s id v sub
-    → Adds (slice_index s.words sub) next e (entries_of sub v.own) (sum_by (λ x. marks_in (view_entries sub x)) s.views)
-    → Numbers openings record { words = slice_set s.words sub next; homes = s.homes; views = slice_set s.views id (with_deed v (Made sub e)) }
-numbers_more openings s id v sub next e st adds = record {
+numbers_more : (openings tops : List ℕ) (s : State (Unit {0}) View) (id : ℕ) (v : View) (sub next : ℕ) (e : Entry) → Stands openings tops s id v sub
+    → Adds (slice_index tops sub) (slice_index s.words sub) next e (entries_of sub v.own) (sum_by (λ x. marks_in (slice_index tops sub) (view_entries sub x)) s.views)
+    → Numbers openings tops record { words = slice_set s.words sub next; homes = s.homes; views = slice_set s.views id (with_deed v (Made sub e)) }
+numbers_more openings tops s id v sub next e st adds = record {
   bounded = λ i known. bounded_at i known (i == sub) refl;
   covers = λ i known. covered_at i known (i == sub) refl;
   fits = λ j u at i known. ⊎_elim
-      (λ (mine : (j ≡ id) × (w ≡ u)). subst (λ (x : View). Fits (slice_index (slice_set s.words sub next) i) x.active (entries_of i x.own)) mine.1 (mine_fits i known (i == sub) refl))
+      (λ (mine : (j ≡ id) × (w ≡ u)). subst (λ (x : View). Fits (slice_index tops i) (slice_index (slice_set s.words sub next) i) x.active (entries_of i x.own)) mine.1 (mine_fits i known (i == sub) refl))
       (λ (theirs : (j ≢ id) × (get_elem? s.views j ≡ some u)). others_fit u i (rule.fits j u theirs.1 i known) (i == sub) refl)
       (at_set s.views id j w u at);
   rests = λ j u at i known. ⊎_elim
-      (λ (mine : (j ≡ id) × (w ≡ u)). subst (λ (x : View). All (FitsJoined i) x.joined) mine.1 (rule.rests id v st.at i known))
+      (λ (mine : (j ≡ id) × (w ≡ u)). subst (λ (x : View). All (FitsJoined (slice_index tops i) i) x.joined) mine.1 (rule.rests id v st.at i known))
       (λ (theirs : (j ≢ id) × (get_elem? s.views j ≡ some u)). rule.rests j u theirs.1 i known)
       (at_set s.views id j w u at);
 }
@@ -221,7 +222,7 @@ numbers_more openings s id v sub next e st adds = record {
     w : View
     w = with_deed v (Made sub e)
 
-    rule : Numbers openings s
+    rule : Numbers openings tops s
     rule = st.rule.numbers
 
     sized : sub < length s.words
@@ -230,111 +231,116 @@ numbers_more openings s id v sub next e st adds = record {
     not_same : (i : ℕ) → (i == sub) ≡ false → i ≢ sub
     not_same i other same = let yes = eq-eqb i sub same in let no : ⊥ = cc in no
 
-    covered_at : (i : ℕ) → i < length openings → (b : Bool) → (i == sub) ≡ b → IsCovered (slice_index openings i) (slice_index (slice_set s.words sub next) i) (all_view_entries i (set s.views id w))
+    covered_at : (i : ℕ) → i < length openings → (b : Bool) → (i == sub) ≡ b → IsCovered (slice_index tops i) (slice_index openings i) (slice_index (slice_set s.words sub next) i) (all_view_entries i (set s.views id w))
     covered_at i known true same =
         let here = eqb-true i sub same in
-        let more = covered_more (slice_index openings sub) (slice_index s.words sub) next e (all_view_entries sub s.views) (rule.covers sub st.known) adds.leads in
-        let there : IsCovered (slice_index openings sub) next (all_view_entries sub (set s.views id w)) =
-        covered_permuted (slice_index openings sub) next (e ∷ all_view_entries sub s.views) (all_view_entries sub (set s.views id w)) more
+        let more = covered_more (slice_index tops sub) (slice_index openings sub) (slice_index s.words sub) next e (all_view_entries sub s.views) (rule.covers sub st.known) adds.leads in
+        let there : IsCovered (slice_index tops sub) (slice_index openings sub) next (all_view_entries sub (set s.views id w)) =
+        covered_permuted (slice_index tops sub) (slice_index openings sub) next (e ∷ all_view_entries sub s.views) (all_view_entries sub (set s.views id w)) more
         (permuted_more (view_entries sub) s.views id v w (e ∷ []) st.at (entries_with_deed sub v e)) in
-        let P : ℕ → Type 0 = λ k. IsCovered (slice_index openings k) next (all_view_entries k (set s.views id w)) in
-        let R : ℕ → Type 0 = λ n. IsCovered (slice_index openings i) n (all_view_entries i (set s.views id w)) in
+        let P : ℕ → Type 0 = λ k. IsCovered (slice_index tops k) (slice_index openings k) next (all_view_entries k (set s.views id w)) in
+        let R : ℕ → Type 0 = λ n. IsCovered (slice_index tops i) (slice_index openings i) n (all_view_entries i (set s.views id w)) in
         subst R (sym (word_at s.words sub i next sized true same)) (subst P (sym here) there)
     covered_at i known false other =
         let still = flat_set_same (view_entries i) s.views id v w st.at (entries_with_other i sub v e (not_same i other)) in
-        let P : List Entry → Type 0 = λ es. IsCovered (slice_index openings i) (slice_index s.words i) es in
-        let R : ℕ → Type 0 = λ n. IsCovered (slice_index openings i) n (all_view_entries i (set s.views id w)) in
+        let P : List Entry → Type 0 = λ es. IsCovered (slice_index tops i) (slice_index openings i) (slice_index s.words i) es in
+        let R : ℕ → Type 0 = λ n. IsCovered (slice_index tops i) (slice_index openings i) n (all_view_entries i (set s.views id w)) in
         subst R (sym (word_at s.words sub i next sized false other)) (subst P (sym still) (rule.covers i known))
 
-    marks_of : (i : ℕ) → sum_by (λ x. marks_in (view_entries i x)) (set s.views id w) + marks_in (view_entries i v) ≡ sum_by (λ x. marks_in (view_entries i x)) s.views + marks_in (view_entries i w)
-    marks_of i = total_set (λ x. marks_in (view_entries i x)) s.views id v w st.at
+    marks_at : ℕ → View → ℕ
+    marks_at i x = marks_in (slice_index tops i) (view_entries i x)
 
-    bounded_at : (i : ℕ) → i < length openings → (b : Bool) → (i == sub) ≡ b → slice_index (slice_set s.words sub next) i ≤ max_seq + sum_by (λ x. marks_in (view_entries i x)) (set s.views id w)
+    marks_of : (i : ℕ) → sum_by (marks_at i) (set s.views id w) + marks_at i v ≡ sum_by (marks_at i) s.views + marks_at i w
+    marks_of i = total_set (marks_at i) s.views id v w st.at
+
+    bounded_at : (i : ℕ) → i < length openings → (b : Bool) → (i == sub) ≡ b → slice_index (slice_set s.words sub next) i ≤ slice_index tops i + sum_by (marks_at i) (set s.views id w)
     bounded_at i known true same =
         let here = eqb-true i sub same in
         let word = word_at s.words sub i next sized true same in
         let total = marks_of sub in
-        let more = ap marks_in (entries_with_deed sub v e) ∙ sum_by-append mark_by (view_entries sub v) (e ∷ []) in
-        let last = sum_by-cons mark_by e [] in
-        let at_sub : next ≤ max_seq + sum_by (λ x. marks_in (view_entries sub x)) (set s.views id w) = omega (arith, adds.bound, total, more, last) in
-        let there : next ≤ max_seq + sum_by (λ x. marks_in (view_entries i x)) (set s.views id w) = subst (λ (k : ℕ). next ≤ max_seq + sum_by (λ x. marks_in (view_entries k x)) (set s.views id w)) (sym here) at_sub in
+        let more = ap (marks_in (slice_index tops sub)) (entries_with_deed sub v e) ∙ sum_by-append (mark_by (slice_index tops sub)) (view_entries sub v) (e ∷ []) in
+        let last = sum_by-cons (mark_by (slice_index tops sub)) e [] in
+        let at_sub : next ≤ slice_index tops sub + sum_by (marks_at sub) (set s.views id w) = omega (arith, adds.bound, total, more, last) in
+        let there : next ≤ slice_index tops i + sum_by (marks_at i) (set s.views id w) = subst (λ (k : ℕ). next ≤ slice_index tops k + sum_by (marks_at k) (set s.views id w)) (sym here) at_sub in
         omega (arith, there, word)
     bounded_at i known false other =
         let word = word_at s.words sub i next sized false other in
-        omega (arith, rule.bounded i known, marks_of i, ap marks_in (entries_with_other i sub v e (not_same i other)), word)
+        omega (arith, rule.bounded i known, marks_of i, ap (marks_in (slice_index tops i)) (entries_with_other i sub v e (not_same i other)), word)
 
-    others_fit : (u : View) → (i : ℕ) → Fits (slice_index s.words i) u.active (entries_of i u.own) → (b : Bool) → (i == sub) ≡ b → Fits (slice_index (slice_set s.words sub next) i) u.active (entries_of i u.own)
+    others_fit : (u : View) → (i : ℕ) → Fits (slice_index tops i) (slice_index s.words i) u.active (entries_of i u.own) → (b : Bool) → (i == sub) ≡ b → Fits (slice_index tops i) (slice_index (slice_set s.words sub next) i) u.active (entries_of i u.own)
     others_fit u i fits true same =
         let here = eqb-true i sub same in
-        fits_higher (slice_index s.words i) (slice_index (slice_set s.words sub next) i) u.active (entries_of i u.own) (omega (arith, adds.rises, ap (λ k. slice_index s.words k) here, word_at s.words sub i next sized true same)) fits
+        fits_higher (slice_index tops i) (slice_index s.words i) (slice_index (slice_set s.words sub next) i) u.active (entries_of i u.own) (omega (arith, adds.rises, ap (λ k. slice_index s.words k) here, word_at s.words sub i next sized true same)) fits
     others_fit u i fits false other =
-        let R : ℕ → Type 0 = λ n. Fits n u.active (entries_of i u.own) in
+        let R : ℕ → Type 0 = λ n. Fits (slice_index tops i) n u.active (entries_of i u.own) in
         subst R (sym (word_at s.words sub i next sized false other)) fits
 
-    mine_fits : (i : ℕ) → i < length openings → (b : Bool) → (i == sub) ≡ b → Fits (slice_index (slice_set s.words sub next) i) w.active (entries_of i w.own)
+    mine_fits : (i : ℕ) → i < length openings → (b : Bool) → (i == sub) ≡ b → Fits (slice_index tops i) (slice_index (slice_set s.words sub next) i) w.active (entries_of i w.own)
     mine_fits i known true same =
         let here = eqb-true i sub same in
         let fits = rule.fits id v st.at sub st.known in
-        let more = fits_more (slice_index s.words sub) next (sum_by (λ x. marks_in (view_entries sub x)) s.views) v.active e (entries_of sub v.own) st.active fits adds in
-        let P : List Entry → Type 0 = λ es. Fits next v.active es in
-        let at_sub : Fits next v.active (entries_of sub w.own) = subst P (sym (entries_same sub v.own e)) more in
-        let Q : ℕ → Type 0 = λ k. Fits next v.active (entries_of k w.own) in
-        let there : Fits next v.active (entries_of i w.own) = subst Q (sym here) at_sub in
-        let R : ℕ → Type 0 = λ n. Fits n v.active (entries_of i w.own) in
+        let more = fits_more (slice_index tops sub) (slice_index s.words sub) next (sum_by (marks_at sub) s.views) v.active e (entries_of sub v.own) st.active fits adds in
+        let P : List Entry → Type 0 = λ es. Fits (slice_index tops sub) next v.active es in
+        let at_sub : Fits (slice_index tops sub) next v.active (entries_of sub w.own) = subst P (sym (entries_same sub v.own e)) more in
+        let Q : ℕ → Type 0 = λ k. Fits (slice_index tops k) next v.active (entries_of k w.own) in
+        let there : Fits (slice_index tops i) next v.active (entries_of i w.own) = subst Q (sym here) at_sub in
+        let R : ℕ → Type 0 = λ n. Fits (slice_index tops i) n v.active (entries_of i w.own) in
         subst R (sym (word_at s.words sub i next sized true same)) there
     mine_fits i known false other =
         let fits = rule.fits id v st.at i known in
-        let P : List Entry → Type 0 = λ es. Fits (slice_index s.words i) v.active es in
-        let there : Fits (slice_index s.words i) v.active (entries_of i w.own) = subst P (sym (entries_other i sub v.own e (not_same i other))) fits in
-        let R : ℕ → Type 0 = λ n. Fits n v.active (entries_of i w.own) in
+        let P : List Entry → Type 0 = λ es. Fits (slice_index tops i) (slice_index s.words i) v.active es in
+        let there : Fits (slice_index tops i) (slice_index s.words i) v.active (entries_of i w.own) = subst P (sym (entries_other i sub v.own e (not_same i other))) fits in
+        let R : ℕ → Type 0 = λ n. Fits (slice_index tops i) n v.active (entries_of i w.own) in
         subst R (sym (word_at s.words sub i next sized false other)) there
 
 -- and the whole part on numbers
-adds_keep : (openings : List ℕ) (s : State (Unit {0}) View) (id : ℕ) (v : View) (sub next : ℕ) (e : Entry) → Stands openings s id v sub
-    → Adds (slice_index s.words sub) next e (entries_of sub v.own) (sum_by (λ x. marks_in (view_entries sub x)) s.views)
-    → KeepsNumbers openings record { words = slice_set s.words sub next; homes = s.homes; views = slice_set s.views id (with_deed v (Made sub e)) }
-adds_keep openings s id v sub next e st adds = record {
+adds_keep : (openings tops : List ℕ) (s : State (Unit {0}) View) (id : ℕ) (v : View) (sub next : ℕ) (e : Entry) → Stands openings tops s id v sub
+    → Adds (slice_index tops sub) (slice_index s.words sub) next e (entries_of sub v.own) (sum_by (λ x. marks_in (slice_index tops sub) (view_entries sub x)) s.views)
+    → KeepsNumbers openings tops record { words = slice_set s.words sub next; homes = s.homes; views = slice_set s.views id (with_deed v (Made sub e)) }
+adds_keep openings tops s id v sub next e st adds = record {
   room = omega (arith, st.rule.room, length-set s.words sub next);
-  numbers = numbers_more openings s id v sub next e st adds;
+  numbers = numbers_more openings tops s id v sub next e st adds;
   jobs = jobs_still (length openings) s id v (with_deed v (Made sub e)) (slice_set s.words sub next) st.rule.jobs st.at
       (get_or-set_other s.words sub (length openings) next 0 (λ same. omega (arith, same, st.known))) (did_alike v (Made sub e)) (claims_made sub e v.own);
   seats = seats_still s.views id v (with_deed v (Made sub e)) st.rule.seats st.at (did_alike v (Made sub e)) refl (λ none. absurd (omega (arith, none, st.active)));
 }
 
 -- a draw, of a pass that keeps no word of the subscriber
-draw_adds : (word total : ℕ) (es : List Entry) → word ≤ max_seq + total → total ≤ 64 → marks_in es ≡ 0 → Adds word (word + 1) (Drawn (word + 1)) es total
-draw_adds word total es bounded few clean = record {
+draw_adds : (top word total : ℕ) (es : List Entry) → word ≤ top + total → marks_in top es ≡ 0 → Adds top word (word + 1) (Drawn (word + 1)) es total
+draw_adds top word total es bounded clean = record {
   rises = omega arith;
   before = λ d low. omega (arith, low);
   reach = omega arith;
-  marked = marked (nat_lt max_seq (word + 1)) refl;
-  bound = bound (nat_lt max_seq (word + 1)) refl;
-  leads = draw_leads word;
+  marked = marked (nat_lt top (word + 1)) refl;
+  bound = bound (nat_lt top (word + 1)) refl;
+  leads = draw_leads top word;
 }
   where
-    marked : (b : Bool) → nat_lt max_seq (word + 1) ≡ b → marks_in es + mark_by (Drawn (word + 1)) ≤ 1
+    marked : (b : Bool) → nat_lt top (word + 1) ≡ b → marks_in top es + mark_by top (Drawn (word + 1)) ≤ 1
     marked b is = grind (arith, nat_tests)
 
-    bound : (b : Bool) → nat_lt max_seq (word + 1) ≡ b → word + 1 ≤ max_seq + total + mark_by (Drawn (word + 1))
+    bound : (b : Bool) → nat_lt top (word + 1) ≡ b → word + 1 ≤ top + total + mark_by top (Drawn (word + 1))
     bound b is = grind (arith, nat_tests)
 
 -- a draw keeps the part on numbers
-draws_numbers : (openings : List ℕ) (slots id sub : ℕ) (me : Me (Unit {0}) View) → sub < length openings → me.0.active ≡ 1 → marks_in (entries_of sub me.0.own) ≡ 0
-    → Allows (KeepsNumbers openings) slots id me sub (λ n. (n + 1) % 2 ^ 64) (λ found w. draws (step slots sub 1 0 none) me found w)
-draws_numbers openings slots id sub me known active unmarked s rule homes at fits =
+draws_numbers : (openings tops : List ℕ) (slots id sub : ℕ) (me : Me (Unit {0}) View) → sub < length openings → slice_index tops sub ≤ max_seq → me.0.active ≡ 1 → marks_in (slice_index tops sub) (entries_of sub me.0.own) ≡ 0
+    → Allows (KeepsNumbers openings tops) slots id me sub (λ n. (n + 1) % 2 ^ 64) (λ found w. draws (step slots sub 1 0 none) me found w)
+draws_numbers openings tops slots id sub me known low active unmarked s rule homes at fits =
     let v = me.0 in
+    let top = slice_index tops sub in
     let word = slice_index s.words sub in
-    let total = sum_by (λ x. marks_in (view_entries sub x)) s.views in
-    let few = few_marks openings s sub rule.numbers rule.seats known in
+    let total = sum_by (λ x. marks_in top (view_entries sub x)) s.views in
+    let few = few_marks openings tops s sub rule.numbers rule.seats known in
     let bounded = rule.numbers.bounded sub known in
     let e = Drawn (word + 1) in
-    let st : Stands openings s id v sub = record { rule = rule; at = at; known = known; active = active } in
-    let adds = draw_adds word total (entries_of sub v.own) bounded few unmarked in
-    let kept = adds_keep openings s id v sub (word + 1) e st adds in
-    let small : (word + 1) % 2 ^ 64 ≡ word + 1 = mod-eq_of_lt (omega (arith, bounded, few)) in
-    let P : ℕ → Type 0 = λ n. KeepsNumbers openings record { words = slice_set s.words sub n; homes = s.homes; views = slice_set s.views id (with_deed v (Made sub e)) } in
-    let ordered = subst IsInOrder (sym (entries_same sub v.own e)) (fits_more word (word + 1) total v.active e (entries_of sub v.own) active (rule.numbers.fits id v at sub known) adds).ordered in
-    (with_deed v (Made sub e), keeps, tt, subst P (sym small) kept, (refl, ordered))
+    let st : Stands openings tops s id v sub = record { rule = rule; at = at; known = known; active = active } in
+    let adds = draw_adds top word total (entries_of sub v.own) bounded unmarked in
+    let kept = adds_keep openings tops s id v sub (word + 1) e st adds in
+    let within : word + 1 < 2 ^ 64 = omega (arith, bounded, few, low) in
+    let small : (word + 1) % 2 ^ 64 ≡ word + 1 = mod-eq_of_lt within in
+    let P : ℕ → Type 0 = λ n. KeepsNumbers openings tops record { words = slice_set s.words sub n; homes = s.homes; views = slice_set s.views id (with_deed v (Made sub e)) } in
+    let ordered = subst IsInOrder (sym (entries_same sub v.own e)) (fits_more top word (word + 1) total v.active e (entries_of sub v.own) active (rule.numbers.fits id v at sub known) adds).ordered in
+    (with_deed v (Made sub e), keeps, tt, subst P (sym small) kept, ((refl, ordered), within))
 
 -- what the test says
 leb_lt : (a b : ℕ) → nat_lt a b ≡ true → a < b
@@ -345,38 +351,39 @@ not_lt : (a b : ℕ) → nat_lt a b ≡ false → b ≤ a
 not_lt a b = grind (arith, nat_tests)
 
 -- a jump to a number, of such a pass
-jump_adds : (word to total : ℕ) (es : List Entry) → word ≤ max_seq + total → to ≤ max_seq → marks_in es ≡ 0
-    → (b : Bool) → nat_lt word to ≡ b → Adds word (max word to) (if b then Moved word to else Look word) es total
-jump_adds word to total es bounded number clean true below = record {
+jump_adds : (top word to total : ℕ) (es : List Entry) → word ≤ top + total → to ≤ top → marks_in top es ≡ 0
+    → (b : Bool) → nat_lt word to ≡ b → Adds top word (max word to) (if b then Moved word to else Look word) es total
+jump_adds top word to total es bounded number clean true below = record {
   rises = omega arith;
   before = λ d low. low;
   reach = omega arith;
   marked = omega (arith, clean);
   bound = omega (arith, bounded, number);
-  leads = move_leads word to (max word to) (let low = leb_lt word to below in low) number (omega (arith, leb_lt word to below));
+  leads = move_leads top word to (max word to) (let low = leb_lt word to below in low) number (omega (arith, leb_lt word to below));
 }
-jump_adds word to total es bounded number clean false above = record {
+jump_adds top word to total es bounded number clean false above = record {
   rises = omega arith;
   before = λ d low. low;
   reach = omega arith;
   marked = omega (arith, clean);
   bound = omega (arith, bounded, number);
-  leads = look_leads word (max word to) (omega (arith, not_lt word to above));
+  leads = look_leads top word (max word to) (omega (arith, not_lt word to above));
 }
 
 -- a jump keeps the part on numbers
-jumps_numbers : (openings : List ℕ) (slots id sub to : ℕ) (me : Me (Unit {0}) View) → sub < length openings → to ≤ max_seq → me.0.active ≡ 1 → marks_in (entries_of sub me.0.own) ≡ 0
-    → Allows (KeepsNumbers openings) slots id me sub (λ n. max n to) (λ found w. jumps (step slots sub to 0 none) me found w)
-jumps_numbers openings slots id sub to me known number active unmarked s rule homes at fits =
+jumps_numbers : (openings tops : List ℕ) (slots id sub to : ℕ) (me : Me (Unit {0}) View) → sub < length openings → to ≤ slice_index tops sub → me.0.active ≡ 1 → marks_in (slice_index tops sub) (entries_of sub me.0.own) ≡ 0
+    → Allows (KeepsNumbers openings tops) slots id me sub (λ n. max n to) (λ found w. jumps (step slots sub to 0 none) me found w)
+jumps_numbers openings tops slots id sub to me known number active unmarked s rule homes at fits =
     let v = me.0 in
+    let top = slice_index tops sub in
     let word = slice_index s.words sub in
-    let total = sum_by (λ x. marks_in (view_entries sub x)) s.views in
+    let total = sum_by (λ x. marks_in top (view_entries sub x)) s.views in
     let bounded = rule.numbers.bounded sub known in
     let e = jump_entry to word in
-    let st : Stands openings s id v sub = record { rule = rule; at = at; known = known; active = active } in
-    let adds = jump_adds word to total (entries_of sub v.own) bounded number unmarked (nat_lt word to) refl in
-    let ordered = subst IsInOrder (sym (entries_same sub v.own e)) (fits_more word (max word to) total v.active e (entries_of sub v.own) active (rule.numbers.fits id v at sub known) adds).ordered in
-    (with_deed v (Made sub e), keeps, tt, adds_keep openings s id v sub (max word to) e st adds, (refl, ordered))
+    let st : Stands openings tops s id v sub = record { rule = rule; at = at; known = known; active = active } in
+    let adds = jump_adds top word to total (entries_of sub v.own) bounded number unmarked (nat_lt word to) refl in
+    let ordered = subst IsInOrder (sym (entries_same sub v.own e)) (fits_more top word (max word to) total v.active e (entries_of sub v.own) active (rule.numbers.fits id v at sub known) adds).ordered in
+    (with_deed v (Made sub e), keeps, tt, adds_keep openings tops s id v sub (max word to) e st adds, (refl, ordered))
 
 -- ---- a step on the job word
 
@@ -447,37 +454,37 @@ jobs_more place s id v rule at sized active narrow = record {
     }
 
 -- a claim keeps the part on numbers
-claims_numbers : (openings : List ℕ) (slots id : ℕ) (me : Me (Unit {0}) View) → me.0.active ≡ 1 → wide_in (claims_of me.0.own) ≡ 0
-    → Allows (KeepsNumbers openings) slots id me (length openings) (λ n. (n + 1) % 2 ^ 64) (λ found w. claims (step slots (length openings) 1 0 none) me found w)
-claims_numbers openings slots id me active narrow s rule homes at fits =
+claims_numbers : (openings tops : List ℕ) (slots id : ℕ) (me : Me (Unit {0}) View) → me.0.active ≡ 1 → wide_in (claims_of me.0.own) ≡ 0
+    → Allows (KeepsNumbers openings tops) slots id me (length openings) (λ n. (n + 1) % 2 ^ 64) (λ found w. claims (step slots (length openings) 1 0 none) me found w)
+claims_numbers openings tops slots id me active narrow s rule homes at fits =
     let v = me.0 in
     let place = length openings in
     let word = slice_index s.words place in
     let w = with_deed v (Claimed word) in
-    let more : KeepsNumbers openings record { words = slice_set s.words place (word + 1); homes = s.homes; views = slice_set s.views id w } = record {
+    let more : KeepsNumbers openings tops record { words = slice_set s.words place (word + 1); homes = s.homes; views = slice_set s.views id w } = record {
       room = omega (arith, rule.room, length-set s.words place (word + 1));
-      numbers = numbers_still openings s id v w (slice_set s.words place (word + 1)) rule.numbers at (λ i known. get_or-set_other s.words place i (word + 1) 0 (λ same. omega (arith, same, known))) (did_alike v (Claimed word)) (λ i. entries_claimed i word v.own);
+      numbers = numbers_still openings tops s id v w (slice_set s.words place (word + 1)) rule.numbers at (λ i known. get_or-set_other s.words place i (word + 1) 0 (λ same. omega (arith, same, known))) (did_alike v (Claimed word)) (λ i. entries_claimed i word v.own);
       jobs = jobs_more place s id v rule.jobs at rule.room active narrow;
       seats = seats_still s.views id v w rule.seats at (did_alike v (Claimed word)) refl (λ none. absurd (omega (arith, none, active)));
     } in
     let small : (word + 1) % 2 ^ 64 ≡ word + 1 = mod-eq_of_lt (omega (arith, rule.jobs.bounded, few_wide place s rule.jobs rule.seats)) in
-    let P : ℕ → Type 0 = λ n. KeepsNumbers openings record { words = slice_set s.words place n; homes = s.homes; views = slice_set s.views id w } in
+    let P : ℕ → Type 0 = λ n. KeepsNumbers openings tops record { words = slice_set s.words place n; homes = s.homes; views = slice_set s.views id w } in
     (w, keeps, tt, subst P (sym small) more, (refl, (rule.jobs.fits id v at).below))
 
 -- ---- the whole rule
 
 -- a draw doesn't wrap
-draw_rises : (openings : List ℕ) (s : State (Unit {0}) View) (sub : ℕ) → KeepsNumbers openings s → sub < length openings → slice_index s.words sub ≤ (slice_index s.words sub + 1) % 2 ^ 64
-draw_rises openings s sub rule known =
-    let small : (slice_index s.words sub + 1) % 2 ^ 64 ≡ slice_index s.words sub + 1 = mod-eq_of_lt (omega (arith, rule.numbers.bounded sub known, few_marks openings s sub rule.numbers rule.seats known)) in
+draw_rises : (openings tops : List ℕ) (s : State (Unit {0}) View) (sub : ℕ) → KeepsNumbers openings tops s → sub < length openings → slice_index tops sub ≤ max_seq → slice_index s.words sub ≤ (slice_index s.words sub + 1) % 2 ^ 64
+draw_rises openings tops s sub rule known low =
+    let small : (slice_index s.words sub + 1) % 2 ^ 64 ≡ slice_index s.words sub + 1 = mod-eq_of_lt (omega (arith, rule.numbers.bounded sub known, few_marks openings tops s sub rule.numbers rule.seats known, low)) in
     omega (arith, small)
 
 -- a step that keeps the part on numbers, and lets no number fall, keeps the part on limits too
-keeps_both : (openings limits : List ℕ) (slots id i : ℕ) (me : Me (Unit {0}) View) (f : ℕ → ℕ) (tells : ℕ → Me (Unit {0}) View → Type 0)
-    → i ≤ length openings → ((s : State (Unit {0}) View) → KeepsNumbers openings s → i < length openings → slice_index s.words i ≤ f (slice_index s.words i))
+keeps_both : (openings tops limits : List ℕ) (slots id i : ℕ) (me : Me (Unit {0}) View) (f : ℕ → ℕ) (tells : ℕ → Me (Unit {0}) View → Type 0)
+    → i ≤ length openings → ((s : State (Unit {0}) View) → KeepsNumbers openings tops s → i < length openings → slice_index s.words i ≤ f (slice_index s.words i))
     → ((found : ℕ) (w : Me (Unit {0}) View) → tells found w → IsPlain me.0 w.0)
-    → Allows (KeepsNumbers openings) slots id me i f tells → Allows (Keeps openings limits) slots id me i f tells
-keeps_both openings limits slots id i me f tells here rises plain allowed s rule homes at fits =
+    → Allows (KeepsNumbers openings tops) slots id me i f tells → Allows (Keeps openings tops limits) slots id me i f tells
+keeps_both openings tops limits slots id i me f tells here rises plain allowed s rule homes at fits =
     let (w, act, valid, kept, told) = allowed s rule.numbers homes at fits in
     let same = plain (slice_index s.words i) (w, carried_after me.1 act) told in
     let still = still_set openings s.words i (f (slice_index s.words i)) here (omega (arith, here, rule.limits.sized)) (λ known. rises s rule.numbers known) in (
@@ -493,23 +500,23 @@ keeps_both openings limits slots id i me f tells here rises plain allowed s rule
     )
 
 -- a draw, of a pass that keeps no word of the subscriber
-pub draws_ok : (openings limits : List ℕ) (slots id sub : ℕ) (me : Me (Unit {0}) View) → sub < length openings → me.0.active ≡ 1 → marks_in (entries_of sub me.0.own) ≡ 0
-    → AllowsDraw openings limits slots id me sub
-draws_ok openings limits slots id sub me known active unmarked =
-    keeps_both openings limits slots id sub me (λ n. (n + 1) % 2 ^ 64) (λ found w. draws (step slots sub 1 0 none) me found w) (omega (arith, known)) (λ s rule below. draw_rises openings s sub rule below)
-    (λ found w told. made_plain sub (Drawn (found + 1)) me.0 w.0 (ap (λ (m : Me (Unit {0}) View). m.0) told.0)) (draws_numbers openings slots id sub me known active unmarked)
+pub draws_ok : (openings tops limits : List ℕ) (slots id sub : ℕ) (me : Me (Unit {0}) View) → sub < length openings → slice_index tops sub ≤ max_seq → me.0.active ≡ 1 → marks_in (slice_index tops sub) (entries_of sub me.0.own) ≡ 0
+    → AllowsDraw openings tops limits slots id me sub
+draws_ok openings tops limits slots id sub me known low active unmarked =
+    keeps_both openings tops limits slots id sub me (λ n. (n + 1) % 2 ^ 64) (λ found w. draws (step slots sub 1 0 none) me found w) (omega (arith, known)) (λ s rule below. draw_rises openings tops s sub rule below low)
+    (λ found w told. made_plain sub (Drawn (found + 1)) me.0 w.0 (ap (λ (m : Me (Unit {0}) View). m.0) told.0.0)) (draws_numbers openings tops slots id sub me known low active unmarked)
 
 -- a jump to a number, of such a pass
-pub jumps_ok : (openings limits : List ℕ) (slots id sub to : ℕ) (me : Me (Unit {0}) View) → sub < length openings → to ≤ max_seq → me.0.active ≡ 1 → marks_in (entries_of sub me.0.own) ≡ 0
-    → AllowsJump openings limits slots id me sub to
-jumps_ok openings limits slots id sub to me known number active unmarked =
-    keeps_both openings limits slots id sub me (λ n. max n to) (λ found w. jumps (step slots sub to 0 none) me found w) (omega (arith, known)) (λ s rule below. omega arith)
-    (λ found w told. made_plain sub (jump_entry to found) me.0 w.0 (ap (λ (m : Me (Unit {0}) View). m.0) told.0)) (jumps_numbers openings slots id sub to me known number active unmarked)
+pub jumps_ok : (openings tops limits : List ℕ) (slots id sub to : ℕ) (me : Me (Unit {0}) View) → sub < length openings → to ≤ slice_index tops sub → me.0.active ≡ 1 → marks_in (slice_index tops sub) (entries_of sub me.0.own) ≡ 0
+    → AllowsJump openings tops limits slots id me sub to
+jumps_ok openings tops limits slots id sub to me known number active unmarked =
+    keeps_both openings tops limits slots id sub me (λ n. max n to) (λ found w. jumps (step slots sub to 0 none) me found w) (omega (arith, known)) (λ s rule below. omega arith)
+    (λ found w told. made_plain sub (jump_entry to found) me.0 w.0 (ap (λ (m : Me (Unit {0}) View). m.0) told.0)) (jumps_numbers openings tops slots id sub to me known number active unmarked)
 
 -- a claim, of a pass whose claims haven't ended
-pub claims_ok : (openings limits : List ℕ) (slots id place : ℕ) (me : Me (Unit {0}) View) → place ≡ length openings → me.0.active ≡ 1 → wide_in (claims_of me.0.own) ≡ 0
-    → AllowsClaim openings limits slots id me place
-claims_ok openings limits slots id place me here active narrow =
-    let P : ℕ → Type 0 = λ k. AllowsClaim openings limits slots id me k in
-    subst P (sym here) (keeps_both openings limits slots id (length openings) me (λ n. (n + 1) % 2 ^ 64) (λ found w. claims (step slots (length openings) 1 0 none) me found w) (omega arith) (λ s rule below. absurd (omega (arith, below)))
-    (λ found w told. claimed_plain found me.0 w.0 (ap (λ (m : Me (Unit {0}) View). m.0) told.0)) (claims_numbers openings slots id me active narrow))
+pub claims_ok : (openings tops limits : List ℕ) (slots id place : ℕ) (me : Me (Unit {0}) View) → place ≡ length openings → me.0.active ≡ 1 → wide_in (claims_of me.0.own) ≡ 0
+    → AllowsClaim openings tops limits slots id me place
+claims_ok openings tops limits slots id place me here active narrow =
+    let P : ℕ → Type 0 = λ k. AllowsClaim openings tops limits slots id me k in
+    subst P (sym here) (keeps_both openings tops limits slots id (length openings) me (λ n. (n + 1) % 2 ^ 64) (λ found w. claims (step slots (length openings) 1 0 none) me found w) (omega arith) (λ s rule below. absurd (omega (arith, below)))
+    (λ found w told. claimed_plain found me.0 w.0 (ap (λ (m : Me (Unit {0}) View). m.0) told.0)) (claims_numbers openings tops slots id me active narrow))

@@ -8,22 +8,23 @@ use Rattle.auc_draw.specs.declared.rule.Deed.{Deed}
 use Rattle.auc_draw.specs.Deeds.{entries_of, claims_of, released_of, held_of, withheld_of, stops_of}
 use Rattle.auc_draw.specs.Values.{PassValue, BookValue, KeeperValue, ClosedValue}
 
--- the pass is one of this book
-abbrev pub IsOf : TableId → PassValue → Type 0
-IsOf id pass = pass.id ≡ id
+-- the pass is one of this book, which has these greatest numbers
+abbrev pub IsOf : TableId → List ℕ → PassValue → Type 0
+IsOf id tops pass = (pass.id ≡ id) × (pass.tops ≡ tops)
 
 -- a pass of this book that has done nothing
-abbrev pub IsNew : TableId → PassValue → Type 0
-IsNew id pass = (pass.id ≡ id) × (pass.deeds ≡ []) × (pass.ended ≡ None)
+abbrev pub IsNew : TableId → List ℕ → PassValue → Type 0
+IsNew id tops pass = IsOf id tops pass × (pass.deeds ≡ []) × (pass.ended ≡ None)
 
 -- a book that was opened with this many passes
-pub record Opens (openings given : List ℕ) (workers : ℕ) (book : BookValue) (passes : List PassValue) (keeper : KeeperValue) : Type 0 where
-  -- its numbers stand at the openings, and its limits are those given
+pub record Opens (openings greatest given : List ℕ) (workers : ℕ) (book : BookValue) (passes : List PassValue) (keeper : KeeperValue) : Type 0 where
+  -- its numbers stand at the openings, and the greatest numbers and the limits are those given
   pub numbers : book.openings ≡ openings
+  pub tops : book.tops ≡ greatest
   pub limits : book.limits ≡ given
   -- there is a pass for each worker, and it has done nothing
   pub many : length passes ≡ workers
-  pub new : All (IsNew book.id) passes
+  pub new : All (IsNew book.id book.tops) passes
   -- the keeper's pass is the book's, and counts the passes
   pub own : keeper.id ≡ book.id
   pub all : keeper.passes ≡ workers
@@ -43,9 +44,9 @@ pub record Closes (book : BookValue) (lists : List (List Deed)) (keeper : Keeper
   -- and a word for each subscriber
   pub many : length closed.words ≡ length book.openings
   -- the passes' entries of a subscriber split a history from its opening to its word
-  pub splits : (sub : ℕ) → sub < length book.openings → Splits max_seq (slice_index book.openings sub) (slice_index closed.words sub) (map (entries_of sub) lists)
+  pub splits : (sub : ℕ) → sub < length book.openings → Splits (slice_index book.tops sub) (slice_index book.openings sub) (slice_index closed.words sub) (map (entries_of sub) lists)
   -- each of 64 passes makes one mark of a subscriber at most
-  pub bounded : (sub : ℕ) → sub < length book.openings → slice_index closed.words sub ≤ max_seq + 64
+  pub bounded : (sub : ℕ) → sub < length book.openings → slice_index closed.words sub ≤ slice_index book.tops sub + 64
   -- no number was claimed twice, and none was left out
   pub taken : (top : ℕ) × AreTaken top (flat_map claims_of lists)
   -- the keeper has a limit for each subscriber
@@ -58,7 +59,7 @@ pub record Closes (book : BookValue) (lists : List (List Deed)) (keeper : Keeper
   pub drawn : (sub : ℕ) → sub < length book.openings → All (λ deeds. All (λ n. Contains (entries_of sub deeds) (Drawn n)) (released_of sub deeds ++ withheld_of sub deeds)) lists
   -- each stop that was read is why reservations ended
   pub stopped : All (λ deeds. All (λ stop. keeper.stop ≡ Some stop) (stops_of deeds)) lists
-  -- a limit is the one that was given, the greatest number, or at least 64 above the one that was given
+  -- a limit is the one that was given, the greatest of all numbers, or at least 64 above the one that was given
   pub step : (sub : ℕ) → sub < length book.openings
       → (slice_index keeper.limits sub ≡ slice_index book.limits sub) ⊎ ((slice_index keeper.limits sub ≡ max_seq) ⊎ (slice_index book.limits sub + 64 ≤ slice_index keeper.limits sub))
   -- it is the one that was given, or no more than 64 above the word

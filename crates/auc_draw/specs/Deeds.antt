@@ -5,7 +5,6 @@ use Rattle.auc_edge.specs.declared.stop.Stop.{Stop}
 use Rattle.auc_history.specs.declared.entry.Entry.{Entry}
 use Rattle.auc_history.specs.declared.entry.Entry.TheVariants.{Drawn, Moved, Look}
 use Rattle.auc_history.specs.History.{IsInOrder}
-use Rattle.auc_sqn.specs.Number.{max_seq}
 use Rattle.auc_draw.specs.declared.rule.Deed.{Deed}
 use Rattle.auc_draw.specs.declared.rule.Deed.TheVariants.{Made, Claimed, Released, Withheld, ReadStop}
 
@@ -82,16 +81,16 @@ first_stop (stop ∷ stops) = Some stop
 abbrev pub kept_stop : List Deed → Option Stop
 kept_stop deeds = first_stop (stops_of deeds)
 
--- the word that the first refused draw found: one below its mark
-abbrev pub kept_word : List Entry → Option ℕ
-kept_word [] = None
-kept_word (Drawn n ∷ entries) = if nat_lt max_seq n then Some (n - 1) else kept_word entries
-kept_word (Moved from to ∷ entries) = kept_word entries
-kept_word (Look seen ∷ entries) = kept_word entries
+-- the word that the first refused draw found, if this is the greatest number: one below its mark
+abbrev pub kept_word : ℕ → List Entry → Option ℕ
+kept_word top [] = None
+kept_word top (Drawn n ∷ entries) = if nat_lt top n then Some (n - 1) else kept_word top entries
+kept_word top (Moved from to ∷ entries) = kept_word top entries
+kept_word top (Look seen ∷ entries) = kept_word top entries
 
--- the word of a subscriber that a pass keeps from its first refused draw
-abbrev pub kept_of : List Deed → ℕ → Option ℕ
-kept_of deeds sub = kept_word (entries_of sub deeds)
+-- the word of a subscriber with this greatest number that a pass keeps from its first refused draw
+abbrev pub kept_of : ℕ → List Deed → ℕ → Option ℕ
+kept_of top deeds sub = kept_word top (entries_of sub deeds)
 
 -- entries of a subscriber as deeds
 abbrev pub made : ℕ → List Entry → List Deed

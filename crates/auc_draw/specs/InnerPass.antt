@@ -6,20 +6,20 @@ use Rattle.auc_draw.specs.InnerRule.{wide_in}
 use Rattle.auc_draw.specs.declared.rule.Deed.{Deed}
 use Rattle.auc_draw.specs.declared.pass.Pass.TheInside.{Inside}
 
--- the kept word at a place, of which 0 is none
+-- the kept word by the mark at a place, of which 0 is none
 abbrev pub noted : ℕ → Option ℕ
 noted zero = None
-noted (suc w) = Some (suc w)
+noted (suc w) = Some w
 
--- the kept words are those that the first refused draws found
-pub record Notes (kept : List ℕ) (deeds : List Deed) : Type 0 where
-  pub each : (i : ℕ) → i < length kept → kept_of deeds i ≡ noted (slice_index kept i)
+-- the marks are those of the first refused draws
+pub record Notes (tops marks : List ℕ) (deeds : List Deed) : Type 0 where
+  pub each : (i : ℕ) → i < length marks → kept_of (slice_index tops i) deeds i ≡ noted (slice_index marks i)
   pub ordered : AreInOrder deeds
 
 pub record IsPass (p : Inside) : Type 0 where
-  -- there is a place for each subscriber's kept word
-  pub sized : limit_at (length p.kept.items) (length p.kept.items) ≡ p.seat.table_id.words
-  pub notes : Notes p.kept.items p.seat.me.0.own
+  -- there is a place for each subscriber's mark
+  pub sized : limit_at (length p.marks.items) (length p.marks.items) ≡ p.seat.table_id.words
+  pub notes : Notes p.seat.me.0.tops p.marks.items p.seat.me.0.own
   -- the seat is a pass's, and holds no slot
   pub active : p.seat.me.0.active ≡ 1
   pub bare : p.seat.me.1 ≡ []

@@ -9,7 +9,6 @@ use Rattle.auc_history.specs.declared.entry.Entry.{Entry}
 use Rattle.auc_history.specs.declared.entry.Entry.TheVariants.{Drawn, Moved, Look}
 use Rattle.auc_history.specs.History.{IsInOrder, reach_of, covered, last_of, IsMove, IsFound}
 use Rattle.auc_history.specs.Split.{times}
-use Rattle.auc_sqn.specs.Number.{max_seq}
 use Rattle.auc_draw.specs.declared.rule.Deed.{Deed}
 use Rattle.auc_draw.specs.declared.rule.Deed.TheVariants.{Made, Claimed, Released}
 use Rattle.auc_draw.specs.declared.rule.Note.{Note}
@@ -19,37 +18,37 @@ use Rattle.auc_draw.specs.InnerLimits.{stop_of, no_note, looked, raised, ended, 
 
 -- ---- views
 
--- the keeper's with this note, from which this many passes were split
-abbrev pub keeper_view : ℕ → Note → View
-keeper_view passes note = record { own = []; joined = []; active = 0; split = passes; shown = []; note = note }
+-- the keeper's with these greatest numbers and this note, from which this many passes were split
+abbrev pub keeper_view : ℕ → List ℕ → Note → View
+keeper_view passes tops note = record { own = []; joined = []; active = 0; split = passes; shown = []; tops = tops; note = note }
 
 -- the keeper's, into which passes with these lists were joined
-abbrev pub keeper_view_with : ℕ → Note → List (List Deed) → View
-keeper_view_with passes note lists = record { own = []; joined = lists; active = 0; split = passes; shown = []; note = note }
+abbrev pub keeper_view_with : ℕ → List ℕ → Note → List (List Deed) → View
+keeper_view_with passes tops note lists = record { own = []; joined = lists; active = 0; split = passes; shown = []; tops = tops; note = note }
 
--- a new pass's
-abbrev pub new_view : View
-new_view = record { own = []; joined = []; active = 1; split = 0; shown = []; note = no_note }
+-- a new pass's, with these greatest numbers
+abbrev pub new_view : List ℕ → View
+new_view tops = record { own = []; joined = []; active = 1; split = 0; shown = []; tops = tops; note = no_note }
 
 -- that of a pass that was joined
 abbrev pub spent_view : View
-spent_view = record { own = []; joined = []; active = 0; split = 0; shown = []; note = no_note }
+spent_view = record { own = []; joined = []; active = 0; split = 0; shown = []; tops = []; note = no_note }
 
 -- the keeper's, after a pass was split from it
 abbrev pub after_split : View → View
-after_split v = record { own = v.own; joined = v.joined; active = v.active; split = v.split + 1; shown = v.shown; note = v.note }
+after_split v = record { own = v.own; joined = v.joined; active = v.active; split = v.split + 1; shown = v.shown; tops = v.tops; note = v.note }
 
 -- the keeper's, after a pass was joined into it
 abbrev pub after_join : View → View → View
-after_join v w = record { own = v.own; joined = v.joined ++ w.own ∷ []; active = v.active; split = v.split; shown = v.shown; note = v.note }
+after_join v w = record { own = v.own; joined = v.joined ++ w.own ∷ []; active = v.active; split = v.split; shown = v.shown; tops = v.tops; note = v.note }
 
 -- that of a seat which only tells a closed book the joined lists
 abbrev pub lists_view : View → View
-lists_view v = record { own = []; joined = []; active = 0; split = 0; shown = v.joined; note = no_note }
+lists_view v = record { own = []; joined = []; active = 0; split = 0; shown = v.joined; tops = []; note = no_note }
 
 -- a view with further deeds
 abbrev pub with_deeds : View → List Deed → View
-with_deeds v ds = record { own = v.own ++ ds; joined = v.joined; active = v.active; split = v.split; shown = v.shown; note = v.note }
+with_deeds v ds = record { own = v.own ++ ds; joined = v.joined; active = v.active; split = v.split; shown = v.shown; tops = v.tops; note = v.note }
 
 -- a view with one further deed
 abbrev pub with_deed : View → Deed → View
@@ -57,7 +56,7 @@ with_deed v d = with_deeds v (d ∷ [])
 
 -- a view with another note
 abbrev pub with_note : View → Note → View
-with_note v note = record { own = v.own; joined = v.joined; active = v.active; split = v.split; shown = v.shown; note = note }
+with_note v note = record { own = v.own; joined = v.joined; active = v.active; split = v.split; shown = v.shown; tops = v.tops; note = note }
 
 -- the entries of a subscriber in a view
 abbrev pub view_entries : ℕ → View → List Entry
@@ -81,44 +80,44 @@ passes_in v = v.active + length v.joined
 
 -- ---- the number words
 
--- whether an entry is a mark, as a count
-abbrev pub mark_by : Entry → ℕ
-mark_by (Drawn n) = if nat_lt max_seq n then 1 else 0
-mark_by (Moved from to) = 0
-mark_by (Look seen) = 0
+-- whether an entry of a subscriber with this greatest number is a mark, as a count
+abbrev pub mark_by : ℕ → Entry → ℕ
+mark_by top (Drawn n) = if nat_lt top n then 1 else 0
+mark_by top (Moved from to) = 0
+mark_by top (Look seen) = 0
 
 -- how many marks are among entries
-abbrev pub marks_in : List Entry → ℕ
-marks_in entries = sum_by mark_by entries
+abbrev pub marks_in : ℕ → List Entry → ℕ
+marks_in top entries = sum_by (mark_by top) entries
 
 -- the entries of a subscriber in all views, from its opening to its word
-pub record IsCovered (opening word : ℕ) (entries : List Entry) : Type 0 where
+pub record IsCovered (top opening word : ℕ) (entries : List Entry) : Type 0 where
   pub forward : opening ≤ word
   -- they cover each number above the opening up to the word once, and no other
   pub once : (n : ℕ) → times n (covered entries) ≡ (if nat_lt opening n && nat_le n word then 1 else 0)
-  pub moves : All (IsMove max_seq) entries
+  pub moves : All (IsMove top) entries
   pub looks : All (IsFound opening entries) entries
   -- the word is the opening or the last number that some entry covers
   pub stands : (word ≡ opening) ⊎ Any (λ e. last_of e ≡ Some word) entries
 
 -- a seat's own entries of a subscriber whose word this is
-pub record Fits (word active : ℕ) (entries : List Entry) : Type 0 where
+pub record Fits (top word active : ℕ) (entries : List Entry) : Type 0 where
   -- only a pass has a mark, and no more than one
-  pub marked : marks_in entries ≤ active
+  pub marked : marks_in top entries ≤ active
   pub ordered : IsInOrder entries
   pub below : All (λ e. reach_of e ≤ word) entries
 
 -- the entries of a pass that was joined
-pub record FitsJoined (i : ℕ) (deeds : List Deed) : Type 0 where
-  pub marked : marks_in (entries_of i deeds) ≤ 1
+pub record FitsJoined (top i : ℕ) (deeds : List Deed) : Type 0 where
+  pub marked : marks_in top (entries_of i deeds) ≤ 1
   pub ordered : IsInOrder (entries_of i deeds)
 
 -- each subscriber's word, and the entries in all views
-pub record Numbers (openings : List ℕ) (s : State (Unit {0}) View) : Type 0 where
-  pub bounded : (i : ℕ) → i < length openings → slice_index s.words i ≤ max_seq + sum_by (λ v. marks_in (view_entries i v)) s.views
-  pub covers : (i : ℕ) → i < length openings → IsCovered (slice_index openings i) (slice_index s.words i) (all_view_entries i s.views)
-  pub fits : (j : ℕ) (v : View) → get_elem? s.views j ≡ some v → (i : ℕ) → i < length openings → Fits (slice_index s.words i) v.active (entries_of i v.own)
-  pub rests : (j : ℕ) (v : View) → get_elem? s.views j ≡ some v → (i : ℕ) → i < length openings → All (FitsJoined i) v.joined
+pub record Numbers (openings tops : List ℕ) (s : State (Unit {0}) View) : Type 0 where
+  pub bounded : (i : ℕ) → i < length openings → slice_index s.words i ≤ slice_index tops i + sum_by (λ v. marks_in (slice_index tops i) (view_entries i v)) s.views
+  pub covers : (i : ℕ) → i < length openings → IsCovered (slice_index tops i) (slice_index openings i) (slice_index s.words i) (all_view_entries i s.views)
+  pub fits : (j : ℕ) (v : View) → get_elem? s.views j ≡ some v → (i : ℕ) → i < length openings → Fits (slice_index tops i) (slice_index s.words i) v.active (entries_of i v.own)
+  pub rests : (j : ℕ) (v : View) → get_elem? s.views j ≡ some v → (i : ℕ) → i < length openings → All (FitsJoined (slice_index tops i) i) v.joined
 
 -- ---- the job word
 
@@ -157,15 +156,15 @@ pub record Seats (views : List View) : Type 0 where
 -- ---- the rule
 
 -- the part on numbers and jobs
-pub record KeepsNumbers (openings : List ℕ) (s : State (Unit {0}) View) : Type 0 where
+pub record KeepsNumbers (openings tops : List ℕ) (s : State (Unit {0}) View) : Type 0 where
   pub room : length openings < length s.words
-  pub numbers : Numbers openings s
+  pub numbers : Numbers openings tops s
   pub jobs : Jobs (length openings) s
   pub seats : Seats s.views
 
--- the rule; the openings and the limits that were given with them are the table's key
-pub record Keeps (openings given : List ℕ) (s : State (Unit {0}) View) : Type 0 where
-  pub numbers : KeepsNumbers openings s
+-- the rule; the openings, the greatest numbers and the limits that were given with them are the table's key
+pub record Keeps (openings tops given : List ℕ) (s : State (Unit {0}) View) : Type 0 where
+  pub numbers : KeepsNumbers openings tops s
   pub limits : KeepsLimits openings given s
 
 -- ---- the steps
@@ -174,9 +173,13 @@ pub record Keeps (openings given : List ℕ) (s : State (Unit {0}) View) : Type 
 abbrev pub AddsEntry : ℕ → Entry → Me (Unit {0}) View → Me (Unit {0}) View → Type 0
 AddsEntry sub e v w = (w ≡ (with_deed v.0 (Made sub e), v.1)) × IsInOrder (entries_of sub w.0.own)
 
+-- a draw adds the number after the word that it found, which has 64 bits
+abbrev pub AddsDraw : ℕ → ℕ → Me (Unit {0}) View → Me (Unit {0}) View → Type 0
+AddsDraw sub found v w = AddsEntry sub (Drawn (found + 1)) v w × (found + 1 < 2 ^ 64)
+
 -- a draw that found this word
 abbrev pub draws : Step (Unit {0}) → Me (Unit {0}) View → ℕ → Me (Unit {0}) View → Type 0
-draws s v found w = AddsEntry s.word (Drawn (found + 1)) v w
+draws s v found w = AddsDraw s.word found v w
 
 -- the entry of a jump to a number that found this word
 abbrev pub jump_entry : ℕ → ℕ → Entry
@@ -195,16 +198,16 @@ abbrev pub claims : Step (Unit {0}) → Me (Unit {0}) View → ℕ → Me (Unit 
 claims s v found w = AddsClaim found v w
 
 -- in every state that keeps the rule this seat may draw a number of the subscriber, by adding one to its word
-abbrev pub AllowsDraw : List ℕ → List ℕ → ℕ → ℕ → Me (Unit {0}) View → ℕ → Type 0
-AllowsDraw openings limits slots id me sub = Allows (Keeps openings limits) slots id me sub (λ n. (n + 1) % 2 ^ 64) (λ found w. AddsEntry sub (Drawn (found + 1)) me w)
+abbrev pub AllowsDraw : List ℕ → List ℕ → List ℕ → ℕ → ℕ → Me (Unit {0}) View → ℕ → Type 0
+AllowsDraw openings tops limits slots id me sub = Allows (Keeps openings tops limits) slots id me sub (λ n. (n + 1) % 2 ^ 64) (λ found w. AddsDraw sub found me w)
 
 -- it may move the subscriber's word up to a number
-abbrev pub AllowsJump : List ℕ → List ℕ → ℕ → ℕ → Me (Unit {0}) View → ℕ → ℕ → Type 0
-AllowsJump openings limits slots id me sub to = Allows (Keeps openings limits) slots id me sub (λ n. max n to) (λ found w. AddsEntry sub (jump_entry to found) me w)
+abbrev pub AllowsJump : List ℕ → List ℕ → List ℕ → ℕ → ℕ → Me (Unit {0}) View → ℕ → ℕ → Type 0
+AllowsJump openings tops limits slots id me sub to = Allows (Keeps openings tops limits) slots id me sub (λ n. max n to) (λ found w. AddsEntry sub (jump_entry to found) me w)
 
 -- it may claim a number, by adding one to the job word at this place
-abbrev pub AllowsClaim : List ℕ → List ℕ → ℕ → ℕ → Me (Unit {0}) View → ℕ → Type 0
-AllowsClaim openings limits slots id me place = Allows (Keeps openings limits) slots id me place (λ n. (n + 1) % 2 ^ 64) (λ found w. AddsClaim found me w)
+abbrev pub AllowsClaim : List ℕ → List ℕ → List ℕ → ℕ → ℕ → Me (Unit {0}) View → ℕ → Type 0
+AllowsClaim openings tops limits slots id me place = Allows (Keeps openings tops limits) slots id me place (λ n. (n + 1) % 2 ^ 64) (λ found w. AddsClaim found me w)
 
 -- ---- the steps on limits and on the stop
 
@@ -241,21 +244,21 @@ abbrev pub stops : Step (Unit {0}) → Me (Unit {0}) View → ℕ → Me (Unit {
 stops s v found w = NotesStop s.first v w
 
 -- the seat may load the subscriber's limit at this place, for a number that is to be released
-abbrev pub AllowsRelease : List ℕ → List ℕ → ℕ → ℕ → Me (Unit {0}) View → ℕ → ℕ → ℕ → Type 0
-AllowsRelease openings limits slots id me place sub n = Allows (Keeps openings limits) slots id me place (λ k. k) (λ found w. AddsRelease sub n found me w)
+abbrev pub AllowsRelease : List ℕ → List ℕ → List ℕ → ℕ → ℕ → Me (Unit {0}) View → ℕ → ℕ → ℕ → Type 0
+AllowsRelease openings tops limits slots id me place sub n = Allows (Keeps openings tops limits) slots id me place (λ k. k) (λ found w. AddsRelease sub n found me w)
 
 -- it may load the stop word
-abbrev pub AllowsStopped : List ℕ → List ℕ → ℕ → ℕ → Me (Unit {0}) View → ℕ → Type 0
-AllowsStopped openings limits slots id me place = Allows (Keeps openings limits) slots id me place (λ k. k) (λ found w. AddsStop found me w)
+abbrev pub AllowsStopped : List ℕ → List ℕ → List ℕ → ℕ → ℕ → Me (Unit {0}) View → ℕ → Type 0
+AllowsStopped openings tops limits slots id me place = Allows (Keeps openings tops limits) slots id me place (λ k. k) (λ found w. AddsStop found me w)
 
 -- it may load the subscriber's number
-abbrev pub AllowsLook : List ℕ → List ℕ → ℕ → ℕ → Me (Unit {0}) View → ℕ → Type 0
-AllowsLook openings limits slots id me sub = Allows (Keeps openings limits) slots id me sub (λ k. k) (λ found w. NotesLook sub found me w)
+abbrev pub AllowsLook : List ℕ → List ℕ → List ℕ → ℕ → ℕ → Me (Unit {0}) View → ℕ → Type 0
+AllowsLook openings tops limits slots id me sub = Allows (Keeps openings tops limits) slots id me sub (λ k. k) (λ found w. NotesLook sub found me w)
 
 -- it may raise the subscriber's limit at this place
-abbrev pub AllowsRaise : List ℕ → List ℕ → ℕ → ℕ → Me (Unit {0}) View → ℕ → ℕ → ℕ → Type 0
-AllowsRaise openings limits slots id me place sub limit = Allows (Keeps openings limits) slots id me place (λ k. max k limit) (λ found w. NotesLimit sub limit me w)
+abbrev pub AllowsRaise : List ℕ → List ℕ → List ℕ → ℕ → ℕ → Me (Unit {0}) View → ℕ → ℕ → ℕ → Type 0
+AllowsRaise openings tops limits slots id me place sub limit = Allows (Keeps openings tops limits) slots id me place (λ k. max k limit) (λ found w. NotesLimit sub limit me w)
 
 -- it may store the stop word
-abbrev pub AllowsStop : List ℕ → List ℕ → ℕ → ℕ → Me (Unit {0}) View → ℕ → ℕ → Type 0
-AllowsStop openings limits slots id me place word = Allows (Keeps openings limits) slots id me place (λ k. word) (λ found w. NotesStop word me w)
+abbrev pub AllowsStop : List ℕ → List ℕ → List ℕ → ℕ → ℕ → Me (Unit {0}) View → ℕ → ℕ → Type 0
+AllowsStop openings tops limits slots id me place word = Allows (Keeps openings tops limits) slots id me place (λ k. word) (λ found w. NotesStop word me w)

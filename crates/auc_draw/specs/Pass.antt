@@ -2,7 +2,6 @@
 use Rattle.std.specs.Prelude.{◌≡◌, ℕ, ◌+◌, ◌<◌, ◌≤◌, List, [], ◌∷◌, ◌++◌, All, Option, Some, None}
 use Rattle.auc_history.specs.declared.entry.Entry.{Entry}
 use Rattle.auc_history.specs.declared.entry.Entry.TheVariants.{Drawn, Moved as moved, Look}
-use Rattle.auc_sqn.specs.Number.{max_seq}
 use Rattle.auc_draw.specs.declared.rule.Deed.{Deed}
 use Rattle.auc_draw.specs.declared.rule.Deed.TheVariants.{Claimed, Released as released}
 use Rattle.auc_draw.specs.declared.pass.Draw.{Draw}
@@ -24,20 +23,20 @@ abbrev pub unless_kept : Option ℕ → List Entry → List Entry
 unless_kept None entries = entries
 unless_kept (Some w) entries = []
 
--- a draw: a number, if no word is kept; or the word that was found, no lower than the greatest number, which is kept
--- from then on, and the mark above it, or again the word that is kept, and no entry
-abbrev pub Draws : ℕ → List Deed → List Deed → Draw → Type 0
-Draws sub old new (Number n) = (kept_of old sub ≡ None) × (1 ≤ n) × (n ≤ max_seq)
-    × (new ≡ old ++ made sub (Drawn n ∷ [])) × (kept_of new sub ≡ None)
-Draws sub old new (Exhausted w) = (max_seq ≤ w) × IsWordKept (kept_of old sub) w
-    × (new ≡ old ++ made sub (unless_kept (kept_of old sub) (Drawn (w + 1) ∷ []))) × (kept_of new sub ≡ Some w)
+-- a draw of a subscriber with this greatest number: a number, if no word is kept; or the word that was found, no lower
+-- than the greatest number, which is kept from then on, and the mark above it, or again the word that is kept, and no entry
+abbrev pub Draws : ℕ → ℕ → List Deed → List Deed → Draw → Type 0
+Draws top sub old new (Number n) = (kept_of top old sub ≡ None) × (1 ≤ n) × (n ≤ top)
+    × (new ≡ old ++ made sub (Drawn n ∷ [])) × (kept_of top new sub ≡ None)
+Draws top sub old new (Exhausted w) = (top ≤ w) × IsWordKept (kept_of top old sub) w
+    × (new ≡ old ++ made sub (unless_kept (kept_of top old sub) (Drawn (w + 1) ∷ []))) × (kept_of top new sub ≡ Some w)
 
--- a jump to a number: a move from the lower word that was found, if no word is kept; or the word that was found, no
--- lower than the number, as a look, or again the word that is kept, and no entry
-abbrev pub Jumps : ℕ → ℕ → List Deed → List Deed → Jump → Type 0
-Jumps sub to old new (Moved from) = (kept_of old sub ≡ None) × (from < to) × (new ≡ old ++ made sub (moved from to ∷ []))
-Jumps sub to old new (Stood seen) = IsWordKept (kept_of old sub) seen × (to ≤ seen)
-    × (new ≡ old ++ made sub (unless_kept (kept_of old sub) (Look seen ∷ [])))
+-- a jump to a number of a subscriber with this greatest number: a move from the lower word that was found, if no word is
+-- kept; or the word that was found, no lower than the number, as a look, or again the word that is kept, and no entry
+abbrev pub Jumps : ℕ → ℕ → ℕ → List Deed → List Deed → Jump → Type 0
+Jumps top sub to old new (Moved from) = (kept_of top old sub ≡ None) × (from < to) × (new ≡ old ++ made sub (moved from to ∷ []))
+Jumps top sub to old new (Stood seen) = IsWordKept (kept_of top old sub) seen × (to ≤ seen)
+    × (new ≡ old ++ made sub (unless_kept (kept_of top old sub) (Look seen ∷ [])))
 
 -- the number that ended a pass's claims, if they have ended, is that of no job
 abbrev pub EndsAbove : ℕ → Option ℕ → Type 0

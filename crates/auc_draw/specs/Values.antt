@@ -4,16 +4,18 @@ use Rattle.atomic_table.specs.Seated.{TableId}
 use Rattle.auc_edge.specs.declared.stop.Stop.{Stop}
 use Rattle.auc_draw.specs.declared.rule.Deed.{Deed}
 
--- a pass: its book, what its steps did, and the number that ended its claims
+-- a pass: its book, the subscribers' greatest numbers, what its steps did, and the number that ended its claims
 pub record PassValue : Type 0 where
   pub id : TableId
+  pub tops : List ℕ
   pub deeds : List Deed
   pub ended : Option ℕ
 
--- a book: which one it is, the openings, and the limits that were given with them
+-- a book: which one it is, the openings, each subscriber's greatest number, and the limits that were given with them
 pub record BookValue : Type 0 where
   pub id : TableId
   pub openings : List ℕ
+  pub tops : List ℕ
   pub limits : List ℕ
 
 -- the keeper's pass: its book, and how many passes were split from it; each subscriber's limit, its number word as it

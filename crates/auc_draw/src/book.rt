@@ -20,7 +20,8 @@ use std::alloc::Global;
 use std::marker::Model;
 
 /// The shared words: each subscriber's number, the number of the next job, why reservations ended, and each subscriber's
-/// limit. Contracts see which book it is, the openings, and the limits that were given with them.
+/// limit. Contracts see which book it is, the openings, each subscriber's greatest number, and the limits that were given
+/// with them.
 #[derive(Drop)]
 pub struct Book {
     pub(crate) table: Table<(), View, Key, Rule, Global>,
@@ -36,6 +37,7 @@ impl Model for Book {
     ghost view = { λ b. record {
       id = b.table.shared.table_id;
       openings = b.key.openings.items;
+      tops = b.key.tops.items;
       limits = b.key.limits.items;
     } };
 
@@ -43,26 +45,34 @@ impl Model for Book {
 }
 
 impl Book {
-    /// Opens a book whose numbers stand at `openings` and whose limits at `limits`, with a pass for each worker. Each pass
-    /// takes memory for one word per subscriber, so that no later call takes any. If memory runs out, there is no book.
+    /// Opens a book whose numbers stand at `openings` and whose limits at `limits`, with a pass for each worker. No
+    /// subscriber's number goes above its greatest number, which `tops` has. Each pass takes memory for one word per
+    /// subscriber, so that no later call takes any. If memory runs out, there is no book.
     pub fn open(
         alloc: Global,
         openings: &[u64],
+        tops: &[u64],
         limits: &[u64],
         workers: u32,
     ) -> Result<(Book, Vec<Pass>, KeeperPass), NoMemory>
         requires count { length openings.now ≤ 65536 }
-        requires many { length limits.now ≡ length openings.now }
-        requires numbers { All (λ n. n ≤ max_seq) openings.now }
+        requires many { (length tops.now ≡ length openings.now) × (length limits.now ≡ length openings.now) }
+        requires numbers { (sub : ℕ) → sub < length openings.now → slice_index openings.now sub ≤ slice_index tops.now sub }
+        requires tops { All (λ n. n ≤ max_seq) tops.now }
         requires limits { All (λ n. n ≤ max_seq) limits.now }
         requires workers { (1 ≤ workers) × (workers ≤ 64) }
-        ensures { IfOk result (λ r. Opens openings.now limits.now workers r.0 r.1.items r.2) }
+        ensures { IfOk result (λ r. Opens openings.now tops.now limits.now workers r.0 r.1.items r.2) }
     {
         let subs = openings.len();
         let words = lay_words(alloc, openings, limits)?;
         let openings = openings.to_vec(alloc)?;
+        let tops = tops.to_vec(alloc)?;
         let limits = limits.to_vec(alloc)?;
-        let key = Key { openings, limits };
+        let key = Key {
+            openings,
+            tops,
+            limits,
+        };
         let (table, seat) = Table::of_words(alloc, words.as_slice(), &key)?;
         let (passes, keeper) = split(alloc, &table.shared, seat, subs, workers)?;
         Ok((Book { table, key }, passes, keeper))
@@ -72,7 +82,7 @@ impl Book {
     /// to its word, the claimed numbers are those below some number, each once, and what was released, withheld and read of
     /// a stop is so by the keeper's pass.
     pub fn close(self, passes: Vec<Pass>, keeper: KeeperPass) -> Closed
-        requires own { All (IsOf self.id) passes.items }
+        requires own { All (IsOf self.id self.tops) passes.items }
         requires keeper { keeper.id ≡ self.id }
         requires all { length passes.items ≡ keeper.passes }
         ensures { Closes self (map (λ p. p.deeds) passes.items) keeper result }
@@ -80,6 +90,7 @@ impl Book {
         let Book { table, key } = self;
         let Key {
             openings,
+            tops: _,
             limits: _,
         } = key;
         let KeeperPass { seat } = keeper;
@@ -112,18 +123,18 @@ fn split(
     workers: u32,
 ) -> Result<(Vec<Pass>, KeeperPass), NoMemory>
     requires own { seat.table_id ≡ shared.now.table_id }
-    requires first { (seat.id ≡ 0) × (seat.me ≡ (keeper_view 0 seat.me.0.note, [])) }
+    requires first { (seat.id ≡ 0) × (seat.me ≡ (keeper_view 0 seat.me.0.tops seat.me.0.note, [])) }
     requires words { shared.now.table_id.words ≡ limit_at subs subs }
     requires workers { workers ≤ 64 }
-    ensures { IfOk result (λ r. AreSplit shared.now.table_id workers seat.me.0.note r.0.items r.1) }
+    ensures { IfOk result (λ r. AreSplit shared.now.table_id seat.me.0.tops workers seat.me.0.note r.0.items r.1) }
 {
     let mut passes = Vec::with_capacity(alloc, workers as usize)?;
     for i in 0..workers {
-        let kept = Vec::from_elem(alloc, 0u64, subs)?;
+        let marks = Vec::from_elem(alloc, 0u64, subs)?;
         let own = shared.split_seat::<SplitPass>(&mut seat);
         passes.push(Pass {
             seat: own,
-            kept,
+            marks,
             ended: None,
         })?;
     }
@@ -137,16 +148,16 @@ fn join(
     passes: Vec<Pass>,
 ) -> Seat<(), View>
     requires own { seat.table_id ≡ shared.now.table_id }
-    requires first { (seat.id ≡ 0) × (seat.me ≡ (keeper_view seat.me.0.split seat.me.0.note, [])) }
+    requires first { (seat.id ≡ 0) × (seat.me ≡ (keeper_view seat.me.0.split seat.me.0.tops seat.me.0.note, [])) }
     requires words { 0 < shared.now.table_id.words }
-    requires passes { All (IsOf shared.now.table_id) passes.items }
+    requires passes { All (λ p. p.id ≡ shared.now.table_id) passes.items }
     ensures own { (result.table_id ≡ shared.now.table_id) × (result.id ≡ 0) }
-    ensures view { result.me ≡ (keeper_view_with seat.me.0.split seat.me.0.note (map (λ p. p.deeds) passes.items), []) }
+    ensures view { result.me ≡ (keeper_view_with seat.me.0.split seat.me.0.tops seat.me.0.note (map (λ p. p.deeds) passes.items), []) }
 {
     for pass in passes {
         let Pass {
             seat: own,
-            kept: _,
+            marks: _,
             ended: _,
         } = pass;
         shared.join_seat::<JoinPass>(&mut seat, own);

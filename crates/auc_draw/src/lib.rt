@@ -8,8 +8,8 @@
 //! claimed numbers are those below the job word, each once, and no released number is above its limit. [`Book::close`]
 //! takes all passes and gives their lists and the words, for every interleaving of the steps.
 //!
-//! A draw after the greatest number leaves a mark and is refused; so a word is at most 64 above the greatest number.
-//! Only [`Book::open`] takes memory. Nothing here waits. The tests stand in `auc_number_tests`.
+//! Each subscriber has its own greatest number. A draw after it leaves a mark and is refused, so a word is at most 64
+//! above it. Only [`Book::open`] takes memory. Nothing here waits. The tests stand in `auc_number_tests`.
 #![tactic(auto)]
 
 mod book;

@@ -1,8 +1,9 @@
 //! A worker's pass.
 
-ghost use Rattle.std.specs.Prelude.{◌≡◌, ◌<◌, ◌≤◌, ◌++◌, Contains, length};
+ghost use Rattle.std.specs.Prelude.{◌≡◌, ◌<◌, ◌≤◌, ◌++◌, Contains, length, slice_index};
 ghost use Rattle.auc_history.specs.declared.entry.Entry.TheVariants.{Drawn};
 ghost use Rattle.auc_sqn.specs.Number.{max_seq};
+ghost use Rattle.auc_draw.specs.Book.{IsOf};
 ghost use Rattle.auc_draw.specs.Deeds.{AreInOrder, entries_of, kept_stop, stop_read};
 ghost use Rattle.auc_draw.specs.Pass.{Draws, Jumps, EndsAbove, ClaimsJob, Releases};
 
@@ -12,7 +13,6 @@ use crate::rule::View;
 use crate::step::{add_one, move_up, read_limit, read_stop, take_number};
 use atomic_table::Seat;
 use auc_edge::Stop;
-use auc_sqn::MAX_SEQ;
 use std::marker::{Brand, Model};
 
 /// The answer to a draw.
@@ -20,7 +20,7 @@ use std::marker::{Brand, Model};
 pub enum Draw {
     /// This number was drawn.
     Number(u64),
-    /// There is no further number: the word that was found, which is at least the greatest number.
+    /// There is no further number: the word that was found, which is at least the subscriber's greatest number.
     Exhausted(u64),
 }
 
@@ -42,13 +42,13 @@ pub enum Release {
     Above(u64),
 }
 
-/// One worker's seat on the shared words. Contracts see its book, what its steps did, and the number that ended its
-/// claims.
+/// One worker's seat on the shared words. Contracts see its book, the subscribers' greatest numbers, what its steps did,
+/// and the number that ended its claims.
 #[derive(Drop)]
 pub struct Pass {
     pub(crate) seat: Seat<(), View>,
-    // The word that a subscriber's first refused draw found, or 0.
-    pub(crate) kept: Vec<u64>,
+    // The mark of a subscriber's first refused draw, which is one above the word that it found, or 0.
+    pub(crate) marks: Vec<u64>,
     // The number that ended the claims.
     pub(crate) ended: Option<u64>,
 }
@@ -59,7 +59,12 @@ impl Model for Pass {
 
     ghost Value = { PassValue };
 
-    ghost view = { λ p. record { id = p.seat.table_id; deeds = p.seat.me.0.own; ended = p.ended } };
+    ghost view = { λ p. record {
+      id = p.seat.table_id;
+      tops = p.seat.me.0.tops;
+      deeds = p.seat.me.0.own;
+      ended = p.ended;
+    } };
 
     ghost invariant = { IsPass };
 }
@@ -68,41 +73,43 @@ impl Pass {
     /// Draws the subscriber's next number, in one atomic step. After a refused draw of this pass the answer is the word
     /// that was found then, and no step is made.
     pub fn draw(&mut self, book: &Book, sub: u32) -> Draw
-        requires own { self.old.id ≡ book.now.id }
+        requires own { IsOf book.now.id book.now.tops self.old }
         requires sub { sub < length book.now.openings }
-        ensures own { self.new.id ≡ self.old.id }
-        ensures draws { Draws sub self.old.deeds self.new.deeds result }
+        ensures own { (self.new.id ≡ self.old.id) × (self.new.tops ≡ self.old.tops) }
+        ensures draws { Draws (slice_index book.now.tops sub) sub self.old.deeds self.new.deeds result }
+        ensures top { slice_index book.now.tops sub ≤ max_seq }
         ensures ended { self.new.ended ≡ self.old.ended }
         ensures ordered { AreInOrder self.new.deeds }
     {
         let shared = &book.table.shared;
-        let kept = self.kept[sub as usize];
-        if kept != 0 {
-            return Draw::Exhausted(kept);
+        let mark = self.marks[sub as usize];
+        if mark != 0 {
+            return Draw::Exhausted(mark - 1);
         }
         let found = add_one(shared, &mut self.seat, sub);
-        if found < MAX_SEQ {
+        let top = book.key.tops[sub as usize];
+        if found < top {
             return Draw::Number(found + 1);
         }
-        self.kept[sub as usize] = found;
+        self.marks[sub as usize] = found + 1;
         Draw::Exhausted(found)
     }
 
     /// Moves the subscriber's number up to `to` if it is lower, in one atomic step. After a refused draw of this pass the
     /// answer is the word that was found then, and no step is made.
     pub fn jump(&mut self, book: &Book, sub: u32, to: u64) -> Jump
-        requires own { self.old.id ≡ book.now.id }
+        requires own { IsOf book.now.id book.now.tops self.old }
         requires sub { sub < length book.now.openings }
-        requires number { to ≤ max_seq }
-        ensures own { self.new.id ≡ self.old.id }
-        ensures jumps { Jumps sub to self.old.deeds self.new.deeds result }
+        requires number { to ≤ slice_index book.now.tops sub }
+        ensures own { (self.new.id ≡ self.old.id) × (self.new.tops ≡ self.old.tops) }
+        ensures jumps { Jumps (slice_index book.now.tops sub) sub to self.old.deeds self.new.deeds result }
         ensures ended { self.new.ended ≡ self.old.ended }
         ensures ordered { AreInOrder self.new.deeds }
     {
         let shared = &book.table.shared;
-        let kept = self.kept[sub as usize];
-        if kept != 0 {
-            return Jump::Stood(kept);
+        let mark = self.marks[sub as usize];
+        if mark != 0 {
+            return Jump::Stood(mark - 1);
         }
         let found = move_up(shared, &mut self.seat, sub, to);
         if found < to {
@@ -113,9 +120,9 @@ impl Pass {
 
     /// Claims one of the jobs, in one atomic step, or answers that none is left. After that answer no step is made.
     pub fn claim(&mut self, book: &Book, jobs: u32) -> Option<u32>
-        requires own { self.old.id ≡ book.now.id }
+        requires own { IsOf book.now.id book.now.tops self.old }
         requires ended { EndsAbove jobs self.old.ended }
-        ensures own { self.new.id ≡ self.old.id }
+        ensures own { (self.new.id ≡ self.old.id) × (self.new.tops ≡ self.old.tops) }
         ensures claims { ClaimsJob jobs self.old self.new result }
         ensures ordered { AreInOrder self.new.deeds }
     {
@@ -130,14 +137,15 @@ impl Pass {
         self.ended = Some(found);
         None
     }
+
     /// Releases a number that this pass drew, in one atomic step, if it isn't above the subscriber's limit. If it is above
     /// and the pass has read a stop, it is withheld by the same step.
     pub fn release(&mut self, book: &Book, sub: u32, n: u64) -> Release
-        requires own { self.old.id ≡ book.now.id }
+        requires own { IsOf book.now.id book.now.tops self.old }
         requires sub { sub < length book.now.openings }
         requires drawn { Contains (entries_of sub self.old.deeds) (Drawn n) }
-        requires number { n ≤ max_seq }
-        ensures own { self.new.id ≡ self.old.id }
+        requires number { n ≤ slice_index book.now.tops sub }
+        ensures own { (self.new.id ≡ self.old.id) × (self.new.tops ≡ self.old.tops) }
         ensures releases { Releases sub n self.old.deeds self.new.deeds result }
         ensures ended { self.new.ended ≡ self.old.ended }
         ensures ordered { AreInOrder self.new.deeds }
@@ -148,8 +156,8 @@ impl Pass {
 
     /// Why reservations ended, if they did, in one atomic step. Once a pass was told so, it is told the same.
     pub fn stopped(&mut self, book: &Book) -> Option<Stop>
-        requires own { self.old.id ≡ book.now.id }
-        ensures own { self.new.id ≡ self.old.id }
+        requires own { IsOf book.now.id book.now.tops self.old }
+        ensures own { (self.new.id ≡ self.old.id) × (self.new.tops ≡ self.old.tops) }
         ensures stopped { self.new.deeds ≡ self.old.deeds ++ stop_read result }
         ensures kept { kept_stop self.new.deeds ≡ result }
         ensures ended { self.new.ended ≡ self.old.ended }

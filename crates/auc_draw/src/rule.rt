@@ -42,14 +42,18 @@ pub struct View {
     pub split: u64,
     /// The joined lists, at the one seat that tells them to a closed book. The rule says nothing of this field.
     pub shown: LinkedList<LinkedList<Deed>>,
+    /// The subscribers' greatest numbers, at the keeper's seat and at each pass's. The rule says nothing of this field.
+    pub tops: LinkedList<u64>,
     /// What the keeper knows, at its seat; nothing at the others.
     pub note: Note,
 }
 
-/// The table's key: where the numbers stood at the opening, and the limits that were given with them.
+/// The table's key: where the numbers stood at the opening, each subscriber's greatest number, and the limits that were
+/// given with them.
 #[derive(Drop)]
 pub(crate) struct Key {
     pub(crate) openings: Vec<u64>,
+    pub(crate) tops: Vec<u64>,
     pub(crate) limits: Vec<u64>,
 }
 
@@ -60,9 +64,9 @@ impl TableRule<(), View, Key> for Rule {
     ghost use Rattle.auc_draw.specs.InnerLimits.{opening_note};
     ghost use Rattle.auc_draw.specs.InnerRule.{Keeps, keeper_view};
 
-    ghost holds = { λ key s. Keeps key.openings.items key.limits.items s };
+    ghost holds = { λ key s. Keeps key.openings.items key.tops.items key.limits.items s };
 
-    ghost first = { λ key. keeper_view 0 (opening_note key.openings.items key.limits.items) };
+    ghost first = { λ key. keeper_view 0 key.tops.items (opening_note key.openings.items key.limits.items) };
 }
 
 /// A pass is split from the keeper's seat.
@@ -73,7 +77,7 @@ impl Split<View> for SplitPass {
 
     ghost left = { after_split };
 
-    ghost right = { λ v. new_view };
+    ghost right = { λ v. new_view v.tops };
 }
 
 /// A pass is joined into the keeper's seat.

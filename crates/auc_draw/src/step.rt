@@ -1,10 +1,9 @@
 //! The atomic steps, each on one shared word.
 
 ghost use Rattle.std.specs.Prelude.{◌≡◌, ◌<◌, ◌≤◌, ◌+◌};
-ghost use Rattle.auc_history.specs.declared.entry.Entry.TheVariants.{Drawn};
 ghost use Rattle.auc_draw.specs.InnerLimits.{limit_at};
 ghost use Rattle.auc_draw.specs.Pass.{Releases};
-ghost use Rattle.auc_draw.specs.InnerRule.{AddsEntry, AddsClaim, AddsStop, NotesLook, NotesLimit, NotesStop};
+ghost use Rattle.auc_draw.specs.InnerRule.{AddsDraw, AddsEntry, AddsClaim, AddsStop, NotesLook, NotesLimit, NotesStop};
 ghost use Rattle.auc_draw.specs.InnerRule.{AllowsDraw, AllowsJump, AllowsClaim, AllowsRelease, AllowsStopped, AllowsLook, AllowsRaise, AllowsStop, jump_entry};
 
 use crate::pass::Release;
@@ -23,9 +22,9 @@ pub(crate) fn add_one(
 ) -> u64
     requires own { seat.old.table_id ≡ shared.now.table_id }
     requires word { sub < shared.now.table_id.words }
-    requires allowed { AllowsDraw shared.now.key.openings.items shared.now.key.limits.items shared.now.table_id.slots seat.old.id seat.old.me sub }
+    requires allowed { AllowsDraw shared.now.key.openings.items shared.now.key.tops.items shared.now.key.limits.items shared.now.table_id.slots seat.old.id seat.old.me sub }
     ensures own { seat.new.table_id ≡ seat.old.table_id }
-    ensures adds { AddsEntry sub (Drawn (result + 1)) seat.old.me seat.new.me }
+    ensures adds { AddsDraw sub result seat.old.me seat.new.me }
 {
     shared.fetch_add::<DrawStep>(seat, sub as usize, 1)
 }
@@ -39,7 +38,7 @@ pub(crate) fn move_up(
 ) -> u64
     requires own { seat.old.table_id ≡ shared.now.table_id }
     requires word { sub < shared.now.table_id.words }
-    requires allowed { AllowsJump shared.now.key.openings.items shared.now.key.limits.items shared.now.table_id.slots seat.old.id seat.old.me sub to }
+    requires allowed { AllowsJump shared.now.key.openings.items shared.now.key.tops.items shared.now.key.limits.items shared.now.table_id.slots seat.old.id seat.old.me sub to }
     ensures own { seat.new.table_id ≡ seat.old.table_id }
     ensures adds { AddsEntry sub (jump_entry to result) seat.old.me seat.new.me }
 {
@@ -54,7 +53,7 @@ pub(crate) fn take_number(
 ) -> u64
     requires own { seat.old.table_id ≡ shared.now.table_id }
     requires word { place < shared.now.table_id.words }
-    requires allowed { AllowsClaim shared.now.key.openings.items shared.now.key.limits.items shared.now.table_id.slots seat.old.id seat.old.me place }
+    requires allowed { AllowsClaim shared.now.key.openings.items shared.now.key.tops.items shared.now.key.limits.items shared.now.table_id.slots seat.old.id seat.old.me place }
     ensures own { seat.new.table_id ≡ seat.old.table_id }
     ensures adds { AddsClaim result seat.old.me seat.new.me }
 {
@@ -73,10 +72,11 @@ pub(crate) fn read_limit<N: Asked>(
     requires few { subs ≤ 65536 }
     requires word { limit_at subs sub < shared.now.table_id.words }
     requires asked { (N.sub ≡ sub) × (N.number ≡ n) }
-    requires allowed { AllowsRelease shared.now.key.openings.items shared.now.key.limits.items shared.now.table_id.slots seat.old.id seat.old.me (limit_at subs sub) N.sub N.number }
+    requires allowed { AllowsRelease shared.now.key.openings.items shared.now.key.tops.items shared.now.key.limits.items shared.now.table_id.slots seat.old.id seat.old.me (limit_at subs sub) N.sub N.number }
     ensures own { seat.new.table_id ≡ seat.old.table_id }
     ensures releases { Releases sub n seat.old.me.0.own seat.new.me.0.own result }
     ensures same { (seat.new.me.0.active ≡ seat.old.me.0.active) × (seat.new.me.1 ≡ seat.old.me.1) }
+    ensures tops { seat.new.me.0.tops ≡ seat.old.me.0.tops }
 {
     let limit = shared.load::<ReleaseStep<N>>(seat, limit_place(subs, sub));
     if limit < n {
@@ -93,7 +93,7 @@ pub(crate) fn read_stop(
 ) -> u64
     requires own { seat.old.table_id ≡ shared.now.table_id }
     requires word { place < shared.now.table_id.words }
-    requires allowed { AllowsStopped shared.now.key.openings.items shared.now.key.limits.items shared.now.table_id.slots seat.old.id seat.old.me place }
+    requires allowed { AllowsStopped shared.now.key.openings.items shared.now.key.tops.items shared.now.key.limits.items shared.now.table_id.slots seat.old.id seat.old.me place }
     ensures own { seat.new.table_id ≡ seat.old.table_id }
     ensures adds { AddsStop result seat.old.me seat.new.me }
 {
@@ -108,7 +108,7 @@ pub(crate) fn read_number(
 ) -> u64
     requires own { seat.old.table_id ≡ shared.now.table_id }
     requires word { sub < shared.now.table_id.words }
-    requires allowed { AllowsLook shared.now.key.openings.items shared.now.key.limits.items shared.now.table_id.slots seat.old.id seat.old.me sub }
+    requires allowed { AllowsLook shared.now.key.openings.items shared.now.key.tops.items shared.now.key.limits.items shared.now.table_id.slots seat.old.id seat.old.me sub }
     ensures own { (seat.new.table_id ≡ seat.old.table_id) × (seat.new.id ≡ seat.old.id) }
     ensures notes { NotesLook sub result seat.old.me seat.new.me }
 {
@@ -127,7 +127,7 @@ pub(crate) fn raise_limit<N: Asked>(
     requires few { subs ≤ 65536 }
     requires word { limit_at subs sub < shared.now.table_id.words }
     requires asked { N.sub ≡ sub }
-    requires allowed { AllowsRaise shared.now.key.openings.items shared.now.key.limits.items shared.now.table_id.slots seat.old.id seat.old.me (limit_at subs sub) N.sub limit }
+    requires allowed { AllowsRaise shared.now.key.openings.items shared.now.key.tops.items shared.now.key.limits.items shared.now.table_id.slots seat.old.id seat.old.me (limit_at subs sub) N.sub limit }
     ensures own { (seat.new.table_id ≡ seat.old.table_id) × (seat.new.id ≡ seat.old.id) }
     ensures notes { NotesLimit N.sub limit seat.old.me seat.new.me }
 {
@@ -143,7 +143,7 @@ pub(crate) fn store_stop(
 )
     requires own { seat.old.table_id ≡ shared.now.table_id }
     requires word { place < shared.now.table_id.words }
-    requires allowed { AllowsStop shared.now.key.openings.items shared.now.key.limits.items shared.now.table_id.slots seat.old.id seat.old.me place word }
+    requires allowed { AllowsStop shared.now.key.openings.items shared.now.key.tops.items shared.now.key.limits.items shared.now.table_id.slots seat.old.id seat.old.me place word }
     ensures own { (seat.new.table_id ≡ seat.old.table_id) × (seat.new.id ≡ seat.old.id) }
     ensures notes { NotesStop word seat.old.me seat.new.me }
 {

@@ -4,7 +4,7 @@ use Rattle.auc_draw.proofs.KeeperLemmas.{may_rise, noted_limit}
 use Rattle.auc_draw.proofs.keeper.KeeperPass.raise.Goals as goal
 
 pub raise_limit-requires-clause-allowed : goal.raise_limit-requires-clause-allowed
-raise_limit-requires-clause-allowed c = raise_ok _ _ _ _ _ _ _ _ c.self.invariant.first
+raise_limit-requires-clause-allowed c = raise_ok _ _ _ _ _ _ _ _ _ c.self.invariant.first
     (omega (arith, c.len-subs.ensures, ap (λ k. length k.openings.items) c.book.invariant.key))
     (omega (arith, ap (λ k. length k.openings.items) c.book.invariant.key, ap (λ b. length b.openings) c.book.view_is, c.requires.sub))
     (may_rise c.self.inside.seat.table_id c.self.inside.seat.me.0 c.args.sub c.args.limit c.args.self.now c.self.view_is c.requires.running c.requires.number c.requires.near c.requires.step)
