@@ -8,10 +8,9 @@ use Rattle.auc_aes.proofs.Facts.{xor_twice, length_xor}
 use Rattle.auc_milenage.specs.Milenage.{f1_star, f5_star, auts, out, r5, c5, temp_of}
 use Rattle.auc_milenage.specs.declared.secret.Secret.{Secret}
 use Rattle.auc_milenage.proofs.Facts.{out_block}
-use Rattle.auc_sqn.specs.Number.{seq_of}
 use Rattle.auc_vector.specs.declared.auts.Auts.{Auts}
-use Rattle.auc_vector.specs.declared.auts.Auts.TheVariants.{SeqMs, WrongMac}
-use Rattle.auc_vector.specs.Auts.{sqn_ms_in, mac_s_in, xmac_s, read_auts_of, EachAutsIsReadBack}
+use Rattle.auc_vector.specs.declared.auts.Auts.TheVariants.{WrongMac}
+use Rattle.auc_vector.specs.Auts.{sqn_ms_in, mac_s_in, xmac_s, seq_said, read_auts_of, EachAutsIsReadBack}
 
 -- f5* has 6 bytes
 f5_star_size : (k opc rand : List ℕ) → IsBlock k → IsBlock opc → length (f5_star k opc rand) ≡ 6
@@ -52,26 +51,26 @@ chosen : (test b : Bool) (x y : Auts) → test ≡ b → (if test then x else y)
 chosen test b x y e = ap (λ t. if t then x else y) e
 
 -- MAC-S is right
-pub reads_seq : (s : Secret) (rand answer masked ak sqn expected mac_s : List ℕ) (seq : ℕ)
-    → Computes s rand answer masked ak sqn expected mac_s → bytes_eq expected mac_s ≡ true → seq ≡ seq_of sqn
-    → SeqMs seq ≡ read_auts_of s rand answer
-reads_seq s rand answer masked ak sqn expected mac_s seq c right is =
-    ap SeqMs (is ∙ ap seq_of (sqn_ms_is s rand answer masked ak sqn c.masked_is c.key_is c.sqn_is))
-    ∙ sym (chosen (bytes_eq (xmac_s s rand answer) (mac_s_in answer)) true (SeqMs (seq_of (sqn_ms_in s rand answer))) WrongMac
+pub reads_said : (s : Secret) (rand answer masked ak sqn expected mac_s : List ℕ) (bits : ℕ) (said : Auts)
+    → Computes s rand answer masked ak sqn expected mac_s → bytes_eq expected mac_s ≡ true → said ≡ seq_said bits sqn
+    → said ≡ read_auts_of s rand answer bits
+reads_said s rand answer masked ak sqn expected mac_s bits said c right is =
+    is ∙ ap (seq_said bits) (sqn_ms_is s rand answer masked ak sqn c.masked_is c.key_is c.sqn_is)
+    ∙ sym (chosen (bytes_eq (xmac_s s rand answer) (mac_s_in answer)) true (seq_said bits (sqn_ms_in s rand answer)) WrongMac
     (sym (test_is s rand answer masked ak sqn expected mac_s c) ∙ right))
 
 -- MAC-S is wrong
-pub reads_wrong : (s : Secret) (rand answer masked ak sqn expected mac_s : List ℕ)
+pub reads_wrong : (s : Secret) (rand answer masked ak sqn expected mac_s : List ℕ) (bits : ℕ)
     → Computes s rand answer masked ak sqn expected mac_s → bytes_eq expected mac_s ≡ false
-    → WrongMac ≡ read_auts_of s rand answer
-reads_wrong s rand answer masked ak sqn expected mac_s c wrong =
-    sym (chosen (bytes_eq (xmac_s s rand answer) (mac_s_in answer)) false (SeqMs (seq_of (sqn_ms_in s rand answer))) WrongMac
+    → WrongMac ≡ read_auts_of s rand answer bits
+reads_wrong s rand answer masked ak sqn expected mac_s bits c wrong =
+    sym (chosen (bytes_eq (xmac_s s rand answer) (mac_s_in answer)) false (seq_said bits (sqn_ms_in s rand answer)) WrongMac
     (sym (test_is s rand answer masked ak sqn expected mac_s c) ∙ wrong))
 
--- the AUTS of an SQN_MS is read as its SEQ
+-- the AUTS of an SQN_MS is read as what the SQN_MS says
 pub auts_is_read_back : EachAutsIsReadBack
 unfolding auts sqn_ms_in xmac_s
-auts_is_read_back s rand sqn_ms hk ho six =
+auts_is_read_back s rand sqn_ms bits hk ho six =
     let ak : List ℕ = f5_star s.k s.opc rand in
     let mac_s : List ℕ = f1_star s.k s.opc rand sqn_ms (0 ∷ 0 ∷ []) in
     let same : length sqn_ms ≡ length ak = six ∙ sym (f5_star_size s.k s.opc rand hk ho) in
@@ -83,5 +82,5 @@ auts_is_read_back s rand sqn_ms hk ho six =
     let expected : xmac_s s rand answer ≡ mac_s = ap (λ b. f1_star s.k s.opc rand b (0 ∷ 0 ∷ [])) sqn_there in
     let right : bytes_eq (xmac_s s rand answer) (mac_s_in answer) ≡ true =
     (bytes_eq-Decides (xmac_s s rand answer) (mac_s_in answer)).1 (expected ∙ sym mac_there) in
-    chosen (bytes_eq (xmac_s s rand answer) (mac_s_in answer)) true (SeqMs (seq_of (sqn_ms_in s rand answer))) WrongMac right
-    ∙ ap (λ b. SeqMs (seq_of b)) sqn_there
+    chosen (bytes_eq (xmac_s s rand answer) (mac_s_in answer)) true (seq_said bits (sqn_ms_in s rand answer)) WrongMac right
+    ∙ ap (seq_said bits) sqn_there

@@ -25,31 +25,31 @@ none = record { n = 0; rand = []; autn = []; xres = []; ck = []; ik = [] }
 
 -- ---- lists of vectors
 
-pub length-vectors_of : (s : Secret) (m : Method) (amf name : List ℕ) (n : ℕ) (rands : List (List ℕ)) → length (vectors_of s m amf name n rands) ≡ length rands
-length-vectors_of s m amf name n [] = refl
-length-vectors_of s m amf name n (r ∷ rs) = ap suc (length-vectors_of s m amf name (n + 1) rs)
+pub length-vectors_of : (s : Secret) (m : Method) (amf name : List ℕ) (bits n : ℕ) (rands : List (List ℕ)) → length (vectors_of s m amf name bits n rands) ≡ length rands
+length-vectors_of s m amf name bits n [] = refl
+length-vectors_of s m amf name bits n (r ∷ rs) = ap suc (length-vectors_of s m amf name bits (n + 1) rs)
 
-pub vectors_at : (s : Secret) (m : Method) (amf name : List ℕ) (n : ℕ) (rands : List (List ℕ)) (i : ℕ) → i < length rands
-    → get_or (vectors_of s m amf name n rands) i none ≡ vector_of s m amf name (n + i) (get_or rands i [])
-vectors_at s m amf name n [] i l = absurd (omega arith)
-vectors_at s m amf name n (r ∷ rs) zero l = let same : n ≡ n + 0 = omega arith in ap (λ k. vector_of s m amf name k r) same
-vectors_at s m amf name n (r ∷ rs) (suc i) l =
+pub vectors_at : (s : Secret) (m : Method) (amf name : List ℕ) (bits n : ℕ) (rands : List (List ℕ)) (i : ℕ) → i < length rands
+    → get_or (vectors_of s m amf name bits n rands) i none ≡ vector_of s m amf name bits (n + i) (get_or rands i [])
+vectors_at s m amf name bits n [] i l = absurd (omega arith)
+vectors_at s m amf name bits n (r ∷ rs) zero l = let same : n ≡ n + 0 = omega arith in ap (λ k. vector_of s m amf name bits k r) same
+vectors_at s m amf name bits n (r ∷ rs) (suc i) l =
     let same : n + 1 + i ≡ n + suc i = omega arith in
-    vectors_at s m amf name (n + 1) rs i (omega arith) ∙ ap (λ k. vector_of s m amf name k (get_or rs i [])) same
+    vectors_at s m amf name bits (n + 1) rs i (omega arith) ∙ ap (λ k. vector_of s m amf name bits k (get_or rs i [])) same
 
-pub vectors-append : (s : Secret) (m : Method) (amf name : List ℕ) (n : ℕ) (xs ys : List (List ℕ))
-    → vectors_of s m amf name n (xs ++ ys) ≡ vectors_of s m amf name n xs ++ vectors_of s m amf name (n + length xs) ys
-vectors-append s m amf name n [] ys = let same : n ≡ n + 0 = omega arith in ap (λ k. vectors_of s m amf name k ys) same
-vectors-append s m amf name n (x ∷ xs) ys =
+pub vectors-append : (s : Secret) (m : Method) (amf name : List ℕ) (bits n : ℕ) (xs ys : List (List ℕ))
+    → vectors_of s m amf name bits n (xs ++ ys) ≡ vectors_of s m amf name bits n xs ++ vectors_of s m amf name bits (n + length xs) ys
+vectors-append s m amf name bits n [] ys = let same : n ≡ n + 0 = omega arith in ap (λ k. vectors_of s m amf name bits k ys) same
+vectors-append s m amf name bits n (x ∷ xs) ys =
     let same : n + 1 + length xs ≡ n + suc (length xs) = omega arith in
-    ap (λ l. vector_of s m amf name n x ∷ l)
-    (vectors-append s m amf name (n + 1) xs ys ∙ ap (λ k. vectors_of s m amf name (n + 1) xs ++ vectors_of s m amf name k ys) same)
+    ap (λ l. vector_of s m amf name bits n x ∷ l)
+    (vectors-append s m amf name bits (n + 1) xs ys ∙ ap (λ k. vectors_of s m amf name bits (n + 1) xs ++ vectors_of s m amf name bits k ys) same)
 
 -- CK and IK by the method, of all
-pub all_keyed : (s : Secret) (m : Method) (amf name : List ℕ) (n : ℕ) (rands : List (List ℕ))
-    → map (keyed_by m name) (vectors_of s Aka amf [] n rands) ≡ vectors_of s m amf name n rands
-all_keyed s m amf name n [] = refl
-all_keyed s m amf name n (r ∷ rs) = ap (λ l. vector_of s m amf name n r ∷ l) (all_keyed s m amf name (n + 1) rs)
+pub all_keyed : (s : Secret) (m : Method) (amf name : List ℕ) (bits n : ℕ) (rands : List (List ℕ))
+    → map (keyed_by m name) (vectors_of s Aka amf [] bits n rands) ≡ vectors_of s m amf name bits n rands
+all_keyed s m amf name bits n [] = refl
+all_keyed s m amf name bits n (r ∷ rs) = ap (λ l. vector_of s m amf name bits n r ∷ l) (all_keyed s m amf name bits (n + 1) rs)
 
 -- a list whose element at each place is f of another list's
 pub mapped : (f : Vector → Vector) (xs zs : List Vector) → length zs ≡ length xs
@@ -100,19 +100,19 @@ with_four_size blocks p made =
     ∙ length-set blocks p (get_or made 0 [])
 
 -- the blocks of one more number
-pub inputs_next : (s : Secret) (amf : List ℕ) (first : ℕ) (rands blocks made : List (List ℕ)) (i : ℕ) → length blocks ≡ 64 → i < 16
-    → ((j : ℕ) → j < i → AreInputs s amf first rands blocks j)
-    → GiveOuts s (get_or rands i []) (sqn_bytes (first + i)) amf (aes s.k (get_or made 0 [])) (aes s.k (get_or made 1 [])) (aes s.k (get_or made 2 [])) (aes s.k (get_or made 3 []))
-    → (j : ℕ) → j < i + 1 → AreInputs s amf first rands (with_four blocks (4 * i) made) j
-inputs_next s amf first rands blocks made i size small before give =
-    below_more (λ j. AreInputs s amf first rands (with_four blocks (4 * i) made) j) i
+pub inputs_next : (s : Secret) (amf : List ℕ) (bits first : ℕ) (rands blocks made : List (List ℕ)) (i : ℕ) → length blocks ≡ 64 → i < 16
+    → ((j : ℕ) → j < i → AreInputs s amf bits first rands blocks j)
+    → GiveOuts s (get_or rands i []) (sqn_bytes bits (first + i)) amf (aes s.k (get_or made 0 [])) (aes s.k (get_or made 1 [])) (aes s.k (get_or made 2 [])) (aes s.k (get_or made 3 []))
+    → (j : ℕ) → j < i + 1 → AreInputs s amf bits first rands (with_four blocks (4 * i) made) j
+inputs_next s amf bits first rands blocks made i size small before give =
+    below_more (λ j. AreInputs s amf bits first rands (with_four blocks (4 * i) made) j) i
     (λ j under. rw (other_place blocks (4 * i) (4 * j) made (omega arith), other_place blocks (4 * i) (4 * j + 1) made (omega arith), other_place blocks (4 * i) (4 * j + 2) made (omega arith), other_place blocks (4 * i) (4 * j + 3) made (omega arith)) (before j under))
     (rw (place_0 blocks (4 * i) made (omega arith), place_1 blocks (4 * i) made (omega arith), place_2 blocks (4 * i) made (omega arith), place_3 blocks (4 * i) made (omega arith)) give)
 
 -- the ciphers of the first blocks
-pub ciphers_are : (s : Secret) (amf : List ℕ) (first count : ℕ) (rands blocks made rest : List (List ℕ)) (j : ℕ) → 4 * count ≤ length blocks
-    → made ≡ map (aes s.k) (take (4 * count) blocks) → j < count → AreInputs s amf first rands blocks j → AreCiphers s amf first rands (made ++ rest) j
-ciphers_are s amf first count rands blocks made rest j long em l given =
+pub ciphers_are : (s : Secret) (amf : List ℕ) (bits first count : ℕ) (rands blocks made rest : List (List ℕ)) (j : ℕ) → 4 * count ≤ length blocks
+    → made ≡ map (aes s.k) (take (4 * count) blocks) → j < count → AreInputs s amf bits first rands blocks j → AreCiphers s amf bits first rands (made ++ rest) j
+ciphers_are s amf bits first count rands blocks made rest j long em l given =
     rw (at (4 * j) (omega arith), at (4 * j + 1) (omega arith), at (4 * j + 2) (omega arith), at (4 * j + 3) (omega arith)) given
   where
     size : length (take (4 * count) blocks) ≡ 4 * count
@@ -138,22 +138,22 @@ take_more at k xs =
     ∙ take-append-drop at (take (at + k) xs)
 
 -- the vectors of one more group
-pub fill_next : (s : Secret) (amf : List ℕ) (first at count k : ℕ) (rands : List (List ℕ)) (out made : List Vector) → at + count ≤ length rands
-    → length out ≡ length rands → k ≡ count → take at out ≡ vectors_of s Aka amf [] first (take at rands)
-    → made ≡ vectors_of s Aka amf [] (first + at) (take k (drop at rands))
-    → (take (at + count) (put_mid at k out made) ≡ vectors_of s Aka amf [] first (take (at + count) rands)) × (length (put_mid at k out made) ≡ length rands)
-fill_next s amf first at count k rands out made long same ek before em =
+pub fill_next : (s : Secret) (amf : List ℕ) (bits first at count k : ℕ) (rands : List (List ℕ)) (out made : List Vector) → at + count ≤ length rands
+    → length out ≡ length rands → k ≡ count → take at out ≡ vectors_of s Aka amf [] bits first (take at rands)
+    → made ≡ vectors_of s Aka amf [] bits (first + at) (take k (drop at rands))
+    → (take (at + count) (put_mid at k out made) ≡ vectors_of s Aka amf [] bits first (take (at + count) rands)) × (length (put_mid at k out made) ≡ length rands)
+fill_next s amf bits first at count k rands out made long same ek before em =
     let group = take k (drop at rands) in
     let left : k ≤ length (drop at rands) = omega (arith, length-drop at rands) in
-    let size : length made ≡ k = ap length em ∙ length-vectors_of s Aka amf [] (first + at) group ∙ length-take-le k (drop at rands) left in
+    let size : length made ≡ k = ap length em ∙ length-vectors_of s Aka amf [] bits (first + at) group ∙ length-take-le k (drop at rands) left in
     let front : length (take at rands) ≡ at = length-take-le at rands (omega arith) in
     let mid : length made ≡ length (take k (drop at out)) = size ∙ sym (length-take-le k (drop at out) (omega (arith, length-drop at out))) in
-    let both : vectors_of s Aka amf [] first (take at rands) ++ vectors_of s Aka amf [] (first + at) group ≡ vectors_of s Aka amf [] first (take at rands ++ group) =
-    ap (λ m. vectors_of s Aka amf [] first (take at rands) ++ vectors_of s Aka amf [] (first + m) group) (sym front)
-    ∙ sym (vectors-append s Aka amf [] first (take at rands) group) in (
+    let both : vectors_of s Aka amf [] bits first (take at rands) ++ vectors_of s Aka amf [] bits (first + at) group ≡ vectors_of s Aka amf [] bits first (take at rands ++ group) =
+    ap (λ m. vectors_of s Aka amf [] bits first (take at rands) ++ vectors_of s Aka amf [] bits (first + m) group) (sym front)
+    ∙ sym (vectors-append s Aka amf [] bits first (take at rands) group) in (
       take-put_mid at k out made (at + count) (omega (arith, size)) (omega arith) ∙ ap (λ l. l ++ made) before
-          ∙ ap (λ l. vectors_of s Aka amf [] first (take at rands) ++ l) em ∙ both
-          ∙ ap (vectors_of s Aka amf [] first) (take_more at k rands ∙ ap (λ m. take (at + m) rands) ek),
+          ∙ ap (λ l. vectors_of s Aka amf [] bits first (take at rands) ++ l) em ∙ both
+          ∙ ap (vectors_of s Aka amf [] bits first) (take_more at k rands ∙ ap (λ m. take (at + m) rands) ek),
       same_len_mid at k out made mid ∙ same,
     )
 
@@ -198,8 +198,8 @@ autn_is in1 out1 out2 sqn amf l1 l2 ls la ei =
     ∙ ap (λ o. parts sqn amf o (all out2)) e1 ∙ ap (parts sqn amf out1) e2
 
 -- the vector of a number, from its four ciphers
-pub made_is : (s : Secret) (amf rand a b c d autn xres ck ik : List ℕ) (n : ℕ) → GiveOuts s rand (sqn_bytes n) amf a b c d
-    → autn ≡ xor (sqn_bytes n) (take 6 (xor b s.opc)) ++ amf ++ take 8 (xor a s.opc) → xres ≡ drop 8 (xor b s.opc) → ck ≡ xor c s.opc → ik ≡ xor d s.opc
-    → record { n = n; rand = rand; autn = autn; xres = xres; ck = ck; ik = ik } ≡ vector_of s Aka amf [] n rand
+pub made_is : (s : Secret) (amf rand a b c d autn xres ck ik : List ℕ) (bits n : ℕ) → GiveOuts s rand (sqn_bytes bits n) amf a b c d
+    → autn ≡ xor (sqn_bytes bits n) (take 6 (xor b s.opc)) ++ amf ++ take 8 (xor a s.opc) → xres ≡ drop 8 (xor b s.opc) → ck ≡ xor c s.opc → ik ≡ xor d s.opc
+    → record { n = n; rand = rand; autn = autn; xres = xres; ck = ck; ik = ik } ≡ vector_of s Aka amf [] bits n rand
 unfolding autn_of f1 f2 f3 f4 f5
-made_is s amf rand a b c d autn xres ck ik n give ea ex ec ed = rw (ea, ex, ec, ed, give.first, give.second, give.third, give.fourth) refl
+made_is s amf rand a b c d autn xres ck ik bits n give ea ex ec ed = rw (ea, ex, ec, ed, give.first, give.second, give.third, give.fourth) refl

@@ -1,5 +1,6 @@
 pub mod Auts
 pub mod Centre
+pub mod InnerStretch
 pub mod Keys
 pub mod Stretch
 pub mod Vector

@@ -1,7 +1,6 @@
 //! Asking a centre, with notes of what it answers.
 
 ghost use Rattle.std.specs.Prelude.{◌≡◌, ◌≢◌, ◌<◌, ◌≤◌, ℕ, []};
-ghost use Rattle.auc_sqn.specs.Number.{max_seq};
 ghost use Rattle.auc_vector.specs.Centre.{kept_after_next};
 ghost use Rattle.auc_vector.specs.Notes.{AnswersNote, AnswersReport, answer_noted, entries_noted, entries_resynced, withheld_noted};
 
@@ -35,10 +34,11 @@ pub fn ask<C: Centre, R: Wait>(rt: &R, centre: &mut C, sub: u32) -> NumberNote
     }
 }
 
-/// Reports to a centre the SEQ that a USIM sent under a right MAC-S, and notes its answer, which is never BadAuts.
+/// Reports to a centre the SEQ that a USIM sent under a right MAC-S, which is at most the subscriber's greatest number, and
+/// notes its answer, which is never BadAuts.
 pub fn report<C: Centre, R: Wait>(rt: &R, centre: &mut C, sub: u32, seq_ms: u64) -> ResyncNote
     requires sub { sub < C.subs centre.old }
-    requires number { seq_ms ≤ max_seq }
+    requires number { seq_ms ≤ C.top centre.old sub }
 
     ensures answer { AnswersReport (C.kept centre.old sub) (Some seq_ms) (Some result) }
 

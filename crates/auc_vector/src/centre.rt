@@ -5,7 +5,6 @@ ghost use Rattle.auc_edge.specs.declared.stop.Stop.{Stop};
 ghost use Rattle.auc_history.specs.declared.entry.Entry.{Entry};
 ghost use Rattle.auc_history.specs.History.{IsInOrder};
 ghost use Rattle.auc_vector.specs.Centre.{AnswersNext, entries_of_next, withheld_of_next, kept_after_next, AnswersResync, entries_of_resync};
-ghost use Rattle.auc_sqn.specs.Number.{max_seq};
 
 use auc_edge::Stop;
 use std::sync::Wait;
@@ -69,11 +68,12 @@ pub trait Centre {
         ensures top { (i : ℕ) → top self.new i ≡ top self.old i }
         ensures name { name self.new ≡ name self.old };
 
-    /// Resynchronises with the SEQ that a USIM reported under a right MAC-S (TS 33.102 §6.3.5): the subscriber's number
-    /// becomes the greater of itself and that SEQ. It never answers Exhausted or Withheld.
+    /// Resynchronises with the SEQ that a USIM reported under a right MAC-S (TS 33.102 §6.3.5), which is at most the
+    /// subscriber's greatest number: the subscriber's number becomes the greater of itself and that SEQ. It never answers
+    /// Exhausted or Withheld.
     fn resync<R: Wait>(&mut self, rt: &R, sub: u32, seq_ms: u64) -> Result<Resynced, CentreRefusal>
         requires sub { sub < subs self.old }
-        requires number { seq_ms ≤ max_seq }
+        requires number { seq_ms ≤ top self.old sub }
 
         ensures answer { AnswersResync (kept self.old sub) seq_ms result }
 

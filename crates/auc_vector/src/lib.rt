@@ -13,8 +13,8 @@
 //! a [`Turn`] is what an end of a session does with what it received, with its [`Notes`].
 //!
 //! Contracts see a `Vectors` as what its vectors are made from (`specs/Vector`), keys as functions of bytes (`specs/Keys`),
-//! and a `CoreCentre` as the list of its subscribers' words. Nothing here takes memory or can fail. A `Centre`'s calls may
-//! wait, and those of `CoreCentre` wait for nobody. The tests stand in `auc_vector_tests`.
+//! and a `CoreCentre` as its subscribers' words and greatest numbers. Nothing here takes memory or can fail. A `Centre`'s
+//! calls may wait, and those of `CoreCentre` wait for nobody. The tests stand in `auc_vector_tests`.
 #![tactic(auto)]
 
 mod asking;

@@ -5,7 +5,7 @@ ghost use Rattle.auc_aes.specs.Bytes.{xor};
 ghost use Rattle.auc_hmac.specs.declared.method.Method.TheVariants.{Aka};
 ghost use Rattle.auc_milenage.specs.Lanes.{GiveOuts};
 ghost use Rattle.auc_milenage.specs.Milenage.{in1_of, temp_of};
-ghost use Rattle.auc_sqn.specs.Number.{max_seq, sqn_bytes};
+ghost use Rattle.auc_sqn.specs.Number.{most_bits, sqn_bytes, top_of};
 ghost use Rattle.auc_vector.specs.Many.{AreCiphers, AreInputs, keyed_by, vectors_of};
 ghost use Rattle.auc_vector.specs.Vector.{vector_of};
 
@@ -20,23 +20,26 @@ use std::simd::prelude::*;
 const GROUP: usize = 16;
 
 /// Makes the vectors of the numbers from `first` on, one for each RAND, under a subscriber's secret and AMF, for a method
-/// and the name of the network, of which EAP-AKA makes no use. Each is what [`vector`](crate::vector) makes.
+/// and the name of the network, of which EAP-AKA makes no use. The subscriber's index has `bits` bits. Each is what
+/// [`vector`](crate::vector) makes.
 pub fn vectors(
     s: &Secret,
     method: Method,
     amf: [u8; 2],
     name: &[u8],
+    bits: u8,
     first: u64,
     rands: &[[u8; 16]],
     out: &mut [Vector],
 )
     requires lengths { length rands.now ≡ length out.old }
     requires short { length name.now ≤ 255 }
+    requires bits { bits ≤ most_bits }
     requires first { 1 ≤ first }
-    requires last { first + length rands.now ≤ max_seq + 1 }
-    ensures { out.new ≡ vectors_of s.now method amf name.now first rands.now }
+    requires last { first + length rands.now ≤ top_of bits + 1 }
+    ensures { out.new ≡ vectors_of s.now method amf name.now bits first rands.now }
 {
-    fill_all(&MilenageLanes::new(s), amf, first, rands, out);
+    fill_all(&MilenageLanes::new(s), amf, bits, first, rands, out);
     match method {
         Method::Aka => {}
         Method::Prime => key_all(method, name, out),
@@ -44,10 +47,18 @@ pub fn vectors(
 }
 
 /// Makes the vectors for EAP-AKA.
-fn fill_all(m: &MilenageLanes, amf: [u8; 2], first: u64, rands: &[[u8; 16]], out: &mut [Vector])
+fn fill_all(
+    m: &MilenageLanes,
+    amf: [u8; 2],
+    bits: u8,
+    first: u64,
+    rands: &[[u8; 16]],
+    out: &mut [Vector],
+)
+    requires bits { bits ≤ most_bits }
     requires lengths { length rands.now ≡ length out.old }
-    requires last { first + length rands.now ≤ max_seq + 1 }
-    ensures { out.new ≡ vectors_of m.now Aka amf [] first rands.now }
+    requires last { first + length rands.now ≤ top_of bits + 1 }
+    ensures { out.new ≡ vectors_of m.now Aka amf [] bits first rands.now }
 {
     let mut at = 0;
     while at < rands.len() {
@@ -56,6 +67,7 @@ fn fill_all(m: &MilenageLanes, amf: [u8; 2], first: u64, rands: &[[u8; 16]], out
         fill(
             m,
             amf,
+            bits,
             first + at as u64,
             &rands[at..end],
             &mut out[at..end],
@@ -76,32 +88,47 @@ fn key_all(method: Method, name: &[u8], out: &mut [Vector])
 
 /// Makes the vectors of at most sixteen numbers for EAP-AKA: TEMP of each RAND, then four blocks of each number, which are
 /// encrypted together, and the vectors from their ciphers.
-fn fill(m: &MilenageLanes, amf: [u8; 2], first: u64, rands: &[[u8; 16]], out: &mut [Vector])
+fn fill(
+    m: &MilenageLanes,
+    amf: [u8; 2],
+    bits: u8,
+    first: u64,
+    rands: &[[u8; 16]],
+    out: &mut [Vector],
+)
+    requires bits { bits ≤ most_bits }
     requires few { length rands.now ≤ 16 }
     requires lengths { length rands.now ≡ length out.old }
-    requires last { first + length rands.now ≤ max_seq + 1 }
-    ensures { out.new ≡ vectors_of m.now Aka amf [] first rands.now }
+    requires last { first + length rands.now ≤ top_of bits + 1 }
+    ensures { out.new ≡ vectors_of m.now Aka amf [] bits first rands.now }
 {
     let count = rands.len();
     let mut group = [[0; 16]; GROUP];
     let temps = &mut group[..count];
     temps.copy_from_slice(rands);
     m.temps(temps);
-    let mut blocks = inputs(m, amf, first, temps);
+    let mut blocks = inputs(m, amf, bits, first, temps);
     m.encrypt(&mut blocks[..4 * count]);
-    take_apart(m, amf, first, rands, &blocks, out);
+    take_apart(m, amf, bits, first, rands, &blocks, out);
 }
 
 /// The blocks that are encrypted for the numbers from `first` on, four for each, from their TEMPs.
-fn inputs(m: &MilenageLanes, amf: [u8; 2], first: u64, temps: &[[u8; 16]]) -> [[u8; 16]; 64]
+fn inputs(
+    m: &MilenageLanes,
+    amf: [u8; 2],
+    bits: u8,
+    first: u64,
+    temps: &[[u8; 16]],
+) -> [[u8; 16]; 64]
+    requires bits { bits ≤ most_bits }
     requires few { length temps.now ≤ 16 }
-    requires last { first + length temps.now ≤ max_seq + 1 }
+    requires last { first + length temps.now ≤ top_of bits + 1 }
     ensures { (rands : List (List ℕ)) → temps.now ≡ map (temp_of m.now.k m.now.opc) rands
-        → (j : ℕ) → j < length temps.now → AreInputs m.now amf first rands result j }
+        → (j : ℕ) → j < length temps.now → AreInputs m.now amf bits first rands result j }
 {
     let mut blocks = [[0; 16]; 4 * GROUP];
     for i in 0..temps.len() {
-        let made = m.inputs(temps[i], in1(sqn_of(first + i as u64), amf));
+        let made = m.inputs(temps[i], in1(sqn_of(first + i as u64, bits), amf));
         blocks[4 * i] = made[0];
         blocks[4 * i + 1] = made[1];
         blocks[4 * i + 2] = made[2];
@@ -114,16 +141,18 @@ fn inputs(m: &MilenageLanes, amf: [u8; 2], first: u64, temps: &[[u8; 16]]) -> [[
 fn take_apart(
     m: &MilenageLanes,
     amf: [u8; 2],
+    bits: u8,
     first: u64,
     rands: &[[u8; 16]],
     ciphers: &[[u8; 16]; 64],
     out: &mut [Vector],
 )
+    requires bits { bits ≤ most_bits }
     requires few { length rands.now ≤ 16 }
     requires lengths { length rands.now ≡ length out.old }
-    requires last { first + length rands.now ≤ max_seq + 1 }
-    ensures { ((j : ℕ) → j < length rands.now → AreCiphers m.now amf first rands.now ciphers.now j)
-        → out.new ≡ vectors_of m.now Aka amf [] first rands.now }
+    requires last { first + length rands.now ≤ top_of bits + 1 }
+    ensures { ((j : ℕ) → j < length rands.now → AreCiphers m.now amf bits first rands.now ciphers.now j)
+        → out.new ≡ vectors_of m.now Aka amf [] bits first rands.now }
 {
     for i in 0..rands.len() {
         let four = [
@@ -132,23 +161,31 @@ fn take_apart(
             ciphers[4 * i + 2],
             ciphers[4 * i + 3],
         ];
-        out[i] = made(m, amf, first + i as u64, rands[i], four);
+        out[i] = made(m, amf, bits, first + i as u64, rands[i], four);
     }
 }
 
 /// The vector of a number, from its four ciphers.
-fn made(m: &MilenageLanes, amf: [u8; 2], n: u64, rand: [u8; 16], ciphers: [[u8; 16]; 4]) -> Vector
-    requires { n ≤ max_seq }
-    ensures { GiveOuts m.now rand (sqn_bytes n) amf (slice_index_or ciphers 0 [])
+fn made(
+    m: &MilenageLanes,
+    amf: [u8; 2],
+    bits: u8,
+    n: u64,
+    rand: [u8; 16],
+    ciphers: [[u8; 16]; 4],
+) -> Vector
+    requires bits { bits ≤ most_bits }
+    requires last { n ≤ top_of bits }
+    ensures { GiveOuts m.now rand (sqn_bytes bits n) amf (slice_index_or ciphers 0 [])
         (slice_index_or ciphers 1 []) (slice_index_or ciphers 2 []) (slice_index_or ciphers 3 [])
-        → result ≡ vector_of m.now Aka amf [] n rand }
+        → result ≡ vector_of m.now Aka amf [] bits n rand }
 {
     let out1 = m.out(ciphers[0]);
     let out2 = m.out(ciphers[1]);
     Vector {
         n,
         rand,
-        autn: autn(in1(sqn_of(n), amf), out1, out2),
+        autn: autn(in1(sqn_of(n, bits), amf), out1, out2),
         xres: second_half(out2),
         ck: m.out(ciphers[2]),
         ik: m.out(ciphers[3]),

@@ -12,7 +12,7 @@ pub enum ResyncNote {
     InRange(u64, u64),
     /// The number is too far above the SEQ, and stands.
     Beyond(u64, u64),
-    /// MAC-S isn't right. The centre wasn't asked.
+    /// MAC-S isn't right, or the SEQ is above the subscriber's greatest number. The centre wasn't asked.
     BadAuts,
 }
 

@@ -1,11 +1,11 @@
 //! A digest of many vectors.
 
 ghost use Rattle.std.specs.Prelude.{◌≤◌, ◌+◌};
-ghost use Rattle.auc_sqn.specs.Number.{max_seq};
+ghost use Rattle.auc_sqn.specs.Number.{top_of};
 
 use auc_hmac::Method;
 use auc_milenage::Secret;
-use auc_sqn::MAX_SEQ;
+use auc_sqn::top;
 use auc_vector::{Vector, vector, vectors};
 
 // K, OPc and RAND of TS 35.208, test set 1. The RAND of a vector is this one XOR its number.
@@ -21,6 +21,9 @@ const SECRET: Secret = Secret {
 };
 
 const RAND: u128 = 0x2355_3cbe_9637_a89d_218a_e64d_ae47_bf35;
+
+/// The index length of the vectors: IND has so many bits.
+const BITS: u8 = 5;
 
 /// How many vectors are made by one call.
 const CALL: usize = 256;
@@ -43,19 +46,19 @@ pub struct Folded {
 }
 
 impl Folded {
-    /// The digest of the vectors with the numbers from 1 to `count`, or to the greatest SEQ if that is less. Each is made
+    /// The digest of the vectors with the numbers from 1 to `count`, or to the greatest number if that is less. Each is made
     /// alone.
     pub fn of_first(count: u64) -> Folded {
         let mut folded = Folded { xres: 0, autn: 0 };
-        for n in 1..=count.min(MAX_SEQ) {
-            folded.add(&vector(&SECRET, Method::Aka, [0x80, 0], &[], n, rand_of(n)));
+        for n in 1..=count.min(top(BITS)) {
+            folded.add(&vector(&SECRET, Method::Aka, [0x80, 0], &[], BITS, n, rand_of(n)));
         }
         folded
     }
 
     /// The same digest, with as many vectors at each call as `CALL` says.
     pub fn of_many(count: u64) -> Folded {
-        let count = count.min(MAX_SEQ);
+        let count = count.min(top(BITS));
         let calls = count / CALL as u64;
         let mut folded = Folded { xres: 0, autn: 0 };
         for call in 0..calls {
@@ -69,7 +72,7 @@ impl Folded {
     fn add_call(&mut self, first: u64, count: usize)
         requires few { count ≤ 256 }
         requires first { 1 ≤ first }
-        requires last { first + count ≤ max_seq + 1 }
+        requires last { first + count ≤ top_of 5 + 1 }
     {
         let mut rands = [[0; 16]; CALL];
         for i in 0..count {
@@ -81,6 +84,7 @@ impl Folded {
             Method::Aka,
             [0x80, 0],
             &[],
+            BITS,
             first,
             &rands[..count],
             &mut made[..count],

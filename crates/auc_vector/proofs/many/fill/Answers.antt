@@ -10,5 +10,5 @@ returns c =
     let temps : c.temps.new.rands ≡ map temp c.args.rands.now = c.temps.ensures ∙ ap (map temp) c.copy_from_slice.ensures.after in
     c.take_apart.ensures (λ j l.
     let there : j < length c.temps.new.rands = omega (arith, ap length temps, length-map c.args.rands.now temp) in
-    ciphers_are c.args.m.now c.args.amf c.args.first (length c.args.rands.now) c.args.rands.now c.inputs-blocks.result c.encrypt.new.blocks _ j
+    ciphers_are c.args.m.now c.args.amf c.args.bits c.args.first (length c.args.rands.now) c.args.rands.now c.inputs-blocks.result c.encrypt.new.blocks _ j
     (omega arith) c.encrypt.ensures l (c.inputs-blocks.ensures c.args.rands.now temps j there))

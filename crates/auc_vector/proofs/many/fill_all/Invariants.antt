@@ -7,7 +7,7 @@ abbrev pub invariant-loop-at : goal.invariant-loop-at
 invariant-loop-at l = record {
   within : l.at ≤ length l.rands;
   size : length l.out ≡ length l.rands;
-  done : take l.at l.out ≡ vectors_of l.m Aka l.amf [] l.first (take l.at l.rands);
+  done : take l.at l.out ≡ vectors_of l.m Aka l.amf [] l.bits l.first (take l.at l.rands);
 }
 
 abbrev pub decreases-loop-at : goal.decreases-loop-at

@@ -11,9 +11,9 @@ loop-i-preserved c = record {
   done = λ rands e.
       let temp : List ℕ → List ℕ = temp_of c.args.m.now.k c.args.m.now.opc in
       let there : c.loop-i.i < length rands = omega (arith, ap length e, length-map rands temp) in
-      inputs_next c.args.m.now c.args.amf c.args.first rands c.loop-i.blocks c.inputs-made.result c.loop-i.i c.loop-i.invariant.size (omega arith)
+      inputs_next c.args.m.now c.args.amf c.args.bits c.args.first rands c.loop-i.blocks c.inputs-made.result c.loop-i.i c.loop-i.invariant.size (omega arith)
       (c.loop-i.invariant.done rands e)
-      (c.inputs-made.ensures (get_or rands c.loop-i.i []) (sqn_bytes (c.args.first + c.loop-i.i)) c.args.amf
+      (c.inputs-made.ensures (get_or rands c.loop-i.i []) (sqn_bytes c.args.bits (c.args.first + c.loop-i.i)) c.args.amf
       (ap (λ l. get_or l c.loop-i.i []) e ∙ get_or-map temp rands c.loop-i.i [] [] there)
       (c.in1.ensures ∙ ap (λ q. in1_of q c.args.amf) c.sqn_of.ensures));
 }

@@ -7,7 +7,7 @@ use Rattle.auc_vector.proofs.many.take_apart.Goals as goal
 
 pub returns : goal.returns
 returns c given =
-    ext_get_or none c.loop-i.out (vectors_of c.args.m.now Aka c.args.amf [] c.args.first c.args.rands.now)
-    (c.loop-i.invariant.size ∙ sym (length-vectors_of c.args.m.now Aka c.args.amf [] c.args.first c.args.rands.now)) (λ i under.
+    ext_get_or none c.loop-i.out (vectors_of c.args.m.now Aka c.args.amf [] c.args.bits c.args.first c.args.rands.now)
+    (c.loop-i.invariant.size ∙ sym (length-vectors_of c.args.m.now Aka c.args.amf [] c.args.bits c.args.first c.args.rands.now)) (λ i under.
     c.loop-i.invariant.done given i (omega (arith, c.loop-i.invariant.size))
-    ∙ sym (vectors_at c.args.m.now Aka c.args.amf [] c.args.first c.args.rands.now i (omega (arith, c.loop-i.invariant.size))))
+    ∙ sym (vectors_at c.args.m.now Aka c.args.amf [] c.args.bits c.args.first c.args.rands.now i (omega (arith, c.loop-i.invariant.size))))

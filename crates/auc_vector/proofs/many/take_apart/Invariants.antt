@@ -8,6 +8,6 @@ use Rattle.auc_vector.proofs.many.take_apart.Given as goal
 abbrev pub invariant-loop-i : goal.invariant-loop-i
 invariant-loop-i l = record {
   size : length l.out ≡ length l.rands;
-  done : ((j : ℕ) → j < length l.rands → AreCiphers l.m l.amf l.first l.rands l.ciphers j)
-      → (j : ℕ) → j < l.i → get_or l.out j none ≡ vector_of l.m Aka l.amf [] (l.first + j) (get_or l.rands j []);
+  done : ((j : ℕ) → j < length l.rands → AreCiphers l.m l.amf l.bits l.first l.rands l.ciphers j)
+      → (j : ℕ) → j < l.i → get_or l.out j none ≡ vector_of l.m Aka l.amf [] l.bits (l.first + j) (get_or l.rands j []);
 }
