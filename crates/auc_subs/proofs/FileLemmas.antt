@@ -1,7 +1,8 @@
 -- How reading on in a file follows its list of records, for the functions of `file`.
 use Rattle.std.proofs.Common.{ℕ, zero, suc, ◌≡◌, ◌<◌, ◌≤◌, ◌==◌, ◌&&◌, Bool, true, false, List, [], ◌∷◌, ◌++◌, length, get_or, Option, Some, None, Result, Ok, Err, Bor, refl, sym, ap, ◌∙◌, inl, arith}
 use Rattle.std.proofs.lemmas.Bool.{false≢true}
-use Rattle.std.specs.Prelude.{MatchBool, if◌then◌else◌, fold}
+use Rattle.std.proofs.lemmas.Bool.Decides.{nat_tests}
+use Rattle.std.specs.Prelude.{Contains, MatchBool, if◌then◌else◌, fold}
 use Rattle.csv.specs.Machine.{Read, after_end, ends_at_end, ends_with, field_after, fields_after, in_field, is_byte, is_end, next_record, start_field, start_record, step}
 use Rattle.csv.specs.Reading.{NextIs, ReadRecord, ReadsNext, default_config, pending_of, records_from, source_of}
 use Rattle.csv.specs.Records.{field_at}
@@ -19,6 +20,7 @@ use Rattle.auc_subs.specs.declared.refusal.SubsRefusal.TheVariants as refusal
 use Rattle.auc_subs.specs.declared.refusal.SubsWhy.TheVariants as why
 use Rattle.auc_subs.specs.File.{is_header, rows_of, with_record}
 use Rattle.auc_subs.specs.InnerFile.{IsBefore, WentOn}
+use Rattle.auc_subs.specs.Subscriber.{line_counts}
 
 -- where a record has no field, the one there is empty
 pub field_missing : (fields : List (List ℕ)) (place : ℕ) → field_at fields place ≡ None → get_or fields place [] ≡ []
@@ -180,8 +182,16 @@ went_on old new left found fields before read first =
 
 -- behind the header come the rows
 pub header_read : (reader : Reader (Bor (List ℕ))) (left : List (List (List ℕ))) (fields : List (List ℕ)) → WentOn reader left fields → is_header fields ≡ true
-    → (rest : List (List (List ℕ))) × IsBefore reader rest × (rows_of left ≡ fold with_record (Ok []) rest)
+    → (rest : List (List (List ℕ))) × IsBefore reader rest × (rows_of left ≡ fold (with_record (length fields)) (Ok []) rest)
 header_read reader left fields went holds = (went.0, went.2, rw (went.1, holds) refl)
+
+-- and the header has as many fields as a line may have
+pub header_count : (fields : List (List ℕ)) → is_header fields ≡ true → Contains line_counts (length fields)
+header_count fields holds = by_seven (length fields == 7) refl
+  where
+    by_seven : (b : Bool) → (length fields == 7) ≡ b → Contains line_counts (length fields)
+    by_seven true seven = let same : length fields ≡ 7 = grind (arith, nat_tests) in rw same (0, omega arith, refl)
+    by_seven false other = let same : length fields ≡ 9 = grind (arith, nat_tests) in rw same (1, omega arith, refl)
 
 -- another record isn't the header
 pub header_wrong : (reader : Reader (Bor (List ℕ))) (left : List (List (List ℕ))) (fields : List (List ℕ)) → WentOn reader left fields → is_header fields ≡ false
@@ -193,26 +203,26 @@ pub header_missing : (left : List (List (List ℕ))) → left ≡ [] → rows_of
 header_missing left none = rw none refl
 
 -- one refusal, told of two answers
-pub same_refusal : (rows : Result (List Row) SubsRefusal) (a b : SubsRefusal) → rows ≡ Err a → (let unit : Result (Unit {0}) SubsRefusal = Err a in unit) ≡ Err b → rows ≡ Err b
+pub same_refusal : (rows : Result (List Row) SubsRefusal) (a b : SubsRefusal) → rows ≡ Err a → (let count : Result ℕ SubsRefusal = Err a in count) ≡ Err b → rows ≡ Err b
 same_refusal rows a b is same = cc
 
 -- ---- the rows
 
 -- a refusal stays to the end
-pub refused_stays : (refused : SubsRefusal) (records : List (List (List ℕ))) → fold with_record (Err refused) records ≡ Err refused
-refused_stays refused [] = refl
-refused_stays refused (first ∷ rest) = refused_stays refused rest
+pub refused_stays : (count : ℕ) (refused : SubsRefusal) (records : List (List (List ℕ))) → fold (with_record count) (Err refused) records ≡ Err refused
+refused_stays count refused [] = refl
+refused_stays count refused (first ∷ rest) = refused_stays count refused rest
 
 -- a record that is a subscriber puts a row
-pub row_put : (rows more : List Row) (left rest : List (List (List ℕ))) (fields : List (List ℕ)) → left ≡ fields ∷ rest
-    → with_record (Ok rows) fields ≡ Ok more → fold with_record (Ok rows) left ≡ fold with_record (Ok more) rest
-row_put rows more left rest fields told put = rw (told, put) refl
+pub row_put : (count : ℕ) (rows more : List Row) (left rest : List (List (List ℕ))) (fields : List (List ℕ)) → left ≡ fields ∷ rest
+    → with_record count (Ok rows) fields ≡ Ok more → fold (with_record count) (Ok rows) left ≡ fold (with_record count) (Ok more) rest
+row_put count rows more left rest fields told put = rw (told, put) refl
 
 -- a wrong record is the answer
-pub row_refused : (rows : List Row) (refused : SubsRefusal) (left rest : List (List (List ℕ))) (fields : List (List ℕ)) → left ≡ fields ∷ rest
-    → with_record (Ok rows) fields ≡ Err refused → fold with_record (Ok rows) left ≡ Err refused
-row_refused rows refused left rest fields told is = rw (told, is) (refused_stays refused rest)
+pub row_refused : (count : ℕ) (rows : List Row) (refused : SubsRefusal) (left rest : List (List (List ℕ))) (fields : List (List ℕ)) → left ≡ fields ∷ rest
+    → with_record count (Ok rows) fields ≡ Err refused → fold (with_record count) (Ok rows) left ≡ Err refused
+row_refused count rows refused left rest fields told is = rw (told, is) (refused_stays count refused rest)
 
 -- where no record is left, the rows are the answer
-pub all_put : (rows : List Row) (left : List (List (List ℕ))) → left ≡ [] → fold with_record (Ok rows) left ≡ Ok rows
-all_put rows left none = rw none refl
+pub all_put : (count : ℕ) (rows : List Row) (left : List (List (List ℕ))) → left ≡ [] → fold (with_record count) (Ok rows) left ≡ Ok rows
+all_put count rows left none = rw none refl

@@ -1,5 +1,8 @@
+pub mod Facts
 mod FaultLemmas
+mod FieldLemmas
 mod FileLemmas
 mod LawLemmas
 mod LookupLemmas
 mod RowLemmas
+mod TopLemmas

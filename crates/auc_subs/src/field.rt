@@ -1,15 +1,18 @@
 //! The fields of a line: the parts between its spaces.
 
 ghost use Rattle.std.specs.Prelude.{◌≡◌, ◌==◌, length, map, count_by, IfOk};
+ghost use Rattle.std.specs.List.{list_any};
 ghost use Rattle.auc_subs.specs.Field.{fields_of};
+ghost use Rattle.auc_subs.specs.Subscriber.{line_counts};
 
 use std::alloc::{AllocError, Global};
 
-/// Whether a line has seven fields, which one space each separates.
-pub fn has_seven_fields(line: &[u8]) -> bool
-    ensures { result ≡ (length (fields_of line.now) == 7) }
+/// Whether a line has seven fields or nine, which one space each separates.
+pub fn has_seven_or_nine_fields(line: &[u8]) -> bool
+    ensures { result ≡ list_any (λ count. length (fields_of line.now) == count) line_counts }
 {
-    space_count(line) == 6
+    let spaces = space_count(line);
+    spaces == 6 || spaces == 8
 }
 
 /// How many spaces a line has.

@@ -1,11 +1,11 @@
 //! The subscribers of an authentication centre.
 //!
 //! A [`Row`] is what the centre keeps of one subscriber: the identity (TS 23.003 §2.2), the key K and
-//! OPc (TS 35.206 §4.1), the AMF (TS 33.102 §6.3.2), and the numbers up to which its vectors were drawn
-//! and its USIM has accepted them. [`Subscribers`] are rows with different identities; contracts see
-//! them as the list of their rows. [`Subscribers::read`] reads a file of comma-separated records and
-//! tells the first wrong one, [`Subscribers::add`] a line of seven fields, each by its first fault, a
-//! [`SubsWhy`]. If OP is given, OPc is computed from it. [`refused_record_is_the_first_wrong`] and the
+//! OPc (TS 35.206 §4.1), the AMF (TS 33.102 §6.3.2), the numbers up to which its vectors were drawn and
+//! its USIM has accepted them, the length of IND and the USIM's age limit (TS 33.102 Annex C).
+//! [`Subscribers`] are rows with different identities; contracts see them as the list of their rows.
+//! [`Subscribers::read`] reads a file of comma-separated records and tells the first wrong one,
+//! [`Subscribers::add`] a line of seven or nine fields, each by its first fault, a [`SubsWhy`]. If OP is given, OPc is computed from it. [`refused_record_is_the_first_wrong`] and the
 //! other laws say what each fault is by itself.
 #![tactic(auto)]
 
@@ -22,5 +22,5 @@ pub use law::{
     refused_line_has_the_first_fault, refused_record_is_the_first_wrong,
 };
 pub use refusal::{AddRefusal, SubsRefusal, SubsWhy};
-pub use row::Row;
+pub use row::{MAX_AGE, Row};
 pub use subscribers::{MAX_SUBSCRIBERS, Subscribers};

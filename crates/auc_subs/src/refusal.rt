@@ -10,9 +10,10 @@ use std::alloc::{AllocError, AllocFailed};
 /// The first fault of a subscriber's line, in the order of the tests.
 #[derive(Clone, Copy, Debug, PartialEq, Eq)]
 pub enum SubsWhy {
-    /// The first record of a file isn't `imsi,k,kind,op,amf,seq,usim`, or there is none.
+    /// The first record of a file is neither `imsi,k,kind,op,amf,seq,usim` nor
+    /// `imsi,k,kind,op,amf,seq,usim,bits,age`, or there is none.
     Header,
-    /// There aren't seven fields.
+    /// A line has neither seven fields nor nine, or a record hasn't as many as its file's header.
     FieldCount,
     /// The IMSI isn't 6 to 15 decimal digits.
     Imsi,
@@ -24,9 +25,13 @@ pub enum SubsWhy {
     Op,
     /// The AMF isn't 4 hexadecimal digits.
     Amf,
-    /// The number of the centre isn't 1 to 13 decimal digits, or above `MAX_SEQ`.
+    /// The index length isn't one digit, 0 to 6.
+    Bits,
+    /// The age limit is neither `-` nor 1 to 15 decimal digits, from 1 to `MAX_AGE`.
+    Age,
+    /// The number of the centre isn't 1 to 15 decimal digits, or above the greatest of the index length.
     Seq,
-    /// The number of the USIM isn't 1 to 13 decimal digits, or above `MAX_SEQ`.
+    /// The number of the USIM isn't 1 to 15 decimal digits, or above the greatest of the index length.
     Usim,
     /// A row has this IMSI already.
     Twice,

@@ -1,14 +1,15 @@
 //! The list of subscribers.
 
-ghost use Rattle.std.specs.Prelude.{◌≡◌, ◌≢◌, ◌<◌, ◌↔◌, [], length, map, All, IsTrue, OnOk, OnErr, IfOk, IfSome, IfNone, slice_get};
+ghost use Rattle.std.specs.Prelude.{◌≡◌, ◌≢◌, ◌<◌, ◌↔◌, [], length, All, IsTrue, OnOk, OnErr, IfOk, IfSome, IfNone, slice_get};
 ghost use Rattle.auc_subs.specs.InnerLookup.{key_of};
-ghost use Rattle.auc_subs.specs.Subscriber.{IsRow, row_of};
+ghost use Rattle.auc_subs.specs.Subscriber.{IsRow};
 
-use crate::field::{fields, has_seven_fields};
+use crate::field::{fields, has_seven_or_nine_fields};
 use crate::refusal::{AddRefusal, SubsWhy};
 use crate::row::Row;
 use crate::row_reading::read_row;
-use auc_edge::Imsi;
+use auc_edge::{Imsi, Items, NoMemory};
+use auc_sqn::top;
 use indexmap::IndexMap;
 use std::alloc::Global;
 use std::marker::Model;
@@ -45,7 +46,7 @@ impl Model for Subscribers {
 
 impl Subscribers {
     ghost use Rattle.auc_subs.specs.declared.refusal.AddRefusal.TheVariants as refusal;
-    ghost use Rattle.auc_subs.specs.Subscriber.{AreSubscribers, HasIdentity, place_of, rows_with, rows_after};
+    ghost use Rattle.auc_subs.specs.Subscriber.{AreSubscribers, HasIdentity, place_of, rows_with, rows_after, tops_of};
 
     /// No subscribers. It takes no memory yet.
     pub fn new(alloc: Global) -> Subscribers
@@ -74,9 +75,21 @@ impl Subscribers {
     /// The row at a place.
     pub fn row(&self, sub: u32) -> &Row
         requires { sub < length self.now }
-        ensures { slice_get self.now sub ≡ Some result.now }
+        ensures place { slice_get self.now sub ≡ Some result.now }
+        ensures row { IsRow result.now }
     {
         &self.rows[sub as usize]
+    }
+
+    /// The greatest number of each subscriber, in the order of the rows.
+    pub fn tops(&self, alloc: Global) -> Result<Items<u64>, NoMemory>
+        ensures { IfOk result (λ tops. tops ≡ tops_of self.now) }
+    {
+        let mut tops = Items::new(alloc);
+        for sub in 0..self.len() {
+            tops.push(top(self.row(sub).bits))?;
+        }
+        Ok(tops)
     }
 
     /// The place of the row with an identity, or `None` if no row has it.
@@ -93,20 +106,23 @@ impl Subscribers {
     }
 
     /// Adds the subscriber of a line, and answers its place, which is the last. The line is
-    /// `IMSI K KIND OP AMF SEQ USIM`, seven fields with one space between each two: 6 to 15 decimal
-    /// digits, 32 hexadecimal digits, `op` or `opc`, 32 and 4 hexadecimal digits, and two numbers of 1
-    /// to 13 decimal digits, at most `MAX_SEQ`. A refusal leaves the subscribers as they were.
+    /// `IMSI K KIND OP AMF SEQ USIM` or `IMSI K KIND OP AMF SEQ USIM BITS AGE`, with one space between
+    /// each two fields: 6 to 15 decimal digits, 32 hexadecimal digits, `op` or `opc`, 32 and 4
+    /// hexadecimal digits, two numbers of 1 to 15 decimal digits, at most the greatest of the index
+    /// length; that length, one digit from 0 to 6; and `-`, or the age limit of 1 to 15 decimal digits,
+    /// at least 1 and at most [`MAX_AGE`](crate::MAX_AGE). Seven fields have 5 bits and no age limit. A
+    /// refusal leaves the subscribers as they were.
     pub fn add(&mut self, line: &[u8]) -> Result<u32, AddRefusal>
         ensures added { OnOk result (rows_after self.old line.now ≡ Ok self.new) }
         ensures place { IfOk result (λ sub. sub ≡ length self.old) }
         ensures refused { (why : SubsWhy) → result ≡ Err (refusal.Why why) → rows_after self.old line.now ≡ Err why }
         ensures kept { OnErr result (self.new ≡ self.old) }
     {
-        if !has_seven_fields(line) {
+        if !has_seven_or_nine_fields(line) {
             return Err(AddRefusal::Why(SubsWhy::FieldCount));
         }
         let fields = fields(*self.rows.allocator(), line)?;
-        let row = row_of(fields.as_slice())?;
+        let row = read_row(fields.as_slice())?;
         self.admit(row)
     }
 
@@ -129,17 +145,6 @@ impl Subscribers {
         }
         self.rows.insert(key(row.imsi), row)?;
         Ok(sub as u32)
-    }
-}
-
-/// The subscriber that fields are.
-fn row_of(fields: &[&[u8]]) -> Result<Row, SubsWhy>
-    ensures value { result ≡ row_of (map (λ field. field.now) fields.now) }
-    ensures row { IfOk result IsRow }
-{
-    match fields {
-        [imsi, k, kind, op, amf, seq, usim] => read_row(imsi, k, kind, op, amf, seq, usim),
-        _ => Err(SubsWhy::FieldCount),
     }
 }
 
