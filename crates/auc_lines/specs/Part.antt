@@ -8,12 +8,14 @@ use Rattle.auc_lines.specs.declared.part.Line.TheVariants.{Draw, Give, Sync, Eps
 use Rattle.auc_lines.specs.Sites.{deliveries_in}
 use Rattle.auc_lines.specs.declared.part.Part.{Part}
 use Rattle.auc_lines.specs.declared.part.Part.TheVariants.{Round, Restart}
+use Rattle.auc_lines.specs.declared.part.Report.{Report}
+use Rattle.auc_lines.specs.declared.part.Report.TheVariants.{Seq, Auts}
 
 -- how many vectors a line asks for at most, a session for two and a line for sites for a lease at each delivery; and all lines of
 -- some jobs
 abbrev pub asked_by : Line → ℕ
 asked_by (Draw sub count) = count
-asked_by (Sync sub seq bit count) = count
+asked_by (Sync sub report count) = count
 asked_by (Give sub number) = 0
 asked_by (Eps sub snid) = 1
 asked_by (Fiveg line) = 1
@@ -40,7 +42,7 @@ jobs_of (Restart ∷ more) = jobs_of more
 -- the subscriber whose USIM a job holds because of a line: the line presents a vector to it, or opens a session of it
 abbrev pub held_by : Line → Option ℕ
 held_by (Draw sub count) = None
-held_by (Sync sub seq bit count) = None
+held_by (Sync sub report count) = None
 held_by (Give sub number) = Some sub
 held_by (Eps sub snid) = None
 held_by (Fiveg line) = Some line.sub
@@ -58,8 +60,8 @@ held_by (Cut packet length) = None
 -- the subscriber for whom a line may ask the centre for a number
 abbrev pub asks_for : Line → Option ℕ
 asks_for (Draw sub count) = Some sub
-asks_for (Sync sub seq bit zero) = None
-asks_for (Sync sub seq bit (suc count)) = Some sub
+asks_for (Sync sub report zero) = None
+asks_for (Sync sub report (suc count)) = Some sub
 asks_for (Give sub number) = None
 asks_for (Eps sub snid) = Some sub
 asks_for (Fiveg line) = Some line.sub
@@ -105,6 +107,12 @@ last_bit = 111
 abbrev pub IsBit : Option ℕ → Type 0
 IsBit None = Unit {0}
 IsBit (Some bit) = bit ≤ last_bit
+
+-- what a synchronisation failure may report of a subscriber with numbers up to this one: one of them and a bit of AUTS, or any AUTS
+-- and its RAND
+abbrev pub IsReport : ℕ → Report → Type 0
+IsReport top (Seq seq bit) = (seq ≤ top) × IsBit bit
+IsReport top (Auts auts rand) = Unit {0}
 
 -- the last of the 128 bits of RES* (TS 33.501 Annex A.4), and a bit of RES*, or none
 abbrev pub last_star_bit : ℕ

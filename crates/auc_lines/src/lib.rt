@@ -8,6 +8,6 @@ mod part;
 mod sim;
 mod sites;
 
-pub use part::{End, FivegLine, Identity, JobPart, Line, Part, RoundPart, SessionLine};
+pub use part::{End, FivegLine, Identity, JobPart, Line, Part, Report, RoundPart, SessionLine};
 pub use sim::{SimDelivery, SimLine, SimSchedule};
 pub use sites::{SiteEvent, SitesLine};

@@ -69,6 +69,16 @@ pub struct FivegLine {
     pub hxres: bool,
 }
 
+/// What a synchronisation failure reports (TS 33.102 §6.3.3, §6.3.5).
+#[derive(Clone, Copy)]
+pub enum Report {
+    /// The AUTS that a USIM gives for the RAND of number 0, if its SQN_MS is that of the number `seq`, at most the
+    /// subscriber's greatest one. The bit `bit` is turned over, from 0 for the first byte's top bit to 111, or none is.
+    Seq { seq: u64, bit: Option<u8> },
+    /// An AUTS as it came, and the RAND that it answers.
+    Auts { auts: [u8; 14], rand: [u8; 16] },
+}
+
 /// A line of a job, for the subscriber at the place `sub` or for the session of a number. A packet's number counts the
 /// packets of the job from 1.
 #[derive(Drop)]
@@ -78,14 +88,11 @@ pub enum Line {
         sub: u32,
         count: u32,
     },
-    /// Hands the centre the AUTS that a USIM gives for the RAND of number 0 (TS 33.102 §6.3.3), if its
-    /// SQN_MS is that of the number `seq`, at most `MAX_SEQ`. The bit `bit` is turned over, from 0 for the
-    /// first byte's top bit to 111, or none is. Then asks for `count` vectors, at most 1000, if the
-    /// centre's number was moved or was in range.
+    /// Hands the centre the AUTS of a report. Then asks for `count` vectors, at most 1000, if the centre's number was moved or
+    /// was in range.
     Sync {
         sub: u32,
-        seq: u64,
-        bit: Option<u8>,
+        report: Report,
         count: u32,
     },
     /// Presents the vector of the number `n`, 1 to `MAX_SEQ`, to the USIM.
