@@ -1,2 +1,3 @@
 mod IdentLemmas
+mod KeptLemmas
 mod NameLemmas

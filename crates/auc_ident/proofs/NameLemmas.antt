@@ -1,5 +1,5 @@
 -- A name is read back from its text, and different names have different texts.
-use Rattle.std.proofs.Common.{◌≡◌, ℕ, zero, suc, ◌+◌, ◌*◌, ◌%◌, ◌/◌, ◌<◌, ◌^◌, Bool, true, false, cond, List, [], ◌∷◌, ◌++◌, Option, length, take, drop, slice_index, Some, None, Ok, refl, sym, ap, ◌∙◌, subst, arith}
+use Rattle.std.proofs.Common.{◌≡◌, ℕ, zero, suc, ◌%◌, ◌/◌, ◌<◌, ◌^◌, Bool, true, false, cond, List, [], ◌∷◌, ◌++◌, Option, drop, Some, None, Ok, refl, sym, ap, ◌∙◌, arith}
 use Rattle.std.specs.Int.{w32, w64, to_be_bytes, from_be_bytes}
 use Rattle.std.proofs.lemmas.Nat.{from_be_bytes-to_be_bytes_4, from_be_bytes-to_be_bytes_8}
 use Rattle.std.specs.Str.{bytes_eq}
@@ -10,7 +10,7 @@ use Rattle.auc_aes.specs.Law.{DecryptionUndoesEncryption}
 use Rattle.auc_aes.proofs.Facts.{aes_block, bytes_append, bytes_drop}
 use Rattle.auc_hmac.specs.declared.method.Method.{Method}
 use Rattle.auc_hmac.specs.declared.method.Method.TheVariants as methods
-use Rattle.auc_ident.specs.Names.{name_block, name_digit, name_text, named, named_by, named_in, if_named, kind_byte, type_byte, resolved, AreNameable, AreEqual, EachNameIsResolved, EqualNamesAreOne}
+use Rattle.auc_ident.specs.Names.{name_block, name_digit, name_text, named, named_by, named_in, if_named, kind_byte, type_byte, resolved, AreNameable, EachNameIsResolved, EqualNamesAreOne}
 use Rattle.auc_ident.specs.Permanent.{username}
 use Rattle.auc_ident.specs.declared.names.NameKind.{NameKind}
 use Rattle.auc_ident.specs.declared.names.NameKind.TheVariants as kinds

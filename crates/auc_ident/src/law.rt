@@ -1,5 +1,6 @@
 //! Laws of identities that no single call shows.
 
+ghost use Rattle.auc_ident.specs.Name.{ExactlyNamesAreKept};
 ghost use Rattle.auc_ident.specs.Names.{EachNameIsResolved, EqualNamesAreOne};
 ghost use Rattle.auc_ident.specs.Permanent.{EachPermanentIsReadBack};
 
@@ -28,3 +29,9 @@ pub fn each_name_is_given_once()
 {
     decryption_undoes_encryption();
 }
+
+/// A device keeps a name if and only if it has 1 to 255 bytes without `@`, whether or not the server gave it with a realm.
+#[tactic(auto, using(crate::proofs::KeptLemmas::exactly_names_are_kept))]
+pub fn exactly_names_are_kept()
+    ensures { ExactlyNamesAreKept }
+{}

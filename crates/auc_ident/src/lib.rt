@@ -10,14 +10,17 @@
 
 mod identity;
 mod law;
+mod name;
 mod names;
 mod naming;
 mod ordinals;
 
 pub use identity::Permanent;
 pub use law::{
-    each_name_is_given_once, exactly_the_names_are_resolved, permanent_identities_are_read_back,
+    each_name_is_given_once, exactly_names_are_kept, exactly_the_names_are_resolved,
+    permanent_identities_are_read_back,
 };
+pub use name::Name;
 pub use names::{NameKind, Names};
 pub use naming::{permanent, permanent_in, username};
 pub use ordinals::{Ordinals, Spent};

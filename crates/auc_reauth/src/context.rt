@@ -1,6 +1,7 @@
 //! What a full authentication leaves behind.
 
 use auc_hmac::Master;
+use auc_ident::Name;
 
 /// What a fast re-authentication starts from (RFC 4187 §5.1).
 #[derive(Clone, Copy, PartialEq, Eq)]
@@ -9,7 +10,7 @@ pub struct Context {
     /// SQN that its USIM accepted, as a number.
     pub origin: u64,
     /// The identity of the next re-authentication, without its realm (RFC 4187 §5.3).
-    pub identity: [u8; 33],
+    pub identity: Name,
     /// K_encr of the full authentication, which the re-authentications use again.
     pub k_encr: [u8; 16],
     /// K_aut of the full authentication, which the re-authentications use again.

@@ -6,14 +6,15 @@ ghost use Rattle.auc_reauth.specs.Device.{accepting, advanced, is_open, nothing_
 
 use crate::context::Context;
 use auc_hmac::Method;
+use auc_ident::Name;
 use std::marker::Model;
 
 /// The names and contexts that a device was given: for each method at most one pseudonym and one context. Contracts
 /// see them by method.
 #[derive(Clone, Copy)]
 pub struct DeviceStore {
-    aka_pseudonym: Option<[u8; 33]>,
-    prime_pseudonym: Option<[u8; 33]>,
+    aka_pseudonym: Option<Name>,
+    prime_pseudonym: Option<Name>,
     aka_context: Option<Context>,
     prime_context: Option<Context>,
 }
@@ -53,7 +54,7 @@ impl DeviceStore {
     }
 
     /// The pseudonym of the method, without its realm.
-    pub fn pseudonym(&self, method: Method) -> Option<[u8; 33]>
+    pub fn pseudonym(&self, method: Method) -> Option<Name>
         ensures { result ≡ entry method self.now.pseudonyms }
     {
         match method {
@@ -63,7 +64,7 @@ impl DeviceStore {
     }
 
     /// Keeps a pseudonym for the method, in the place of the one that was kept. It has no realm.
-    pub fn set_pseudonym(&mut self, method: Method, text: [u8; 33])
+    pub fn set_pseudonym(&mut self, method: Method, text: Name)
         ensures { self.new ≡ with_pseudonym method text self.old }
     {
         match method {

@@ -8,7 +8,7 @@ use Rattle.auc_attr.specs.Item.{has}
 use Rattle.auc_attr.specs.Value.{IsValueIn}
 use Rattle.auc_attr.specs.declared.attr.Attr.{Attr}
 use Rattle.auc_attr.specs.declared.attr.Attr.TheVariants as attr
-use Rattle.auc_ident.specs.Permanent.{username}
+use Rattle.auc_ident.specs.Name.{kept_name}
 use Rattle.auc_request.specs.declared.enclosed.Enclosed.{Enclosed}
 use Rattle.auc_request.specs.declared.identities.IdentityRequest.{IdentityRequest}
 use Rattle.auc_request.specs.declared.identities.IdentityRequest.TheVariants as request
@@ -107,10 +107,10 @@ request_in list = if has list 10 then request.Permanent else if has list 17 then
 
 -- ---- what is encrypted
 
--- the name in the value of AT_NEXT_PSEUDONYM or AT_NEXT_REAUTH_ID: its username, if that has 33 bytes
+-- what a device keeps of the value of AT_NEXT_PSEUDONYM or AT_NEXT_REAUTH_ID
 abbrev pub next_name : Option (List ℕ) → Option (List ℕ)
 next_name None = None
-next_name (Some text) = if length (username text) == 33 then Some (username text) else None
+next_name (Some text) = kept_name text
 
 -- the number in the value of AT_COUNTER
 abbrev pub number_in : Option (List ℕ) → Option ℕ

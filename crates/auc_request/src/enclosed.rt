@@ -5,16 +5,16 @@ ghost use Rattle.std.specs.Option.{option_copied};
 ghost use Rattle.auc_request.specs.Request.{Gives, Has, block_in, next_name, number_in};
 
 use auc_attr::value_in;
-use auc_ident::username;
+use auc_ident::Name;
 
-/// What a message gives in its encrypted attributes (RFC 4187 §10.12). A name is the username of a text, if it has 33 bytes:
-/// a device keeps no other.
+/// What a message gives in its encrypted attributes (RFC 4187 §10.12). A name is what a device keeps of a text: its username,
+/// if that has 1 to 255 bytes.
 #[derive(Clone, Copy, PartialEq, Eq)]
 pub struct Enclosed {
     /// The next pseudonym (RFC 4187 §10.10), without its realm.
-    pub pseudonym: Option<[u8; 33]>,
+    pub pseudonym: Option<Name>,
     /// The next re-authentication identity (RFC 4187 §10.11), without its realm.
-    pub identity: Option<[u8; 33]>,
+    pub identity: Option<Name>,
     /// The counter of a fast re-authentication (RFC 4187 §10.16).
     pub counter: Option<u16>,
     /// NONCE_S of a fast re-authentication (RFC 4187 §10.18).
@@ -48,23 +48,17 @@ fn nonce_in(bytes: &[u8]) -> Option<[u8; 16]>
 }
 
 /// The name of a type among decrypted attributes.
-fn name_in(bytes: &[u8], kind: u8) -> Option<[u8; 33]>
+fn name_in(bytes: &[u8], kind: u8) -> Option<Name>
     ensures { Has next_name kind bytes.now result }
 {
     name_of(value_in(bytes, kind))
 }
 
-/// The name in the value of AT_NEXT_PSEUDONYM or AT_NEXT_REAUTH_ID: its username, if that has 33 bytes.
-fn name_of(value: Option<&[u8]>) -> Option<[u8; 33]>
+/// What a device keeps of the value of AT_NEXT_PSEUDONYM or AT_NEXT_REAUTH_ID.
+fn name_of(value: Option<&[u8]>) -> Option<Name>
     ensures { result ≡ next_name (option_copied value.entry) }
 {
-    let name = username(value?);
-    if name.len() != 33 {
-        return None;
-    }
-    let mut text = [0; 33];
-    text.copy_from_slice(name);
-    Some(text)
+    Name::kept(value?)
 }
 
 /// The number in the value of AT_COUNTER.
