@@ -1,5 +1,6 @@
 -- Steps of a pass, for `Desk` and for the settling of a drawn number.
 use Rattle.std.proofs.Common.{◌≡◌, ◌≢◌, ℕ, ◌==◌, Bool, true, false, if◌then◌else◌, List, [], ◌∷◌, ◌++◌, All, Contains, Option, Some, None, Result, Ok, Err, arith, refl, sym, ap, subst, ◌∙◌, eq-eqb}
+use Rattle.std.specs.Prelude.{slice_index}
 use Rattle.std.proofs.lemmas.Bool.{eqb-true}
 use Rattle.std.proofs.lemmas.Grind.{flat_map-append}
 use Rattle.std.proofs.lemmas.List.{append-nil, append_assoc}
@@ -54,8 +55,8 @@ made_claims sub (e ∷ es) = made_claims sub es
 -- ---- steps
 
 -- a step that makes entries
-pub makes_steps : (sub : ℕ) (es : List Entry) (old new : PassValue) → new.deeds ≡ old.deeds ++ made sub es → new.ended ≡ old.ended → AreInOrder new.deeds → Steps old sub es [] new
-makes_steps sub es old new grows ended ordered = record {
+pub makes_steps : (sub : ℕ) (es : List Entry) (old new : PassValue) → new.deeds ≡ old.deeds ++ made sub es → new.ended ≡ old.ended → new.tops ≡ old.tops → AreInOrder new.deeds → Steps old sub es [] new
+makes_steps sub es old new grows ended tops ordered = record {
   rest = made sub es;
   grows = grows;
   made = made_own sub es;
@@ -64,17 +65,18 @@ makes_steps sub es old new grows ended ordered = record {
   free = λ i apart. made_frees i sub es;
   claims = made_claims sub es;
   ended = ended;
+  tops = tops;
   ordered = ordered;
 }
 
 -- no step
 pub no_steps : (sub : ℕ) (old : PassValue) → AreInOrder old.deeds → Steps old sub [] [] old
-no_steps sub old ordered = makes_steps sub [] old old (sym (append-nil old.deeds)) refl ordered
+no_steps sub old ordered = makes_steps sub [] old old (sym (append-nil old.deeds)) refl refl ordered
 
 -- a look at the stop
-pub stop_steps : (sub : ℕ) (stop : Option Stop) (old new : PassValue) → new.deeds ≡ old.deeds ++ stop_read stop → new.ended ≡ old.ended → AreInOrder new.deeds → Steps old sub [] [] new
-stop_steps sub None old new grows ended ordered = makes_steps sub [] old new grows ended ordered
-stop_steps sub (Some stop) old new grows ended ordered = record {
+pub stop_steps : (sub : ℕ) (stop : Option Stop) (old new : PassValue) → new.deeds ≡ old.deeds ++ stop_read stop → new.ended ≡ old.ended → new.tops ≡ old.tops → AreInOrder new.deeds → Steps old sub [] [] new
+stop_steps sub None old new grows ended tops ordered = makes_steps sub [] old new grows ended tops ordered
+stop_steps sub (Some stop) old new grows ended tops ordered = record {
   rest = stop_read (Some stop);
   grows = grows;
   made = refl;
@@ -83,12 +85,13 @@ stop_steps sub (Some stop) old new grows ended ordered = record {
   free = λ i apart. refl;
   claims = refl;
   ended = ended;
+  tops = tops;
   ordered = ordered;
 }
 
 -- a release
-pub release_steps : (sub n : ℕ) (old new : PassValue) → new.deeds ≡ old.deeds ++ Released sub n ∷ [] → new.ended ≡ old.ended → AreInOrder new.deeds → Steps old sub [] [] new
-release_steps sub n old new grows ended ordered = record {
+pub release_steps : (sub n : ℕ) (old new : PassValue) → new.deeds ≡ old.deeds ++ Released sub n ∷ [] → new.ended ≡ old.ended → new.tops ≡ old.tops → AreInOrder new.deeds → Steps old sub [] [] new
+release_steps sub n old new grows ended tops ordered = record {
   rest = Released sub n ∷ [];
   grows = grows;
   made = refl;
@@ -97,6 +100,7 @@ release_steps sub n old new grows ended ordered = record {
   free = λ i apart. refl;
   claims = refl;
   ended = ended;
+  tops = tops;
   ordered = ordered;
 }
 
@@ -107,13 +111,13 @@ is_released sub n old new grows =
     subst (λ (ns : List ℕ). Contains ns n) (sym (ap (released_of sub) grows ∙ last)) (Contains-append_right (released_of sub old.deeds) (n ∷ []) n (0, omega arith, refl))
 
 -- a number that isn't released, and isn't withheld yet
-pub above_steps : (sub n : ℕ) (old new : PassValue) → kept_stop old.deeds ≡ None → new.deeds ≡ old.deeds ++ withholding sub n (kept_stop old.deeds) → new.ended ≡ old.ended → AreInOrder new.deeds → Steps old sub [] [] new
-above_steps sub n old new none grows ended ordered = makes_steps sub [] old new (grows ∙ ap (λ (stop : Option Stop). old.deeds ++ withholding sub n stop) none) ended ordered
+pub above_steps : (sub n : ℕ) (old new : PassValue) → kept_stop old.deeds ≡ None → new.deeds ≡ old.deeds ++ withholding sub n (kept_stop old.deeds) → new.ended ≡ old.ended → new.tops ≡ old.tops → AreInOrder new.deeds → Steps old sub [] [] new
+above_steps sub n old new none grows ended tops ordered = makes_steps sub [] old new (grows ∙ ap (λ (stop : Option Stop). old.deeds ++ withholding sub n stop) none) ended tops ordered
 
 -- a number that is withheld
-pub withheld_steps : (sub n : ℕ) (stop : Stop) (old new : PassValue) → kept_stop old.deeds ≡ Some stop → new.deeds ≡ old.deeds ++ withholding sub n (kept_stop old.deeds) → new.ended ≡ old.ended → AreInOrder new.deeds
+pub withheld_steps : (sub n : ℕ) (stop : Stop) (old new : PassValue) → kept_stop old.deeds ≡ Some stop → new.deeds ≡ old.deeds ++ withholding sub n (kept_stop old.deeds) → new.ended ≡ old.ended → new.tops ≡ old.tops → AreInOrder new.deeds
     → Steps old sub [] ((n, stop) ∷ []) new
-withheld_steps sub n stop old new some grows ended ordered = record {
+withheld_steps sub n stop old new some grows ended tops ordered = record {
   rest = Withheld sub n stop ∷ [];
   grows = grows ∙ ap (λ (kept : Option Stop). old.deeds ++ withholding sub n kept) some;
   made = refl;
@@ -122,6 +126,7 @@ withheld_steps sub n stop old new some grows ended ordered = record {
   free = λ i apart. ap (λ (hs : List (ℕ × Stop)). hs ++ []) (when_other i sub (n, stop) apart);
   claims = refl;
   ended = ended;
+  tops = tops;
   ordered = ordered;
 }
 
@@ -140,6 +145,7 @@ steps_both a b c sub es fs ws vs first second = record {
   free = λ i apart. flat_map-append (held_by i) first.rest second.rest ∙ both_empty (held_of i first.rest) (held_of i second.rest) (first.free i apart) (second.free i apart);
   claims = flat_map-append claims_by first.rest second.rest ∙ both_empty (claims_of first.rest) (claims_of second.rest) first.claims second.claims;
   ended = second.ended ∙ first.ended;
+  tops = second.tops ∙ first.tops;
   ordered = second.ordered;
 }
 
@@ -169,7 +175,7 @@ claims_stay old new sub es ws steps =
 -- ---- what steps add
 
 -- for the subscriber, if each drawn number is withheld or released
-pub adds_here : (old new : PassValue) (sub : ℕ) (es : List Entry) (ws : List (ℕ × Stop)) → Steps old sub es ws new → All (IsTold ws (released_of sub new.deeds)) (drawn es) → Adds old sub es ws new
+pub adds_here : (old new : PassValue) (sub : ℕ) (es : List Entry) (ws : List (ℕ × Stop)) → Steps old sub es ws new → All (IsTold (slice_index old.tops sub) ws (released_of sub new.deeds)) (drawn es) → Adds old sub es ws new
 adds_here old new sub es ws steps told =
     let all = entries_here old new sub es ws steps in
     let order = subst IsInOrder all (steps.ordered.each sub) in
@@ -182,6 +188,7 @@ adds_here old new sub es ws steps told =
       grows = (steps.rest, steps.grows);
       claims = claims_stay old new sub es ws steps;
       ended = steps.ended;
+      tops = steps.tops;
     }
 
 -- for another one
@@ -194,8 +201,9 @@ adds_elsewhere old new i sub es ws apart steps =
       ordered = in_order_last (entries_of i old.deeds) [] order;
       after = after_last (entries_of i old.deeds) [] order;
       held = ap (held_of i) steps.grows ∙ flat_map-append (held_by i) old.deeds steps.rest ∙ ap (λ (hs : List (ℕ × Stop)). held_of i old.deeds ++ hs) (steps.free i apart);
-      told = All-nil (IsTold [] (released_of i new.deeds));
+      told = All-nil (IsTold (slice_index old.tops i) [] (released_of i new.deeds));
       grows = (steps.rest, steps.grows);
       claims = claims_stay old new sub es ws steps;
       ended = steps.ended;
+      tops = steps.tops;
     }

@@ -19,6 +19,7 @@ pub record Steps (old : PassValue) (sub : ℕ) (entries : List Entry) (withheld 
   pub free : (i : ℕ) → i ≢ sub → held_of i rest ≡ []
   pub claims : claims_of rest ≡ []
   pub ended : new.ended ≡ old.ended
+  pub tops : new.tops ≡ old.tops
   pub ordered : AreInOrder new.deeds
 
 -- a drawn number of a subscriber is released, or withheld for a cause

@@ -1,6 +1,7 @@
 //! A worker's desk.
 
 ghost use Rattle.std.specs.Prelude.{◌≡◌, ◌≤◌, Some, length};
+ghost use Rattle.auc_draw.specs.Book.{IsOf};
 ghost use Rattle.auc_vector.specs.Centre.{AnswersResync};
 ghost use Rattle.auc_centre.specs.Kept.{subs_of};
 
@@ -25,26 +26,24 @@ pub struct Desk<'a, L: Naming<D>, D: Disk + Drop> {
     pub book: &'a Book,
     /// The round's keeper.
     pub keeper: &'a Mutex<Kept<L, D>>,
-    /// The pass is of the named table.
-    pub ghost own: { pass.now.id ≡ L.table },
-    /// So is the book.
-    pub ghost shared: { book.now.id ≡ L.table },
+    /// The pass is of the named table, and has the named greatest numbers.
+    pub ghost own: { IsOf L.table L.tops pass.now },
+    /// So is the book, and has them.
+    pub ghost shared: { (book.now.id ≡ L.table) × (book.now.tops ≡ L.tops) },
     /// The journal has an identity for each subscriber of the book.
     pub ghost sized: { subs_of L.opening ≡ length book.now.openings },
 }
 
 impl<L: Naming<D>, D: Disk + Drop> Centre for Desk<'_, L, D> {
-    ghost use Rattle.std.specs.Prelude.{length};
-    ghost use Rattle.auc_sqn.specs.Number.{max_seq};
-    ghost use Rattle.auc_draw.specs.Deeds.{kept_of};
-    ghost use Rattle.auc_centre.specs.Adds.{Adds};
+    ghost use Rattle.std.specs.Prelude.{length, slice_index};
+    ghost use Rattle.auc_centre.specs.Adds.{Adds, kept_by};
     ghost use Rattle.auc_centre.specs.InnerAdds.{adds_nothing, adds_both};
 
     ghost subs = { λ d. length d.book.now.openings };
 
-    ghost top = { λ d sub. max_seq };
+    ghost top = { λ d sub. slice_index d.book.now.tops sub };
 
-    ghost kept = { λ d sub. kept_of d.pass.now.deeds sub };
+    ghost kept = { λ d sub. kept_by d.pass.now sub };
 
     ghost name = { λ d. d.pass.ghost_name };
 

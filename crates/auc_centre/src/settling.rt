@@ -1,8 +1,9 @@
 //! What becomes of a drawn number.
 
-ghost use Rattle.std.specs.Prelude.{◌≡◌, ◌<◌, ◌≤◌, Contains, length};
+ghost use Rattle.std.specs.Prelude.{◌≡◌, ◌<◌, ◌≤◌, Contains, length, slice_index};
 ghost use Rattle.auc_history.specs.declared.entry.Entry.TheVariants.{Drawn};
 ghost use Rattle.auc_sqn.specs.Number.{max_seq};
+ghost use Rattle.auc_draw.specs.Book.{IsOf};
 ghost use Rattle.auc_draw.specs.Deeds.{entries_of, AreInOrder};
 ghost use Rattle.auc_centre.specs.Kept.{subs_of};
 ghost use Rattle.auc_centre.specs.InnerSteps.{Settles, Tries};
@@ -24,12 +25,13 @@ pub(crate) fn settle<L: Naming<D>, D: Disk + Drop, R: Wait>(
     sub: u32,
     n: u64,
 ) -> Result<u64, CentreRefusal>
-    requires own { pass.old.id ≡ L.table }
-    requires shared { book.now.id ≡ L.table }
+    requires own { IsOf L.table L.tops pass.old }
+    requires shared { (book.now.id ≡ L.table) × (book.now.tops ≡ L.tops) }
     requires sized { subs_of L.opening ≡ length book.now.openings }
     requires sub { sub < length book.now.openings }
     requires drawn { Contains (entries_of sub pass.old.deeds) (Drawn n) }
-    requires number { n ≤ max_seq }
+    requires number { n ≤ slice_index book.now.tops sub }
+    requires top { slice_index book.now.tops sub ≤ max_seq }
     requires ordered { AreInOrder pass.old.deeds }
     ensures own { pass.new.id ≡ pass.old.id }
     ensures settles { Settles sub n pass.old pass.new result }
@@ -46,10 +48,10 @@ pub(crate) fn settle<L: Naming<D>, D: Disk + Drop, R: Wait>(
 /// Releases a drawn number, if it is within its subscriber's limit. Otherwise it is withheld if reservations had ended
 /// before the limit was read.
 fn release(pass: &mut Pass, book: &Book, sub: u32, n: u64) -> Option<Result<u64, CentreRefusal>>
-    requires own { pass.old.id ≡ book.now.id }
+    requires own { IsOf book.now.id book.now.tops pass.old }
     requires sub { sub < length book.now.openings }
     requires drawn { Contains (entries_of sub pass.old.deeds) (Drawn n) }
-    requires number { n ≤ max_seq }
+    requires number { n ≤ slice_index book.now.tops sub }
     ensures own { pass.new.id ≡ pass.old.id }
     ensures tries { Tries sub n pass.old pass.new result }
 {
