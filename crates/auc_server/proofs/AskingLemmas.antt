@@ -1,5 +1,5 @@
 -- What a turn asks a centre for: a resynchronisation and then a number, or nothing.
-use Rattle.std.proofs.Common.{◌≡◌, ◌≢◌, ◌≤◌, ℕ, Bool, false, true, List, [], ◌++◌, Option, Some, None, is_some, refl, sym, ap, ◌∙◌, subst}
+use Rattle.std.proofs.Common.{◌≡◌, ◌≢◌, ℕ, Bool, false, true, List, [], ◌++◌, Option, Some, None, is_some, refl, sym, ap, ◌∙◌, subst}
 use Rattle.auc_edge.specs.declared.stop.Stop.{Stop}
 use Rattle.auc_history.specs.declared.entry.Entry.{Entry}
 use Rattle.auc_vector.specs.Notes.{AnswersNote, AnswersNumber, AnswersReport, AskedOf, entries_noted, entries_resynced, kept_noted, withheld_noted}
@@ -10,7 +10,6 @@ use Rattle.auc_vector.specs.declared.notes.ResyncNote.{ResyncNote}
 use Rattle.auc_vector.specs.declared.notes.ResyncNote.TheVariants as resync
 use Rattle.auc_vector.specs.declared.turn.Turn.{Turn}
 use Rattle.auc_reauth.specs.declared.context.Context.{Context}
-use Rattle.auc_sqn.specs.Number.{max_seq}
 use Rattle.auc_server.specs.Contexts.{context_in, homes_left}
 use Rattle.auc_server.specs.InnerAsking.{IsRedrawn, number_noted, resync_noted}
 use Rattle.auc_server.specs.InnerServer.{IsNumbered}
@@ -27,11 +26,11 @@ use Rattle.auc_server.specs.declared.server.Resumed.{Resumed}
 use Rattle.auc_server.specs.declared.setting.HomeRow.{HomeRow}
 use Rattle.auc_server.specs.declared.why.ServerWhy.{ServerWhy}
 
--- a centre draws a number of the subscriber, whose greatest number is that of all
-pub numbered : (top : ℕ) (kept : Option ℕ) (drawn : NumberNote) → top ≡ max_seq → AnswersNote top kept drawn → IsNumbered drawn
-numbered top kept (number.Drew n) greatest answer = (answer.1, subst (λ (t : ℕ). n ≤ t) greatest answer.2)
-numbered top kept (number.Exhausted w) greatest answer = tt
-numbered top kept (number.Withheld n stop) greatest answer = tt
+-- a centre draws a number of the subscriber
+pub numbered : (top : ℕ) (kept : Option ℕ) (drawn : NumberNote) → AnswersNote top kept drawn → IsNumbered top drawn
+numbered top kept (number.Drew n) answer = (answer.1, answer.2)
+numbered top kept (number.Exhausted w) answer = tt
+numbered top kept (number.Withheld n stop) answer = tt
 
 -- an answer to a SEQ lets the USIM be challenged again, unless the number is too far above the SEQ
 pub again_unless : (kept : Option ℕ) (seq : ℕ) (r : ResyncNote) → AnswersReport kept (Some seq) (Some r) → ((seen at : ℕ) → r ≡ resync.Beyond seen at → ⊥)
@@ -49,17 +48,17 @@ again_step set homes s sub (resync.Beyond seen at) d again = absurd cc
 again_step set homes s sub resync.BadAuts d again = absurd cc
 
 -- a challenge after a resynchronisation is the table's
-pub challenged_again : (set : Setting) (homes : List HomeRow) (s new : ServerEnd) (turn : Turn ServerWhy) (sub : ℕ) (answered : Redrawn) (r : ResyncNote) (d : NumberNote)
-    → answered ≡ redrawn.Again r d → IsRedrawn answered → (new, turn) ≡ challenged set homes (resynchronising s) sub false (Some r) (Some d)
+pub challenged_again : (set : Setting) (homes : List HomeRow) (s new : ServerEnd) (turn : Turn ServerWhy) (sub top : ℕ) (answered : Redrawn) (r : ResyncNote) (d : NumberNote)
+    → answered ≡ redrawn.Again r d → IsRedrawn top answered → (new, turn) ≡ challenged set homes (resynchronising s) sub false (Some r) (Some d)
     → (new, turn) ≡ resynchronised set homes s sub (resync_noted answered) (number_noted answered)
-challenged_again set homes s new turn sub answered r d is own step =
+challenged_again set homes s new turn sub top answered r d is own step =
     subst (λ (a : Redrawn). (new, turn) ≡ resynchronised set homes s sub (resync_noted a) (number_noted a)) (sym is)
-    (step ∙ again_step set homes s sub r d (subst IsRedrawn is own).0)
+    (step ∙ again_step set homes s sub r d (subst (IsRedrawn top) is own).0)
 
 -- a number was asked for exactly if the USIM is challenged again
-pub draws_again : (answered : Redrawn) → IsRedrawn answered → is_some (number_noted answered) ≡ challenges_again (resync_noted answered)
-draws_again (redrawn.Again r d) own = sym own.0
-draws_again (redrawn.Beyond seen at) own = refl
+pub draws_again : (top : ℕ) (answered : Redrawn) → IsRedrawn top answered → is_some (number_noted answered) ≡ challenges_again (resync_noted answered)
+draws_again top (redrawn.Again r d) own = sym own.0
+draws_again top (redrawn.Beyond seen at) own = refl
 
 -- what holds of a row and of notes holds of equal ones
 pub as_noted : (P : Row → Notes → Type 0) (r is : Row) (notes are : Notes) → r ≡ is → notes ≡ are → P is are → P r notes

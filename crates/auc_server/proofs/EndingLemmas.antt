@@ -137,7 +137,7 @@ auts_needs sub (auts.SeqMs seq) = omega arith
 
 read_needs : (sent : Challenged) (answer : List ℕ) (found : Option rows.Row) → needs (read_by sent answer found) ≤ 3
 read_needs sent answer None = omega arith
-read_needs sent answer (Some home) = auts_needs sent.sub (read_auts_of home.secret sent.vector.rand answer)
+read_needs sent answer (Some home) = auts_needs sent.sub (read_auts_of home.secret sent.vector.rand answer home.bits)
 
 answer_needs : (set : Setting) (sent : Challenged) (answer : Option (List ℕ)) → needs (on_auts set sent answer) ≤ 3
 answer_needs set sent None = omega arith

@@ -1,10 +1,15 @@
 -- The homes: whose they are, for the rows that ask the centre, and after a turn.
-use Rattle.std.proofs.Common.{◌≡◌, ℕ, ◌<◌, ◌==◌, ◌||◌, Bool, true, false, List, [], ◌∷◌, length, map, Option, Some, None, IfSome, All, arith, refl, sym, ap, ◌∙◌, subst}
+use Rattle.std.proofs.Common.{◌≡◌, ℕ, ◌<◌, ◌≤◌, ◌==◌, ◌||◌, Bool, true, false, List, [], ◌∷◌, length, map, Option, Some, None, IfSome, All, arith, refl, sym, ap, ◌∙◌, subst}
 use Rattle.std.proofs.lemmas.Bool.Decides.{nat_tests}
 use Rattle.std.proofs.Math.Seq.{map-set_same}
 use Rattle.std.proofs.lemmas.List.Elements.{All-cons, All-head, All-map, All-nil, All-tail, All-weaker}
 use Rattle.std.specs.List.{list_any}
+use Rattle.std.specs.Prelude.{slice_get}
+use Rattle.auc_subs.proofs.Facts.{top_at-row}
 use Rattle.auc_subs.specs.declared.row.Row as rows
+use Rattle.auc_vector.specs.Auts.{IsNumber}
+use Rattle.auc_vector.specs.declared.auts.Auts.{Auts}
+use Rattle.auc_vector.specs.declared.auts.Auts.TheVariants as auts
 use Rattle.auc_vector.specs.declared.notes.Notes.{Notes}
 use Rattle.auc_vector.specs.declared.notes.NumberNote.{NumberNote}
 use Rattle.auc_vector.specs.declared.notes.NumberNote.TheVariants as number
@@ -12,13 +17,13 @@ use Rattle.auc_vector.specs.declared.notes.ResyncNote.{ResyncNote}
 use Rattle.auc_vector.specs.declared.notes.ResyncNote.TheVariants as resync
 use Rattle.auc_vector.specs.declared.parts.Vector.{Vector}
 use Rattle.auc_vector.specs.declared.turn.Turn.{Turn}
-use Rattle.auc_server.specs.InnerRows.{IsHeldRow, IsRowOf}
+use Rattle.auc_server.specs.InnerRows.{IsHeldRow, IsOwnRow}
 use Rattle.auc_hmac.specs.declared.method.Method.{Method}
 use Rattle.auc_reauth.specs.declared.context.Context.{Context}
 use Rattle.auc_reauth.specs.Server.{no_contexts}
 use Rattle.auc_server.specs.Contexts.{context_after, context_in, won_context, gives_next, homes_kept, homes_left, homes_resumed, homes_rewon, homes_won, with_context, with_context_at, without, without_at}
 use Rattle.auc_server.specs.Ordinals.{home_at, home_place, homes_given, homes_with, ordinal_after, with_next}
-use Rattle.auc_server.specs.Rows.{is_held}
+use Rattle.auc_server.specs.Rows.{by_auts, is_held}
 use Rattle.auc_server.specs.Server.{ServerEnd}
 use Rattle.auc_server.specs.Steps.{IsHeld, IsHeldToo, IsHome, IsServed}
 use Rattle.auc_server.specs.Setting.{Setting}
@@ -68,17 +73,10 @@ pub listed_of : (all : List rows.Row) (subs : ℕ) (top : ℕ → ℕ) (homes : 
 listed_of all subs top homes None each held = tt
 listed_of all subs top homes (Some sent) each held = (home_of all subs top homes sent.sub each held).listed
 
--- a row of a response names a home, if the challenge's subscriber is one
-pub held_row : (homes : List HomeRow) (c : Option Challenged) (r : Row) → IsHeld homes c → IsRowOf c r → IsHeldRow homes r
-held_row homes None (row.Challenge sub) held of = absurd of
-held_row homes None (row.Resume sub) held of = absurd of
-held_row homes None (row.TooSmall sub) held of = absurd of
-held_row homes None (row.Resynchronise sub seq) held of = absurd of
-held_row homes (Some sent) (row.Challenge sub) held of = absurd of
-held_row homes (Some sent) (row.Resume sub) held of = absurd of
-held_row homes (Some sent) (row.TooSmall sub) held of = ap (is_held homes) of ∙ held
-held_row homes (Some sent) (row.Resynchronise sub seq) held of = (ap (is_held homes) of.0 ∙ held, of.1)
-held_row homes c other held of = tt
+-- AUTS that is read reports one of the subscriber's numbers
+pub auts_own : (all : List rows.Row) (sub : ℕ) (home : rows.Row) (a : Auts) → slice_get all sub ≡ Some home → IsNumber home.bits a → IsOwnRow all sub (by_auts sub a)
+auts_own all sub home auts.WrongMac here number = tt
+auts_own all sub home (auts.SeqMs seq) here number = (refl, subst (λ (top : ℕ). seq ≤ top) (sym (top_at-row all sub home here)) number)
 
 -- ---- the homes after an ordinal was used
 
@@ -216,7 +214,7 @@ resumed_holds set homes left s text packets sub (Some c) held was = (was.0, held
 
 -- also after a turn
 does_hold : (set : Setting) (homes : List HomeRow) (s : ServerEnd) (text : List ℕ) (packets : List (List ℕ)) (r : Row) (notes : Notes)
-    → IsHeldRow homes r → Holds homes s → Holds homes (server_does set homes s text packets r notes).0
+    → IsHeldRow set.rows homes r → Holds homes s → Holds homes (server_does set homes s text packets r notes).0
 does_hold set homes s text packets (row.Challenge sub) notes held was = challenged_holds set homes (identified s text packets) sub false None notes.number held was
 does_hold set homes s text packets (row.Resume sub) notes held was =
     resumed_holds set homes (homes_left s.options.method text homes sub) s text packets sub (context_in s.options.method text homes sub) held was
@@ -230,7 +228,7 @@ does_hold set homes s text packets other notes held was = was
 pub served_again : (all : List rows.Row) (subs subs' : ℕ) (top top' : ℕ → ℕ) (set : Setting) (homes later : List HomeRow) (s new : ServerEnd) (turn : Turn ServerWhy)
     (text : List ℕ) (packets : List (List ℕ)) (r : Row) → subs' ≡ subs → ((i : ℕ) → top' i ≡ top i)
     → (new, turn) ≡ server_does set homes s text packets r turn.notes → later ≡ homes_done homes s text r turn.notes
-    → IsHeldRow homes r → IsServed all subs top homes s → IsServed all subs' top' later new
+    → IsHeldRow set.rows homes r → IsServed all subs top homes s → IsServed all subs' top' later new
 served_again all subs subs' top top' set homes later s new turn text packets r same alike step done held served =
     let is : map (λ (home : HomeRow). home.sub) later ≡ map (λ (home : HomeRow). home.sub) homes =
     ap (λ (l : List HomeRow). map (λ (home : HomeRow). home.sub) l) done ∙ done_subs homes s text r turn.notes in

@@ -128,7 +128,7 @@ says_auts found s seen sent (auts.SeqMs seq) f = (sent, f, refl)
 
 says_read : (found : Option ℕ) (s : ServerEnd) (seen : Seen) (sent : Challenged) (answer : List ℕ) (home : Option rows.Row) → s.challenged ≡ Some sent → Says found s seen (read_by sent answer home)
 says_read found s seen sent answer None f = tt
-says_read found s seen sent answer (Some home) f = says_auts found s seen sent (read_auts_of home.secret sent.vector.rand answer) f
+says_read found s seen sent answer (Some home) f = says_auts found s seen sent (read_auts_of home.secret sent.vector.rand answer home.bits) f
 
 says_on_auts : (found : Option ℕ) (set : Setting) (s : ServerEnd) (seen : Seen) (sent : Challenged) (answer : Option (List ℕ)) → s.challenged ≡ Some sent → Says found s seen (on_auts set sent answer)
 says_on_auts found set s seen sent None f = tt

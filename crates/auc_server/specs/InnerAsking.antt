@@ -1,5 +1,5 @@
 -- What a centre answered to a SEQ that a USIM reported, and the number that it was asked for then.
-use Rattle.std.specs.Prelude.{◌≡◌, true, Option, Some, None}
+use Rattle.std.specs.Prelude.{◌≡◌, ℕ, true, Option, Some, None}
 use Rattle.auc_vector.specs.declared.notes.Notes.{Notes}
 use Rattle.auc_vector.specs.declared.notes.NumberNote.{NumberNote}
 use Rattle.auc_vector.specs.declared.notes.ResyncNote.{ResyncNote}
@@ -23,7 +23,7 @@ number_noted (redrawn.Beyond seen seq) = None
 abbrev pub redrawn_noted : Redrawn → Notes
 redrawn_noted answered = noted (resync_noted answered) (number_noted answered)
 
--- a number is asked for after a SEQ that lets the USIM be challenged again
-abbrev pub IsRedrawn : Redrawn → Type 0
-IsRedrawn (redrawn.Again resynced drawn) = (challenges_again (Some resynced) ≡ true) × IsNumbered drawn
-IsRedrawn (redrawn.Beyond seen seq) = Unit {0}
+-- a number, up to the subscriber's greatest, is asked for after a SEQ that lets the USIM be challenged again
+abbrev pub IsRedrawn : ℕ → Redrawn → Type 0
+IsRedrawn top (redrawn.Again resynced drawn) = (challenges_again (Some resynced) ≡ true) × IsNumbered top drawn
+IsRedrawn top (redrawn.Beyond seen seq) = Unit {0}

@@ -15,7 +15,7 @@ use Rattle.auc_server.specs.declared.setting.HomeRow.{HomeRow}
 pub record IsPlan (set : Setting) (homes : List HomeRow) (s : ServerEnd) (seen : Seen) (plan : Plan) : Type 0 where
   pub replies : Replies s.resumed seen.reading plan.reply
   pub row : plan.row ≡ server_row set homes s seen plan.reply
-  pub held : IsHeldRow homes plan.row
+  pub held : IsHeldRow set.rows homes plan.row
   pub text : plan.text ≡ text_in seen.reading
   pub packets : plan.packets ≡ packets_after s seen plan.row
   pub named : plan.rooms ≡ s.options.name

@@ -3,7 +3,6 @@
 use Rattle.std.specs.Prelude.{◌≡◌, ℕ, ◌<◌, ◌≤◌, List, Option, Some, None}
 use Rattle.auc_hmac.specs.declared.method.Method.{Method}
 use Rattle.auc_reauth.specs.Store.{method_of}
-use Rattle.auc_sqn.specs.Number.{max_seq}
 use Rattle.auc_vector.specs.declared.notes.NumberNote.{NumberNote}
 use Rattle.auc_vector.specs.declared.notes.NumberNote.TheVariants as number
 use Rattle.auc_server.specs.declared.server.Challenged.{Challenged}
@@ -31,7 +30,7 @@ abbrev pub HasNextCounter : Option Resumed → Type 0
 HasNextCounter None = Unit {0}
 HasNextCounter (Some r) = HasNext r
 
--- a number for which there is a vector
-abbrev pub IsNumbered : NumberNote → Type 0
-IsNumbered (number.Drew n) = (1 ≤ n) × (n ≤ max_seq)
-IsNumbered other = Unit {0}
+-- a number for which there is a vector, up to a greatest one
+abbrev pub IsNumbered : ℕ → NumberNote → Type 0
+IsNumbered top (number.Drew n) = (1 ≤ n) × (n ≤ top)
+IsNumbered top other = Unit {0}

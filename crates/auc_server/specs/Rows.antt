@@ -179,7 +179,7 @@ by_auts sub (auts.SeqMs seq) = row.Resynchronise sub seq
 -- AUTS of a subscriber's USIM; a challenged subscriber has a row
 abbrev pub read_by : Challenged → List ℕ → Option rows.Row → Row
 read_by sent answer None = row.BadAuts
-read_by sent answer (Some home) = by_auts sent.sub (read_auts_of home.secret sent.vector.rand answer)
+read_by sent answer (Some home) = by_auts sent.sub (read_auts_of home.secret sent.vector.rand answer home.bits)
 
 abbrev pub on_auts : Setting → Challenged → Option (List ℕ) → Row
 on_auts set sent None = row.Ignore reason.Missing

@@ -4,7 +4,7 @@ use Rattle.std.specs.Option.{is_some}
 use Rattle.auc_edge.specs.declared.stop.Stop.{Stop}
 use Rattle.auc_history.specs.declared.entry.Entry.{Entry}
 use Rattle.auc_packet.specs.Received.{Seen, IsReceived}
-use Rattle.auc_sqn.specs.Number.{max_seq}
+use Rattle.auc_subs.specs.Subscriber.{top_at}
 use Rattle.auc_subs.specs.declared.row.Row as rows
 use Rattle.auc_vector.specs.Notes.{Asking, Asked}
 use Rattle.auc_vector.specs.declared.notes.Notes.{Notes}
@@ -26,11 +26,11 @@ use Rattle.auc_server.specs.declared.server.Resumed.{Resumed}
 use Rattle.auc_server.specs.declared.setting.HomeRow.{HomeRow}
 use Rattle.auc_server.specs.declared.why.ServerWhy.{ServerWhy}
 
--- a home: a row of the subscribers, and a subscriber of the centre, whose greatest number is that of all
+-- a home: a row of the subscribers, and a subscriber of the centre with the row's greatest number
 pub record IsHome (all : List rows.Row) (subs : ℕ) (top : ℕ → ℕ) (sub : ℕ) : Type 0 where
   pub listed : sub < length all
   pub known : sub < subs
-  pub greatest : top sub ≡ max_seq
+  pub greatest : top sub ≡ top_at all sub
 
 -- a challenged subscriber is one of the homes
 abbrev pub IsHeld : List HomeRow → Option Challenged → Type 0

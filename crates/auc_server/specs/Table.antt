@@ -99,7 +99,7 @@ failed s cause = ended s (outcome.Failure cause) (packet_text (packet.Failure s.
 -- the vector of a subscriber's number, by a session's method and network name; each subscriber has a row
 abbrev pub vector_of_row : Setting → ServerOptions → ℕ → ℕ → Option rows.Row → Option Vector
 vector_of_row set options sub n None = None
-vector_of_row set options sub n (Some home) = Some (vector_of home.secret options.method home.amf options.name n (rand_of set.key sub n))
+vector_of_row set options sub n (Some home) = Some (vector_of home.secret options.method home.amf options.name home.bits n (rand_of set.key sub n))
 
 abbrev pub vector_at : Setting → ServerOptions → ℕ → ℕ → Option Vector
 vector_at set options sub n = vector_of_row set options sub n (slice_get set.rows sub)

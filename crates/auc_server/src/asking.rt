@@ -1,7 +1,6 @@
 //! What a turn asks the centre for.
 
 ghost use Rattle.std.specs.Prelude.{◌≡◌, ◌<◌, ◌≤◌, ℕ, None, Some};
-ghost use Rattle.auc_sqn.specs.Number.{max_seq};
 ghost use Rattle.auc_vector.specs.Notes.{AskedOf};
 ghost use Rattle.auc_server.specs.InnerAsking.{IsRedrawn, redrawn_noted};
 ghost use Rattle.auc_server.specs.InnerServer.{IsNumbered};
@@ -21,11 +20,10 @@ pub(crate) enum Redrawn {
 
 /// Asks the centre for a number of a subscriber.
 pub(crate) fn draw<C: Centre, R: Wait>(rt: &R, centre: &mut C, sub: u32) -> NumberNote
-    requires known { sub < C.subs centre.old }
-    requires greatest { C.top centre.old sub ≡ max_seq }
+    requires { sub < C.subs centre.old }
 
     ensures asked { AskedOf C.goes C.kept C.top (record { sub = sub; reported = None }) (noted None (Some result)) centre.old centre.new }
-    ensures number { IsNumbered result }
+    ensures number { IsNumbered (C.top centre.old sub) result }
 
     ensures subs { C.subs centre.new ≡ C.subs centre.old }
     ensures top { (i : ℕ) → C.top centre.new i ≡ C.top centre.old i }
@@ -37,11 +35,10 @@ pub(crate) fn draw<C: Centre, R: Wait>(rt: &R, centre: &mut C, sub: u32) -> Numb
 /// Reports the SEQ of a subscriber's USIM to the centre, and asks for a number unless the one there is too far above it.
 pub(crate) fn redraw<C: Centre, R: Wait>(rt: &R, centre: &mut C, sub: u32, seq: u64) -> Redrawn
     requires known { sub < C.subs centre.old }
-    requires greatest { C.top centre.old sub ≡ max_seq }
-    requires seq { seq ≤ max_seq }
+    requires seq { seq ≤ C.top centre.old sub }
 
     ensures asked { AskedOf C.goes C.kept C.top (record { sub = sub; reported = Some seq }) (redrawn_noted result) centre.old centre.new }
-    ensures own { IsRedrawn result }
+    ensures own { IsRedrawn (C.top centre.old sub) result }
 
     ensures subs { C.subs centre.new ≡ C.subs centre.old }
     ensures top { (i : ℕ) → C.top centre.new i ≡ C.top centre.old i }

@@ -1,7 +1,7 @@
 //! A challenge: the vector of a number that the centre gave, and the message.
 
 ghost use Rattle.std.specs.Prelude.{◌≡◌, ◌≤◌, ◌<◌, length, None, Some};
-ghost use Rattle.auc_sqn.specs.Number.{max_seq};
+ghost use Rattle.auc_subs.specs.Subscriber.{top_at};
 ghost use Rattle.auc_server.specs.InnerAsking.{IsRedrawn, number_noted, redrawn_noted, resync_noted};
 ghost use Rattle.auc_server.specs.InnerServer.{IsNumbered};
 ghost use Rattle.auc_server.specs.Steps.{bytes_of};
@@ -28,7 +28,7 @@ fn vector_at(set: &Setting, options: &ServerOptions, sub: u32, n: u64) -> Vector
     requires short { length options.now.name ≤ 255 }
     requires listed { sub < length set.now.rows }
     requires first { 1 ≤ n }
-    requires last { n ≤ max_seq }
+    requires last { n ≤ top_at set.now.rows sub }
     ensures { Some result ≡ vector_at set.now options.now sub n }
 {
     let home = set.subs.row(sub);
@@ -38,6 +38,7 @@ fn vector_at(set: &Setting, options: &ServerOptions, sub: u32, n: u64) -> Vector
         options.method,
         home.amf,
         options.name.as_slice(),
+        home.bits,
         n,
         rand,
     )
@@ -135,7 +136,7 @@ impl Server {
         rooms: Rooms,
     ) -> Turn<ServerWhy>
         requires listed { sub < length set.now.rows }
-        requires number { IsNumbered drawn }
+        requires number { IsNumbered (top_at set.now.rows sub) drawn }
         requires named { rooms ≡ self.old.options.name }
         requires realm { length set.now.realm ≤ 255 }
 
@@ -173,7 +174,7 @@ impl Server {
         plan: Plan,
     ) -> Turn<ServerWhy>
         requires listed { sub < length set.now.rows }
-        requires number { IsNumbered drawn }
+        requires number { IsNumbered (top_at set.now.rows sub) drawn }
         requires named { plan.rooms ≡ self.old.options.name }
         requires realm { length set.now.realm ≤ 255 }
 
@@ -203,7 +204,7 @@ impl Server {
         rooms: Rooms,
     ) -> Turn<ServerWhy>
         requires listed { sub < length set.now.rows }
-        requires own { IsRedrawn answered }
+        requires own { IsRedrawn (top_at set.now.rows sub) answered }
         requires named { rooms ≡ self.old.options.name }
         requires realm { length set.now.realm ≤ 255 }
 

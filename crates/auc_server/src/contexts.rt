@@ -12,6 +12,7 @@ use crate::options::ServerOptions;
 use crate::server::{Challenged, Resumed};
 use crate::setting::HomeRow;
 use auc_hmac::Method;
+use auc_ident::Name;
 use auc_reauth::Context;
 
 /// Whether a subscriber has a context of a method whose identity a text is.
@@ -85,6 +86,13 @@ pub(crate) fn keep_context(method: Method, homes: &mut [HomeRow], sub: u32, c: O
     }
 }
 
+/// A name that the server gave, as a context has it.
+fn kept(name: [u8; 33]) -> Name
+    ensures { result ≡ name }
+{
+    Name::new(&name)
+}
+
 /// The context of a full authentication, if its Challenge gave an identity.
 pub(crate) fn won_context(sent: &Challenged) -> Option<Context>
     ensures context { result ≡ won_context sent.now }
@@ -94,7 +102,7 @@ pub(crate) fn won_context(sent: &Challenged) -> Option<Context>
         None => None,
         Some(identity) => Some(Context {
             origin: sent.number,
-            identity,
+            identity: kept(identity),
             k_encr: sent.keys.k_encr,
             k_aut: sent.keys.k_aut,
             master: sent.master,
@@ -112,7 +120,7 @@ pub(crate) fn context_after(sent: &Resumed) -> Option<Context>
     match sent.next {
         None => None,
         Some(identity) => Some(Context {
-            identity,
+            identity: kept(identity),
             counter: sent.context.counter + 1,
             ..sent.context
         }),

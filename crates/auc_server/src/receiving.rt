@@ -146,7 +146,7 @@ impl Server {
         centre: &mut C,
         plan: Plan,
     ) -> Turn<ServerWhy>
-        requires held { IsHeldRow homes.old plan.row }
+        requires held { IsHeldRow set.now.rows homes.old plan.row }
         requires served { IsServed set.now.rows (C.subs centre.old) (C.top centre.old) homes.old self.old }
         requires named { plan.rooms ≡ self.old.options.name }
         requires realm { length set.now.realm ≤ 255 }

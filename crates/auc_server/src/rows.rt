@@ -10,7 +10,7 @@ ghost use Rattle.auc_server.specs.Rounds.{checkcode};
 ghost use Rattle.auc_server.specs.Rows.{by_auts, challenge_or, context_subscriber, differs, held_place, if_challenged, if_held, if_resumed, in_state, on_any, on_first, on_full, on_identity, on_permanent, named_place, permanent_subscriber, pseudonym_subscriber, is_expected, is_held, is_type, on_auts, on_challenged, on_client_error, on_error_code, on_head, on_message, on_method, on_reading, on_reauth, on_response, on_resumed, on_sync_failure, reauth_subscriber, server_row, subscriber_in, text_in, type_awaited};
 ghost use Rattle.auc_server.specs.Steps.{IsHeld, IsHeldToo};
 ghost use Rattle.auc_server.specs.declared.setting.HomeRow.{HomeRow};
-ghost use Rattle.auc_vector.specs.Auts.{IsNumber};
+ghost use Rattle.auc_subs.specs.declared.row.Row as rows;
 ghost use Rattle.auc_server.specs.InnerRows.{IsHeldRow, IsOwnRow, IsRowOf, IsRowToo};
 
 use crate::attributes::{auts_in, checkcode_in, error_code_in, identity_in, res_in};
@@ -152,7 +152,7 @@ fn context_subscriber(method: Method, set: &Setting, homes: &[HomeRow], text: &[
 /// An identity that may be a re-authentication identity or a pseudonym.
 fn on_any(method: Method, set: &Setting, homes: &[HomeRow], text: &[u8]) -> Row
     ensures row { result ≡ on_any method set.now homes.now text.now }
-    ensures held { IsHeldRow homes.now result }
+    ensures held { IsHeldRow set.now.rows homes.now result }
 {
     if let Some(sub) = context_subscriber(method, set, homes, text) {
         return Row::Resume(sub);
@@ -166,7 +166,7 @@ fn on_any(method: Method, set: &Setting, homes: &[HomeRow], text: &[u8]) -> Row
 /// A pseudonym or a permanent identity, where one for full authentication was asked for.
 fn on_full(method: Method, set: &Setting, homes: &[HomeRow], text: &[u8]) -> Row
     ensures row { result ≡ on_full method set.now homes.now text.now }
-    ensures held { IsHeldRow homes.now result }
+    ensures held { IsHeldRow set.now.rows homes.now result }
 {
     match subscriber_in(method, set, homes, text) {
         None => Row::Ask(IdentityRequest::Permanent),
@@ -177,7 +177,7 @@ fn on_full(method: Method, set: &Setting, homes: &[HomeRow], text: &[u8]) -> Row
 /// An identity that must be a permanent one.
 fn on_permanent(method: Method, set: &Setting, homes: &[HomeRow], text: &[u8]) -> Row
     ensures row { result ≡ on_permanent method set.now homes.now text.now }
-    ensures held { IsHeldRow homes.now result }
+    ensures held { IsHeldRow set.now.rows homes.now result }
 {
     match permanent_subscriber(method, set, homes, text) {
         None => Row::UnknownIdentity,
@@ -188,7 +188,7 @@ fn on_permanent(method: Method, set: &Setting, homes: &[HomeRow], text: &[u8]) -
 /// The identity of EAP's own Identity round.
 fn on_first(options: &ServerOptions, set: &Setting, homes: &[HomeRow], text: &[u8]) -> Row
     ensures row { result ≡ on_first options.now set.now homes.now text.now }
-    ensures held { IsHeldRow homes.now result }
+    ensures held { IsHeldRow set.now.rows homes.now result }
 {
     if options.any {
         return Row::Ask(IdentityRequest::Any);
@@ -253,7 +253,7 @@ fn on_response(
 ) -> Row
     requires { IsReceived (seen_of received.now) }
     ensures row { result ≡ on_response method packets.now sent.now (seen_of received.now) attrs.now }
-    ensures own { IsOwnRow sent.now.sub result }
+    ensures own { (all : List rows.Row) → IsOwnRow all sent.now.sub result }
 {
     if is_missing(Subtype::Challenge, false, attrs) {
         return Row::Ignore(Reason::Missing);
@@ -281,7 +281,7 @@ fn on_reauth(
 ) -> Row
     requires { IsReceived (seen_of received.now) }
     ensures row { result ≡ on_reauth method packets.now sent.now (seen_of received.now) reply attrs.now }
-    ensures own { IsOwnRow sent.now.sub result }
+    ensures own { (all : List rows.Row) → IsOwnRow all sent.now.sub result }
 {
     if is_missing(Subtype::Reauthentication, false, attrs) {
         return Row::Ignore(Reason::Missing);
@@ -303,9 +303,7 @@ fn on_reauth(
 
 /// AUTS of a subscriber's USIM, by what it says.
 fn by_auts(sub: u32, auts: Auts) -> Row
-    requires { IsNumber auts }
-    ensures row { result ≡ by_auts sub auts }
-    ensures own { IsOwnRow sub result }
+    ensures { result ≡ by_auts sub auts }
 {
     match auts {
         Auts::WrongMac => Row::BadAuts,
@@ -317,7 +315,7 @@ fn by_auts(sub: u32, auts: Auts) -> Row
 fn on_sync_failure(set: &Setting, synced: bool, sent: &Challenged, attrs: &AttrList) -> Row
     requires { sent.now.sub < length set.now.rows }
     ensures row { result ≡ on_sync_failure set.now synced sent.now attrs.now }
-    ensures own { IsOwnRow sent.now.sub result }
+    ensures own { IsOwnRow set.now.rows sent.now.sub result }
 {
     if is_missing(Subtype::SynchronizationFailure, false, attrs) {
         return Row::Ignore(Reason::Missing);
@@ -329,14 +327,17 @@ fn on_sync_failure(set: &Setting, synced: bool, sent: &Challenged, attrs: &AttrL
         return Row::Ignore(Reason::Missing);
     };
     let home = set.subs.row(sent.sub);
-    by_auts(sent.sub, read_auts(&home.secret, sent.vector.rand, auts))
+    by_auts(
+        sent.sub,
+        read_auts(&home.secret, sent.vector.rand, auts, home.bits),
+    )
 }
 
 /// A Client-Error.
 fn on_client_error(attrs: &AttrList) -> Row
     ensures row { result ≡ on_client_error attrs.now }
-    ensures own { (own : ℕ) → IsOwnRow own result }
-    ensures held { (homes : List HomeRow) → IsHeldRow homes result }
+    ensures own { (all : List rows.Row) (own : ℕ) → IsOwnRow all own result }
+    ensures held { (all : List rows.Row) (homes : List HomeRow) → IsHeldRow all homes result }
 {
     if is_missing(Subtype::ClientError, false, attrs) {
         return Row::Ignore(Reason::Missing);
@@ -349,9 +350,8 @@ fn on_client_error(attrs: &AttrList) -> Row
 
 /// An AKA-Identity response, for which a row is taken, or an error of the peer.
 fn on_identity(answered: Row, homes: &[HomeRow], subtype: Subtype, attrs: &AttrList) -> Row
-    requires { IsHeldRow homes.now answered }
     ensures row { result ≡ on_identity answered subtype attrs.now }
-    ensures held { IsHeldRow homes.now result }
+    ensures held { (all : List rows.Row) → IsHeldRow all homes.now answered → IsHeldRow all homes.now result }
 {
     match subtype {
         Subtype::Identity => {
@@ -374,7 +374,7 @@ fn in_any(
     attrs: &AttrList,
 ) -> Row
     ensures row { result ≡ on_identity (on_any method set.now homes.now (identity_in attrs.now)) subtype attrs.now }
-    ensures held { IsHeldRow homes.now result }
+    ensures held { IsHeldRow set.now.rows homes.now result }
 {
     let answered = on_any(method, set, homes, identity_in(attrs));
     on_identity(answered, homes, subtype, attrs)
@@ -389,7 +389,7 @@ fn in_full(
     attrs: &AttrList,
 ) -> Row
     ensures row { result ≡ on_identity (on_full method set.now homes.now (identity_in attrs.now)) subtype attrs.now }
-    ensures held { IsHeldRow homes.now result }
+    ensures held { IsHeldRow set.now.rows homes.now result }
 {
     let answered = on_full(method, set, homes, identity_in(attrs));
     on_identity(answered, homes, subtype, attrs)
@@ -404,7 +404,7 @@ fn in_permanent(
     attrs: &AttrList,
 ) -> Row
     ensures row { result ≡ on_identity (on_permanent method set.now homes.now (identity_in attrs.now)) subtype attrs.now }
-    ensures held { IsHeldRow homes.now result }
+    ensures held { IsHeldRow set.now.rows homes.now result }
 {
     let answered = on_permanent(method, set, homes, identity_in(attrs));
     on_identity(answered, homes, subtype, attrs)
@@ -451,7 +451,7 @@ impl Server {
         requires received { IsReceived (seen_of received.now) }
         requires listed { sent.now.sub < length set.now.rows }
         ensures row { result ≡ on_challenged set.now self.now sent.now (seen_of received.now) subtype attrs.now }
-        ensures own { IsOwnRow sent.now.sub result }
+        ensures own { IsOwnRow set.now.rows sent.now.sub result }
     {
         match subtype {
             Subtype::Challenge => on_response(
@@ -479,7 +479,7 @@ impl Server {
         requires received { IsReceived (seen_of received.now) }
         requires listed { IfSome self.now.challenged (λ sent. sent.sub < length set.now.rows) }
         ensures row { result ≡ if_challenged set.now self.now self.now.challenged (seen_of received.now) subtype attrs.now }
-        ensures own { IsRowOf self.now.challenged result }
+        ensures own { IsRowOf set.now.rows self.now.challenged result }
     {
         match &self.challenged {
             None => Row::Ignore(Reason::Unexpected),
@@ -498,7 +498,7 @@ impl Server {
     ) -> Row
         requires { IsReceived (seen_of received.now) }
         ensures row { result ≡ on_resumed self.now sent.now (seen_of received.now) reply subtype attrs.now }
-        ensures own { IsOwnRow sent.now.sub result }
+        ensures own { (all : List rows.Row) → IsOwnRow all sent.now.sub result }
     {
         match subtype {
             Subtype::Reauthentication => on_reauth(
@@ -524,7 +524,7 @@ impl Server {
     ) -> Row
         requires { IsReceived (seen_of received.now) }
         ensures row { result ≡ if_resumed self.now self.now.resumed (seen_of received.now) reply subtype attrs.now }
-        ensures own { IsRowToo self.now.resumed result }
+        ensures own { (all : List rows.Row) → IsRowToo all self.now.resumed result }
     {
         match &self.resumed {
             None => Row::Ignore(Reason::Unexpected),
@@ -547,7 +547,7 @@ impl Server {
         requires held { IsHeld homes.now self.now.challenged }
         requires resumed { IsHeldToo homes.now self.now.resumed }
         ensures row { result ≡ on_message set.now homes.now self.now self.now.state (seen_of received.now) reply subtype attrs.now }
-        ensures held { IsHeldRow homes.now result }
+        ensures held { IsHeldRow set.now.rows homes.now result }
     {
         let method = self.options.method;
         match self.state {
@@ -571,7 +571,7 @@ impl Server {
         requires held { IsHeld homes.now self.now.challenged }
         requires resumed { IsHeldToo homes.now self.now.resumed }
         ensures row { result ≡ on_method set.now homes.now self.now self.now.state (seen_of received.now) reply received.now.reading }
-        ensures held { IsHeldRow homes.now result }
+        ensures held { IsHeldRow set.now.rows homes.now result }
     {
         let Reading::Read(Packet::Aka { subtype, attrs, .. }) = &received.reading else {
             return Row::Ignore(Reason::Malformed);
@@ -589,7 +589,7 @@ impl Server {
         requires held { IsHeld homes.now self.now.challenged }
         requires resumed { IsHeldToo homes.now self.now.resumed }
         ensures row { result ≡ on_reading set.now homes.now self.now self.now.state (seen_of received.now) reply received.now.reading }
-        ensures held { IsHeldRow homes.now result }
+        ensures held { IsHeldRow set.now.rows homes.now result }
     {
         if let ServerState::AwaitIdentity = self.state {
             return on_first(&self.options, set, homes, text_in(&received.reading));
@@ -610,7 +610,7 @@ impl Server {
         requires held { IsHeld homes.now self.now.challenged }
         requires resumed { IsHeldToo homes.now self.now.resumed }
         ensures row { result ≡ server_row set.now homes.now self.now (seen_of received.now) reply }
-        ensures held { IsHeldRow homes.now result }
+        ensures held { IsHeldRow set.now.rows homes.now result }
     {
         if let ServerState::Ended(_) = self.state {
             return Row::Ignore(Reason::Closed);

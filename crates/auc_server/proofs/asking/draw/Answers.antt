@@ -7,4 +7,4 @@ returns-clause-asked g c =
     c.ask.ensures.kept c.ask.ensures.still
 
 pub returns-clause-number : goal.returns-clause-number
-returns-clause-number g c = numbered _ _ c.ask.result c.requires.greatest c.ask.ensures.answer
+returns-clause-number g c = numbered _ _ c.ask.result c.ask.ensures.answer

@@ -1,4 +1,5 @@
-use Rattle.std.proofs.Common.{Some, refl, ◌∙◌}
+use Rattle.std.proofs.Common.{Some, refl, subst}
+use Rattle.auc_server.specs.InnerServer.{IsNumbered}
 use Rattle.auc_server.specs.Table.{noted}
 use Rattle.auc_server.proofs.AskingLemmas.{again_unless, asked_twice, numbered}
 use Rattle.auc_server.proofs.asking.redraw.Goals as goal
@@ -13,5 +14,5 @@ returns-in_default-clause-asked g c =
 pub returns-in_default-clause-own : goal.returns-in_default-clause-own
 returns-in_default-clause-own g c = (
   again_unless _ c.args.seq c.report-resynced.result c.report-resynced.ensures.answer c.in_default.not-Beyond,
-  numbered _ _ c.ask.result (c.report-resynced.ensures.top c.args.sub ∙ c.requires.greatest) c.ask.ensures.answer,
+  subst (λ top. IsNumbered top c.ask.result) (c.report-resynced.ensures.top c.args.sub) (numbered _ _ c.ask.result c.ask.ensures.answer),
 )

@@ -8,3 +8,6 @@ returns-clause-row c =
     c.on_identity.ensures.row
     ∙ ap (λ (r : Row). on_identity r c.args.subtype c.args.attrs.now)
     (c.on_full-answered.ensures.row ∙ ap (λ (t : List ℕ). on_full c.args.method c.args.set.now c.args.homes.now t) c.identity_in.ensures)
+
+pub returns-clause-held : goal.returns-clause-held
+returns-clause-held c = c.on_identity.ensures.held c.args.set.now.rows c.on_full-answered.ensures.held

@@ -1,26 +1,27 @@
-use Rattle.std.proofs.Common.{◌≡◌, Option, subst, sym, refl}
+use Rattle.std.proofs.Common.{◌≡◌, ◌≤◌, ℕ, Option, subst, sym, refl}
 use Rattle.auc_vector.specs.Notes.{Asked, Asking}
+use Rattle.auc_server.specs.InnerAsking.{IsRedrawn}
 use Rattle.auc_server.specs.InnerRows.{IsHeldRow}
+use Rattle.auc_server.specs.InnerServer.{IsNumbered}
 use Rattle.auc_server.specs.Steps.{AsksAsNeeded, asking}
 use Rattle.auc_server.specs.Table.{homes_done, server_does}
 use Rattle.auc_server.proofs.AskingLemmas.{as_noted, asks_alone, draws_alone, draws_again}
 use Rattle.auc_server.proofs.HomeLemmas.{home_of}
 use Rattle.auc_server.proofs.server.Server.take.Goals as goal
 
-pub draw-drawn-requires-clause-known : goal.draw-drawn-requires-clause-known
-draw-drawn-requires-clause-known g c =
-    (home_of _ _ _ c.args.homes.now c.in-Challenge.sub c.requires.served.each (subst (IsHeldRow c.args.homes.now) c.in-Challenge.is c.requires.held)).known
-
-pub draw-drawn-requires-clause-greatest : goal.draw-drawn-requires-clause-greatest
-draw-drawn-requires-clause-greatest g c =
-    (home_of _ _ _ c.args.homes.now c.in-Challenge.sub c.requires.served.each (subst (IsHeldRow c.args.homes.now) c.in-Challenge.is c.requires.held)).greatest
+pub draw-drawn-requires : goal.draw-drawn-requires
+draw-drawn-requires g c =
+    (home_of _ _ _ c.args.homes.now c.in-Challenge.sub c.requires.served.each (subst (IsHeldRow c.args.set.now.rows c.args.homes.now) c.in-Challenge.is c.requires.held)).known
 
 pub challenge_first-requires-clause-listed : goal.challenge_first-requires-clause-listed
 challenge_first-requires-clause-listed g c =
-    (home_of _ _ _ c.args.homes.now c.in-Challenge.sub c.requires.served.each (subst (IsHeldRow c.args.homes.now) c.in-Challenge.is c.requires.held)).listed
+    (home_of _ _ _ c.args.homes.now c.in-Challenge.sub c.requires.served.each (subst (IsHeldRow c.args.set.now.rows c.args.homes.now) c.in-Challenge.is c.requires.held)).listed
 
 pub challenge_first-requires-clause-number : goal.challenge_first-requires-clause-number
-challenge_first-requires-clause-number g c = c.draw-drawn.ensures.number
+challenge_first-requires-clause-number g c =
+    subst (λ (top : ℕ). IsNumbered top c.draw-drawn.result)
+    (home_of _ _ _ c.args.homes.now c.in-Challenge.sub c.requires.served.each (subst (IsHeldRow c.args.set.now.rows c.args.homes.now) c.in-Challenge.is c.requires.held)).greatest
+    c.draw-drawn.ensures.number
 
 pub challenge_first-requires-clause-realm : goal.challenge_first-requires-clause-realm
 challenge_first-requires-clause-realm g c = c.requires.realm
@@ -55,20 +56,19 @@ returns-in-Challenge-clause-top g c = c.draw-drawn.ensures.top
 pub returns-in-Challenge-clause-name : goal.returns-in-Challenge-clause-name
 returns-in-Challenge-clause-name g c = c.draw-drawn.ensures.name
 
-pub draw-drawn-requires-in-TooSmall-clause-known : goal.draw-drawn-requires-in-TooSmall-clause-known
-draw-drawn-requires-in-TooSmall-clause-known g c =
-    (home_of _ _ _ c.args.homes.now c.in-TooSmall.sub c.requires.served.each (subst (IsHeldRow c.args.homes.now) c.in-TooSmall.is c.requires.held)).known
-
-pub draw-drawn-requires-in-TooSmall-clause-greatest : goal.draw-drawn-requires-in-TooSmall-clause-greatest
-draw-drawn-requires-in-TooSmall-clause-greatest g c =
-    (home_of _ _ _ c.args.homes.now c.in-TooSmall.sub c.requires.served.each (subst (IsHeldRow c.args.homes.now) c.in-TooSmall.is c.requires.held)).greatest
+pub draw-drawn-requires-in-TooSmall : goal.draw-drawn-requires-in-TooSmall
+draw-drawn-requires-in-TooSmall g c =
+    (home_of _ _ _ c.args.homes.now c.in-TooSmall.sub c.requires.served.each (subst (IsHeldRow c.args.set.now.rows c.args.homes.now) c.in-TooSmall.is c.requires.held)).known
 
 pub challenge-requires-clause-listed : goal.challenge-requires-clause-listed
 challenge-requires-clause-listed g c =
-    (home_of _ _ _ c.args.homes.now c.in-TooSmall.sub c.requires.served.each (subst (IsHeldRow c.args.homes.now) c.in-TooSmall.is c.requires.held)).listed
+    (home_of _ _ _ c.args.homes.now c.in-TooSmall.sub c.requires.served.each (subst (IsHeldRow c.args.set.now.rows c.args.homes.now) c.in-TooSmall.is c.requires.held)).listed
 
 pub challenge-requires-clause-number : goal.challenge-requires-clause-number
-challenge-requires-clause-number g c = c.draw-drawn-in-TooSmall.ensures.number
+challenge-requires-clause-number g c =
+    subst (λ (top : ℕ). IsNumbered top c.draw-drawn-in-TooSmall.result)
+    (home_of _ _ _ c.args.homes.now c.in-TooSmall.sub c.requires.served.each (subst (IsHeldRow c.args.set.now.rows c.args.homes.now) c.in-TooSmall.is c.requires.held)).greatest
+    c.draw-drawn-in-TooSmall.ensures.number
 
 pub challenge-requires-clause-realm : goal.challenge-requires-clause-realm
 challenge-requires-clause-realm g c = c.requires.realm
@@ -105,18 +105,22 @@ returns-in-TooSmall-clause-name g c = c.draw-drawn-in-TooSmall.ensures.name
 
 pub redraw-answered-requires-clause-known : goal.redraw-answered-requires-clause-known
 redraw-answered-requires-clause-known g c =
-    (home_of _ _ _ c.args.homes.now c.in-Resynchronise.sub c.requires.served.each (subst (IsHeldRow c.args.homes.now) c.in-Resynchronise.is c.requires.held).0).known
+    (home_of _ _ _ c.args.homes.now c.in-Resynchronise.sub c.requires.served.each (subst (IsHeldRow c.args.set.now.rows c.args.homes.now) c.in-Resynchronise.is c.requires.held).0).known
 
-pub redraw-answered-requires-clause-greatest : goal.redraw-answered-requires-clause-greatest
-redraw-answered-requires-clause-greatest g c =
-    (home_of _ _ _ c.args.homes.now c.in-Resynchronise.sub c.requires.served.each (subst (IsHeldRow c.args.homes.now) c.in-Resynchronise.is c.requires.held).0).greatest
+pub redraw-answered-requires-clause-seq : goal.redraw-answered-requires-clause-seq
+redraw-answered-requires-clause-seq g c =
+    let held = subst (IsHeldRow c.args.set.now.rows c.args.homes.now) c.in-Resynchronise.is c.requires.held in
+    subst (λ (top : ℕ). c.in-Resynchronise.seq ≤ top) (sym (home_of _ _ _ c.args.homes.now c.in-Resynchronise.sub c.requires.served.each held.0).greatest) held.1
 
 pub resynchronise-requires-clause-listed : goal.resynchronise-requires-clause-listed
 resynchronise-requires-clause-listed g c =
-    (home_of _ _ _ c.args.homes.now c.in-Resynchronise.sub c.requires.served.each (subst (IsHeldRow c.args.homes.now) c.in-Resynchronise.is c.requires.held).0).listed
+    (home_of _ _ _ c.args.homes.now c.in-Resynchronise.sub c.requires.served.each (subst (IsHeldRow c.args.set.now.rows c.args.homes.now) c.in-Resynchronise.is c.requires.held).0).listed
 
 pub resynchronise-requires-clause-own : goal.resynchronise-requires-clause-own
-resynchronise-requires-clause-own g c = c.redraw-answered.ensures.own
+resynchronise-requires-clause-own g c =
+    subst (λ (top : ℕ). IsRedrawn top c.redraw-answered.result)
+    (home_of _ _ _ c.args.homes.now c.in-Resynchronise.sub c.requires.served.each (subst (IsHeldRow c.args.set.now.rows c.args.homes.now) c.in-Resynchronise.is c.requires.held).0).greatest
+    c.redraw-answered.ensures.own
 
 pub resynchronise-requires-clause-realm : goal.resynchronise-requires-clause-realm
 resynchronise-requires-clause-realm g c = c.requires.realm
@@ -137,7 +141,7 @@ returns-in-Resynchronise-clause-asked g c =
     c.resynchronise.ensures.notes c.redraw-answered.ensures.asked
 
 pub returns-in-Resynchronise-clause-drawn : goal.returns-in-Resynchronise-clause-drawn
-returns-in-Resynchronise-clause-drawn g c = as_noted AsksAsNeeded _ _ _ _ c.in-Resynchronise.is c.resynchronise.ensures.notes (draws_again c.redraw-answered.result c.redraw-answered.ensures.own)
+returns-in-Resynchronise-clause-drawn g c = as_noted AsksAsNeeded _ _ _ _ c.in-Resynchronise.is c.resynchronise.ensures.notes (draws_again _ c.redraw-answered.result c.redraw-answered.ensures.own)
 
 pub returns-in-Resynchronise-clause-small : goal.returns-in-Resynchronise-clause-small
 returns-in-Resynchronise-clause-small g c = c.resynchronise.ensures.small
