@@ -21,7 +21,7 @@ use Rattle.auc_peer.specs.Messages.{client_error, draft_of, identified, identity
 
 -- ---- the Identity response
 
-pub identity_may : (id : ℕ) (text : List ℕ) → length text ≤ 289 → MayBeWritten (identity_response id text)
+pub identity_may : (id : ℕ) (text : List ℕ) → length text ≤ 511 → MayBeWritten (identity_response id text)
 identity_may id text short = record { attrs = refl; size = omega (arith, short) }
 
 pub identity_size : (id : ℕ) (text : List ℕ) → length (packet_text (identity_response id text)) ≡ 5 + length text
@@ -29,7 +29,7 @@ identity_size id text = omega arith
 
 -- ---- the AKA-Identity response
 
-identity_writable : (text : List ℕ) → length text ≤ 289 → writable (attr.Identity text ∷ []) ≡ true
+identity_writable : (text : List ℕ) → length text ≤ 511 → writable (attr.Identity text ∷ []) ≡ true
 unfolding fits_item fits row_of
 identity_writable text short = rw (le-leb (length text) 1016 (omega (arith, short))) refl
 
@@ -40,14 +40,14 @@ identity_length text =
     let zeros : List ℕ = replicate (fill (length text)) 0 in
     omega (arith, length-append text zeros, length-append (text ++ zeros) [], length-replicate {A = ℕ} (fill (length text)) 0)
 
-pub identified_may : (m : Method) (id : ℕ) (text : List ℕ) → length text ≤ 289 → MayBeWritten (identified m id text)
+pub identified_may : (m : Method) (id : ℕ) (text : List ℕ) → length text ≤ 511 → MayBeWritten (identified m id text)
 identified_may m id text short = record { attrs = identity_writable text short; size = omega (arith, short, identity_length text) }
 
 pub identified_size : (m : Method) (id : ℕ) (text : List ℕ) → length (packet_text (identified m id text)) ≤ 15 + length text
 identified_size m id text = omega (arith, identity_length text)
 
 -- the same of attributes that are an AT_IDENTITY
-pub identified_may_of : (m : Method) (id : ℕ) (text : List ℕ) (list : List Attr) → length text ≤ 289 → list ≡ attr.Identity text ∷ []
+pub identified_may_of : (m : Method) (id : ℕ) (text : List ℕ) (list : List Attr) → length text ≤ 511 → list ≡ attr.Identity text ∷ []
     → MayBeWritten (packet.Aka false id m subtype.Identity list)
 identified_may_of m id text list short e = subst (λ (l : List Attr). MayBeWritten (packet.Aka false id m subtype.Identity l)) (sym e) (identified_may m id text short)
 

@@ -14,14 +14,14 @@ use Rattle.auc_peer.specs.declared.rows.Row.{Row}
 use Rattle.auc_peer.specs.declared.rows.Row.TheVariants as row
 use Rattle.auc_peer.specs.declared.why.PeerWhy.{PeerWhy}
 use Rattle.auc_reauth.specs.Device.{Keeps}
-use Rattle.auc_sqn.specs.Past.{Past, Remembers}
+use Rattle.auc_sqn.specs.Past.{ArrayValue, Past, Remembers}
 use Rattle.auc_vector.specs.declared.notes.CounterNote.{CounterNote}
 use Rattle.auc_vector.specs.declared.notes.UsimNote.{UsimNote}
 use Rattle.auc_vector.specs.declared.turn.Turn.{Turn}
 use Rattle.auc_peer.proofs.ReauthLemmas.{reauth_asks_none}
 
 -- a fast re-authentication
-pub reauth_steps : (key : List ℕ) (s : Subscription) (keeps : Keeps) (p : Peer) (seen : Seen) (bytes before : List ℕ) (new : Peer) (turn : Turn PeerWhy) (kept : Keeps)
+pub reauth_steps : (key : List ℕ) (s : Subscription) (keeps : Keeps) (p : Peer) (seen : Seen) (bytes : List ℕ) (before : ArrayValue) (new : Peer) (turn : Turn PeerWhy) (kept : Keeps)
     → IsReceived seen → seen.bytes ≡ bytes → row.Reauthentication ≡ peer_row p seen
     → ◌≡◌ {A = Peer × Turn PeerWhy} (new, turn) (reauthenticated key keeps p seen new.inner)
     → Decrypts (decryption_resumed p seen (context_of keeps p)) new.inner
@@ -39,18 +39,18 @@ reauth_steps key s keeps p seen bytes before new turn kept is of e step decrypts
     }
 
 -- the same of a call that may find no memory, and leaves the USIM as it was
-pub reauth_returns : {E : Type 0} (key : List ℕ) (s : Subscription) (keeps : Keeps) (p : Peer) (seen : Seen) (bytes before after : List ℕ) (new : Peer) (kept : Keeps) (result : Result (Turn PeerWhy) E)
+pub reauth_returns : {E : Type 0} (key : List ℕ) (s : Subscription) (keeps : Keeps) (p : Peer) (seen : Seen) (bytes : List ℕ) (before after : ArrayValue) (new : Peer) (kept : Keeps) (result : Result (Turn PeerWhy) E)
     → IsReceived seen → seen.bytes ≡ bytes → row.Reauthentication ≡ peer_row p seen → after ≡ before
     → IfOk result (λ turn. ◌≡◌ {A = Peer × Turn PeerWhy} (new, turn) (reauthenticated key keeps p seen new.inner))
     → IfOk result (λ turn. Decrypts (decryption_resumed p seen (context_of keeps p)) new.inner)
     → IfOk result (λ turn. kept ≡ counted_up p.options.method turn.notes.counter keeps)
     → IfOk result (λ turn. Steps key s keeps p bytes before new turn kept after)
 reauth_returns key s keeps p seen bytes before after new kept (Ok turn) is of e same step decrypts stored =
-    subst (λ (array : List ℕ). Steps key s keeps p bytes before new turn kept array) (sym same) (reauth_steps key s keeps p seen bytes before new turn kept is of e step decrypts stored)
+    subst (λ (array : ArrayValue). Steps key s keeps p bytes before new turn kept array) (sym same) (reauth_steps key s keeps p seen bytes before new turn kept is of e step decrypts stored)
 reauth_returns key s keeps p seen bytes before after new kept (Err other) is of e same step decrypts stored = tt
 
 -- what a row did
-pub row_steps : (key : List ℕ) (s : Subscription) (keeps : Keeps) (p : Peer) (seen : Seen) (r : Row) (bytes before : List ℕ) (new : Peer) (turn : Turn PeerWhy) (kept : Keeps) (after : List ℕ)
+pub row_steps : (key : List ℕ) (s : Subscription) (keeps : Keeps) (p : Peer) (seen : Seen) (r : Row) (bytes : List ℕ) (before : ArrayValue) (new : Peer) (turn : Turn PeerWhy) (kept : Keeps) (after : ArrayValue)
     → IsReceived seen → seen.bytes ≡ bytes → r ≡ peer_row p seen
     → ((past : Past) → Remembers before past → ◌≡◌ {A = Peer × Turn PeerWhy} (new, turn) (peer_step key s keeps p seen turn.notes.usim (inner_of new)))
     → Asked s (asked r) turn.notes.usim before after
@@ -96,7 +96,7 @@ quiet key s keeps p seen row.Success n m inner is = absurd is
 quiet key s keeps p seen (row.Failure cause) n m inner is = (refl, refl, refl, refl, refl)
 
 -- a quiet row
-pub quiet_steps : (key : List ℕ) (s : Subscription) (keeps : Keeps) (p : Peer) (seen : Seen) (r : Row) (before : List ℕ) (new : Peer) (turn : Turn PeerWhy) → IsQuiet r
+pub quiet_steps : (key : List ℕ) (s : Subscription) (keeps : Keeps) (p : Peer) (seen : Seen) (r : Row) (before : ArrayValue) (new : Peer) (turn : Turn PeerWhy) → IsQuiet r
     → IsReceived seen → r ≡ peer_row p seen → ◌≡◌ {A = Peer × Turn PeerWhy} (new, turn) (peer_does key s keeps p seen r None decrypted.Unreadable)
     → Steps key s keeps p seen.bytes before new turn keeps before
 quiet_steps key s keeps p seen r before new turn q is e step =
@@ -109,14 +109,14 @@ quiet_steps key s keeps p seen r before new turn q is e step =
     (sym facts.3)
 
 -- the same of a call that may find no memory
-pub quiet_returns : {E : Type 0} (key : List ℕ) (s : Subscription) (keeps : Keeps) (p : Peer) (seen : Seen) (r : Row) (before : List ℕ) (new : Peer) (result : Result (Turn PeerWhy) E) → IsQuiet r
+pub quiet_returns : {E : Type 0} (key : List ℕ) (s : Subscription) (keeps : Keeps) (p : Peer) (seen : Seen) (r : Row) (before : ArrayValue) (new : Peer) (result : Result (Turn PeerWhy) E) → IsQuiet r
     → IsReceived seen → r ≡ peer_row p seen → IfOk result (λ turn. ◌≡◌ {A = Peer × Turn PeerWhy} (new, turn) (peer_does key s keeps p seen r None decrypted.Unreadable))
     → IfOk result (λ turn. Steps key s keeps p seen.bytes before new turn keeps before)
 quiet_returns key s keeps p seen r before new (Ok turn) q is e step = quiet_steps key s keeps p seen r before new turn q is e step
 quiet_returns key s keeps p seen r before new (Err other) q is e step = tt
 
 -- Success
-pub success_steps : (key : List ℕ) (s : Subscription) (keeps : Keeps) (p : Peer) (seen : Seen) (before after : List ℕ) (new : Peer) (turn : Turn PeerWhy) (kept : Keeps)
+pub success_steps : (key : List ℕ) (s : Subscription) (keeps : Keeps) (p : Peer) (seen : Seen) (before after : ArrayValue) (new : Peer) (turn : Turn PeerWhy) (kept : Keeps)
     → IsReceived seen → row.Success ≡ peer_row p seen → after ≡ before → ◌≡◌ {A = Peer × Turn PeerWhy} (new, turn) (succeeded p p.state) → turn.notes.usim ≡ None → kept ≡ taken_up p.state p keeps
     → Steps key s keeps p seen.bytes before new turn kept after
 success_steps key s keeps p seen before after new turn kept is e same step silent stored =
@@ -125,7 +125,7 @@ success_steps key s keeps p seen before after new turn kept is e same step silen
     (silent, same) (λ past remembers. tt) stored
 
 -- a Challenge that was handed to the USIM, unless memory ran out
-pub challenged_returns : {E : Type 0} (key : List ℕ) (s : Subscription) (keeps : Keeps) (p : Peer) (seen : Seen) (c : Challenge) (before after : List ℕ) (new : Peer) (kept : Keeps) (result : Result (Turn PeerWhy) E)
+pub challenged_returns : {E : Type 0} (key : List ℕ) (s : Subscription) (keeps : Keeps) (p : Peer) (seen : Seen) (c : Challenge) (before after : ArrayValue) (new : Peer) (kept : Keeps) (result : Result (Turn PeerWhy) E)
     → IsReceived seen → row.Challenged c ≡ peer_row p seen → kept ≡ keeps
     → IfOk result (λ turn. (past : Past) → Remembers before past → ◌≡◌ {A = Peer × Turn PeerWhy} (new, turn) (challenged s p seen c turn.notes.usim (inner_of new)))
     → IfOk result (λ turn. Asked s (Some c) turn.notes.usim before after)

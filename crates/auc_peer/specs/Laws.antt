@@ -22,7 +22,7 @@ use Rattle.auc_reauth.specs.Device.{Keeps, with_accepted}
 use Rattle.auc_reauth.specs.Store.{entry}
 use Rattle.auc_reauth.specs.declared.context.Context.{Context}
 use Rattle.auc_request.specs.declared.enclosed.Enclosed.{Enclosed}
-use Rattle.auc_sqn.specs.Past.{Past, Remembers}
+use Rattle.auc_sqn.specs.Past.{ArrayValue, Past, Remembers}
 use Rattle.auc_vector.specs.Keys.{reauth_keys_of}
 use Rattle.auc_vector.specs.declared.notes.CounterNote.TheVariants as counts
 use Rattle.auc_vector.specs.declared.notes.UsimNote.{UsimNote}
@@ -187,6 +187,6 @@ AcceptedIsOfTheContext = (key : List ℕ) (s : Subscription) (keeps : Keeps) (p 
 -- two turns of equal peers at equal bytes, in which a USIM that remembers some past answered alike, are the same
 abbrev pub EqualTurnsAreOne : Type 0
 EqualTurnsAreOne =
-    (key : List ℕ) (s : Subscription) (keeps kept stored : Keeps) (old new other : Peer) (bytes before left right : List ℕ) (turn another : Turn PeerWhy) (past : Past)
+    (key : List ℕ) (s : Subscription) (keeps kept stored : Keeps) (old new other : Peer) (bytes : List ℕ) (before left right : ArrayValue) (turn another : Turn PeerWhy) (past : Past)
     → Remembers before past → Steps key s keeps old bytes before new turn kept left → Steps key s keeps old bytes before other another stored right
     → turn.notes.usim ≡ another.notes.usim → (new ≡ other) × (turn ≡ another) × (kept ≡ stored)

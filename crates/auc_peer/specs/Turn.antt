@@ -22,7 +22,7 @@ use Rattle.auc_reauth.specs.Device.{Keeps}
 use Rattle.auc_reauth.specs.declared.context.Context.{Context}
 use Rattle.auc_seal.specs.Encrypted.{Opens}
 use Rattle.auc_seal.specs.declared.refusal.SealRefusal.{SealRefusal}
-use Rattle.auc_sqn.specs.Past.{Past, Remembers}
+use Rattle.auc_sqn.specs.Past.{ArrayValue, Past, Remembers}
 use Rattle.auc_usim.specs.Usim.{IsAnswer, past_after_answer}
 use Rattle.auc_usim.specs.declared.answer.Answer.{Answer}
 use Rattle.auc_usim.specs.declared.answer.Answer.TheVariants as answer
@@ -38,12 +38,12 @@ asked other = None
 
 -- the USIM answered what it was asked by all that it had accepted, as the note tells, and accepted nothing else; it was
 -- asked nothing else
-abbrev pub Asked : Subscription → Option Challenge → Option UsimNote → List ℕ → List ℕ → Type 0
+abbrev pub Asked : Subscription → Option Challenge → Option UsimNote → ArrayValue → ArrayValue → Type 0
 Asked s None n old new = (n ≡ None) × (new ≡ old)
 Asked s (Some c) None old new = ⊥
 Asked s (Some c) (Some n) old new = (past : Past) → Remembers old past
-    → IsAnswer s.secret past c.rand c.autn (answer_noted s.secret c n)
-    × Remembers new (past_after_answer past (answer_noted s.secret c n))
+    → IsAnswer s.secret old.bits old.age past c.rand c.autn (answer_noted s.secret c n)
+    × Remembers new (past_after_answer old.bits past (answer_noted s.secret c n))
 
 -- ---- what is encrypted
 
@@ -101,7 +101,7 @@ inner_of new = new.inner
 -- under a key of the random bytes, bytes were received as something; if the USIM remembers some past, the turn is the
 -- table's; the USIM was asked what the row says, and answered as the note tells; what the row decrypted was as the new peer
 -- tells; and the device keeps what the row says
-pub record Steps (key : List ℕ) (s : Subscription) (keeps : Keeps) (old : Peer) (bytes before : List ℕ) (new : Peer) (turn : Turn PeerWhy) (kept : Keeps) (after : List ℕ) : Type 0 where
+pub record Steps (key : List ℕ) (s : Subscription) (keeps : Keeps) (old : Peer) (bytes : List ℕ) (before : ArrayValue) (new : Peer) (turn : Turn PeerWhy) (kept : Keeps) (after : ArrayValue) : Type 0 where
   pub seen : Seen
   pub received : IsReceived seen
   pub of : seen.bytes ≡ bytes

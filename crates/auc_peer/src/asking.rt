@@ -25,10 +25,13 @@ pub(crate) fn ask(usim: &mut Usim, challenge: Challenge) -> Answer
     ensures noted { (past : Past) → Remembers usim.old.array past
         → result ≡ answer_noted usim.old.secret challenge (note_of result) }
     ensures answer { (past : Past) → Remembers usim.old.array past
-        → IsAnswer usim.old.secret past challenge.rand challenge.autn result }
+        → IsAnswer usim.old.secret usim.old.array.bits usim.old.array.age past
+        challenge.rand challenge.autn result }
     ensures past { (past : Past) → Remembers usim.old.array past
-        → Remembers usim.new.array (past_after_answer past result) }
+        → Remembers usim.new.array (past_after_answer usim.old.array.bits past result) }
     ensures secret { usim.new.secret ≡ usim.old.secret }
+    ensures bits { usim.new.array.bits ≡ usim.old.array.bits }
+    ensures age { usim.new.array.age ≡ usim.old.array.age }
 {
     usim.challenge(challenge.rand, challenge.autn)
 }

@@ -26,6 +26,7 @@ use crate::turns::noted;
 use crate::why::PeerWhy;
 use auc_edge::{NoMemory, Octets, Room};
 use auc_hmac::{KeySet, Master};
+use auc_ident::Name;
 use auc_packet::{Received, is_sealed};
 use auc_reauth::Context;
 use auc_seal::CheckValue;
@@ -52,12 +53,7 @@ fn origin_of(sqn: [u8; 6]) -> u64
 }
 
 /// The context that a Challenge leaves, if it gives the next identity.
-fn context_from(
-    keys: KeySet,
-    master: Master,
-    sqn: [u8; 6],
-    identity: Option<[u8; 33]>,
-) -> NextContext
+fn context_from(keys: KeySet, master: Master, sqn: [u8; 6], identity: Option<Name>) -> NextContext
     ensures { result ≡ context_from keys master sqn identity }
 {
     let KeySet { k_encr, k_aut, .. } = keys;
@@ -135,6 +131,8 @@ impl Peer {
             turn.notes.usim) (inner_of self.new)) }
         ensures store { device.new.store ≡ device.old.store }
         ensures subscription { subscription_of device.new ≡ subscription_of device.old }
+        ensures bits { device.new.usim.array.bits ≡ device.old.usim.array.bits }
+        ensures age { device.new.usim.array.age ≡ device.old.usim.array.age }
         ensures peer { OnErr result (self.new ≡ self.old) }
         ensures device { OnErr result (device.new ≡ device.old) }
     {
@@ -280,7 +278,7 @@ impl Peer {
         let reading = &received.reading;
         let decrypted = inner_in(granted.keys.k_encr, reading, &rooms.no_attrs, inner);
         self.inner = decrypted;
-        match decrypted {
+        match &decrypted {
             Decrypted::Attributes(given) => {
                 self.respond(received, granted, given.identity, rooms)
             }
@@ -297,7 +295,7 @@ impl Peer {
         &mut self,
         received: &Received,
         granted: Granted,
-        identity: Option<[u8; 33]>,
+        identity: Option<Name>,
         rooms: ChallengeRooms,
     ) -> Turn<PeerWhy>
         requires { rooms ≡ (seen_of received.now).bytes }

@@ -12,7 +12,7 @@ use crate::next::NextContext;
 use crate::options::PeerOptions;
 use auc_edge::{Imsi, NoMemory, Octets};
 use auc_hmac::{Master, Method};
-use auc_ident::permanent;
+use auc_ident::{Name, permanent};
 use auc_reauth::{Context, DeviceStore};
 use auc_request::IdentityRequest;
 use auc_usim::Usim;
@@ -55,7 +55,7 @@ impl Device {
         requires { length self.now.realm ≤ 255 }
         ensures text { IfOk result (λ text. text
             ≡ first_text options.now.method (subscription_of self.now) self.now.store options.now.first) }
-        ensures size { IfOk result (λ text. length text ≤ 289) }
+        ensures size { IfOk result (λ text. length text ≤ 511) }
     {
         match &options.first {
             FirstIdentity::Held => self.held(alloc, options.method),
@@ -73,7 +73,7 @@ impl Device {
     ) -> Result<Octets, NoMemory>
         requires { length self.now.realm ≤ 255 }
         ensures text { IfOk result (λ text. text ≡ asked_text method (subscription_of self.now) self.now.store asked) }
-        ensures size { IfOk result (λ text. length text ≤ 289) }
+        ensures size { IfOk result (λ text. length text ≤ 511) }
     {
         match asked {
             IdentityRequest::Any => self.held(alloc, method),
@@ -87,11 +87,11 @@ impl Device {
     fn held(&self, alloc: Global, method: Method) -> Result<Octets, NoMemory>
         requires { length self.now.realm ≤ 255 }
         ensures text { IfOk result (λ text. text ≡ held_text method (subscription_of self.now) self.now.store) }
-        ensures size { IfOk result (λ text. length text ≤ 289) }
+        ensures size { IfOk result (λ text. length text ≤ 511) }
     {
         match self.store.context(method) {
             None => self.full(alloc, method),
-            Some(context) => self.with_realm(alloc, &context.identity),
+            Some(context) => self.with_realm(alloc, context.identity.as_slice()),
         }
     }
 
@@ -99,11 +99,11 @@ impl Device {
     fn full(&self, alloc: Global, method: Method) -> Result<Octets, NoMemory>
         requires { length self.now.realm ≤ 255 }
         ensures text { IfOk result (λ text. text ≡ full_text method (subscription_of self.now) self.now.store) }
-        ensures size { IfOk result (λ text. length text ≤ 289) }
+        ensures size { IfOk result (λ text. length text ≤ 511) }
     {
         match self.store.pseudonym(method) {
             None => self.identity(alloc, method),
-            Some(pseudonym) => self.with_realm(alloc, &pseudonym),
+            Some(pseudonym) => self.with_realm(alloc, pseudonym.as_slice()),
         }
     }
 
@@ -111,7 +111,7 @@ impl Device {
     fn identity(&self, alloc: Global, method: Method) -> Result<Octets, NoMemory>
         requires { length self.now.realm ≤ 255 }
         ensures text { IfOk result (λ text. text ≡ identity_text method (subscription_of self.now)) }
-        ensures size { IfOk result (λ text. length text ≤ 289) }
+        ensures size { IfOk result (λ text. length text ≤ 511) }
     {
         self.with_realm(alloc, permanent(method, self.imsi).as_slice())
     }
@@ -119,9 +119,9 @@ impl Device {
     /// A username, followed by `@` and the realm if there is one.
     fn with_realm(&self, alloc: Global, name: &[u8]) -> Result<Octets, NoMemory>
         requires realm { length self.now.realm ≤ 255 }
-        requires name { length name.now ≤ 33 }
+        requires name { length name.now ≤ 255 }
         ensures text { IfOk result (λ text. text ≡ with_realm name.now self.now.realm) }
-        ensures size { IfOk result (λ text. length text ≤ 289) }
+        ensures size { IfOk result (λ text. length text ≤ 511) }
     {
         let mut text = Octets::copied_from(alloc, name)?;
         if !self.realm.is_empty() {
@@ -132,7 +132,7 @@ impl Device {
     }
 
     /// Adopts what a session of a method gave.
-    pub(crate) fn adopt(&mut self, method: Method, pseudonym: Option<[u8; 33]>, next: NextContext)
+    pub(crate) fn adopt(&mut self, method: Method, pseudonym: Option<Name>, next: NextContext)
         ensures store { self.new.store ≡ adopted method pseudonym next self.old.store }
         ensures subscription { subscription_of self.new ≡ subscription_of self.old }
         ensures usim { self.new.usim ≡ self.old.usim }
@@ -153,7 +153,7 @@ impl Device {
 }
 
 /// Adopts a pseudonym of a method, if there is one.
-fn adopt_pseudonym(store: &mut DeviceStore, method: Method, pseudonym: Option<[u8; 33]>)
+fn adopt_pseudonym(store: &mut DeviceStore, method: Method, pseudonym: Option<Name>)
     ensures { store.new ≡ with_next_pseudonym method pseudonym store.old }
 {
     if let Some(pseudonym) = pseudonym {
@@ -183,7 +183,7 @@ fn method_of(master: Master) -> Method
 }
 
 /// Gives the context of a method its next identity, or drops it if there is none; unless it has another identity than it had.
-fn rename(store: &mut DeviceStore, method: Method, from: [u8; 33], to: Option<[u8; 33]>)
+fn rename(store: &mut DeviceStore, method: Method, from: Name, to: Option<Name>)
     ensures { store.new ≡ renamed method from to (entry method store.old.contexts) store.old }
 {
     let Some(context) = store.context(method) else {
@@ -195,7 +195,7 @@ fn rename(store: &mut DeviceStore, method: Method, from: [u8; 33], to: Option<[u
 }
 
 /// A context under its next identity, or none if there is none.
-fn under(to: Option<[u8; 33]>, context: Context) -> Option<Context>
+fn under(to: Option<Name>, context: Context) -> Option<Context>
     ensures { result ≡ under to context }
 {
     match to {

@@ -68,7 +68,7 @@ fn none(places: Places<Attr>) -> AttrList
 /// The Identity response of EAP (RFC 3748 §5.1).
 #[tactic(auto, using(crate::proofs::MessageLemmas::identity_may, crate::proofs::MessageLemmas::identity_size))]
 pub(crate) fn identity_response(id: u8, text: Octets, room: Room) -> Octets
-    requires short { length text ≤ 289 }
+    requires short { length text ≤ 511 }
     requires empty { room.written ≡ [] }
     requires left { 5 + length text ≤ room.left }
     ensures bytes { result ≡ packet_text (identity_response id text) }
@@ -91,7 +91,7 @@ pub(crate) fn identified(
     places: Places<Attr>,
     room: Room,
 ) -> Octets
-    requires short { length text ≤ 289 }
+    requires short { length text ≤ 511 }
     requires places { HasPlaces places }
     requires empty { room.written ≡ [] }
     requires left { 15 + length text ≤ room.left }

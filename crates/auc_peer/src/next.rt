@@ -1,5 +1,6 @@
 //! What becomes of a device's context.
 
+use auc_ident::Name;
 use auc_reauth::Context;
 
 /// What becomes of the device's context when a session ends in Success (RFC 4187 §5.1 and §5.3).
@@ -11,5 +12,5 @@ pub enum NextContext {
     New(Context),
     /// A fast re-authentication under the first identity was answered: the context gets the second one, or is dropped if none
     /// was given; unless it has another identity by then.
-    Renamed([u8; 33], Option<[u8; 33]>),
+    Renamed(Name, Option<Name>),
 }

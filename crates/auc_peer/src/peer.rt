@@ -116,6 +116,8 @@ impl Peer {
         ensures step { IfOk result (λ turn. Steps rands.now (subscription_of device.old) device.old.store self.old bytes.now
             device.old.usim.array self.new turn device.new.store device.new.usim.array) }
         ensures subscription { subscription_of device.new ≡ subscription_of device.old }
+        ensures bits { device.new.usim.array.bits ≡ device.old.usim.array.bits }
+        ensures age { device.new.usim.array.age ≡ device.old.usim.array.age }
         ensures peer { OnErr result (self.new ≡ self.old) }
         ensures device { OnErr result (device.new ≡ device.old) }
     {

@@ -21,7 +21,7 @@ use crate::reading::{
 use crate::rooms::{ReauthRooms, Reply, Sent};
 use crate::why::PeerWhy;
 use auc_edge::{NoMemory, Octets, Room};
-use auc_ident::username;
+use auc_ident::{Name, username};
 use auc_packet::{Received, is_sealed};
 use auc_random::Rands;
 use auc_reauth::Context;
@@ -352,7 +352,7 @@ impl Peer {
 #[derive(Clone, Copy)]
 struct Offer {
     context: Context,
-    identity: Option<[u8; 33]>,
+    identity: Option<Name>,
     counter: u16,
     nonce: [u8; 16],
 }

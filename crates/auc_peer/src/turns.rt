@@ -17,6 +17,7 @@ use crate::rooms::{Reply, Sent};
 use crate::rows::Row;
 use crate::why::PeerWhy;
 use auc_edge::{NoMemory, Octets, Room};
+use auc_ident::Name;
 use auc_packet::Received;
 use auc_random::Rands;
 use auc_vector::{Notes, Outcome, Reason, Step, Turn, UsimNote};
@@ -36,7 +37,7 @@ pub(crate) fn noted(usim: Option<UsimNote>) -> Notes
 }
 
 /// The pseudonym that was given.
-fn pseudonym_given(inner: Decrypted) -> Option<[u8; 33]>
+fn pseudonym_given(inner: Decrypted) -> Option<Name>
     ensures { result ≡ pseudonym_given inner }
 {
     match inner {
@@ -62,6 +63,8 @@ impl Peer {
         ensures step { IfOk result (λ turn. Steps rands.now (subscription_of device.old) device.old.store self.old
             (seen_of received.now).bytes device.old.usim.array self.new turn device.new.store device.new.usim.array) }
         ensures subscription { subscription_of device.new ≡ subscription_of device.old }
+        ensures bits { device.new.usim.array.bits ≡ device.old.usim.array.bits }
+        ensures age { device.new.usim.array.age ≡ device.old.usim.array.age }
         ensures peer { OnErr result (self.new ≡ self.old) }
         ensures device { OnErr result (device.new ≡ device.old) }
     {

@@ -24,7 +24,7 @@ returns-clause-usim c =
     let challenge = c.args.challenge in
     let after = c.ask-answer.new.usim.array in
     subst (λ (n : Option UsimNote). Asked (subscription_of c.args.device.now) (Some challenge) n usim.array after) (sym c.on_answer.ensures.note)
-    (λ past remembers. subst (λ (a : Answer). IsAnswer usim.secret past challenge.rand challenge.autn a × Remembers after (past_after_answer past a)) (c.ask-answer.ensures.noted past remembers)
+    (λ past remembers. subst (λ (a : Answer). IsAnswer usim.secret usim.array.bits usim.array.age past challenge.rand challenge.autn a × Remembers after (past_after_answer usim.array.bits past a)) (c.ask-answer.ensures.noted past remembers)
     (c.ask-answer.ensures.answer past remembers, c.ask-answer.ensures.past past remembers))
 
 pub returns-clause-decrypts : goal.returns-clause-decrypts
