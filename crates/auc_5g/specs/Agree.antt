@@ -1,5 +1,5 @@
 -- The home network and the device have the same values.
-use Rattle.std.specs.Prelude.{◌≡◌, ℕ, List, [], take}
+use Rattle.std.specs.Prelude.{◌≡◌, ℕ, List, [], Option, take}
 use Rattle.auc_aes.specs.Bytes.{xor, IsBlock}
 use Rattle.auc_hmac.specs.declared.method.Method.TheVariants.{Aka}
 use Rattle.auc_milenage.specs.declared.secret.Secret.{Secret}
@@ -24,9 +24,11 @@ EachDeviceAgreesWithItsHome =
     (v : Vector) (ak sqn name : List ℕ) → xor sqn ak ≡ take 6 v.autn
     → Agree (home_of v name) (device_of v.xres v.ck v.ik ak sqn v.rand name)
 
--- and so it is for one name, if a USIM with the secret accepted RAND and AUTN of a number's vector, whatever it had accepted before
+-- and so it is for one name, if a USIM with the secret accepted RAND and AUTN of a number's vector, whatever it had accepted
+-- before, and whatever its index length and its age limit are
 abbrev pub EachAcceptingDeviceAgrees : Type 0
 EachAcceptingDeviceAgrees =
-    (s : Secret) (amf rand name : List ℕ) (n : ℕ) (past : Past) (res ck ik ak amf_seen sqn : List ℕ) → IsBlock s.k → IsBlock s.opc
-    → IsAnswer s past rand (autn_of s.k s.opc rand amf n) (Accepted res ck ik ak amf_seen sqn)
-    → Agree (home_of (vector_of s Aka amf [] n rand) name) (device_of res ck ik ak sqn rand name)
+    (s : Secret) (amf rand name : List ℕ) (bits n own : ℕ) (age : Option ℕ) (past : Past) (res ck ik ak amf_seen sqn : List ℕ)
+    → IsBlock s.k → IsBlock s.opc
+    → IsAnswer s own age past rand (autn_of s.k s.opc rand amf bits n) (Accepted res ck ik ak amf_seen sqn)
+    → Agree (home_of (vector_of s Aka amf [] bits n rand) name) (device_of res ck ik ak sqn rand name)

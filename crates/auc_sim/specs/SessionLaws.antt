@@ -19,7 +19,7 @@ use Rattle.auc_vector.specs.declared.turn.Step.TheVariants.{Sent, Ended}
 -- a USIM makes of the RAND of a vector the triplet of that vector
 abbrev pub EachCardHasTheTripletOfItsVector : Type 0
 EachCardHasTheTripletOfItsVector =
-    (s : Secret) (amf rand : List ℕ) (n : ℕ) → of_vector (vector_of s Aka amf [] n rand) ≡ card_of s rand
+    (s : Secret) (amf rand : List ℕ) (bits n : ℕ) → of_vector (vector_of s Aka amf [] bits n rand) ≡ card_of s rand
 
 -- both ends have one secret: each of the 2 or 3 triplets is the one that the peer's USIM makes of its RAND. The sizes are those
 -- of every call
