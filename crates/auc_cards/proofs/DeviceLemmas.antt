@@ -56,32 +56,32 @@ held_known count subs (Some sub) few all = by (list_any (λ other. other == sub)
     by true = all
     by false = All-push (λ s. s < count) subs sub all few
 
-line_few : (count : ℕ) (l : Line) → IsKnownLine count l → IsFew count (held_by l)
-line_few count (line.Draw sub n) known = tt
-line_few count (line.Sync sub seq bit n) known = tt
-line_few count (line.Give sub n) known = known.0
-line_few count (line.Eps sub snid) known = tt
-line_few count (line.Fiveg fiveg) known = known.sub
-line_few count (line.Sites sites) known = tt
-line_few count (line.Sim sim) known = tt
-line_few count (line.Session opening) known = known.0
-line_few count (line.Start session) known = tt
-line_few count (line.Deliver session at' packet) known = tt
-line_few count (line.Repeat session) known = tt
-line_few count (line.GiveUp session at') known = tt
-line_few count (line.Plain session) known = tt
-line_few count (line.Tamper packet place byte) known = tt
-line_few count (line.Cut packet length) known = tt
+line_few : (rows : List Row) (l : Line) → IsKnownLine rows l → IsFew (length rows) (held_by l)
+line_few rows (line.Draw sub n) known = tt
+line_few rows (line.Sync sub report n) known = tt
+line_few rows (line.Give sub n) known = known.0
+line_few rows (line.Eps sub snid) known = tt
+line_few rows (line.Fiveg fiveg) known = known.sub
+line_few rows (line.Sites sites) known = tt
+line_few rows (line.Sim sim) known = tt
+line_few rows (line.Session opening) known = known.0
+line_few rows (line.Start session) known = tt
+line_few rows (line.Deliver session at' packet) known = tt
+line_few rows (line.Repeat session) known = tt
+line_few rows (line.GiveUp session at') known = tt
+line_few rows (line.Plain session) known = tt
+line_few rows (line.Tamper packet place byte) known = tt
+line_few rows (line.Cut packet length) known = tt
 
-held_from : (count : ℕ) (subs : List ℕ) (job : List Line) → All (IsKnownLine count) job → All (λ sub. sub < count) subs
-    → All (λ sub. sub < count) (fold (λ have l. with_held have (held_by l)) subs job)
-held_from count subs [] known all = all
-held_from count subs (l ∷ job) known all =
-    held_from count (with_held subs (held_by l)) job (All-tail (IsKnownLine count) l job known)
-    (held_known count subs (held_by l) (line_few count l (All-head (IsKnownLine count) l job known)) all)
+held_from : (rows : List Row) (subs : List ℕ) (job : List Line) → All (IsKnownLine rows) job → All (λ sub. sub < length rows) subs
+    → All (λ sub. sub < length rows) (fold (λ have l. with_held have (held_by l)) subs job)
+held_from rows subs [] known all = all
+held_from rows subs (l ∷ job) known all =
+    held_from rows (with_held subs (held_by l)) job (All-tail (IsKnownLine rows) l job known)
+    (held_known (length rows) subs (held_by l) (line_few rows l (All-head (IsKnownLine rows) l job known)) all)
 
-pub helds_known : (count : ℕ) (job : List Line) → All (IsKnownLine count) job → All (λ sub. sub < count) (held_subs job)
-helds_known count job known = held_from count [] job known (All-nil (λ sub. sub < count))
+pub helds_known : (rows : List Row) (job : List Line) → All (IsKnownLine rows) job → All (λ sub. sub < length rows) (held_subs job)
+helds_known rows job known = held_from rows [] job known (All-nil (λ sub. sub < length rows))
 
 -- ---- put back
 

@@ -6,7 +6,7 @@ use Rattle.auc_sqn.specs.Past.{Remembers, opening_past}
 use Rattle.auc_subs.specs.declared.row.Row.{Row}
 use Rattle.auc_usim.specs.Usim.{Memory}
 use Rattle.auc_cards.specs.Stores.{Kept, fresh_kept}
-use Rattle.auc_cards.specs.Usims.{AreFresh, AreOfRows}
+use Rattle.auc_cards.specs.Usims.{AreFresh, AreOfRows, IsOfRow}
 use Rattle.auc_cards.proofs.DeviceLemmas.{some_at}
 
 -- ---- a list with one more element
@@ -25,26 +25,26 @@ pushed_cases (z ∷ xs) x y (suc k) there =
 -- the USIMs of the first rows, each opened at its row
 pub record AreOpened (rows : List Row) (usims : List Memory) : Type 0 where
   pub opened : (k : ℕ) (row : Row) (usim : Memory) → slice_get rows k ≡ Some row → slice_get usims k ≡ Some usim
-      → (usim.secret ≡ row.secret) × Remembers usim.array (opening_past row.usim)
+      → IsOfRow row usim × Remembers usim.array (opening_past row.bits row.usim)
 
 pub opened_none : (rows : List Row) → AreOpened rows []
 opened_none rows = record { opened = λ k row usim at there. absurd (cc) }
 
 -- one more
 pub opened_push : (rows : List Row) (usims : List Memory) (usim : Memory) (row : Row) → slice_get rows (length usims) ≡ Some row
-    → usim.secret ≡ row.secret → Remembers usim.array (opening_past row.usim) → AreOpened rows usims → AreOpened rows (usims ++ usim ∷ [])
-opened_push rows usims usim row here secret past are = record { opened = λ k other found at there. step k other found at (pushed_cases usims usim found k there) }
+    → IsOfRow row usim → Remembers usim.array (opening_past row.bits row.usim) → AreOpened rows usims → AreOpened rows (usims ++ usim ∷ [])
+opened_push rows usims usim row here of past are = record { opened = λ k other found at there. step k other found at (pushed_cases usims usim found k there) }
   where
     some_is : (a b : Row) → Some a ≡ Some b → a ≡ b
     some_is a b e = cc
 
     step : (k : ℕ) (other : Row) (found : Memory) → slice_get rows k ≡ Some other → (slice_get usims k ≡ Some found) ⊎ ((k ≡ length usims) × (usim ≡ found))
-        → (found.secret ≡ other.secret) × Remembers found.array (opening_past other.usim)
+        → IsOfRow other found × Remembers found.array (opening_past other.bits other.usim)
     step k other found at (inl old) = are.opened k other found at old
     step k other found at (inr (is, same)) =
         let one : row ≡ other = some_is row other (sym here ∙ subst (λ (i : ℕ). slice_get rows i ≡ Some other) is at) in
-        subst (λ (m : Memory). (m.secret ≡ other.secret) × Remembers m.array (opening_past other.usim)) same
-        (subst (λ (r : Row). (usim.secret ≡ r.secret) × Remembers usim.array (opening_past r.usim)) one (secret, past))
+        subst (λ (m : Memory). IsOfRow other m × Remembers m.array (opening_past other.bits other.usim)) same
+        (subst (λ (r : Row). IsOfRow r usim × Remembers usim.array (opening_past r.bits r.usim)) one (of, past))
 
 pub opened_rows : (rows : List Row) (usims : List Memory) → length usims ≡ length rows → AreOpened rows usims → AreOfRows rows usims
 opened_rows rows usims size are = record { sizes = size; secrets = λ sub row usim at there. (are.opened sub row usim at there).0 }

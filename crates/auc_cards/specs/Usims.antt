@@ -6,18 +6,24 @@ use Rattle.auc_usim.specs.Usim.{Memory}
 use Rattle.auc_cards.specs.Devices.{usim_in}
 use Rattle.auc_cards.specs.Own.{OwnDevices}
 
--- each USIM has the secret of its subscriber's row
-abbrev pub HaveSecrets : List Row → (ℕ → Option Memory) → Type 0
-HaveSecrets rows usims = (sub : ℕ) (row : Row) (usim : Memory) → slice_get rows sub ≡ Some row → usims sub ≡ Some usim → usim.secret ≡ row.secret
+-- a USIM is a row's: it has the row's secret, index length and age limit
+pub record IsOfRow (row : Row) (usim : Memory) : Type 0 where
+  pub secret : usim.secret ≡ row.secret
+  pub bits : usim.array.bits ≡ row.bits
+  pub age : usim.array.age ≡ row.age
 
--- there is a USIM for each row, with the row's secret
+-- each USIM has the secret of its subscriber's row, and is the row's in all else that never changes
+abbrev pub HaveSecrets : List Row → (ℕ → Option Memory) → Type 0
+HaveSecrets rows usims = (sub : ℕ) (row : Row) (usim : Memory) → slice_get rows sub ≡ Some row → usims sub ≡ Some usim → IsOfRow row usim
+
+-- there is a USIM for each row, which is the row's
 pub record AreOfRows (rows : List Row) (usims : List Memory) : Type 0 where
   pub sizes : length usims ≡ length rows
   pub secrets : HaveSecrets rows (slice_get usims)
 
 -- before the first round each USIM remembers its opening alone
 abbrev pub AreFresh : List Row → List Memory → Type 0
-AreFresh rows usims = (sub : ℕ) (row : Row) (usim : Memory) → slice_get rows sub ≡ Some row → slice_get usims sub ≡ Some usim → Remembers usim.array (opening_past row.usim)
+AreFresh rows usims = (sub : ℕ) (row : Row) (usim : Memory) → slice_get rows sub ≡ Some row → slice_get usims sub ≡ Some usim → Remembers usim.array (opening_past row.bits row.usim)
 
 -- what a place has after a job's own USIMs were put back: the job's, if it has one of the place
 abbrev pub put_at : Option Memory → Option Memory → Option Memory

@@ -49,7 +49,7 @@ impl JobDevices {
     ) -> Result<JobDevices, NoMemory>
         requires usims { length usims.now ≡ length set.now.rows }
         requires stores { length stores.now ≡ length set.now.rows }
-        requires known { AreKnown (length set.now.rows) job.now }
+        requires known { AreKnown set.now.rows job.now }
         ensures { IfOk result (λ own. own ≡ job_devices set.now usims.now stores.now job.now) }
     {
         let subs = held(alloc, job)?;

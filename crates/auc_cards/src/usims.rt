@@ -27,7 +27,8 @@ impl Model for Usims {
 }
 
 impl Usims {
-    /// The USIM of each subscriber, with its row's secret, for which the numbers up to the row's `usim` count as accepted.
+    /// The USIM of each subscriber, with its row's secret, index length and age limit, for which the numbers up to the row's `usim`
+    /// count as accepted.
     pub fn new(alloc: Global, subs: &Subscribers) -> Result<Usims, NoMemory>
         ensures rows { IfOk result (AreOfRows subs.now) }
         ensures fresh { IfOk result (AreFresh subs.now) }
@@ -35,7 +36,7 @@ impl Usims {
         let mut all = Vec::new(alloc);
         for sub in 0..subs.len() {
             let row = subs.row(sub);
-            all.push(Usim::new(row.secret, row.usim))?;
+            all.push(Usim::new(row.secret, row.usim, row.bits, row.age))?;
         }
         Ok(Usims { all })
     }

@@ -17,7 +17,7 @@ says_same (Err why) = refl
 -- there is the subscriber whose USIM a line holds
 known_line : (rows : List Row) (line : Line) → IsLine rows line → IfSome (held_by line) (λ sub. sub < length rows)
 known_line rows (Draw sub count) is = tt
-known_line rows (Sync sub seq bit count) is = tt
+known_line rows (Sync sub report count) is = tt
 known_line rows (Give sub number) is = is.0
 known_line rows (Eps sub snid) is = tt
 known_line rows (Fiveg line) is = is.0

@@ -69,7 +69,7 @@ IsFresh all (Some session) = is_among session all ≡ false
 pub fresh : (all here begun : List ℕ) (line : Line) → in_order all here begun line ≡ Ok tt → IsFresh all (opened_by line)
 fresh all here begun (Session line) order = holds_not (is_among line.session all) why.Twice order
 fresh all here begun (Draw sub count) order = tt
-fresh all here begun (Sync sub seq bit count) order = tt
+fresh all here begun (Sync sub report count) order = tt
 fresh all here begun (Give sub number) order = tt
 fresh all here begun (Eps sub snid) order = tt
 fresh all here begun (Fiveg line) order = tt
@@ -86,7 +86,7 @@ fresh all here begun (Cut packet length) order = tt
 pub known : (all here begun : List ℕ) (line : Line) → in_order all here begun line ≡ Ok tt → IsOpened here (named_by line)
 known all here begun (Session line) order = tt
 known all here begun (Draw sub count) order = tt
-known all here begun (Sync sub seq bit count) order = tt
+known all here begun (Sync sub report count) order = tt
 known all here begun (Give sub number) order = tt
 known all here begun (Eps sub snid) order = tt
 known all here begun (Fiveg line) order = tt

@@ -15,7 +15,7 @@ use Rattle.std.proofs.lemmas.List.Sums.{count_by-le-length, sum_by-append}
 use Rattle.std.proofs.lemmas.Option.{slice_get_within}
 use Rattle.auc_subs.specs.declared.row.Row.{Row}
 use Rattle.auc_subs.specs.declared.refusal.SubsWhy.{SubsWhy}
-use Rattle.auc_subs.specs.Subscriber.{rows_after}
+use Rattle.auc_subs.specs.Subscriber.{line_counts, rows_after}
 use Rattle.auc_script.specs.declared.holders.Holders.{Holders}
 use Rattle.auc_script.specs.declared.sessions.Sessions.{Sessions}
 use Rattle.auc_script.specs.declared.so_far.SoFar.{SoFar}
@@ -438,8 +438,8 @@ not_begun (Some round) ended before = absurd (apart before)
 
 -- what a subscriber's line makes of the scenario, by what it makes of the rows
 pub subscriber_is : (s : Scenario) (fields : List (List ℕ)) (line : List ℕ) (rows : Result (List Row) SubsWhy) → (not (is_some s.round) && (length s.ended == 0)) ≡ true
-    → (length fields == 7) ≡ true → line ≡ join_with_byte 32 fields → rows_after s.rows line ≡ rows → subscriber_line s fields ≡ (by_subs rows >>= λ rows. Ok (record s { rows = rows }))
-subscriber_is s fields line rows place seven joined is = rw (place, seven, ← joined, is) refl
+    → list_any (λ n. length fields == n) line_counts ≡ true → line ≡ join_with_byte 32 fields → rows_after s.rows line ≡ rows → subscriber_line s fields ≡ (by_subs rows >>= λ rows. Ok (record s { rows = rows }))
+subscriber_is s fields line rows place counted joined is = rw (place, counted, ← joined, is) refl
 
 -- what is kept when a restart comes
 pub kept_restart : (rows : List Row) (old s : SoFar) (parts : List Part) (round : RoundSoFar) → IsSoFar rows old → old.round ≡ Some round → IsBetween rows old s
@@ -609,7 +609,7 @@ few_leased line is =
 -- a line asks for few vectors
 few_asked : (rows : List Row) (line : Line) → (has_fit_texts line ≡ true → IsLine rows line) → asked_by line ≤ most_by_line
 few_asked rows (Draw sub count) is = omega (arith, (is refl).2)
-few_asked rows (Sync sub seq bit count) is = omega (arith, (is refl).3)
+few_asked rows (Sync sub report count) is = omega (arith, (is refl).2)
 few_asked rows (Session line) is = omega arith
 few_asked rows (Give sub number) is = omega arith
 few_asked rows (Eps sub snid) is = omega arith

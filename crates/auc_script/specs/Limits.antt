@@ -6,14 +6,14 @@ use Rattle.auc_hmac.specs.declared.method.Method.{Method}
 use Rattle.auc_hmac.specs.declared.method.Method.TheVariants.{Aka, Prime}
 use Rattle.auc_sqn.specs.Number.{max_seq}
 use Rattle.auc_subs.specs.declared.row.Row.{Row}
-use Rattle.auc_subs.specs.Subscriber.{AreSubscribers}
+use Rattle.auc_subs.specs.Subscriber.{AreSubscribers, top_at}
 use Rattle.auc_lines.specs.declared.part.Identity.{Identity}
 use Rattle.auc_lines.specs.declared.part.Identity.TheVariants.{Held, Permanent, Text}
 use Rattle.auc_lines.specs.declared.part.Line.{Line}
 use Rattle.auc_lines.specs.declared.part.Line.TheVariants.{Draw, Give, Sync, Eps, Fiveg, Sites, Sim, Session, Start, Deliver, Repeat, GiveUp, Plain, Tamper, Cut}
 use Rattle.auc_lines.specs.declared.part.Part.{Part}
 use Rattle.auc_lines.specs.declared.part.Part.TheVariants.{Round, Restart}
-use Rattle.auc_lines.specs.Part.{AreApart, IsBit, IsShortIdentity, IsStarBit, asked, jobs_of}
+use Rattle.auc_lines.specs.Part.{AreApart, IsReport, IsShortIdentity, IsStarBit, asked, jobs_of}
 use Rattle.auc_lines.specs.Sim.{IsSimValue}
 use Rattle.auc_lines.specs.Sites.{IsSitesValue}
 use Rattle.auc_script.specs.declared.script.Script.{Script}
@@ -43,7 +43,7 @@ IsName name = (1 ≤ length name) × (length name ≤ longest_name)
 -- a line whose subscriber there is, and whose numbers and texts are within their ranges
 abbrev pub IsLine : List Row → Line → Type 0
 IsLine rows (Draw sub count) = (sub < length rows) × (1 ≤ count) × (count ≤ most_count)
-IsLine rows (Sync sub seq bit count) = (sub < length rows) × (seq ≤ max_seq) × IsBit bit × (count ≤ most_count)
+IsLine rows (Sync sub report count) = (sub < length rows) × IsReport (top_at rows sub) report × (count ≤ most_count)
 IsLine rows (Give sub number) = (sub < length rows) × (1 ≤ number) × (number ≤ max_seq)
 IsLine rows (Eps sub snid) = sub < length rows
 IsLine rows (Fiveg line) = (line.sub < length rows) × IsName line.home × IsName line.device × IsStarBit line.bit

@@ -5,12 +5,16 @@
 --   workers N                                before the first round; a number from 1 to 64; once
 --   print brief|full                         before the first round; once
 --   realm TEXT                               before the first round; once; 255 bytes at most
---   subscriber IMSI K KIND OP AMF SEQ USIM   before the first round; a new subscriber
+--   subscriber IMSI K KIND OP AMF SEQ USIM [BITS AGE]
+--                                            before the first round; a new subscriber
 --   round                                    1000 at most
 --   restart                                  once after each round, before the next one
 --   job                                      in a round; 200000 in all at most
 --   draw IMSI COUNT                          in a job; 1 to 1000 vectors; a subscriber's IMSI
 --   sync IMSI SEQ BIT COUNT                  in a job; SEQ to max_seq, BIT 0 to 111 or -, 0 to 1000
+--                                            vectors; the IMSI of a subscriber whose greatest number is SEQ
+--                                            or above it
+--   auts IMSI AUTS RAND COUNT                in a job; AUTS of 28 hexadecimal digits and RAND of 32, 0 to 1000
 --                                            vectors; a subscriber's IMSI
 --   give IMSI N                              in a job; N from 1 to max_seq; a subscriber's IMSI, whose
 --                                            USIM no earlier job of the round holds
@@ -51,11 +55,12 @@ use Rattle.auc_subs.specs.declared.row.Row.{Row}
 use Rattle.auc_subs.specs.declared.refusal.SubsWhy.{SubsWhy}
 use Rattle.auc_text.specs.Field.{octets_in}
 use Rattle.auc_text.specs.Text.{words_of}
-use Rattle.auc_subs.specs.Subscriber.{place_of, rows_after}
+use Rattle.auc_subs.specs.Subscriber.{line_counts, place_of, rows_after, top_at}
 use Rattle.auc_lines.specs.declared.part.Line.{Line}
 use Rattle.auc_lines.specs.declared.part.Line.TheVariants.{Draw, Give, Sync, Eps, Fiveg, Sites, Sim, Session, Start, Deliver, Repeat, GiveUp, Plain, Tamper, Cut}
 use Rattle.auc_lines.specs.declared.part.Part.{Part}
 use Rattle.auc_lines.specs.declared.part.Part.TheVariants.{Round, Restart}
+use Rattle.auc_lines.specs.declared.part.Report.TheVariants.{Seq, Auts}
 use Rattle.auc_lines.specs.Part.{asked, asked_by, held_by, holds, jobs_of, last_bit, last_star_bit}
 use Rattle.auc_script.specs.Numbers.{last_packet, last_place, last_session, least_triplets, longest_realm, most_count, most_jobs, most_leased, most_packets, most_rounds, most_sessions, most_sites, most_triplets, most_vectors, most_workers}
 use Rattle.auc_script.specs.declared.refusal.ScriptWhy.{ScriptWhy}
@@ -163,11 +168,11 @@ abbrev pub by_subs : Result (List Row) SubsWhy → Result (List Row) ScriptWhy
 by_subs (Ok rows) = Ok rows
 by_subs (Err cause) = Err (why.Subscriber cause)
 
--- `subscriber` and its seven fields
+-- `subscriber` and its seven or nine fields
 abbrev pub subscriber_line : Scenario → List (List ℕ) → Result Scenario ScriptWhy
 subscriber_line s fields = do
   place ← in_header s
-  seven ← require (length fields == 7) why.Fields
+  counted ← require (list_any (λ count. length fields == count) line_counts) why.Fields
   rows ← by_subs (rows_after s.rows (join_with_byte 32 fields))
   Ok (record s { rows = rows })
 
@@ -214,7 +219,18 @@ sync_of rows fields = do
   bit ← bit_in last_bit four.2
   count ← number_between 0 most_count four.3
   sub ← ok_or (place_of rows identity) why.UnknownSubscriber
-  Ok (Sync sub seq bit count)
+  within ← require (nat_le seq (top_at rows sub)) why.Limit
+  Ok (Sync sub (Seq seq bit) count)
+
+abbrev pub auts_of : List Row → List (List ℕ) → Result Line ScriptWhy
+auts_of rows fields = do
+  four ← four_fields fields
+  identity ← ok_or (identity_of four.0) why.Fields
+  auts ← ok_or (octets_in 14 four.1) why.Hex
+  rand ← ok_or (octets_in 16 four.2) why.Hex
+  count ← number_between 0 most_count four.3
+  sub ← ok_or (place_of rows identity) why.UnknownSubscriber
+  Ok (Sync sub (Auts auts rand) count)
 
 abbrev pub give_of : List Row → List (List ℕ) → Result Line ScriptWhy
 give_of rows fields = do
@@ -311,6 +327,7 @@ cut_of fields = do
 abbrev pub line_of : List Row → JobWord → List (List ℕ) → Result Line ScriptWhy
 line_of rows job.Draw fields = draw_of rows fields
 line_of rows job.Sync fields = sync_of rows fields
+line_of rows job.Auts fields = auts_of rows fields
 line_of rows job.Give fields = give_of rows fields
 line_of rows job.Eps fields = eps_of rows fields
 line_of rows job.Fiveg fields = fiveg_of rows fields
@@ -336,7 +353,7 @@ is_new before session = require (not (is_among session before)) why.Twice
 -- opens a new session, starts an open one once, or is of an open one
 abbrev pub in_order : List ℕ → List ℕ → List ℕ → Line → Result (Unit {0}) ScriptWhy
 in_order all own begun (Draw sub count) = Ok tt
-in_order all own begun (Sync sub seq bit count) = Ok tt
+in_order all own begun (Sync sub report count) = Ok tt
 in_order all own begun (Give sub number) = Ok tt
 in_order all own begun (Eps sub snid) = Ok tt
 in_order all own begun (Fiveg line) = Ok tt

@@ -62,7 +62,7 @@ has_fit_texts other = true
 -- how many packets a line counts for, and all lines of a job
 abbrev pub packets_by : Line → ℕ
 packets_by (Draw sub count) = 0
-packets_by (Sync sub seq bit count) = 0
+packets_by (Sync sub report count) = 0
 packets_by (Give sub number) = 0
 packets_by (Eps sub snid) = 0
 packets_by (Fiveg line) = 0

@@ -26,6 +26,7 @@ abbrev pub job_word_of : List ℕ → Option JobWord
 job_word_of text =
     if is_text text (codes "draw") then Some job.Draw
     else if is_text text (codes "sync") then Some job.Sync
+    else if is_text text (codes "auts") then Some job.Auts
     else if is_text text (codes "give") then Some job.Give
     else if is_text text (codes "eps") then Some job.Eps
     else if is_text text (codes "fiveg") then Some job.Fiveg

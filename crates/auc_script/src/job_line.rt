@@ -6,7 +6,7 @@ ghost use Rattle.auc_subs.specs.declared.row.Row.{Row};
 ghost use Rattle.auc_text.specs.Text.{words_of};
 ghost use Rattle.auc_script.specs.InnerRefusal.{Says, as_said};
 ghost use Rattle.auc_script.specs.Limits.{IsLine};
-ghost use Rattle.auc_script.specs.Scenario.{cut_of, draw_of, eps_of, give_of, line_of, sync_of, tamper_of};
+ghost use Rattle.auc_script.specs.Scenario.{auts_of, cut_of, draw_of, eps_of, give_of, line_of, sync_of, tamper_of};
 ghost use Rattle.auc_script.specs.Session.{has_fit_texts};
 
 use crate::field::{
@@ -14,14 +14,14 @@ use crate::field::{
 };
 use crate::fiveg_line::read_fiveg;
 use crate::limits::{LAST_PACKET, LAST_PLACE, MAX_COUNT};
-use crate::refusal::{LineRefusal, ScriptWhy};
+use crate::refusal::{LineRefusal, ScriptWhy, require};
 use crate::session_line::{read_deliver, read_give_up, read_one_number, read_session};
 use crate::sim_line::read_sim;
 use crate::sites_line::read_sites;
 use crate::word::JobWord;
 use auc_edge::Imsi;
-use auc_lines::Line;
-use auc_sqn::MAX_SEQ;
+use auc_lines::{Line, Report};
+use auc_sqn::{MAX_SEQ, top};
 use auc_subs::Subscribers;
 use auc_text::read_octets;
 use std::alloc::Global;
@@ -40,6 +40,7 @@ pub fn read_line(
     match word {
         JobWord::Draw => said(read_draw(subs, fields)),
         JobWord::Sync => said(read_sync(subs, fields)),
+        JobWord::Auts => said(read_auts(subs, fields)),
         JobWord::Give => said(read_give(subs, fields)),
         JobWord::Eps => said(read_eps(subs, fields)),
         JobWord::Fiveg => read_fiveg(alloc, subs, fields),
@@ -89,10 +90,28 @@ fn read_sync(subs: &Subscribers, fields: &[u8]) -> Result<Line, ScriptWhy>
     let bit = read_bit(bit, LAST_BIT)?;
     let count = read_number(count, 0, MAX_COUNT)?;
     let sub = subs.find(imsi).ok_or(ScriptWhy::UnknownSubscriber)?;
+    require(seq <= top(subs.row(sub).bits), ScriptWhy::Limit)?;
     Ok(Line::Sync {
         sub,
-        seq,
-        bit,
+        report: Report::Seq { seq, bit },
+        count: count as u32,
+    })
+}
+
+/// What the fields `IMSI AUTS RAND COUNT` say.
+fn read_auts(subs: &Subscribers, fields: &[u8]) -> Result<Line, ScriptWhy>
+    ensures value { result ≡ auts_of subs.now (words_of fields.now) }
+    ensures line { IfOk result (IsLine subs.now) }
+{
+    let (imsi, auts, rand, count) = four_fields(fields)?;
+    let imsi = Imsi::read(imsi).ok_or(ScriptWhy::Fields)?;
+    let auts = read_octets::<14>(auts).ok_or(ScriptWhy::Hex)?;
+    let rand = read_octets::<16>(rand).ok_or(ScriptWhy::Hex)?;
+    let count = read_number(count, 0, MAX_COUNT)?;
+    let sub = subs.find(imsi).ok_or(ScriptWhy::UnknownSubscriber)?;
+    Ok(Line::Sync {
+        sub,
+        report: Report::Auts { auts, rand },
         count: count as u32,
     })
 }

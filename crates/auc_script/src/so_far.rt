@@ -1,9 +1,10 @@
 //! What the lines so far say.
 
 ghost use Rattle.std.specs.Prelude.{◌≡◌, ◌==◌, ◌&&◌, not, is_some, [], List, length, IfOk, OnErr, OnOk};
+ghost use Rattle.std.specs.List.{list_any};
 ghost use Rattle.std.specs.Option.{unwrap_or};
 ghost use Rattle.auc_subs.specs.declared.row.Row.{Row};
-ghost use Rattle.auc_subs.specs.Subscriber.{AreSubscribers};
+ghost use Rattle.auc_subs.specs.Subscriber.{AreSubscribers, line_counts};
 ghost use Rattle.auc_text.specs.Text.{words_of};
 ghost use Rattle.auc_script.specs.Limits.{IsWithin};
 ghost use Rattle.auc_script.specs.Reading.{beginning, script_from};
@@ -153,7 +154,7 @@ impl SoFar {
         ensures rows { OnErr result (subs.new ≡ subs.old) }
     {
         require(self.is_before_rounds(), ScriptWhy::OutOfOrder)?;
-        require(word_count(fields) == 7, ScriptWhy::Fields)?;
+        require(is_line_count(word_count(fields)), ScriptWhy::Fields)?;
         let line = joined(alloc, fields)?;
         match subs.add(line.as_slice()) {
             Ok(_) => Ok(()),
@@ -363,4 +364,11 @@ fn put_in_round(round: &mut Option<RoundSoFar>, line: Line) -> Result<(), NoMemo
             Ok(())
         }
     }
+}
+
+/// Whether a subscriber may have so many fields.
+fn is_line_count(count: usize) -> bool
+    ensures { result ≡ list_any (λ n. count == n) line_counts }
+{
+    count == 7 || count == 9
 }

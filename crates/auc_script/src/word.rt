@@ -25,6 +25,8 @@ pub enum JobWord {
     Draw,
     /// `sync IMSI SEQ BIT COUNT`
     Sync,
+    /// `auts IMSI AUTS RAND COUNT`
+    Auts,
     /// `give IMSI N`
     Give,
     /// `eps IMSI SNID`
@@ -115,6 +117,9 @@ fn read_job_word(text: &[u8]) -> Option<JobWord>
     }
     if is_text(text, b"sync") {
         return Some(JobWord::Sync);
+    }
+    if is_text(text, b"auts") {
+        return Some(JobWord::Auts);
     }
     if is_text(text, b"give") {
         return Some(JobWord::Give);

@@ -1,5 +1,5 @@
 use Rattle.auc_text.specs.Text.{words_of}
-use Rattle.auc_script.specs.Scenario.{cut_of, deliver_of, draw_of, eps_of, give_of, give_up_of, sync_of, tamper_of}
+use Rattle.auc_script.specs.Scenario.{auts_of, cut_of, deliver_of, draw_of, eps_of, give_of, give_up_of, sync_of, tamper_of}
 use Rattle.auc_script.proofs.LineLemmas.{known_said, line_said, says_same}
 use Rattle.auc_script.proofs.job_line.read_line.Goals as goal
 
@@ -20,6 +20,15 @@ returns-in-Sync-clause-known c = rw c.said-in-Sync.ensures (known_said c.args.su
 
 pub returns-in-Sync-clause-line : goal.returns-in-Sync-clause-line
 returns-in-Sync-clause-line c = rw c.said-in-Sync.ensures (line_said c.args.subs.now c.read_sync.result c.read_sync.ensures.line)
+
+pub returns-in-Auts-clause-value : goal.returns-in-Auts-clause-value
+returns-in-Auts-clause-value c = rw (c.in-Auts.is, c.said-in-Auts.ensures, c.read_auts.ensures.value) (says_same (auts_of c.args.subs.now (words_of c.args.fields.now)))
+
+pub returns-in-Auts-clause-known : goal.returns-in-Auts-clause-known
+returns-in-Auts-clause-known c = rw c.said-in-Auts.ensures (known_said c.args.subs.now c.read_auts.result c.read_auts.ensures.line)
+
+pub returns-in-Auts-clause-line : goal.returns-in-Auts-clause-line
+returns-in-Auts-clause-line c = rw c.said-in-Auts.ensures (line_said c.args.subs.now c.read_auts.result c.read_auts.ensures.line)
 
 pub returns-in-Give-clause-value : goal.returns-in-Give-clause-value
 returns-in-Give-clause-value c = rw (c.in-Give.is, c.said-in-Give.ensures, c.read_give.ensures.value) (says_same (give_of c.args.subs.now (words_of c.args.fields.now)))
